@@ -1,0 +1,21 @@
+-- What an object outside tells of its content: a known content is `Some`, and `None` claims nothing.
+use Rattle.std.specs.Prelude.{◌≡◌, ℕ, List, take, Option, Some, None}
+use Rattle.std.specs.Option.{option_map}
+use Rattle.std.specs.Io.KnownBytes.{Appends}
+
+-- A front of the piece was appended.
+abbrev pub AppendsPart : Option (List ℕ) → Option (List ℕ) → List ℕ → Type 0
+AppendsPart old new piece = (n : ℕ) × Appends old new (take n piece)
+
+-- The files that a library holds, by name, where it tells.
+abbrev pub Files : Type 0
+Files = Option (List ℕ → Option (List ℕ))
+
+-- What is fetched of a file: all of it, or the first 1,048,577 bytes of a longer one.
+unfoldable pub fetched : List ℕ → List ℕ
+fetched file = take 1048577 file
+
+-- What was found is what is fetched of the file of this name, and nothing was found where there is no such file.
+abbrev pub Fetches : Files → List ℕ → Option (List ℕ) → Type 0
+Fetches None name found = Unit {0}
+Fetches (Some held) name found = found ≡ option_map fetched (held name)

@@ -1,0 +1,23 @@
+//! The world outside the library: its faults, small types over text and bytes, and the traits of a
+//! source, a sink and a library of files, each with objects in memory that tell what they hold.
+#![tactic(auto)]
+
+mod answers;
+mod failures;
+mod gates;
+mod in_memory;
+mod libraries;
+mod streams;
+mod texts;
+mod transfers;
+
+pub use answers::{Failed, LibraryFault, Memory, ReadFault};
+pub use gates::{Gate, Open};
+pub use in_memory::{MemorySink, MemorySource, SureSink, SureSource};
+pub use libraries::{Library, SureLibrary};
+pub use streams::{Sink, Source};
+pub use texts::{Octets, Text, Words};
+pub use transfers::{read_all, write_all};
+
+/// The most bytes that an atom has.
+pub const ATOM_MAX: usize = 65_535;
