@@ -1,7 +1,8 @@
 -- The laws of framing: bytes and size of fronts, and of lists put together.
-use Rattle.std.proofs.Common.{◌≡◌, ℕ, ◌+◌, ◌-◌, ◌<◌, ◌≤◌, zero, suc, Bool, true, false, [], List, ◌∷◌, ◌++◌, length, take, drop, get_or, refl, sym, ◌∙◌, ap, append_assoc, length-append, arith}
-use Rattle.std.proofs.lemmas.List.{take_more, take-append-drop, take_all, append-nil}
+use Rattle.std.proofs.Common.{◌≡◌, ℕ, ◌+◌, ◌-◌, ◌<◌, ◌≤◌, zero, suc, Bool, true, false, [], List, ◌∷◌, ◌++◌, length, take, drop, get_or, slice_get, Some, refl, sym, ◌∙◌, ap, subst, append_assoc, length-append, arith}
+use Rattle.std.proofs.lemmas.List.{take_more, take-append-drop, take_all, take-take, append-nil}
 use Rattle.std.proofs.lemmas.Grind.{flat_map-append}
+use Rattle.std.proofs.lemmas.Option.{get_or_from_slice_get, slice_get_within}
 use Rattle.std.proofs.lemmas.Bool.Decides.{nat_tests}
 use Rattle.context_model.specs.Atoms.{Atom, AreAtoms}
 use Rattle.context_model.specs.Framing.{length_code, frame, bytes_of, size_of}
@@ -41,3 +42,24 @@ pub size_of-front : (n : ℕ) (list : List Atom) → size_of (take n list) ≤ s
 size_of-front n list =
     let e : size_of list ≡ size_of (take n list) + size_of (drop n list) = ap size_of (sym (take-append-drop n list)) ∙ size_of-append (take n list) (drop n list) in
     omega arith
+
+-- A shorter front has no more bytes than a longer one.
+pub size_of-take-le : (m n : ℕ) (list : List Atom) → m ≤ n → size_of (take m list) ≤ size_of (take n list)
+size_of-take-le m n list below = subst (λ front. size_of front ≤ size_of (take n list)) (take-take m n list below) (size_of-front m (take n list))
+
+-- One atom more is at least one byte more.
+pub size_of-grows : (list : List Atom) (i : ℕ) → i < length list → size_of (take i list) + 1 ≤ size_of (take (i + 1) list)
+size_of-grows list i within =
+    let atom = get_or list i [] in
+    let more = size_of-more list i within in
+    let long = length-append (length_code (length atom)) atom in
+    let some = (length-length_code (length atom)).0 in
+    omega arith
+
+-- The same, for the atom that a look-up gave.
+pub bytes_of-next : (list : List Atom) (i : ℕ) (atom : Atom) → slice_get list i ≡ Some atom → bytes_of (take (i + 1) list) ≡ bytes_of (take i list) ++ frame atom
+bytes_of-next list i atom there =
+    bytes_of-more list i (slice_get_within list i atom there) ∙ ap (λ x. bytes_of (take i list) ++ frame x) (get_or_from_slice_get list i atom [] there)
+
+pub size_of-next : (list : List Atom) (i : ℕ) (atom : Atom) → slice_get list i ≡ Some atom → size_of (take (i + 1) list) ≡ size_of (take i list) + length (frame atom)
+size_of-next list i atom there = ap length (bytes_of-next list i atom there) ∙ length-append (bytes_of (take i list)) (frame atom)

@@ -1,12 +1,12 @@
 -- The laws of trimming: a list that doesn't fit keeps its longest front, and trimming twice is trimming to the lesser budget.
-use Rattle.std.proofs.Common.{◌≡◌, ℕ, ◌+◌, ◌-◌, ◌<◌, ◌≤◌, zero, suc, Bool, true, false, [], List, ◌∷◌, ◌++◌, ◌⊎◌, inl, inr, length, take, drop, min, nat_le, if◌then◌else◌, refl, sym, ◌∙◌, ap, subst, append_assoc, length-append, arith, leb-true, leb-false, le-leb}
+use Rattle.std.proofs.Common.{◌≡◌, ℕ, ◌+◌, ◌-◌, ◌<◌, ◌≤◌, zero, suc, Bool, true, false, [], List, ◌∷◌, ◌++◌, ◌⊎◌, inl, inr, length, take, drop, min, nat_le, nat_lt, if◌then◌else◌, refl, sym, ◌∙◌, ap, subst, append_assoc, length-append, arith, leb-true, leb-false, le-leb}
 use Rattle.std.proofs.lemmas.List.{length-take-le, take-append-le, take-take, take_all}
 use Rattle.std.proofs.lemmas.Bool.{cases_lt, cases_Bool}
 use Rattle.std.proofs.lemmas.Bool.Decides.{nat_tests}
 use Rattle.context_model.specs.Atoms.{Atom}
 use Rattle.context_model.specs.Framing.{size_of}
 use Rattle.context_model.specs.Trimmed.{cut_at, greatest, kept_of, trimmed, IsLongestFit, KeepsLongest, CutsOnce}
-use Rattle.context_model.proofs.FramingLaws.{size_of-cut}
+use Rattle.context_model.proofs.FramingLaws.{size_of-cut, size_of-front, size_of-take-le, size_of-grows}
 
 -- The greatest number that passes is one of those asked.
 pub greatest-le : (test : ℕ → Bool) (n : ℕ) → greatest test n ≤ n
@@ -154,4 +154,48 @@ cuts_once list a b some_a some_b = elim (cases_lt a (size_of list)) [
           ]
       )
     )
+  ]
+
+-- The longest front that fits ends at the first atom with which the budget is passed, or one before where no byte is left for the marker.
+fit_before : (list : List Atom) (budget i : ℕ) → 0 < budget → i < length list → size_of (take i list) ≤ budget → budget < size_of (take (i + 1) list)
+    → IsLongestFit list budget (if nat_lt (size_of (take i list)) budget then i else i - 1)
+fit_before list budget i some within fits over = elim (cases_lt (size_of (take i list)) budget) [
+    inl room ↦ (
+      let here : (if nat_lt (size_of (take i list)) budget then i else i - 1) ≡ i = grind (arith, nat_tests) in
+      subst (IsLongestFit list budget) (sym here) (record {
+        within = within;
+        fits = let e = size_of-cut i list in omega arith;
+        longest = λ n upto fit. (
+          let e = size_of-cut n list in
+          elim (cases_lt i n) [ inl more ↦ (let m = size_of-take-le (i + 1) n list (omega arith) in absurd (omega arith)) | inr less ↦ less ]
+        );
+      })
+    )
+  | inr full ↦ (
+      let here : (if nat_lt (size_of (take i list)) budget then i else i - 1) ≡ i - 1 = grind (arith, nat_tests) in
+      let later : 0 < i = elim (cases_lt 0 i) [ inl more ↦ more | inr first ↦ (let z : i ≡ 0 = omega arith in let e : size_of (take i list) ≡ 0 = ap (λ k. size_of (take k list)) z in absurd (omega arith)) ] in
+      let grows : size_of (take (i - 1) list) + 1 ≤ size_of (take (i - 1 + 1) list) = size_of-grows list (i - 1) (omega arith) in
+      let back : size_of (take (i - 1 + 1) list) ≡ size_of (take i list) = ap (λ k. size_of (take k list)) (omega arith) in
+      subst (IsLongestFit list budget) (sym here) (record {
+        within = omega arith;
+        fits = let e = size_of-cut (i - 1) list in omega arith;
+        longest = λ n upto fit. (
+          let e = size_of-cut n list in
+          elim (cases_lt (i - 1) n) [ inl more ↦ (let m = size_of-take-le i n list (omega arith) in absurd (omega arith)) | inr less ↦ less ]
+        );
+      })
+    )
+  ]
+
+pub kept_of-before : (list : List Atom) (budget i : ℕ) → 0 < budget → i < length list → size_of (take i list) ≤ budget → budget < size_of (take (i + 1) list)
+    → kept_of list budget ≡ (if nat_lt (size_of (take i list)) budget then i else i - 1)
+kept_of-before list budget i some within fits over =
+    let more : budget < size_of list = (let f = size_of-front (i + 1) list in omega arith) in
+    IsLongestFit-unique list budget _ _ (keeps_longest list budget some more) (fit_before list budget i some within fits over)
+
+-- All atoms stay exactly where the list fits.
+pub kept_of-all : (list : List Atom) (budget : ℕ) → 0 < budget → length list ≤ kept_of list budget → size_of list ≤ budget
+kept_of-all list budget some all = elim (cases_lt budget (size_of list)) [
+    inl over ↦ (let fit = keeps_longest list budget some over in let w = fit.within in absurd (omega arith))
+  | inr fits ↦ fits
   ]

@@ -1,13 +1,12 @@
-// A library with one function.
+//! Lists of atoms as bytes: each atom behind its length, in base 128, the least significant group first.
 #![tactic(auto)]
 
-ghost use Rattle.std.specs.Prelude.{◌≡◌};
-ghost use Rattle.wire_bytes.specs.Echo.{echo_of};
+mod lengths;
+mod reading;
+mod writing;
 
-// The `ensures` clause is the contract: what `echo` returns is `echo_of` of its argument, a definition
-// in `specs/Echo.antt`, which a caller's clause can cite too.
-pub fn echo(x: usize) -> usize
-    ensures { result ≡ echo_of x }
-{
-    x
-}
+pub use reading::{WireCode, WireFault, one_fault, read};
+pub use writing::{frame_len, offset, size, write};
+
+/// The most bytes of an atom that the framing has a length for.
+pub const LENGTH_MAX: usize = 65_535;
