@@ -1,2 +1,3 @@
 pub mod FramingLaws
 pub mod TrimmedLaws
+pub mod Frames

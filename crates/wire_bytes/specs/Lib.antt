@@ -1,1 +1,3 @@
-pub mod WireFault
+pub mod Codes
+pub use Rattle.context_model.specs.Framing
+pub use Rattle.context_model.specs.WireFault

@@ -2,7 +2,8 @@
 
 ghost use Rattle.std.specs.Prelude.{◌≡◌, ◌+◌, ◌<◌, ◌≤◌, ◌++◌, length, Some, OnOk, OnErr, IfOk, IfErr};
 ghost use Rattle.context_model.specs.Framing.{length_code};
-ghost use Rattle.wire_bytes.specs.WireFault.{wire_code};
+ghost use Rattle.context_model.specs.WireFault.{wire_code};
+ghost use Rattle.wire_bytes.specs.Codes.{code_of};
 
 use crate::LENGTH_MAX;
 use crate::reading::WireCode;
@@ -41,11 +42,11 @@ pub(crate) fn put_length(bytes: &mut Vec<u8>, len: usize) -> Result<(), Memory>
 }
 
 /// The length at the front and the bytes behind it, or what is wrong with the length.
-#[tactic(auto, unfolding(context_model::specs::Framing::length_code, crate::specs::WireFault::length_front, crate::specs::WireFault::wire_code))]
+#[tactic(auto, unfolding(context_model::specs::Framing::length_code, context_model::specs::WireFault::length_front, context_model::specs::WireFault::wire_code))]
 pub(crate) fn front_length(bytes: &[u8]) -> Result<(usize, &[u8]), WireCode>
     ensures found { IfOk result (λ found. bytes.now ≡ length_code found.0 ++ found.1.now) }
     ensures bound { IfOk result (λ found. found.0 ≤ LENGTH_MAX) }
-    ensures fault { IfErr result (λ code. wire_code bytes.now ≡ Some code) }
+    ensures fault { IfErr result (λ code. wire_code bytes.now ≡ Some (code_of code)) }
 {
     match bytes {
         [a, rest @ ..] if *a < 128 => Ok((usize::from(*a), rest)),

@@ -5,7 +5,7 @@ mod lengths;
 mod reading;
 mod writing;
 
-pub use reading::{WireCode, WireFault, one_fault, read};
+pub use reading::{WireCode, WireFault, read, reads_one_way};
 pub use writing::{frame_len, offset, size, write};
 
 /// The most bytes of an atom that the framing has a length for.

@@ -3,7 +3,8 @@
 ghost use Rattle.std.specs.Prelude.{◌≡◌, ◌+◌, ◌<◌, ◌≤◌, ◌++◌, length, List, ℕ, Some, IfOk, IfErr, MatchResult};
 ghost use Rattle.context_model.specs.Atoms.{AreAtoms};
 ghost use Rattle.context_model.specs.Framing.{frame, bytes_of};
-ghost use Rattle.wire_bytes.specs.WireFault.{wire_code, IsFaultOf, OneFault};
+ghost use Rattle.context_model.specs.WireFault.{wire_code, ReadsOneWay};
+ghost use Rattle.wire_bytes.specs.Codes.{code_of, IsFaultOf};
 
 use crate::LENGTH_MAX;
 use crate::lengths::front_length;
@@ -35,6 +36,12 @@ pub enum WireFault {
 }
 
 impl fmt::Display for WireCode {
+    ghost use Rattle.std.specs.Prelude.{Some};
+    ghost use Rattle.context_model.specs.ByteCodes.{code_name};
+    ghost use Rattle.wire_bytes.specs.Codes.{code_of};
+
+    ghost output = { λ code. Some (code_name (code_of code)) };
+
     fn fmt<W: fmt::Write>(&self, f: &mut fmt::Formatter<W>) -> fmt::Result {
         match self {
             WireCode::CutLength => write!(f, "CutLength"),
@@ -60,7 +67,7 @@ impl From<Memory> for WireFault {
 fn front(bytes: &[u8]) -> Result<(&[u8], &[u8]), WireCode>
     ensures found { IfOk result (λ found. bytes.now ≡ frame found.0.now ++ found.1.now) }
     ensures atom { IfOk result (λ found. length found.0.now ≤ LENGTH_MAX) }
-    ensures fault { IfErr result (λ code. wire_code bytes.now ≡ Some code) }
+    ensures fault { IfErr result (λ code. wire_code bytes.now ≡ Some (code_of code)) }
 {
     let (len, rest) = front_length(bytes)?;
     if rest.len() < len {
@@ -96,8 +103,8 @@ pub fn read(alloc: Global, bytes: &[u8]) -> Result<AtomList, WireFault>
     Ok(list)
 }
 
-/// Bytes have at most one first fault.
-pub fn one_fault()
-    ensures { OneFault }
+/// Bytes are those of at most one list, have at most one first fault, and never both.
+pub fn reads_one_way()
+    ensures { ReadsOneWay }
 {
 }

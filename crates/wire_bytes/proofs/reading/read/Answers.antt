@@ -2,8 +2,9 @@ use Rattle.std.proofs.Common.{◌≡◌, ℕ, ◌-◌, ◌<◌, ◌≤◌, Bool,
 use Rattle.std.proofs.lemmas.List.{append-nil, nil_from_length}
 use Rattle.std.proofs.lemmas.Bool.Decides.{nat_tests}
 use Rattle.context_model.specs.Framing.{bytes_of}
-use Rattle.wire_bytes.specs.WireFault.{IsFirstWireFault}
-use Rattle.wire_bytes.proofs.Frames.{first_fault, no_fault, bytes_of_cancel, front_shorter}
+use Rattle.context_model.specs.WireFault.{IsFirstWireFault}
+use Rattle.context_model.proofs.Frames.{first_fault, no_fault, bytes_of_cancel, front_shorter}
+use Rattle.wire_bytes.specs.Codes.{code_of}
 use Rattle.wire_bytes.proofs.reading.read.Goals as goal
 
 some_left : (n : ℕ) (none : Bool) → none ≡ (n == 0) → none ≡ false → 0 < n
@@ -17,12 +18,12 @@ loop-rest-smaller c = front_shorter c.loop-rest.rest.now c.in-Ok.atom.now c.in-O
 
 pub returns-in-Err-clause-fault : goal.returns-in-Err-clause-fault
 returns-in-Err-clause-fault c =
-    first_fault c.args.bytes.now c.loop-rest.rest.now c.loop-rest.list c.in-Err.code c.loop-rest.invariant.atoms c.loop-rest.invariant.split (some_left _ c.is_empty.result c.is_empty.ensures c.loop-rest-test.true) c.in-Err.ensures.fault
+    first_fault c.args.bytes.now c.loop-rest.rest.now c.loop-rest.list (code_of c.in-Err.code) c.loop-rest.invariant.atoms c.loop-rest.invariant.split (some_left _ c.is_empty.result c.is_empty.ensures c.loop-rest-test.true) c.in-Err.ensures.fault
 
 pub returns-in-Err-clause-only : goal.returns-in-Err-clause-only
 returns-in-Err-clause-only c =
-    let fault : IsFirstWireFault c.args.bytes.now (length c.args.bytes.now - length c.loop-rest.rest.now) c.in-Err.code = first_fault c.args.bytes.now c.loop-rest.rest.now c.loop-rest.list c.in-Err.code c.loop-rest.invariant.atoms c.loop-rest.invariant.split (some_left _ c.is_empty.result c.is_empty.ensures c.loop-rest-test.true) c.in-Err.ensures.fault in
-    λ list atoms e. absurd (no_fault c.args.bytes.now list _ c.in-Err.code atoms e fault)
+    let fault : IsFirstWireFault c.args.bytes.now (length c.args.bytes.now - length c.loop-rest.rest.now) (code_of c.in-Err.code) = first_fault c.args.bytes.now c.loop-rest.rest.now c.loop-rest.list (code_of c.in-Err.code) c.loop-rest.invariant.atoms c.loop-rest.invariant.split (some_left _ c.is_empty.result c.is_empty.ensures c.loop-rest-test.true) c.in-Err.ensures.fault in
+    λ list atoms e. absurd (no_fault c.args.bytes.now list _ (code_of c.in-Err.code) atoms e fault)
 
 pub returns-clause-only : goal.returns-clause-only
 returns-clause-only c = λ list atoms e.

@@ -6,9 +6,9 @@ use Rattle.std.proofs.lemmas.Bool.Decides.{nat_tests}
 use Rattle.context_model.specs.Atoms.{Atom, AreAtoms}
 use Rattle.context_model.specs.Framing.{length_code, frame, bytes_of, IsFramed}
 use Rattle.context_model.proofs.FramingLaws.{length-length_code}
-use Rattle.wire_bytes.specs.declared.reading.WireCode.{WireCode}
-use Rattle.wire_bytes.specs.declared.reading.WireCode.TheVariants.{CutBody}
-use Rattle.wire_bytes.specs.WireFault.{through_last, length_front, length_said, is_open, cuts_length, is_too_long, is_long_form, cuts_body, wire_code, IsFirstWireFault, OneFault}
+use Rattle.context_model.specs.ByteCodes.{ByteCode}
+use Rattle.context_model.specs.ByteCodes.ByteCode.{CutBody}
+use Rattle.context_model.specs.WireFault.{through_last, length_front, length_said, is_open, cuts_length, is_too_long, is_long_form, cuts_body, wire_code, IsFirstWireFault, ReadsOneWay}
 
 -- The three forms of a length.
 code_one : (n : ℕ) → n < 128 → length_code n ≡ n ∷ []
@@ -123,7 +123,7 @@ bytes_of_cancel (a ∷ list) (b ∷ other) short short' e =
     λ i. heads i ∷ tails i
 
 -- Where something is wrong behind a list, no list goes further.
-pub not_longer : (list other : List Atom) (rest more : List ℕ) (code : WireCode) → AreAtoms list → AreAtoms other → bytes_of list ++ rest ≡ bytes_of other ++ more → wire_code rest ≡ Some code
+pub not_longer : (list other : List Atom) (rest more : List ℕ) (code : ByteCode) → AreAtoms list → AreAtoms other → bytes_of list ++ rest ≡ bytes_of other ++ more → wire_code rest ≡ Some code
     → length (bytes_of other) ≤ length (bytes_of list)
 not_longer [] [] rest more code short short' e wrong = omega arith
 not_longer [] (b ∷ other) rest more code short short' e wrong =
@@ -141,7 +141,7 @@ not_longer (a ∷ list) (b ∷ other) rest more code short short' e wrong =
     omega arith
 
 -- What is wrong behind the bytes of a list is the first fault.
-pub first_fault : (bytes rest : List ℕ) (list : List Atom) (code : WireCode) → AreAtoms list → bytes ≡ bytes_of list ++ rest → 0 < length rest → wire_code rest ≡ Some code
+pub first_fault : (bytes rest : List ℕ) (list : List Atom) (code : ByteCode) → AreAtoms list → bytes ≡ bytes_of list ++ rest → 0 < length rest → wire_code rest ≡ Some code
     → IsFirstWireFault bytes (length bytes - length rest) code
 first_fault bytes rest list code short split some wrong =
     let front = bytes_of list in
@@ -162,15 +162,15 @@ first_fault bytes rest list code short split some wrong =
     })
 
 -- The bytes of a list have no fault.
-pub no_fault : (bytes : List ℕ) (list : List Atom) (offset : ℕ) (code : WireCode) → AreAtoms list → bytes ≡ bytes_of list → IsFirstWireFault bytes offset code → ⊥
+pub no_fault : (bytes : List ℕ) (list : List Atom) (offset : ℕ) (code : ByteCode) → AreAtoms list → bytes ≡ bytes_of list → IsFirstWireFault bytes offset code → ⊥
 no_fault bytes list offset code short e fault =
     let all : take (length bytes) bytes ≡ bytes = take_all (length bytes) bytes (omega arith) in
     let late = fault.longest (length bytes) (omega arith) (list, short, all ∙ e) in
     let w = fault.within in
     absurd (omega arith)
 
--- Bytes have one first fault.
-pub one_fault : OneFault
+-- Bytes have at most one first fault.
+pub one_fault : (bytes : List ℕ) (i j : ℕ) (c d : ByteCode) → IsFirstWireFault bytes i c → IsFirstWireFault bytes j d → (i ≡ j) × (c ≡ d)
 one_fault bytes i j c d a b =
     let up = b.longest i (let w = a.within in omega arith) a.framed in
     let down = a.longest j (let w = b.within in omega arith) b.framed in
@@ -184,3 +184,10 @@ front_shorter bytes atom behind e =
     let l = ap length e ∙ length-append (frame atom) behind in
     let k = length-append (frame atom) [] in
     omega arith
+
+pub reads_one_way : ReadsOneWay
+reads_one_way bytes = record {
+    list = λ a b short_a short_b e f. bytes_of_cancel a b short_a short_b (sym e ∙ f);
+    fault = one_fault bytes;
+    either = λ list offset code short e fault. no_fault bytes list offset code short e fault;
+  }

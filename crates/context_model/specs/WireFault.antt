@@ -1,12 +1,10 @@
 -- The first fault of bytes that aren't those of a list: where the longest front that is a list ends, and why it ends there.
 use Rattle.std.specs.Prelude.{◌≡◌, ℕ, ◌+◌, ◌-◌, ◌*◌, ◌%◌, ◌<◌, ◌≤◌, Bool, ◌==◌, ◌&&◌, ◌||◌, List, [], ◌∷◌, length, take, drop, slice_index, nat_lt, nat_le, if◌then◌else◌, Option, Some, None}
 use Rattle.std.specs.List.{list_all}
-use Rattle.context_model.specs.Framing.{IsFramed}
-use Rattle.wire_bytes.specs.declared.TheConstants.{LENGTH_MAX}
-use Rattle.wire_bytes.specs.declared.reading.WireCode.{WireCode}
-use Rattle.wire_bytes.specs.declared.reading.WireCode.TheVariants.{CutLength, AtomTooLong, LongForm, CutBody}
-use Rattle.wire_bytes.specs.declared.reading.WireFault.{WireFault}
-use Rattle.wire_bytes.specs.declared.reading.WireFault.TheVariants.{At, Memory}
+use Rattle.context_model.specs.Atoms.{Atom, AreAtoms}
+use Rattle.context_model.specs.Framing.{bytes_of, IsFramed}
+use Rattle.context_model.specs.ByteCodes.{ByteCode}
+use Rattle.context_model.specs.ByteCodes.ByteCode.{CutLength, AtomTooLong, LongForm, CutBody}
 
 -- The bytes up to the first whose top bit isn't set, or all of them.
 abbrev pub through_last : List ℕ → List ℕ
@@ -30,9 +28,9 @@ is_open bytes = list_all (λ b. nat_le 128 b) bytes
 abbrev pub cuts_length : List ℕ → Bool
 cuts_length bytes = nat_lt (length (length_front bytes)) 3 && is_open (length_front bytes)
 
--- The third byte of the length has its top bit set, or the length is above the limit.
+-- The third byte of the length has its top bit set, or the length is above 65,535.
 abbrev pub is_too_long : List ℕ → Bool
-is_too_long bytes = is_open (length_front bytes) || nat_lt LENGTH_MAX (length_said (length_front bytes))
+is_too_long bytes = is_open (length_front bytes) || nat_lt 65535 (length_said (length_front bytes))
 
 -- The length has more than one byte, and its last byte is 0.
 abbrev pub is_long_form : List ℕ → Bool
@@ -43,7 +41,7 @@ abbrev pub cuts_body : List ℕ → Bool
 cuts_body bytes = nat_lt (length (drop (length (length_front bytes)) bytes)) (length_said (length_front bytes))
 
 -- What is wrong with the atom that begins here: the first of these that applies.
-unfoldable pub wire_code : List ℕ → Option WireCode
+unfoldable pub wire_code : List ℕ → Option ByteCode
 wire_code bytes =
     if cuts_length bytes then Some CutLength
     else if is_too_long bytes then Some AtomTooLong
@@ -52,17 +50,18 @@ wire_code bytes =
     else None
 
 -- The longest front that is the bytes of a list ends before the input does, and this is wrong with what follows.
-pub record IsFirstWireFault (bytes : List ℕ) (offset : ℕ) (code : WireCode) : Type 0 where
+pub record IsFirstWireFault (bytes : List ℕ) (offset : ℕ) (code : ByteCode) : Type 0 where
   pub within : offset < length bytes
   pub framed : IsFramed (take offset bytes)
   pub longest : (n : ℕ) → n ≤ length bytes → IsFramed (take n bytes) → n ≤ offset
   pub applies : wire_code (drop offset bytes) ≡ Some code
 
--- The answer names the first fault; want of memory claims nothing.
-abbrev pub IsFaultOf : List ℕ → WireFault → Type 0
-IsFaultOf bytes (At offset code) = IsFirstWireFault bytes offset code
-IsFaultOf bytes Memory = Unit {0}
+-- Bytes are those of at most one list, have at most one first fault, and never both.
+pub record HasOneReading (bytes : List ℕ) : Type 0 where
+  pub list : (a b : List Atom) → AreAtoms a → AreAtoms b → bytes ≡ bytes_of a → bytes ≡ bytes_of b → a ≡ b
+  pub fault : (i j : ℕ) (c d : ByteCode) → IsFirstWireFault bytes i c → IsFirstWireFault bytes j d → (i ≡ j) × (c ≡ d)
+  pub either : (list : List Atom) (offset : ℕ) (code : ByteCode) → AreAtoms list → bytes ≡ bytes_of list → IsFirstWireFault bytes offset code → ⊥
 
--- Bytes have at most one first fault.
-abbrev pub OneFault : Type 0
-OneFault = (bytes : List ℕ) (i j : ℕ) (c d : WireCode) → IsFirstWireFault bytes i c → IsFirstWireFault bytes j d → (i ≡ j) × (c ≡ d)
+-- All bytes read in one way.
+abbrev pub ReadsOneWay : Type 0
+ReadsOneWay = (bytes : List ℕ) → HasOneReading bytes
