@@ -9,6 +9,9 @@ use outside::{ATOM_MAX, Memory, Octets};
 use std::alloc::Global;
 use std::marker::Model;
 
+#[cfg(test)]
+mod tests;
+
 /// A list of atoms: byte strings of at most [`ATOM_MAX`] bytes each. Contracts see it as a list of byte strings.
 #[derive(Drop)]
 pub struct AtomList {

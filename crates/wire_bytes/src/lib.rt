@@ -3,6 +3,8 @@
 
 mod lengths;
 mod reading;
+#[cfg(test)]
+mod tests;
 mod writing;
 
 pub use reading::{WireCode, WireFault, read, reads_one_way};
