@@ -1,3 +1,6 @@
+pub mod Digits
+pub mod Frames
 pub mod FramingLaws
 pub mod TrimmedLaws
-pub mod Frames
+pub mod VarintLaws
+pub mod VarintRows
