@@ -1,6 +1,8 @@
 pub mod Digits
 pub mod Frames
 pub mod FramingLaws
+pub mod KindLaws
+pub mod OrderLaws
 pub mod TrimmedLaws
 pub mod VarintForms
 pub mod VarintLaws
