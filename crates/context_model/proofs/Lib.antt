@@ -1,3 +1,9 @@
-pub mod FramingLaws
-pub mod TrimmedLaws
+pub mod Digits
 pub mod Frames
+pub mod FramingLaws
+pub mod KindLaws
+pub mod OrderLaws
+pub mod TrimmedLaws
+pub mod VarintForms
+pub mod VarintLaws
+pub mod VarintRows

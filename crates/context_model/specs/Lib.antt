@@ -1,5 +1,8 @@
 pub mod Atoms
-pub mod Framing
-pub mod Trimmed
 pub mod ByteCodes
+pub mod Framing
+pub mod Kinds
+pub mod Orders
+pub mod Trimmed
+pub mod Varints
 pub mod WireFault
