@@ -1,0 +1,5 @@
+pub mod Runs
+pub mod FirstBytes
+pub mod Longest
+pub mod Scans
+pub mod Walk
