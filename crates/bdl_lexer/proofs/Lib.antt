@@ -3,3 +3,6 @@ pub mod FirstBytes
 pub mod Longest
 pub mod Scans
 pub mod Walk
+pub mod OnePiece
+pub mod OneCut
+pub mod Spans

@@ -133,7 +133,7 @@ text_ends (b ∷ xs) stops none =
 
 pub string_open : (s : List ℕ) (n : ℕ) → 0 < length s → get_or s 0 0 ≡ 34 → n ≡ length (take_while is_text_byte (drop 1 s)) → (1 + n < length s → get_or s (1 + n) 0 ≡ 34 → ⊥) → IsOpenString s
 string_open [] n some first len none = absurd (omega arith)
-string_open (q ∷ more) n some first len none = 
+string_open (q ∷ more) n some first len none =
     let run = run_of is_text_byte more n len in
     record {
       inner = take n more;
@@ -187,9 +187,9 @@ block_at a b more at len p q closes e =
     let suc_at : at + 1 ≡ suc at = omega arith in
     let slash_is : get_or more (suc at) 0 ≡ 47 = ap (λ k. get_or more k 0) (sym suc_at) ∙ closes.slash_is in
     let both : take (suc (suc at)) more ≡ take at more ++ 42 ∷ 47 ∷ [] =
-        take-suc more (suc at) 0 (omega arith) ∙ (λ i. star_next i ++ slash_is i ∷ []) ∙ append_assoc (take at more) (42 ∷ []) (47 ∷ []) in
+    take-suc more (suc at) 0 (omega arith) ∙ (λ i. star_next i ++ slash_is i ∷ []) ∙ append_assoc (take at more) (42 ∷ []) (47 ∷ []) in
     let whole : take len (a ∷ b ∷ more) ≡ 47 ∷ 42 ∷ (take at more ++ 42 ∷ 47 ∷ []) =
-        ap (λ k. take k (a ∷ b ∷ more)) e ∙ (λ i. p i ∷ q i ∷ both i) in
+    ap (λ k. take k (a ∷ b ∷ more)) e ∙ (λ i. p i ∷ q i ∷ both i) in
     record {
       some = omega arith;
       within = omega arith;

@@ -1,7 +1,8 @@
 -- The walk over the pieces of a source: what one step adds.
-use Rattle.std.proofs.Common.{◌≡◌, ℕ, ◌<◌, ◌≤◌, Option, None, Some, List, [], ◌∷◌, ◌++◌, length, take, drop, refl, sym, ap, ◌∙◌, subst, append_assoc, append-nil}
+use Rattle.std.proofs.Common.{◌≡◌, ℕ, ◌<◌, ◌≤◌, Option, None, Some, List, [], ◌∷◌, ◌++◌, length, take, drop, refl, sym, ap, ◌∙◌, subst, append_assoc, append-nil, arith}
 use Rattle.std.specs.List.{fold, flat_map}
 use Rattle.std.specs.Option.{option_map, option_to_list}
+use Rattle.std.specs.Str.{IsUtf8}
 use Rattle.std.proofs.lemmas.List.{length-take-le, take-append-drop, flat_map_more}
 use Rattle.std.proofs.lemmas.List.Sums.{fold-append}
 use Rattle.bdl_lexer.specs.declared.LexCode.{LexCode}
@@ -11,7 +12,7 @@ use Rattle.bdl_lexer.specs.declared.TokenClass.{TokenClass}
 use Rattle.bdl_lexer.specs.Pieces.{IsPiece}
 use Rattle.bdl_lexer.specs.Places.{first_place, next_place, place_behind}
 use Rattle.bdl_lexer.specs.Steps.{Stands, IsTaken}
-use Rattle.bdl_lexer.specs.Tokens.{Piece, Begins, token_of, token_at, tokens_from, text_of}
+use Rattle.bdl_lexer.specs.Tokens.{Piece, Begins, token_of, token_at, tokens_from, text_of, AreTokensOf}
 
 -- a piece at the front, and the bytes behind it
 pub taken : (class : Option TokenClass) (len : ℕ) (bytes after : List ℕ) (place next : Place) (answer : Option Token) → Stands class len bytes → after ≡ drop len bytes → next ≡ place_behind place (take len bytes) → answer ≡ option_map (token_of place len) class → IsTaken bytes place after next answer
@@ -67,3 +68,8 @@ lexed_more source tokens rest after place next answer so_far step =
           ∙ sym (fold-append next_place first_place (text_of pieces) step.piece.text)
           ∙ ap (place_behind first_place) (sym texts);
     }
+
+-- at the end of the source these are its tokens
+pub lexed_all : (source : List ℕ) (tokens : List Token) (rest : List ℕ) (place : Place) → IsUtf8 source → LexedTo source tokens rest place → length rest ≡ 0 → AreTokensOf source tokens
+lexed_all source tokens [] place text so_far e = record { text = text; pieces = so_far.pieces; cover = so_far.begins; are = so_far.are }
+lexed_all source tokens (b ∷ rest) place text so_far e = absurd (omega arith)

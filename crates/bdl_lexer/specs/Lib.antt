@@ -4,3 +4,4 @@ pub mod Pieces
 pub mod Tokens
 pub mod Faults
 pub mod Steps
+pub mod Spans

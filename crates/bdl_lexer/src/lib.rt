@@ -1,10 +1,12 @@
 //! The tokens of a baggage definition, or its first lexical fault.
 #![tactic(auto)]
 
-ghost use Rattle.std.specs.Prelude.{ℕ, ◌≤◌, length, IfOk, IfErr};
+ghost use Rattle.std.specs.Prelude.{◌≤◌, length, All, IfOk, IfErr};
+ghost use Rattle.bdl_lexer.specs.Spans.{LiesIn, AreInOrder};
 ghost use Rattle.bdl_lexer.specs.Tokens.{AreTokensOf};
 ghost use Rattle.bdl_lexer.specs.Faults.{IsRefusalOf};
 
+pub mod laws;
 mod lexer;
 mod scan;
 
@@ -84,6 +86,8 @@ pub const MAX_SOURCE: usize = 1_048_576;
 pub fn lex(alloc: Global, source: &[u8]) -> Result<Vec<Token>, LexFault>
     requires { length source.now ≤ MAX_SOURCE }
     ensures tokens { IfOk result (λ tokens. AreTokensOf source.now tokens.items) }
+    ensures lie { IfOk result (λ tokens. All (LiesIn source.now) tokens.items) }
+    ensures order { IfOk result (λ tokens. AreInOrder 0 tokens.items) }
     ensures fault { IfErr result (IsRefusalOf source.now) }
 {
     let mut lexer = Lexer::new(source);
@@ -99,3 +103,6 @@ pub fn lex(alloc: Global, source: &[u8]) -> Result<Vec<Token>, LexFault>
     }
     Ok(tokens)
 }
+
+#[cfg(test)]
+mod tests;

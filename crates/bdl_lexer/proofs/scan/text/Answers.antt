@@ -12,5 +12,7 @@ pub returns-else-end-bytes-clause-fault : goal.returns-else-end-bytes-clause-fau
 returns-else-end-bytes-clause-fault c =
     string_open c.args.bytes.now c.text_len-end.result c.requires.some c.requires.quote (rw take_rest at c.text_len-end.ensures)
     (λ short close.
-        elim c.else-end-bytes.branch [ else-end-bytes-via-then-end-bytes+else-bytes-end-eq34 w ↦ w.if-bytes-end-eq34.false close
-        | else-end-bytes-via-else-end-bytes w ↦ absurd (omega arith) ])
+    elim c.else-end-bytes.branch [
+      | else-end-bytes-via-then-end-bytes+else-bytes-end-eq34 w ↦ w.if-bytes-end-eq34.false close
+      | else-end-bytes-via-else-end-bytes w ↦ absurd (omega arith)
+    ])
