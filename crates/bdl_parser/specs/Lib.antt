@@ -1,0 +1,4 @@
+pub mod Trees
+pub mod TreeCode
+pub mod DeclCode
+pub mod Views
