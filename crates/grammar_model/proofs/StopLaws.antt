@@ -1,13 +1,8 @@
 -- Where a form that is built from others stops.
 use Rattle.std.proofs.Common.{◌≡◌, ℕ, Bool, true, false, ◌||◌, Option, Some, List, [], ◌∷◌, ◌++◌, ◌⊎◌, inl, inr, refl, sym, ap, ◌∙◌, subst, append_assoc}
 use Rattle.grammar_model.specs.Forms.{Form, AreTwo, BeginsSecond, two, either, IsMade, made, Repeats, AreMany, BeginsMany, many}
-use Rattle.grammar_model.specs.Stops.{behind, Stops}
+use Rattle.grammar_model.specs.Stops.{behind, first_passes, Stops}
 use Rattle.grammar_model.proofs.FormLaws.{Framed, Starts, IsLawful, IsEnder, Apart, starts_at, starts_not_empty}
-
--- whether there is a first token that passes
-abbrev pub first_passes : {T : Type 0} → (T → Bool) → List T → Bool
-first_passes test [] = false
-first_passes test (t ∷ more) = test t
 
 true_or_false : (b : Bool) → b ≡ true → b ≡ false → ⊥
 true_or_false b p q = let e : true ≡ false = sym p ∙ q in cc

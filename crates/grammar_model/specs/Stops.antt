@@ -1,11 +1,16 @@
 -- Where a form stops in a list of tokens.
-use Rattle.std.specs.Prelude.{◌≡◌, ℕ, ◌≤◌, List, [], ◌∷◌, ◌++◌}
+use Rattle.std.specs.Prelude.{◌≡◌, ℕ, ◌≤◌, Bool, false, List, [], ◌∷◌, ◌++◌}
 use Rattle.grammar_model.specs.Forms.{Form}
 
 -- the token at which a list goes wrong, if there is one, and then any others
 abbrev pub behind : {T : Type 0} → List T → List T → List T
 behind [] more = []
 behind (bad ∷ rest) more = bad ∷ more
+
+-- whether there is a first token that passes
+abbrev pub first_passes : {T : Type 0} → (T → Bool) → List T → Bool
+first_passes test [] = false
+first_passes test (t ∷ more) = test t
 
 -- The list begins the form up to its bad part, no list with the next token behind does, and no sentence is such a list.
 pub record Stops {T A : Type 0} (f : Form T A) (ts bad : List T) : Type 0 where
