@@ -12,7 +12,7 @@ use Rattle.std.specs.List.{flat_map}
 use Rattle.context_model.specs.Varints.{big_endian, unsigned_varint, signed_varint}
 use Rattle.context_model.proofs.Digits.{keeps, digits-order, then-assoc}
 use Rattle.context_model.proofs.VarintLaws.{unsigned_varint-order, signed_varint-order}
-use Rattle.bag_model.specs.Scalars.{IsUnsigned, IsSigned, truth_bytes, fixed_bytes, sign_flipped, escape, ended}
+use Rattle.bag_model.specs.Scalars.{IsUnsigned, IsSigned, truth_bytes, fixed_bytes, sign_flipped, signed_fixed_bytes, escape, ended}
 use Rattle.bag_model.proofs.Codes.{KeepsOrder, bytes_exact, code_order}
 
 pub bool_exact : IsAntisymmetric bool_cmp
@@ -95,7 +95,7 @@ sign_flipped-order wide y z p q = sym (nat_cmp_is (sign_flipped wide y) (sign_fl
   by wide y z p q Equal h = ap (sign_flipped wide) h
   by wide y z p q Greater h = flipped_less wide z y q p h
 
-pub signed_fixed_code : (wide : Bool) → KeepsOrder (IsSigned wide) (λ z. fixed_bytes wide (sign_flipped wide z)) int_cmp
+pub signed_fixed_code : (wide : Bool) → KeepsOrder (IsSigned wide) (signed_fixed_bytes wide) int_cmp
 signed_fixed_code wide = record {
   order = λ v w s t p q.
       fixed-order wide (sign_flipped wide v) (sign_flipped wide w) s t (sign_flipped-fits wide v p) (sign_flipped-fits wide w q)

@@ -143,13 +143,17 @@ sign_flipped false (negsuc n) = 2 ^ 31 - suc n
 sign_flipped true (pos n) = 2 ^ 63 + n
 sign_flipped true (negsuc n) = 2 ^ 63 - suc n
 
+-- A number with its sign in four or eight bytes.
+abbrev pub signed_fixed_bytes : Bool → ℤ → List ℕ
+signed_fixed_bytes wide z = fixed_bytes wide (sign_flipped wide z)
+
 -- A value by itself, in a form that it has.
 abbrev pub plain_spelling : Form → Plain → List ℕ
 plain_spelling TruthByte (Truth b) = truth_bytes b
 plain_spelling (UnsignedVarint wide) (Unsigned n) = unsigned_varint n
 plain_spelling (SignedVarint wide) (Signed z) = signed_varint z
 plain_spelling (FixedBytes wide) (Unsigned n) = fixed_bytes wide n
-plain_spelling (SignedFixedBytes wide) (Signed z) = fixed_bytes wide (sign_flipped wide z)
+plain_spelling (SignedFixedBytes wide) (Signed z) = signed_fixed_bytes wide z
 plain_spelling TextBytes (Text bs) = bs
 plain_spelling RawBytes (Octets bs) = bs
 plain_spelling _ _ = []

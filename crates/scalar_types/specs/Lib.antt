@@ -1,2 +1,2 @@
 pub mod Spelling
-pub mod PlainSpellings
+pub mod Fronts

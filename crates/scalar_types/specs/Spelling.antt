@@ -20,3 +20,7 @@ byte_order = slice_cmp nat_cmp
 -- Two values that fit and have one spelling are one value.
 abbrev pub OneValue : {V : Type 0} → (V → Type 0) → (V → List ℕ) → Type 0
 OneValue {V} fits spelling = (v w : V) → fits v → fits w → spelling v ≡ spelling w → v ≡ w
+
+-- Every value fits.
+abbrev pub AlwaysFits : {V : Type 0} → V → Type 0
+AlwaysFits value = Unit {0}

@@ -2,7 +2,9 @@
 #![tactic(auto)]
 
 mod codec;
+mod fixed_codecs;
 mod plain_codecs;
 
 pub use codec::{Codec, TakeFault, respelled, round_trip};
-pub use plain_codecs::{Flag, Unit, Utf8};
+pub use fixed_codecs::{Fixed, SignedFixed};
+pub use plain_codecs::{Flag, Raw, Unit, Utf8};

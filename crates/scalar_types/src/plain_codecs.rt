@@ -1,9 +1,9 @@
-//! Codecs of values that are spelled as they stand: nothing, a truth value, a text.
+//! Codecs of values that are spelled as they stand: nothing, a truth value, a text, a byte string.
 
-ghost use Rattle.std.specs.Prelude.{◌≡◌, ◌++◌};
+ghost use Rattle.scalar_types.specs.Spelling.{AlwaysFits};
 
 use crate::codec::{Codec, TakeFault};
-use outside::{Memory, Text};
+use outside::{Memory, Octets, Text};
 use std::alloc::Global;
 use std::cmp::Ordering;
 
@@ -16,7 +16,7 @@ impl Codec for Unit {
 
     type Value = ();
 
-    ghost fits = { λ _ _. Unit {0} };
+    ghost fits = { λ _. AlwaysFits };
 
     ghost spelling = { λ _ _. [] };
 
@@ -59,16 +59,36 @@ impl Codec for Unit {
 #[derive(Clone, Copy, Debug, PartialEq, Eq)]
 pub struct Flag;
 
+impl Flag {
+    ghost use Rattle.std.specs.Prelude.{IfSome, IsNone};
+    ghost use Rattle.bag_model.specs.Scalars.{truth_bytes};
+    ghost use Rattle.scalar_types.specs.Fronts.{Begins, BeginsWithSome};
+
+    /// The truth value that begins these bytes, and what follows it.
+    pub fn front<'a>(&self, bytes: &'a [u8]) -> Option<(bool, &'a [u8])>
+        ensures found { IfSome result (λ read. Begins AlwaysFits truth_bytes bytes.now read.0 read.1.now) }
+        ensures none { IsNone result → ¬ BeginsWithSome AlwaysFits truth_bytes bytes.now }
+    {
+        match bytes {
+            [0, rest @ ..] => Some((false, rest)),
+            [1, rest @ ..] => Some((true, rest)),
+            _ => None,
+        }
+    }
+}
+
 impl Codec for Flag {
-    ghost use Rattle.scalar_types.specs.PlainSpellings.{truth_spelling, truth_one};
+    ghost use Rattle.bag_model.specs.Scalars.{truth_bytes};
+    ghost use Rattle.bag_model.proofs.Codes.{code_one};
+    ghost use Rattle.bag_model.proofs.NumberCodes.{truth_code};
 
     type Value = bool;
 
-    ghost fits = { λ _ _. Unit {0} };
+    ghost fits = { λ _. AlwaysFits };
 
-    ghost spelling = { λ _ value. truth_spelling value };
+    ghost spelling = { λ _ value. truth_bytes value };
 
-    ghost one_value = { λ _ v w _ _ same. truth_one v w same };
+    ghost one_value = { λ _. code_one truth_code };
 
     fn fits(&self, _value: &bool) -> bool {
         true
@@ -154,5 +174,48 @@ impl Codec for Utf8 {
 
     fn copy_codec(&self) -> Result<Utf8, Memory> {
         Ok(Utf8)
+    }
+}
+
+/// The codec of byte strings: the bytes as they are.
+#[derive(Clone, Copy, Debug, PartialEq, Eq)]
+pub struct Raw;
+
+impl Codec for Raw {
+    type Value = Octets;
+
+    ghost fits = { λ _. AlwaysFits };
+
+    ghost spelling = { λ _ value. value };
+
+    ghost one_value = { λ _ _ _ _ _ same. same };
+
+    fn fits(&self, _value: &Octets) -> bool {
+        true
+    }
+
+    fn put(&self, value: &Octets, into: &mut Vec<u8>) -> Result<(), Memory> {
+        into.extend_from_slice(value.as_slice())?;
+        Ok(())
+    }
+
+    fn spelled(&self, _bytes: &[u8]) -> bool {
+        true
+    }
+
+    fn take(&self, alloc: Global, bytes: &[u8]) -> Result<Octets, TakeFault> {
+        Ok(Octets::of(alloc, bytes)?)
+    }
+
+    fn compare(&self, a: &Octets, b: &Octets) -> Ordering {
+        a.as_slice().cmp(b.as_slice())
+    }
+
+    fn copy(&self, value: &Octets) -> Result<Octets, Memory> {
+        value.copy()
+    }
+
+    fn copy_codec(&self) -> Result<Raw, Memory> {
+        Ok(Raw)
     }
 }
