@@ -1,2 +1,6 @@
 pub mod Spelling
 pub mod Fronts
+pub mod KindViews
+pub mod KindFalls
+pub mod ScalarViews
+pub mod ScalarFalls

@@ -3,8 +3,12 @@
 
 mod codec;
 mod fixed_codecs;
+mod kinds;
 mod plain_codecs;
+mod scalars;
 
 pub use codec::{Codec, TakeFault, respelled, round_trip};
 pub use fixed_codecs::{Fixed, SignedFixed};
+pub use kinds::{KindList, ScalarKind};
 pub use plain_codecs::{Flag, Raw, Unit, Utf8};
+pub use scalars::{Scalar, ScalarList};
