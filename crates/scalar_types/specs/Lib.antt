@@ -4,3 +4,4 @@ pub mod KindViews
 pub mod KindFalls
 pub mod ScalarViews
 pub mod ScalarFalls
+pub mod Escapes

@@ -4,7 +4,7 @@ ghost use Rattle.std.specs.Prelude.{◌≡◌, ◌≢◌, ℕ, List, ◌++◌, I
 ghost use Rattle.scalar_types.specs.Spelling.{Spells, IsSpelled, byte_order, OneValue};
 
 use outside::Memory;
-use std::alloc::{AllocError, Global};
+use std::alloc::{AllocError, AllocFailed, Global};
 use std::cmp::Ordering;
 
 /// Why bytes gave no value.
@@ -34,6 +34,17 @@ impl From<AllocError> for TakeFault {
     ghost from_gives = { λ _ fault. fault ≡ Memory };
 
     fn from(_error: AllocError) -> TakeFault {
+        TakeFault::Memory
+    }
+}
+
+impl<T: Drop> From<AllocFailed<T>> for TakeFault {
+    ghost use Rattle.std.specs.Prelude.{◌≡◌};
+    ghost use Rattle.scalar_types.specs.declared.codec.TakeFault.TheVariants.{Memory};
+
+    ghost from_gives = { λ _ fault. fault ≡ Memory };
+
+    fn from(_error: AllocFailed<T>) -> TakeFault {
         TakeFault::Memory
     }
 }

@@ -2,6 +2,7 @@
 #![tactic(auto)]
 
 mod codec;
+mod escapes;
 mod fixed_codecs;
 mod kinds;
 mod plain_codecs;
