@@ -75,6 +75,20 @@ unsigned_tail-room n h = by (unsigned_tail n) refl (unsigned_tail-bound n h)
             absurd (omega arith)
         last o (inr great) = let whole : k ≡ 8 = omega arith in subst (λ v. n < unsigned_room v) (sym whole) h
 
+-- a number with a shorter code has room
+unsigned_tail-reached : (k : ℕ) → k ≤ 8 → k ≤ unsigned_tail (unsigned_room k)
+unfolding unsigned_tail
+unsigned_tail-reached = upto_eight (λ k. k ≤ unsigned_tail (unsigned_room k)) (lit≤ tt) (lit≤ tt) (lit≤ tt) (lit≤ tt) (lit≤ tt) (lit≤ tt) (lit≤ tt) (lit≤ tt) (lit≤ tt)
+
+pub unsigned_tail-below : (k n : ℕ) → k ≤ 8 → unsigned_tail n < k → n < unsigned_room k
+unsigned_tail-below k n h l = elim (cases_lt n (unsigned_room k)) [
+  | inl o ↦ o
+  | inr o ↦ let reached : k ≤ unsigned_tail (unsigned_room k) = unsigned_tail-reached k h in let more : unsigned_tail (unsigned_room k) ≤ unsigned_tail n = unsigned_tail-le (unsigned_room k) n o in absurd (omega arith)
+]
+
+pub unsigned_room-most : (k : ℕ) → k ≤ 8 → unsigned_room k ≤ 2 ^ 64
+unsigned_room-most = upto_eight (λ k. unsigned_room k ≤ 2 ^ 64) (lit≤ tt) (lit≤ tt) (lit≤ tt) (lit≤ tt) (lit≤ tt) (lit≤ tt) (lit≤ tt) (lit≤ tt) (lit≤ tt)
+
 -- ---- which signed number has which length; from 0 on
 
 pub natural_tail-le : (m n : ℕ) → m ≤ n → natural_tail m ≤ natural_tail n
@@ -93,7 +107,7 @@ unfolding natural_tail
 natural_tail-first = upto_eight (λ k. k < 7 → k < natural_tail (natural_room k)) (λ h. lit< tt) (λ h. lit< tt) (λ h. lit< tt) (λ h. lit< tt) (λ h. lit< tt) (λ h. lit< tt) (λ h. lit< tt) (λ h. absurd (omega arith)) (λ h. absurd (omega arith))
 
 -- from the last limit on
-natural_tail-whole : natural_tail (2 ^ 48) ≡ 8
+pub natural_tail-whole : natural_tail (2 ^ 48) ≡ 8
 unfolding natural_tail
 natural_tail-whole = refl
 
@@ -125,6 +139,19 @@ natural_tail-room n h = by (natural_tail n) refl (natural_tail-length n h)
           absurd (omega arith)
     ]
     by k e (inr whole) = subst (λ v. n < natural_room v) (sym whole) h
+
+natural_tail-reached : (k : ℕ) → k ≤ 8 → k ≤ natural_tail (natural_room k)
+unfolding natural_tail
+natural_tail-reached = upto_eight (λ k. k ≤ natural_tail (natural_room k)) (lit≤ tt) (lit≤ tt) (lit≤ tt) (lit≤ tt) (lit≤ tt) (lit≤ tt) (lit≤ tt) (lit≤ tt) (lit≤ tt)
+
+pub natural_tail-below : (k n : ℕ) → k ≤ 8 → natural_tail n < k → n < natural_room k
+natural_tail-below k n h l = elim (cases_lt n (natural_room k)) [
+  | inl o ↦ o
+  | inr o ↦ let reached : k ≤ natural_tail (natural_room k) = natural_tail-reached k h in let more : natural_tail (natural_room k) ≤ natural_tail n = natural_tail-le (natural_room k) n o in absurd (omega arith)
+]
+
+pub natural_room-most : (k : ℕ) → k ≤ 8 → natural_room k ≤ 2 ^ 64
+natural_room-most = upto_eight (λ k. natural_room k ≤ 2 ^ 64) (lit≤ tt) (lit≤ tt) (lit≤ tt) (lit≤ tt) (lit≤ tt) (lit≤ tt) (lit≤ tt) (lit≤ tt) (lit≤ tt)
 
 -- ---- the order of codes
 
@@ -189,14 +216,13 @@ module _ (top width tail : ℕ → ℕ) (family : Family top width tail) (f : �
 half : (i : ℕ) → 2 ^ suc i ≡ 2 * 2 ^ i
 half i = let e : 2 ^ suc i ≡ 2 ^ i * 2 = pow-suc 2 i in omega arith
 
-powers : (i j : ℕ) → i ≤ j → 2 ^ i ≤ 2 ^ j
+pub powers : (i j : ℕ) → i ≤ j → 2 ^ i ≤ 2 ^ j
 powers i j h = pow-le-pow_right (lit< tt) h
 
-unsigned_first : ℕ → ℕ
+abbrev pub unsigned_first : ℕ → ℕ
 unsigned_first k = 256 - 2 ^ (8 - k)
 
-unsigned_rises : (j k : ℕ) → k ≤ 8 → j < k → unsigned_first j + 2 ^ (7 - j) ≤ unsigned_first k
-unfolding unsigned_first
+pub unsigned_rises : (j k : ℕ) → k ≤ 8 → j < k → unsigned_first j + 2 ^ (7 - j) ≤ unsigned_first k
 unsigned_rises j k hk h =
     let step : 8 - j ≡ suc (7 - j) = omega arith in
     let double : 2 ^ (8 - j) ≡ 2 * 2 ^ (7 - j) = ap (λ v. 2 ^ v) step ∙ half (7 - j) in
@@ -204,8 +230,7 @@ unsigned_rises j k hk h =
     let next : 2 ^ (8 - k) ≤ 2 ^ (7 - j) = powers (8 - k) (7 - j) (omega arith) in
     omega arith
 
-unsigned_bytes : (k : ℕ) → k ≤ 8 → unsigned_first k + 2 ^ (7 - k) ≤ 256
-unfolding unsigned_first
+pub unsigned_bytes : (k : ℕ) → k ≤ 8 → unsigned_first k + 2 ^ (7 - k) ≤ 256
 unsigned_bytes = upto_eight (λ k. unsigned_first k + 2 ^ (7 - k) ≤ 256) (lit≤ tt) (lit≤ tt) (lit≤ tt) (lit≤ tt) (lit≤ tt) (lit≤ tt) (lit≤ tt) (lit≤ tt) (lit≤ tt)
 
 unsigned_family : Family unsigned_first (λ k. 2 ^ (7 - k)) unsigned_tail
@@ -216,11 +241,10 @@ unsigned_family = record {
   order = unsigned_tail-le;
 }
 
-natural_first : ℕ → ℕ
+abbrev pub natural_first : ℕ → ℕ
 natural_first k = 256 - 2 ^ (7 - k)
 
-natural_rises : (j k : ℕ) → j < 7 → k ≤ 8 → j < k → natural_first j + 2 ^ (6 - j) ≤ natural_first k
-unfolding natural_first
+pub natural_rises : (j k : ℕ) → j < 7 → k ≤ 8 → j < k → natural_first j + 2 ^ (6 - j) ≤ natural_first k
 natural_rises j k hj hk h =
     let step : 7 - j ≡ suc (6 - j) = omega arith in
     let double : 2 ^ (7 - j) ≡ 2 * 2 ^ (6 - j) = ap (λ v. 2 ^ v) step ∙ half (6 - j) in
@@ -228,8 +252,7 @@ natural_rises j k hj hk h =
     let next : 2 ^ (7 - k) ≤ 2 ^ (6 - j) = powers (7 - k) (6 - j) (omega arith) in
     omega arith
 
-natural_bytes : (k : ℕ) → k ≤ 8 → natural_first k + 2 ^ (6 - k) ≤ 256
-unfolding natural_first
+pub natural_bytes : (k : ℕ) → k ≤ 8 → natural_first k + 2 ^ (6 - k) ≤ 256
 natural_bytes = upto_eight (λ k. natural_first k + 2 ^ (6 - k) ≤ 256) (lit≤ tt) (lit≤ tt) (lit≤ tt) (lit≤ tt) (lit≤ tt) (lit≤ tt) (lit≤ tt) (lit≤ tt) (lit≤ tt)
 
 pub natural_tail-bound : (n : ℕ) → n < 2 ^ 64 → natural_tail n ≤ 8
@@ -249,7 +272,7 @@ natural_family = record {
 -- The order of two unsigned varints is that of the numbers, and where these are equal that of what follows.
 pub unsigned_varint-order : (m n : ℕ) (s t : List ℕ) → m < 2 ^ 64 → n < 2 ^ 64
     → slice_cmp nat_cmp (unsigned_varint m ++ s) (unsigned_varint n ++ t) ≡ ordering_then (nat_cmp m n) (slice_cmp nat_cmp s t)
-unfolding unsigned_varint unsigned_form unsigned_first code first_of
+unfolding unsigned_varint unsigned_form code first_of
 unsigned_varint-order m n s t hm hn =
     subst₂ (λ a b. slice_cmp nat_cmp (a ++ s) (b ++ t) ≡ ordering_then (nat_cmp m n) (slice_cmp nat_cmp s t)) (map-id (unsigned_varint m)) (map-id (unsigned_varint n))
     (codes-order unsigned_first (λ k. 2 ^ (7 - k)) unsigned_tail unsigned_family (λ b. b) (λ o. o) keeps m n s t hm hn)
@@ -259,17 +282,17 @@ natural_varint n = natural_form (natural_tail n) n
 
 natural_varint-order : (m n : ℕ) (s t : List ℕ) → m < 2 ^ 64 → n < 2 ^ 64
     → slice_cmp nat_cmp (natural_varint m ++ s) (natural_varint n ++ t) ≡ ordering_then (nat_cmp m n) (slice_cmp nat_cmp s t)
-unfolding natural_varint natural_form natural_first code first_of
+unfolding natural_varint natural_form code first_of
 natural_varint-order m n s t hm hn =
     subst₂ (λ a b. slice_cmp nat_cmp (a ++ s) (b ++ t) ≡ ordering_then (nat_cmp m n) (slice_cmp nat_cmp s t)) (map-id (natural_varint m)) (map-id (natural_varint n))
     (codes-order natural_first (λ k. 2 ^ (6 - k)) natural_tail natural_family (λ b. b) (λ o. o) keeps m n s t hm hn)
 
 negative_varint-order : (m n : ℕ) (s t : List ℕ) → m < 2 ^ 64 → n < 2 ^ 64
     → slice_cmp nat_cmp (complement (natural_varint m) ++ s) (complement (natural_varint n) ++ t) ≡ ordering_then (ordering_reverse (nat_cmp m n)) (slice_cmp nat_cmp s t)
-unfolding natural_varint natural_form natural_first complement code first_of
+unfolding natural_varint natural_form complement code first_of
 negative_varint-order = codes-order natural_first (λ k. 2 ^ (6 - k)) natural_tail natural_family (λ b. 255 - b) ordering_reverse reverses
 
-wide : (n : ℕ) → n < 2 ^ 63 → n < 2 ^ 64
+pub wide : (n : ℕ) → n < 2 ^ 63 → n < 2 ^ 64
 wide n h = omega arith
 
 int_cmp-from_zero : (m n : ℕ) → int_cmp (pos m) (pos n) ≡ nat_cmp m n
@@ -284,14 +307,13 @@ int_cmp-below_zero m n = sym (by (nat_cmp m n) (ranks m n))
     by Greater h = grind (arith, nat_tests)
 
 -- the first byte of the code of a number from 0 on has its top bit set
-natural_high : (n : ℕ) → 128 ≤ natural_first (natural_tail n) + n / 256 ^ natural_tail n
-unfolding natural_first
+pub natural_high : (n : ℕ) → 128 ≤ natural_first (natural_tail n) + n / 256 ^ natural_tail n
 natural_high n = let most : 2 ^ (7 - natural_tail n) ≤ 2 ^ 7 = powers (7 - natural_tail n) 7 (omega arith) in omega arith
 
 -- the order of two signed varints, likewise
 pub signed_varint-order : (y z : ℤ) (s t : List ℕ) → FitsSigned w64 y → FitsSigned w64 z
     → slice_cmp nat_cmp (signed_varint y ++ s) (signed_varint z ++ t) ≡ ordering_then (int_cmp y z) (slice_cmp nat_cmp s t)
-unfolding signed_varint signed_form signed_tail natural_varint natural_form complement natural_first
+unfolding signed_varint signed_form signed_tail natural_varint natural_form complement
 signed_varint-order (pos m) (pos n) s t hm hn =
     natural_varint-order m n s t (wide m hm.sfits) (wide n hn.sfits) ∙ ap (λ r. ordering_then r (slice_cmp nat_cmp s t)) (sym (int_cmp-from_zero m n))
 signed_varint-order (negsuc m) (negsuc n) s t hm hn =
@@ -307,7 +329,7 @@ signed_varint-order (negsuc m) (pos n) s t hm hn =
 
 -- ---- no code begins another, and each number has one code
 
-tied : (r o : Ordering) → ordering_then r o ≡ Equal → r ≡ Equal
+pub tied : (r o : Ordering) → ordering_then r o ≡ Equal → r ≡ Equal
 tied Less o e = cc
 tied Equal o e = refl
 tied Greater o e = cc

@@ -1,3 +1,2 @@
-// Definitions and laws of atoms, varints, kinds, paths and contexts, and no code. They stand in `specs/`, and what is
-// proved of them in `proofs/`. The crates above cite both.
+// What contracts say of atoms and contexts: definitions in specs/, and their laws in proofs/. There is no code.
 #![tactic(auto)]

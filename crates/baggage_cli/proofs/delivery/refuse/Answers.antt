@@ -1,0 +1,5 @@
+use Rattle.std.proofs.Common.{inl}
+use Rattle.baggage_cli.proofs.delivery.refuse.Goals as goal
+
+pub returns-in-SourceFailed : goal.returns-in-SourceFailed
+returns-in-SourceFailed g c = rw c.in-SourceFailed.is (inl c.tell.ensures)

@@ -1,0 +1,34 @@
+-- The status and the line of each refusal.
+use Rattle.std.specs.Prelude.{ℕ, List, [], ◌∷◌, ◌++◌, codes}
+use Rattle.std.specs.Fmt.{decimal}
+use Rattle.context_model.specs.ByteCodes.{code_name}
+use Rattle.wire_bytes.specs.Codes.{code_of}
+use Rattle.baggage_cli.specs.declared.refusals.InputCode.{InputCode}
+use Rattle.baggage_cli.specs.declared.refusals.InputCode.TheVariants.{Unread}
+use Rattle.baggage_cli.specs.declared.refusals.Refusal.{Refusal}
+use Rattle.baggage_cli.specs.declared.refusals.Refusal.TheVariants.{Input, Wire, SourceFailed, Memory}
+
+-- The name of a code, as it is printed.
+abbrev pub input_name : InputCode → List ℕ
+input_name Unread = codes "Unread"
+
+-- The status that the program ends with.
+abbrev pub status_of : Refusal → ℕ
+status_of (Input line code) = 2
+status_of (Wire line offset code) = 3
+status_of SourceFailed = 4
+status_of Memory = 6
+
+-- The line that is written to the sink of errors.
+abbrev pub line_of : Refusal → List ℕ
+line_of (Input line code) = codes "input line " ++ (decimal line ++ (codes " " ++ (input_name code ++ 10 ∷ [])))
+line_of (Wire line offset code) = codes "context line " ++ (decimal line ++ (codes " offset " ++ (decimal offset ++ (codes " " ++ (code_name (code_of code) ++ 10 ∷ [])))))
+line_of SourceFailed = codes "source failed" ++ 10 ∷ []
+line_of Memory = codes "memory" ++ 10 ∷ []
+
+-- The lines of the refusals that aren't a command's: the output couldn't be written, and the words have no form.
+abbrev pub sink_failed_line : List ℕ
+sink_failed_line = codes "sink failed" ++ 10 ∷ []
+
+abbrev pub words_refused_line : List ℕ
+words_refused_line = codes "words refused" ++ 10 ∷ []

@@ -1,0 +1,48 @@
+-- The objects of a call, before it and after it.
+use Rattle.std.specs.Prelude.{◌≡◌, ℕ, List, Option, Some, None, IfSome}
+use Rattle.std.specs.Io.KnownBytes.{Appends}
+use Rattle.outside.specs.Causes.{Rose}
+use Rattle.outside.specs.Told.{AppendsPart}
+
+-- What an object tells of its content, and its count of faults, before and after.
+pub record Change (A : Type 0) : Type 0 where
+  pub before : Option A
+  pub after : Option A
+  pub faults_before : ℕ
+  pub faults_after : ℕ
+
+-- The change of an object from the old to the new.
+abbrev pub change : {A S : Type 0} → (S → Option A) → (S → ℕ) → S → S → Change A
+change content faults old new = record {
+    before = content old;
+    after = content new;
+    faults_before = faults old;
+    faults_after = faults new;
+  }
+
+-- The four objects of a call.
+pub record Scene : Type 0 where
+  pub library : Change (List ℕ → Option (List ℕ))
+  pub source : Change (List ℕ)
+  pub out : Change (List ℕ)
+  pub errs : Change (List ℕ)
+
+-- Nothing was done to it.
+abbrev pub IsSame : {A : Type 0} → Change A → Type 0
+IsSame c = (c.after ≡ c.before) × (c.faults_after ≡ c.faults_before)
+
+-- It counted a fault in this call.
+abbrev pub HasFailed : {A : Type 0} → Change A → Type 0
+HasFailed c = Rose c.faults_before c.faults_after
+
+-- This was its content; where it doesn't tell, any content is as good.
+abbrev pub Held : {A : Type 0} → Change A → A → Type 0
+Held c content = IfSome c.before (λ told. told ≡ content)
+
+-- The bytes were appended to it.
+abbrev pub Takes : Change (List ℕ) → List ℕ → Type 0
+Takes c bytes = Appends c.before c.after bytes
+
+-- It failed, and a front of the bytes was appended to it.
+abbrev pub TakesPart : Change (List ℕ) → List ℕ → Type 0
+TakesPart c bytes = HasFailed c × AppendsPart c.before c.after bytes

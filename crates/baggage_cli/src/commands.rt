@@ -1,0 +1,42 @@
+//! What the words of a command line ask for.
+
+ghost use Rattle.std.specs.Prelude.{◌≡◌, ◌<◌, IfSome};
+ghost use Rattle.baggage_cli.specs.Asked.{asked, number_of, IsSound};
+
+use outside::Words;
+
+/// A command with its numbers. Names of files and bags stay in the words, so a command takes no memory.
+#[derive(Clone, Copy, Debug, PartialEq, Eq)]
+pub enum Command {
+    /// Cut one line of atoms to a budget of bytes.
+    Trim { budget: u32 },
+}
+
+/// A number from 1 to 4,294,967,295, without sign or leading zero.
+#[tactic(auto, unfolding(crate::specs::Asked::number_of))]
+fn read_number(word: &str) -> Option<u32>
+    ensures { result ≡ number_of word.now }
+{
+    let first = *word.as_bytes().first()?;
+    if first == b'0' || first == b'+' {
+        return None;
+    }
+    word.parse::<u32>().ok()
+}
+
+/// The command that the words ask for; `None` where they have no form.
+#[tactic(auto, unfolding(crate::specs::Asked::asked, crate::specs::Asked::number_of))]
+pub fn command_of(words: &Words) -> Option<Command>
+    ensures command { result ≡ asked words.now }
+    ensures sound { IfSome result IsSound }
+{
+    if words.len() != 2 {
+        return None;
+    }
+    let (name, word) = (words.get(0)?, words.get(1)?);
+    if name.as_str() != "trim" {
+        return None;
+    }
+    let budget = read_number(word.as_str())?;
+    Some(Command::Trim { budget })
+}

@@ -1,0 +1,83 @@
+//! Why a command gives no output.
+
+ghost use Rattle.std.specs.Prelude.{◌≡◌, IfOk, string_bytes};
+ghost use Rattle.baggage_cli.specs.Refused.{status_of, line_of};
+
+use outside::Memory;
+use std::alloc::Global;
+use std::fmt;
+use wire_bytes::WireCode;
+
+/// What is wrong with an input.
+#[derive(Clone, Copy, Debug, PartialEq, Eq)]
+pub enum InputCode {
+    /// The input isn't one line of hexadecimal digits within the limit.
+    Unread,
+}
+
+/// Why a command gives no output.
+#[derive(Clone, Copy, Debug, PartialEq, Eq)]
+pub enum Refusal {
+    /// A line of the input is bad. Line 0 is the input as a whole.
+    Input { line: u64, code: InputCode },
+    /// The bytes of a line aren't those of a list.
+    Wire {
+        line: u64,
+        offset: usize,
+        code: WireCode,
+    },
+    /// The source counted a fault.
+    SourceFailed,
+    /// There is no memory for the work.
+    Memory,
+}
+
+impl fmt::Display for InputCode {
+    ghost use Rattle.std.specs.Prelude.{Some};
+    ghost use Rattle.baggage_cli.specs.Refused.{input_name};
+
+    ghost output = { λ code. Some (input_name code) };
+
+    fn fmt<W: fmt::Write>(&self, f: &mut fmt::Formatter<W>) -> fmt::Result {
+        match self {
+            InputCode::Unread => write!(f, "Unread"),
+        }
+    }
+}
+
+impl From<Memory> for Refusal {
+    ghost use Rattle.std.specs.Prelude.{◌≡◌};
+    ghost use Rattle.baggage_cli.specs.declared.refusals.Refusal.TheVariants.{Memory};
+
+    ghost from_gives = { λ _ refusal. refusal ≡ Memory };
+
+    fn from(_want: Memory) -> Refusal {
+        Refusal::Memory
+    }
+}
+
+impl Refusal {
+    /// The status that the program ends with.
+    pub fn status(&self) -> u8
+        ensures { result ≡ status_of self.now }
+    {
+        match self {
+            Refusal::Input { .. } => 2,
+            Refusal::Wire { .. } => 3,
+            Refusal::SourceFailed => 4,
+            Refusal::Memory => 6,
+        }
+    }
+
+    /// The line that is written to the sink of errors.
+    pub fn line(&self, alloc: Global) -> Result<String, Memory>
+        ensures { IfOk result (λ line. string_bytes line ≡ line_of self.now) }
+    {
+        match self {
+            Refusal::Input { line, code } => Ok(format!(in alloc; "input line {line} {code}\n")?),
+            Refusal::Wire { line, offset, code } => Ok(format!(in alloc; "context line {line} offset {offset} {code}\n")?),
+            Refusal::SourceFailed => Ok(String::from_str(alloc, "source failed\n")?),
+            Refusal::Memory => Ok(String::from_str(alloc, "memory\n")?),
+        }
+    }
+}

@@ -1,0 +1,95 @@
+//! The one call that does all that the program does.
+
+ghost use Rattle.std.specs.Prelude.{◌≡◌, ◌≢◌, ◌⊎◌, ℕ, ◌<◌, List, Some, None, Ok, Err, IfOk, IfErr, string_bytes};
+ghost use Rattle.std.specs.Io.KnownBytes.{Appends, IsAtEnd};
+ghost use Rattle.outside.specs.Causes.{Rose};
+ghost use Rattle.context_model.specs.Atoms.{AreAtoms};
+ghost use Rattle.context_model.specs.Framing.{bytes_of};
+ghost use Rattle.context_model.specs.Trimmed.{trimmed};
+ghost use Rattle.baggage_cli.specs.Asked.{asked, IsSound, ReadsSource};
+ghost use Rattle.baggage_cli.specs.HexLine.{hex_line, line_bytes};
+ghost use Rattle.baggage_cli.specs.Scene.{change};
+ghost use Rattle.baggage_cli.specs.Answer.{Comes, Answers};
+
+use crate::commands::{Command, command_of};
+use crate::delivery::{deliver, refuse, tell};
+use crate::refusals::Refusal;
+use crate::trimming::trim_source;
+use outside::{Gate, Library, Sink, Source, Words};
+use std::alloc::Global;
+use std::thread::Threads;
+
+/// Carries a command out: its output, or why there is none.
+fn carry_out<L: Library, S: Source>(alloc: Global, command: Command, words: &Words, library: &mut L, source: &mut S) -> Result<String, Refusal>
+    requires { IsSound command }
+    ensures ok { IfOk result (λ output. Comes words.now command (change L.files L.faults library.old library.new) (change S.left S.faults source.old source.new) (Ok (string_bytes output))) }
+    ensures err { IfErr result (λ refusal. Comes words.now command (change L.files L.faults library.old library.new) (change S.left S.faults source.old source.new) (Err refusal)) }
+{
+    match command {
+        Command::Trim { budget } => trim_source(alloc, source, budget),
+    }
+}
+
+/// Carries a command out and delivers what it comes to.
+fn answer_command<L: Library, S: Source, K: Sink, E: Sink>(alloc: Global, command: Command, words: &Words, library: &mut L, source: &mut S, out: &mut K, errs: &mut E) -> u8
+    requires { IsSound command }
+    ensures { Answers words.now (Some command) (record {
+      library = change L.files L.faults library.old library.new;
+      source = change S.left S.faults source.old source.new;
+      out = change K.written K.faults out.old out.new;
+      errs = change E.written E.faults errs.old errs.new;
+    }) result }
+{
+    match carry_out(alloc, command, words, library, source) {
+        Ok(output) => deliver(out, errs, output.as_bytes()),
+        Err(refusal) => refuse(alloc, errs, &refusal),
+    }
+}
+
+/// Decides the words, carries their command out and delivers what it comes to.
+fn answer_words<L: Library, S: Source, K: Sink, E: Sink>(alloc: Global, words: &Words, library: &mut L, source: &mut S, out: &mut K, errs: &mut E) -> u8
+    ensures { Answers words.now (asked words.now) (record {
+      library = change L.files L.faults library.old library.new;
+      source = change S.left S.faults source.old source.new;
+      out = change K.written K.faults out.old out.new;
+      errs = change E.written E.faults errs.old errs.new;
+    }) result }
+{
+    match command_of(words) {
+        Some(command) => answer_command(alloc, command, words, library, source, out, errs),
+        None => tell(errs, b"words refused\n", 7),
+    }
+}
+
+/// All that the program does: decides the words, carries their command out, and writes its output to `out` or the line of its
+/// refusal to `errs`. The answer is the status that the program ends with.
+///
+/// `trim N` reads one line of hexadecimal digits from the source, which frames a list of atoms, and writes the line of the
+/// list trimmed to `N` bytes.
+pub fn baggage_top<R: Threads + Sync, G: Gate, L: Library, S: Source, K: Sink, E: Sink>(_rt: &R, alloc: Global, _gate: &G, words: &Words, library: &mut L, source: &mut S, out: &mut K, errs: &mut E) -> u8
+    // Exactly what the call comes to, and how it is delivered.
+    ensures answer { Answers words.now (asked words.now) (record {
+      library = change L.files L.faults library.old library.new;
+      source = change S.left S.faults source.old source.new;
+      out = change K.written K.faults out.old out.new;
+      errs = change E.written E.faults errs.old errs.new;
+    }) result }
+
+    // What follows from it, command by command.
+    ensures trim { (budget : ℕ) (input : List ℕ) (list : List (List ℕ)) → asked words.now ≡ Some (Command.Trim budget) → S.left source.old ≡ Some input → AreAtoms list → line_bytes input ≡ Some (bytes_of list)
+        → result ≡ 0 → Appends (K.written out.old) (K.written out.new) (hex_line (bytes_of (trimmed list budget))) }
+
+    // What each status says of the objects.
+    ensures errs { result ≡ 0 → E.written errs.new ≡ E.written errs.old }
+    ensures ended { (command : Command) → asked words.now ≡ Some command → ReadsSource command → result ≡ 0 → IsAtEnd (S.left source.new) }
+    ensures quiet { result ≢ 0 → result ≢ 5 → K.written out.new ≡ K.written out.old }
+    ensures words { result ≡ 7 → asked words.now ≡ None }
+    ensures failed { result ≡ 4 → Rose (L.faults library.old) (L.faults library.new) ⊎ Rose (S.faults source.old) (S.faults source.new) }
+    ensures sink_failed { result ≡ 5 → Rose (K.faults out.old) (K.faults out.new) ⊎ Rose (E.faults errs.old) (E.faults errs.new) }
+
+    // A good input and no count that rose leave only success and want of memory.
+    ensures complete { (budget : ℕ) (input : List ℕ) (list : List (List ℕ)) → asked words.now ≡ Some (Command.Trim budget) → S.left source.old ≡ Some input → AreAtoms list → line_bytes input ≡ Some (bytes_of list)
+        → ¬ (Rose (S.faults source.old) (S.faults source.new)) → ¬ (Rose (K.faults out.old) (K.faults out.new)) → ¬ (Rose (E.faults errs.old) (E.faults errs.new)) → (result ≡ 0) ⊎ (result ≡ 6) }
+{
+    answer_words(alloc, words, library, source, out, errs)
+}

@@ -1,0 +1,37 @@
+-- A list that is cut to a budget of bytes, with a marker where something was cut off.
+use Rattle.std.specs.Prelude.{◌≡◌, ℕ, ◌+◌, ◌<◌, ◌≤◌, zero, suc, Bool, List, [], ◌∷◌, ◌++◌, length, take, min, nat_le, if◌then◌else◌}
+use Rattle.context_model.specs.Atoms.{Atom}
+use Rattle.context_model.specs.Framing.{size_of}
+
+-- The first n atoms, and a marker behind them.
+abbrev pub cut_at : ℕ → List Atom → List Atom
+cut_at n list = take n list ++ [] ∷ []
+
+-- The greatest number up to n that passes the test, and 0 where none from 1 on does.
+abbrev pub greatest : (ℕ → Bool) → ℕ → ℕ
+greatest test zero = 0
+greatest test (suc n) = if test (suc n) then suc n else greatest test n
+
+-- How many atoms stay: all of them where the list fits the budget, and otherwise as many as fit with a marker behind them.
+unfoldable pub kept_of : List Atom → ℕ → ℕ
+kept_of list budget =
+    if nat_le (size_of list) budget then length list
+    else greatest (λ n. nat_le (size_of (cut_at n list)) budget) (length list)
+
+-- The list where it fits the budget, and otherwise the atoms that stay and a marker.
+unfoldable pub trimmed : List Atom → ℕ → List Atom
+trimmed list budget = if nat_le (size_of list) budget then list else cut_at (kept_of list budget) list
+
+-- So many first atoms, and not all, fit the budget with a marker behind them, and no more do.
+pub record IsLongestFit (list : List Atom) (budget keep : ℕ) : Type 0 where
+  pub within : keep < length list
+  pub fits : size_of (cut_at keep list) ≤ budget
+  pub longest : (n : ℕ) → n ≤ length list → size_of (cut_at n list) ≤ budget → n ≤ keep
+
+-- A list that doesn't fit keeps its longest front that fits with a marker behind it.
+abbrev pub KeepsLongest : Type 0
+KeepsLongest = (list : List Atom) (budget : ℕ) → 0 < budget → budget < size_of list → IsLongestFit list budget (kept_of list budget)
+
+-- To trim to one budget and then to another is to trim to the lesser of the two.
+abbrev pub CutsOnce : Type 0
+CutsOnce = (list : List Atom) (a b : ℕ) → 0 < a → 0 < b → trimmed (trimmed list a) b ≡ trimmed list (min a b)

@@ -1,0 +1,67 @@
+-- The first fault of bytes that aren't those of a list: where the longest front that is a list ends, and why it ends there.
+use Rattle.std.specs.Prelude.{◌≡◌, ℕ, ◌+◌, ◌-◌, ◌*◌, ◌%◌, ◌<◌, ◌≤◌, Bool, ◌==◌, ◌&&◌, ◌||◌, List, [], ◌∷◌, length, take, drop, slice_index, nat_lt, nat_le, if◌then◌else◌, Option, Some, None}
+use Rattle.std.specs.List.{list_all}
+use Rattle.context_model.specs.Atoms.{Atom, AreAtoms}
+use Rattle.context_model.specs.Framing.{bytes_of, IsFramed}
+use Rattle.context_model.specs.ByteCodes.{ByteCode}
+use Rattle.context_model.specs.ByteCodes.ByteCode.{CutLength, AtomTooLong, LongForm, CutBody}
+
+-- The bytes up to the first whose top bit isn't set, or all of them.
+abbrev pub through_last : List ℕ → List ℕ
+through_last [] = []
+through_last (b ∷ bytes) = if nat_lt b 128 then b ∷ [] else b ∷ through_last bytes
+
+-- The bytes of the length at the front, at most three.
+unfoldable pub length_front : List ℕ → List ℕ
+length_front bytes = through_last (take 3 bytes)
+
+-- The number that the bytes of a length say, in base 128, the least significant group first.
+abbrev pub length_said : List ℕ → ℕ
+length_said [] = 0
+length_said (b ∷ bytes) = b % 128 + 128 * length_said bytes
+
+-- Each byte has its top bit set, so another ought to follow.
+abbrev pub is_open : List ℕ → Bool
+is_open bytes = list_all (λ b. nat_le 128 b) bytes
+
+-- The input ends inside the length.
+abbrev pub cuts_length : List ℕ → Bool
+cuts_length bytes = nat_lt (length (length_front bytes)) 3 && is_open (length_front bytes)
+
+-- The third byte of the length has its top bit set, or the length is above 65,535.
+abbrev pub is_too_long : List ℕ → Bool
+is_too_long bytes = is_open (length_front bytes) || nat_lt 65535 (length_said (length_front bytes))
+
+-- The length has more than one byte, and its last byte is 0.
+abbrev pub is_long_form : List ℕ → Bool
+is_long_form bytes = nat_lt 1 (length (length_front bytes)) && (slice_index (length_front bytes) (length (length_front bytes) - 1) == 0)
+
+-- Fewer bytes follow than the length says.
+abbrev pub cuts_body : List ℕ → Bool
+cuts_body bytes = nat_lt (length (drop (length (length_front bytes)) bytes)) (length_said (length_front bytes))
+
+-- What is wrong with the atom that begins here: the first of these that applies.
+unfoldable pub wire_code : List ℕ → Option ByteCode
+wire_code bytes =
+    if cuts_length bytes then Some CutLength
+    else if is_too_long bytes then Some AtomTooLong
+    else if is_long_form bytes then Some LongForm
+    else if cuts_body bytes then Some CutBody
+    else None
+
+-- The longest front that is the bytes of a list ends before the input does, and this is wrong with what follows.
+pub record IsFirstWireFault (bytes : List ℕ) (offset : ℕ) (code : ByteCode) : Type 0 where
+  pub within : offset < length bytes
+  pub framed : IsFramed (take offset bytes)
+  pub longest : (n : ℕ) → n ≤ length bytes → IsFramed (take n bytes) → n ≤ offset
+  pub applies : wire_code (drop offset bytes) ≡ Some code
+
+-- Bytes are those of at most one list, have at most one first fault, and never both.
+pub record HasOneReading (bytes : List ℕ) : Type 0 where
+  pub list : (a b : List Atom) → AreAtoms a → AreAtoms b → bytes ≡ bytes_of a → bytes ≡ bytes_of b → a ≡ b
+  pub fault : (i j : ℕ) (c d : ByteCode) → IsFirstWireFault bytes i c → IsFirstWireFault bytes j d → (i ≡ j) × (c ≡ d)
+  pub either : (list : List Atom) (offset : ℕ) (code : ByteCode) → AreAtoms list → bytes ≡ bytes_of list → IsFirstWireFault bytes offset code → ⊥
+
+-- All bytes read in one way.
+abbrev pub ReadsOneWay : Type 0
+ReadsOneWay = (bytes : List ℕ) → HasOneReading bytes

@@ -1,0 +1,87 @@
+-- What the count of ones at the front of a byte says of the byte.
+use Rattle.std.proofs.Common.{◌≡◌, ℕ, suc, ◌+◌, ◌-◌, ◌*◌, ◌^◌, ◌<◌, ◌≤◌, [], ◌∷◌, get_or, cond, eqb, eq-eqb, ne_eqb, sym, refl, ap, ◌∙◌, subst, arith, inl, inr, ◌⊎◌}
+use Rattle.std.specs.Int.{leading_ones, w8}
+use Rattle.std.proofs.lemmas.Nat.{leading_top}
+use Rattle.std.proofs.lemmas.Bool.{cases_lt, cases_order, cases_eq}
+use Rattle.std.proofs.Math.Nat.{pow-suc}
+use lib.Count.{count_leading_zeros}
+use Rattle.context_model.proofs.VarintLaws.{upto_eight, powers, unsigned_first, unsigned_rises, natural_first}
+use Rattle.lex_varint.specs.Fronts.{natural_follows}
+
+-- the byte lies where bytes with so many ones at their front lie
+pub record HasOnes (b k : ℕ) : Type 0 where
+  pub most : k ≤ 8
+  pub low : unsigned_first k ≤ b
+  pub high : b < unsigned_first k + 2 ^ (7 - k)
+
+all_ones : count_leading_zeros 8 0 ≡ 8
+unfolding count_leading_zeros
+all_ones = refl
+
+pub HasOnes-leading : (b : ℕ) → b < 256 → HasOnes b (leading_ones w8 b)
+HasOnes-leading b h = elim (cases_lt b 255) [ inl o ↦ below o | inr o ↦ whole (omega arith) ]
+  where
+    whole : b ≡ 255 → HasOnes b (count_leading_zeros 8 (255 - b))
+    whole e = subst (λ v. HasOnes b v) (sym (ap (λ v. count_leading_zeros 8 (255 - v)) e ∙ all_ones)) (record { most = omega arith; low = omega arith; high = omega arith })
+
+    below : b < 255 → HasOnes b (count_leading_zeros 8 (255 - b))
+    below o = by (leading_top 8 (255 - b) (omega arith) (omega arith))
+      where
+        by : (j : ℕ) × (count_leading_zeros 8 (255 - b) + suc j ≡ 8) × (2 ^ j ≤ 255 - b) × (255 - b < 2 ^ suc j) → HasOnes b (count_leading_zeros 8 (255 - b))
+        by (j, e, low, high) =
+            let k : ℕ = count_leading_zeros 8 (255 - b) in
+            let seven : 7 - k ≡ j = omega arith in
+            let eight : 8 - k ≡ suc j = omega arith in
+            let small : 2 ^ (7 - k) ≡ 2 ^ j = ap (λ v. 2 ^ v) seven in
+            let great : 2 ^ (8 - k) ≡ 2 ^ suc j = ap (λ v. 2 ^ v) eight in
+            let double : 2 ^ suc j ≡ 2 ^ j * 2 = pow-suc 2 j in
+            let most : 2 ^ suc j ≤ 2 ^ 8 = powers (suc j) 8 (omega arith) in
+            record { most = omega arith; low = omega arith; high = omega arith }
+
+pub HasOnes-unique : (b j k : ℕ) → HasOnes b j → HasOnes b k → j ≡ k
+HasOnes-unique b j k f g = elim (cases_order j k) [
+  | inl e ↦ e
+  | inr (inl less) ↦ let rise : unsigned_first j + 2 ^ (7 - j) ≤ unsigned_first k = unsigned_rises j k g.most less in absurd (omega arith)
+  | inr (inr less) ↦ let rise : unsigned_first k + 2 ^ (7 - k) ≤ unsigned_first j = unsigned_rises k j f.most less in absurd (omega arith)
+]
+
+-- the same for the bytes that begin the codes of signed numbers from 0 on
+pub record HasNaturalOnes (b k : ℕ) : Type 0 where
+  pub most : (k < 7) ⊎ (k ≡ 8)
+  pub low : natural_first k ≤ b
+  pub high : b < natural_first k + 2 ^ (6 - k)
+
+pub HasNaturalOnes-follows : (b : ℕ) → b < 256 → 128 ≤ b → HasNaturalOnes b (natural_follows b)
+HasNaturalOnes-follows b h l = by (leading_ones w8 b) (HasOnes-leading b h)
+  where
+    by : (k : ℕ) → HasOnes b k → HasNaturalOnes b (cond (eqb k 8) 8 (k - 1))
+    by k o = elim (cases_eq k 8) [
+      | inl e ↦ subst (λ v. HasNaturalOnes b (cond v 8 (k - 1))) (sym (eq-eqb k 8 e))
+          (let eight : 2 ^ (8 - k) ≡ 2 ^ 0 = ap (λ v. 2 ^ (8 - v)) e in record { most = inr refl; low = omega arith; high = omega arith })
+      | inr n ↦ subst (λ v. HasNaturalOnes b (cond v 8 (k - 1))) (sym (ne_eqb k 8 n)) (short n (some o.high))
+    ]
+      where
+        some : b < unsigned_first k + 2 ^ (7 - k) → 0 < k
+        some high = elim (cases_eq k 0) [ inl e ↦ let zero_first : unsigned_first k + 2 ^ (7 - k) ≡ 128 = ap (λ v. unsigned_first v + 2 ^ (7 - v)) e in absurd (omega arith) | inr n ↦ omega arith ]
+
+        short : (k ≡ 8 → ⊥) → 0 < k → HasNaturalOnes b (k - 1)
+        short n some =
+            let most : k ≤ 8 = o.most in
+            let seven : 7 - (k - 1) ≡ 8 - k = omega arith in
+            let six : 6 - (k - 1) ≡ 7 - k = omega arith in
+            let great : 2 ^ (7 - (k - 1)) ≡ 2 ^ (8 - k) = ap (λ v. 2 ^ v) seven in
+            let small : 2 ^ (6 - (k - 1)) ≡ 2 ^ (7 - k) = ap (λ v. 2 ^ v) six in
+            record { most = inl (omega arith); low = omega (arith, o.low); high = omega (arith, o.high) }
+
+-- the table of bytes that begin with so many ones
+pub ones_at : (k : ℕ) → k ≤ 8 → get_or (0 ∷ 128 ∷ 192 ∷ 224 ∷ 240 ∷ 248 ∷ 252 ∷ 254 ∷ 255 ∷ []) k 0 ≡ unsigned_first k
+ones_at = upto_eight (λ k. get_or (0 ∷ 128 ∷ 192 ∷ 224 ∷ 240 ∷ 248 ∷ 252 ∷ 254 ∷ 255 ∷ []) k 0 ≡ unsigned_first k) refl refl refl refl refl refl refl refl refl
+
+pub ones_some : (b : ℕ) → b < 256 → 128 ≤ b → 1 ≤ leading_ones w8 b
+ones_some b h l = by (leading_ones w8 b) (HasOnes-leading b h)
+  where
+    by : (k : ℕ) → HasOnes b k → 1 ≤ k
+    by k o = elim (cases_eq k 0) [
+      | inl e ↦ let whole : unsigned_first k + 2 ^ (7 - k) ≡ 128 = ap (λ v. unsigned_first v + 2 ^ (7 - v)) e in absurd (omega (arith, o.high))
+      | inr n ↦ omega arith
+    ]

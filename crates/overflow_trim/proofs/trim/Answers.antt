@@ -1,0 +1,25 @@
+use Rattle.std.proofs.Common.{◌≡◌, ℕ, ◌<◌, ◌≤◌, List, length, ◌⊎◌, inl, inr, sym, ◌∙◌, ap, arith}
+use Rattle.std.proofs.lemmas.Bool.{cases_lt}
+use Rattle.context_model.specs.Framing.{size_of}
+use Rattle.context_model.specs.Trimmed.{cut_at, kept_of, trimmed}
+use Rattle.context_model.proofs.TrimmedLaws.{kept_of-fits, kept_of-all, trimmed-fits, trimmed-cut}
+use Rattle.overflow_trim.proofs.trim.Goals as goal
+
+-- Where fewer atoms stay the list doesn't fit.
+over : (list : List (List ℕ)) (budget keep : ℕ) → keep ≡ kept_of list budget → keep < length list → budget < size_of list
+over list budget keep is less = elim (cases_lt budget (size_of list)) [
+    inl more ↦ more
+  | inr fits ↦ (let all = kept_of-fits list budget fits in absurd (omega arith))
+  ]
+
+pub returns-then-keep-len : goal.returns-then-keep-len
+returns-then-keep-len c =
+    let list = c.args.list.now in
+    let more = over list c.args.budget c.kept-keep.result c.kept-keep.ensures (omega arith) in
+    c.cut_to_marker.ensures ∙ ap (λ n. cut_at n list) c.kept-keep.ensures ∙ sym (trimmed-cut list c.args.budget more)
+
+pub returns-else-keep-len : goal.returns-else-keep-len
+returns-else-keep-len c =
+    let list = c.args.list.now in
+    let all : length list ≤ kept_of list c.args.budget = omega arith in
+    sym (trimmed-fits list c.args.budget (kept_of-all list c.args.budget c.requires all))

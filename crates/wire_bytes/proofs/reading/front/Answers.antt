@@ -1,0 +1,10 @@
+use Rattle.std.proofs.Common.{◌≡◌, ◌+◌, ◌<◌, ◌≤◌, ◌++◌, length, List, ℕ, Some, ◌∙◌, ap, arith}
+use Rattle.std.proofs.lemmas.Bool.Decides.{nat_tests}
+use Rattle.context_model.specs.WireFault.{wire_code}
+use Rattle.context_model.proofs.Frames.{wire_code-length}
+use Rattle.wire_bytes.proofs.reading.front.Goals as goal
+
+pub returns-then-rest-len-clause-fault : goal.returns-then-rest-len-clause-fault
+returns-then-rest-len-clause-fault c =
+    let read = c.in_ok-len.ensures in
+    rw (read.found, wire_code-length c.in_ok-len.len c.in_ok-len.rest.now read.bound) (grind (arith, nat_tests))

@@ -1,0 +1,3 @@
+pub mod Codes
+pub use Rattle.context_model.specs.Framing
+pub use Rattle.context_model.specs.WireFault
