@@ -1,3 +1,4 @@
 pub mod FrontLaws
 pub mod ListOrder
 pub mod EscapeLaws
+pub mod VarintFronts

@@ -7,9 +7,11 @@ mod fixed_codecs;
 mod kinds;
 mod plain_codecs;
 mod scalars;
+mod varint_codecs;
 
 pub use codec::{Codec, TakeFault, respelled, round_trip};
 pub use fixed_codecs::{Fixed, SignedFixed};
 pub use kinds::{KindList, ScalarKind};
 pub use plain_codecs::{Flag, Raw, Unit, Utf8};
 pub use scalars::{Scalar, ScalarList};
+pub use varint_codecs::{LexI, LexU};
