@@ -5,3 +5,4 @@ pub mod KindFalls
 pub mod ScalarViews
 pub mod ScalarFalls
 pub mod Escapes
+pub mod WordCodecs

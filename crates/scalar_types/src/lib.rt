@@ -8,6 +8,7 @@ mod kinds;
 mod plain_codecs;
 mod scalars;
 mod varint_codecs;
+mod word_codecs;
 
 pub use codec::{Codec, TakeFault, respelled, round_trip};
 pub use fixed_codecs::{Fixed, SignedFixed};
