@@ -1,0 +1,4 @@
+pub mod Codes
+pub mod NumberCodes
+pub mod ScalarOrder
+pub mod SpellingOrder

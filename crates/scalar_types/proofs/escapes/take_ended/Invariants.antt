@@ -1,0 +1,14 @@
+use Rattle.std.proofs.Common.{◌≡◌, ℕ, List, ◌++◌, length}
+use Rattle.bag_model.specs.Scalars.{ended}
+use Rattle.scalar_types.specs.Spelling.{AlwaysFits}
+use Rattle.scalar_types.specs.Fronts.{BeginsWithSome}
+use Rattle.scalar_types.proofs.escapes.take_ended.Given as goal
+
+abbrev pub invariant-loop-piece : goal.invariant-loop-piece
+invariant-loop-piece l = record {
+  back : (v t : List ℕ) → ended v ++ t ≡ l.rest → ended (l.field.items ++ v) ++ t ≡ l.bytes;
+  forth : BeginsWithSome AlwaysFits ended l.bytes → BeginsWithSome AlwaysFits ended l.rest;
+}
+
+abbrev pub decreases-loop-piece : goal.decreases-loop-piece
+decreases-loop-piece l = length l.rest

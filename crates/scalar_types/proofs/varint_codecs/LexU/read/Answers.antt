@@ -1,0 +1,13 @@
+use Rattle.std.proofs.Common.{◌≡◌, ℕ, List, [], rules}
+use Rattle.context_model.specs.Varints.{unsigned_varint}
+use Rattle.bag_model.specs.Scalars.{IsUnsigned}
+use Rattle.bag_model.proofs.NumberCodes.{unsigned_code}
+use Rattle.scalar_types.specs.Fronts.{Begins}
+use Rattle.scalar_types.proofs.FrontLaws.{left_over}
+use Rattle.scalar_types.proofs.varint_codecs.LexU.read.Goals as goal
+
+pub returns-else-is_empty-clause-none : goal.returns-else-is_empty-clause-none
+returns-else-is_empty-clause-none c =
+    let begins : Begins (IsUnsigned c.args.self.now.wide) unsigned_varint c.args.bytes.now c.in_ok-number.number c.in_ok-number.rest.now = search rules in
+    let more : c.in_ok-number.rest.now ≡ [] → ⊥ = search (rules, c.if-is_empty.ensures) in
+    λ _. left_over (unsigned_code c.args.self.now.wide) c.args.bytes.now c.in_ok-number.number c.in_ok-number.rest.now begins more

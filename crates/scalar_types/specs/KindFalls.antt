@@ -1,0 +1,18 @@
+-- A list of kinds that are words holds no list of kinds.
+use Rattle.std.specs.Prelude.{◌≡◌, ℕ, List, [], ◌∷◌, All, ◌≤◌}
+use Rattle.std.proofs.Common.{arith, refl, sym, ap}
+use Rattle.std.proofs.lemmas.List.Elements.{All-head, All-tail}
+use denote.Param.Weighed.{most}
+use Rattle.scalar_types.specs.declared.kinds.ScalarKind.{ScalarKind}
+use Rattle.scalar_types.specs.declared.kinds.ScalarKind.TheVariants.{Packed}
+use Rattle.scalar_types.specs.declared.kinds.KindList.TheDeep.{deep-ScalarKind}
+use Rattle.scalar_types.specs.KindViews.{IsWord}
+
+word_falls : (kind : ScalarKind) → IsWord kind → deep-ScalarKind kind ≡ 0
+word_falls (Packed words) h = absurd h
+word_falls kind h = refl
+
+pub kinds_fall : (kinds : List ScalarKind) → All IsWord kinds → most deep-ScalarKind kinds ≤ 0
+kinds_fall [] h = omega arith
+kinds_fall (kind ∷ kinds) h =
+    omega (arith, word_falls kind (All-head IsWord kind kinds h), kinds_fall kinds (All-tail IsWord kind kinds h))

@@ -1,0 +1,18 @@
+//! Codecs: types of values with one spelling in bytes each, whose byte order is the order of the values.
+#![tactic(auto)]
+
+mod codec;
+mod escapes;
+mod fixed_codecs;
+mod kinds;
+mod plain_codecs;
+mod scalars;
+mod varint_codecs;
+mod word_codecs;
+
+pub use codec::{Codec, TakeFault, respelled, round_trip};
+pub use fixed_codecs::{Fixed, SignedFixed};
+pub use kinds::{KindList, ScalarKind};
+pub use plain_codecs::{Flag, Raw, Unit, Utf8};
+pub use scalars::{Scalar, ScalarList};
+pub use varint_codecs::{LexI, LexU};
