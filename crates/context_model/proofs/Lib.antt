@@ -1,3 +1,9 @@
 pub mod Digits
 pub mod VarintLaws
 pub mod VarintRows
+pub mod TwoLists
+pub mod Rising
+pub mod MergeLaws
+pub mod GreedyLaws
+pub mod Search
+pub mod MergeSteps

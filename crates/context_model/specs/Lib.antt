@@ -1,2 +1,4 @@
 pub mod Atoms
 pub mod Varints
+pub mod Orders
+pub mod Merge

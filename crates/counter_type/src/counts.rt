@@ -1,0 +1,212 @@
+//! Counts of writers.
+
+ghost use Rattle.std.specs.Prelude.{◌≡◌, ◌≤◌, List, [], ◌∷◌, ◌++◌, length, sum_by, IfOk, OnOk, OnErr, slice_get};
+ghost use Rattle.std.specs.Option.{option_map};
+ghost use Rattle.context_model.specs.Merge.{AllBelow, Finds, keys_of};
+ghost use Rattle.counter_type.specs.Counted.{IsCounted, counts_joined, writer_cmp};
+
+use crate::lattice::Lattice;
+use outside::{Memory, Octets};
+use std::alloc::Global;
+use std::cmp::Ordering;
+use std::marker::Model;
+
+/// The count of each of some writers. Contracts see it as the list of the writers with their counts, in the byte order
+/// of the writers, each once. All take their memory from one allocator, and a join keeps a writer's greatest count.
+#[derive(Drop)]
+pub struct Counts {
+    entries: Vec<(Octets, u64)>,
+}
+
+impl Model for Counts {
+    ghost use Rattle.std.specs.Prelude.{ℕ, List};
+
+    ghost Value = { List (List ℕ × ℕ) };
+
+    ghost use Rattle.counter_type.specs.Counted.{IsCounted};
+
+    ghost view = { λ counts. counts.entries.items };
+
+    ghost invariant = { λ counts. IsCounted counts.entries.items };
+}
+
+impl Counts {
+    /// No counts.
+    pub fn new(alloc: Global) -> Counts
+        ensures { result ≡ [] }
+    {
+        Counts {
+            entries: Vec::new(alloc),
+        }
+    }
+
+    /// The count of one writer alone.
+    pub fn of(alloc: Global, writer: &[u8], count: u64) -> Result<Counts, Memory>
+        ensures { IfOk result (λ made. made ≡ (writer.now, count) ∷ []) }
+    {
+        let writer = Octets::of(alloc, writer)?;
+        let mut entries = Vec::new(alloc);
+        entries.push((writer, count))?;
+        Ok(Counts { entries })
+    }
+
+    /// The sum of all counts.
+    pub fn total(&self) -> u128
+        ensures { result ≡ sum_by (λ entry. entry.1) self.now }
+    {
+        let mut total = 0;
+        for (_, count) in &self.entries {
+            total += widened(*count);
+        }
+        total
+    }
+
+    /// The writer's count, `None` exactly where it has none.
+    pub fn get(&self, writer: &[u8]) -> Option<u64>
+        ensures { Finds self.now writer.now result }
+    {
+        count_of(&self.entries, writer)
+    }
+
+    /// How many writers there are.
+    pub fn len(&self) -> usize
+        ensures { result ≡ length self.now }
+    {
+        self.entries.len()
+    }
+
+    /// The writer that has `at` writers before it, with its count; `None` where there are not so many.
+    pub fn nth(&self, at: usize) -> Option<(&[u8], u64)>
+        ensures { option_map (λ e. (e.0.now, e.1)) result ≡ slice_get self.now at }
+    {
+        if at < self.entries.len() {
+            let (writer, count) = &self.entries[at];
+            Some((writer.as_slice(), *count))
+        } else {
+            None
+        }
+    }
+
+    /// Adds a writer, greater than each writer held, with its count. Want of memory leaves the counts unchanged.
+    pub fn push(&mut self, writer: &[u8], count: u64) -> Result<(), Memory>
+        requires { AllBelow writer_cmp (keys_of self.old) writer.now }
+        ensures ok { OnOk result (self.new ≡ self.old ++ (writer.now, count) ∷ []) }
+        ensures err { OnErr result (self.new ≡ self.old) }
+    {
+        let writer = Octets::of(*self.entries.allocator(), writer)?;
+        self.entries.push((writer, count))?;
+        Ok(())
+    }
+}
+
+impl Lattice for Counts {
+    ghost use Rattle.std.specs.Prelude.{◌≡◌, []};
+    ghost use Rattle.counter_type.specs.Counted.{IsCounted, counts_joined, counts_laws};
+
+    ghost proper = { IsCounted };
+
+    ghost alike = { λ _ _. Unit {0} };
+
+    ghost joined = { counts_joined };
+
+    ghost bottom = { λ counts. counts ≡ [] };
+
+    ghost laws = { counts_laws };
+
+    fn join(&mut self, other: &Counts) -> Result<(), Memory> {
+        let alloc = *self.entries.allocator();
+        let entries = joined(alloc, &self.entries, &other.entries)?;
+        self.entries = entries;
+        Ok(())
+    }
+
+    fn is_bottom(&self) -> bool {
+        self.entries.is_empty()
+    }
+
+    fn copy(&self) -> Result<Counts, Memory> {
+        let mut entries = Vec::new(*self.entries.allocator());
+        append(&mut entries, &self.entries)?;
+        Ok(Counts { entries })
+    }
+}
+
+/// The count as a part of a total.
+fn widened(count: u64) -> u128
+    ensures value { result ≡ count }
+    ensures bound { result ≤ 18446744073709551615 }
+{
+    u128::from(count)
+}
+
+/// The count of a writer among entries in order, by binary search.
+fn count_of(entries: &[(Octets, u64)], writer: &[u8]) -> Option<u64>
+    requires { IsCounted entries.now }
+    ensures { Finds entries.now writer.now result }
+{
+    let mut low = 0;
+    let mut high = entries.len();
+    while low < high {
+        let middle = low + (high - low) / 2;
+        let (held, count) = &entries[middle];
+        match held.as_slice().cmp(writer) {
+            Ordering::Less => low = middle + 1,
+            Ordering::Equal => return Some(*count),
+            Ordering::Greater => high = middle,
+        }
+    }
+    None
+}
+
+/// Both lists in one, each writer once with its greater count.
+fn joined(
+    alloc: Global,
+    ours: &[(Octets, u64)],
+    theirs: &[(Octets, u64)],
+) -> Result<Vec<(Octets, u64)>, Memory>
+    ensures { IfOk result (λ joined. joined.items ≡ counts_joined ours.now theirs.now) }
+{
+    let mut joined = Vec::new(alloc);
+    let mut i = 0;
+    let mut j = 0;
+    while i < ours.len() && j < theirs.len() {
+        let (writer, count) = &ours[i];
+        let (other, other_count) = &theirs[j];
+        match writer.as_slice().cmp(other.as_slice()) {
+            Ordering::Less => {
+                push_copy(&mut joined, writer, *count)?;
+                i += 1;
+            }
+            Ordering::Equal => {
+                push_copy(&mut joined, writer, (*count).max(*other_count))?;
+                i += 1;
+                j += 1;
+            }
+            Ordering::Greater => {
+                push_copy(&mut joined, other, *other_count)?;
+                j += 1;
+            }
+        }
+    }
+    append(&mut joined, &ours[i..])?;
+    append(&mut joined, &theirs[j..])?;
+    Ok(joined)
+}
+
+/// Adds copies of the entries at the end.
+fn append(into: &mut Vec<(Octets, u64)>, entries: &[(Octets, u64)]) -> Result<(), Memory>
+    ensures { OnOk result (into.new.items ≡ into.old.items ++ entries.now) }
+{
+    for (writer, count) in entries {
+        push_copy(into, writer, *count)?;
+    }
+    Ok(())
+}
+
+/// Adds a copy of the writer with a count at the end.
+fn push_copy(into: &mut Vec<(Octets, u64)>, writer: &Octets, count: u64) -> Result<(), Memory>
+    ensures { OnOk result (into.new.items ≡ into.old.items ++ (writer.now, count) ∷ []) }
+{
+    into.push((writer.copy()?, count))?;
+    Ok(())
+}
