@@ -15,7 +15,6 @@ abbrev first : Unit {0} → Unit {0} → Unit {0}
 first v w = v
 
 module _ {K : Type 0} where
-
   keys_of-bare : (xs : List K) → keys_of (bare xs) ≡ xs
   keys_of-bare [] = refl
   keys_of-bare (x ∷ xs) = ap (λ l. x ∷ l) (keys_of-bare xs)
@@ -35,7 +34,6 @@ module _ {K : Type 0} where
   IsAt-bare (x ∷ xs) k (inr later) = inr (IsAt-bare xs k later)
 
 module _ {K : Type 0} (R : K → K → Ordering) where
-
   merged_bare : (xs ys : List K) → keys_of (merge_with R first (bare xs) (bare ys)) ≡ greedy_merge R xs ys
   merged_bare xs ys = keys_of-merge_with R first (bare xs) (bare ys) ∙ (λ i. greedy_merge R (keys_of-bare xs i) (keys_of-bare ys i))
 
@@ -43,7 +41,6 @@ module _ {K : Type 0} (R : K → K → Ordering) where
   bare_merged xs ys = ap bare (sym (merged_bare xs ys)) ∙ bare-keys_of (merge_with R first (bare xs) (bare ys))
 
 module _ {K : Type 0} (R : K → K → Ordering) (total : IsTotalOrder R) where
-
   -- A merge doesn't know which list came first, where elements that tie are equal.
   pub greedy-comm : (xs ys : List K) → ((x y : K) → IsIn x xs → IsIn y ys → R x y ≡ Equal → x ≡ y) → greedy_merge R xs ys ≡ greedy_merge R ys xs
   greedy-comm xs ys exact =
@@ -71,7 +68,7 @@ module _ {K : Type 0} (R : K → K → Ordering) (total : IsTotalOrder R) where
   pub greedy-from : (xs ys : List K) (k : K) → IsIn k (greedy_merge R xs ys) → IsIn k xs ⊎ IsIn k ys
   greedy-from xs ys k p = by (with-from R first (bare xs) (bare ys) k tt (subst (IsAt k tt) (bare_merged R xs ys) (IsAt-bare (greedy_merge R xs ys) k p)))
     where
-    by : From R first (bare xs) (bare ys) k tt → IsIn k xs ⊎ IsIn k ys
-    by (inl at) = inl (IsIn-bare xs k tt at)
-    by (inr (inl at)) = inr (IsIn-bare ys k tt at)
-    by (inr (inr made)) = inl (IsIn-bare xs k made.first made.in_first)
+      by : From R first (bare xs) (bare ys) k tt → IsIn k xs ⊎ IsIn k ys
+      by (inl at) = inl (IsIn-bare xs k tt at)
+      by (inr (inl at)) = inr (IsIn-bare ys k tt at)
+      by (inr (inr made)) = inl (IsIn-bare xs k made.first made.in_first)

@@ -6,4 +6,5 @@ pub mod Rising
 pub mod MergeLaws
 pub mod GreedyLaws
 pub mod Search
+pub mod Brought
 pub mod MergeSteps

@@ -14,7 +14,6 @@ IsBelow R a [] = Unit {0}
 IsBelow R a (x ∷ xs) = R a x ≡ Less
 
 module _ {K : Type 0} (R : K → K → Ordering) where
-
   pub greedy-right_empty : (xs : List K) → greedy_merge R xs [] ≡ xs
   greedy-right_empty [] = refl
   greedy-right_empty (x ∷ xs) = refl
@@ -47,7 +46,6 @@ module _ {K : Type 0} (R : K → K → Ordering) where
   Rises-push (x ∷ y ∷ ys) k rises below = (rises.0, Rises-push (y ∷ ys) k rises.1 below.1)
 
 module _ {K : Type 0} (R : K → K → Ordering) (total : IsTotalOrder R) where
-
   -- The first element of a list in order is below each other.
   pub Rises-before : (x : K) (xs : List K) → Rises R (x ∷ xs) → (y : K) → IsIn y xs → R x y ≡ Less
   Rises-before x [] rises y none = elim none [ ]
@@ -59,10 +57,10 @@ module _ {K : Type 0} (R : K → K → Ordering) (total : IsTotalOrder R) where
   greedy-below a (x ∷ xs) [] p q = p
   greedy-below a (x ∷ xs) (y ∷ ys) p q = by (R x y) refl
     where
-    by : (r : Ordering) → R x y ≡ r → IsBelow R a (greedy_merge R (x ∷ xs) (y ∷ ys))
-    by Less h = rw h p
-    by Equal h = rw h p
-    by Greater h = rw h q
+      by : (r : Ordering) → R x y ≡ r → IsBelow R a (greedy_merge R (x ∷ xs) (y ∷ ys))
+      by Less h = rw h p
+      by Equal h = rw h p
+      by Greater h = rw h q
 
   tied_below : (x y : K) (ys : List K) → R x y ≡ Equal → IsBelow R y ys → IsBelow R x ys
   tied_below x y [] tie below = tt
@@ -74,10 +72,10 @@ module _ {K : Type 0} (R : K → K → Ordering) (total : IsTotalOrder R) where
   rising_step : (x y : K) (xs ys : List K) → KeepsOrder xs (y ∷ ys) → KeepsOrder xs ys → KeepsOrder (x ∷ xs) ys → KeepsOrder (x ∷ xs) (y ∷ ys)
   rising_step x y xs ys less both more p q = by (R x y) refl
     where
-    by : (r : Ordering) → R x y ≡ r → Rises R (greedy_merge R (x ∷ xs) (y ∷ ys))
-    by Less h = rw (greedy-less R x y xs ys h) (Rises-cons R x (greedy_merge R xs (y ∷ ys)) (greedy-below x xs (y ∷ ys) (Rises-head R x xs p) h) (less (Rises-tail R x xs p) q))
-    by Equal h = rw (greedy-equal R x y xs ys h) (Rises-cons R x (greedy_merge R xs ys) (greedy-below x xs ys (Rises-head R x xs p) (tied_below x y ys h (Rises-head R y ys q))) (both (Rises-tail R x xs p) (Rises-tail R y ys q)))
-    by Greater h = rw (greedy-greater R x y xs ys h) (Rises-cons R y (greedy_merge R (x ∷ xs) ys) (greedy-below y (x ∷ xs) ys (total.antisymm y x ∙ ap ordering_reverse h) (Rises-head R y ys q)) (more p (Rises-tail R y ys q)))
+      by : (r : Ordering) → R x y ≡ r → Rises R (greedy_merge R (x ∷ xs) (y ∷ ys))
+      by Less h = rw (greedy-less R x y xs ys h) (Rises-cons R x (greedy_merge R xs (y ∷ ys)) (greedy-below x xs (y ∷ ys) (Rises-head R x xs p) h) (less (Rises-tail R x xs p) q))
+      by Equal h = rw (greedy-equal R x y xs ys h) (Rises-cons R x (greedy_merge R xs ys) (greedy-below x xs ys (Rises-head R x xs p) (tied_below x y ys h (Rises-head R y ys q))) (both (Rises-tail R x xs p) (Rises-tail R y ys q)))
+      by Greater h = rw (greedy-greater R x y xs ys h) (Rises-cons R y (greedy_merge R (x ∷ xs) ys) (greedy-below y (x ∷ xs) ys (total.antisymm y x ∙ ap ordering_reverse h) (Rises-head R y ys q)) (more p (Rises-tail R y ys q)))
 
   -- A merge of two lists in order is in order.
   pub Rises-greedy : (xs ys : List K) → Rises R xs → Rises R ys → Rises R (greedy_merge R xs ys)

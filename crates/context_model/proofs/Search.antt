@@ -9,7 +9,6 @@ use Rattle.context_model.specs.Merge.{keys_of, IsAt}
 use Rattle.context_model.proofs.Rising.{Rises-before, Rises-tail}
 
 module _ {E K : Type 0} (key : E → K) (R : K → K → Ordering) where
-
   -- the keys of all elements come before k
   abbrev pub Before : K → List E → Type 0
   Before k [] = Unit {0}
@@ -26,7 +25,6 @@ module _ {E K : Type 0} (key : E → K) (R : K → K → Ordering) where
   IsIn-place (x ∷ xs) (suc i) e h is = inr (IsIn-place xs i e (omega (arith, h)) is)
 
 module _ {E K : Type 0} (key : E → K) (R : K → K → Ordering) (total : IsTotalOrder R) where
-
   -- Where the element at a place comes before k, so does each up to it.
   pub before_more : (k : K) (xs : List E) (i : ℕ) (e : E) → Rises R (map key xs) → i < length xs → e ≡ get_or xs i e → R (key e) k ≡ Less → Before key R k (take (suc i) xs)
   before_more k [] i e rises h is less = absurd (omega (arith, h))
@@ -63,7 +61,6 @@ module _ {E K : Type 0} (key : E → K) (R : K → K → Ordering) (total : IsTo
   absent k (x ∷ xs) (suc n) before behind (inr later) = absent k xs n before.1 behind later
 
 module _ {K X : Type 0} where
-
   pub map-keys_of : (es : List (K × X)) → map (λ e. e.0) es ≡ keys_of es
   map-keys_of [] = refl
   map-keys_of (e ∷ es) = ap (λ l. e.0 ∷ l) (map-keys_of es)
@@ -75,7 +72,6 @@ module _ {K X : Type 0} where
   IsAt-place (x ∷ xs) (suc i) e h is = inr (IsAt-place xs i e (omega (arith, h)) is)
 
 module _ {K X : Type 0} (R : K → K → Ordering) (total : IsTotalOrder R) (k : K) (es : List (K × X)) (rises : Rises R (keys_of es)) (i : ℕ) (e : K × X) (within : i < length es) (is : e ≡ get_or es i e) where
-
   mapped : Rises R (map (λ d. d.0) es)
   mapped = subst (Rises R) (sym (map-keys_of es)) rises
 
@@ -86,7 +82,6 @@ module _ {K X : Type 0} (R : K → K → Ordering) (total : IsTotalOrder R) (k :
   pairs_behind greater = behind_from (λ d. d.0) R total k es i e mapped within is greater
 
 module _ {K X : Type 0} (R : K → K → Ordering) (total : IsTotalOrder R) where
-
   pub pairs_absent : (k : K) (es : List (K × X)) (low high : ℕ) → high ≤ low → low ≤ high → Before (λ d. d.0) R k (take low es) → Behind (λ d. d.0) R k (drop high es) → IsIn k (keys_of es) → ⊥
   pairs_absent k es low high p q before behind at =
       let same : high ≡ low = omega arith in

@@ -6,7 +6,6 @@ pub two_lists : {A : Type 0} (P : List A → List A → Type 0) → ((ys : List 
 two_lists P first second step [] ys = first ys
 two_lists {A} P first second step (x ∷ xs) ys = onto (two_lists P first second step xs) ys
   where
-  onto : ((zs : List A) → P xs zs) → (zs : List A) → P (x ∷ xs) zs
-  onto rest [] = second (x ∷ xs)
-  onto rest (z ∷ zs) = step x z xs zs (rest (z ∷ zs)) (rest zs) (onto rest zs)
-
+    onto : ((zs : List A) → P xs zs) → (zs : List A) → P (x ∷ xs) zs
+    onto rest [] = second (x ∷ xs)
+    onto rest (z ∷ zs) = step x z xs zs (rest (z ∷ zs)) (rest zs) (onto rest zs)

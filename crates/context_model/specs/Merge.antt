@@ -24,6 +24,21 @@ abbrev pub merge_with : {K X : Type 0} → (K → K → Ordering) → (X → X �
 merge_with R f [] ds = ds
 merge_with R f (e ∷ es) ds = with_onto R f e es (merge_with R f es) ds
 
+-- what a merge of a pair e and a list with another list brings, where rest is what that of the list brings
+abbrev brings_onto : {K X : Type 0} → (K → K → Ordering) → (X → X → X) → K × X → (List (K × X) → List (K × X)) → List (K × X) → List (K × X)
+brings_onto R f e rest [] = []
+brings_onto R f e rest (d ∷ ds) = by_order (R e.0 d.0) (rest (d ∷ ds)) ((d.0, f e.1 d.1) ∷ rest ds) (d ∷ brings_onto R f e rest ds)
+
+-- what a merge brings to the first list: the pairs of the second, and at a key of both what f makes of its two values
+abbrev pub brings : {K X : Type 0} → (K → K → Ordering) → (X → X → X) → List (K × X) → List (K × X) → List (K × X)
+brings R f [] ds = ds
+brings R f (e ∷ es) ds = brings_onto R f e (brings R f es) ds
+
+-- of two values the second
+abbrev pub later : {X : Type 0} → X → X → X
+later v w = w
+
+-- the keys, without their values
 abbrev pub keys_of : {K X : Type 0} → List (K × X) → List K
 keys_of [] = []
 keys_of (e ∷ es) = e.0 ∷ keys_of es

@@ -40,8 +40,7 @@ pub trait Lattice: Drop {
 /// The laws of the join hold for every lattice.
 pub fn keeps_join_laws<L: Lattice>()
     ensures { LatticeLaws L.proper L.alike L.joined L.bottom }
-{
-}
+{}
 
 /// The joins of two values in both orders. They are one value.
 pub fn joins_commute<L: Lattice>(a: &L, b: &L) -> Result<(L, L), Memory>
