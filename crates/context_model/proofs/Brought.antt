@@ -2,7 +2,7 @@
 use Rattle.std.proofs.Common.{◌≡◌, List, [], ◌∷◌, refl, sym, ◌∙◌, ap}
 use Rattle.std.specs.declared.cmp.Ordering.{Ordering}
 use Rattle.std.specs.declared.cmp.Ordering.TheVariants.{Less, Equal, Greater}
-use Rattle.context_model.specs.Merge.{merge_with, brings, later}
+use Rattle.context_model.specs.Merge.{merge_with, brings, keys_of, later}
 use Rattle.context_model.proofs.TwoLists.{two_lists}
 use Rattle.context_model.proofs.MergeLaws.{with-right_empty, with-less, with-equal, with-greater}
 
@@ -63,3 +63,18 @@ module _ {K X : Type 0} (R : K → K → Ordering) (f : X → X → X) where
   -- What is brought, merged in place of what was there, is the merge.
   pub brings-completes : (es ds : List (K × X)) → merge_with R later es (brings R f es ds) ≡ merge_with R f es ds
   brings-completes = two_lists Completes (λ ds. refl) (λ es. ap (merge_with R later es) (brings-right_empty es) ∙ with-right_empty R later es ∙ sym (with-right_empty R f es)) completes_step
+
+  abbrev HasSecondKeys : List (K × X) → List (K × X) → Type 0
+  HasSecondKeys es ds = keys_of (brings R f es ds) ≡ keys_of ds
+
+  brings-keys_step : (e d : K × X) (es ds : List (K × X)) → HasSecondKeys es (d ∷ ds) → HasSecondKeys es ds → HasSecondKeys (e ∷ es) ds → HasSecondKeys (e ∷ es) (d ∷ ds)
+  brings-keys_step e d es ds less both more = by (R e.0 d.0) refl
+    where
+    by : (r : Ordering) → R e.0 d.0 ≡ r → HasSecondKeys (e ∷ es) (d ∷ ds)
+    by Less h = ap keys_of (brings-less e d es ds h) ∙ less
+    by Equal h = ap keys_of (brings-equal e d es ds h) ∙ ap (λ l. d.0 ∷ l) both
+    by Greater h = ap keys_of (brings-greater e d es ds h) ∙ ap (λ l. d.0 ∷ l) more
+
+  -- The keys of what is brought are those of the second list.
+  pub keys_of-brings : (es ds : List (K × X)) → keys_of (brings R f es ds) ≡ keys_of ds
+  keys_of-brings = two_lists HasSecondKeys (λ ds. refl) (λ es. ap keys_of (brings-right_empty es)) brings-keys_step

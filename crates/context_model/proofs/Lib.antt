@@ -8,3 +8,4 @@ pub mod GreedyLaws
 pub mod Search
 pub mod Brought
 pub mod MergeSteps
+pub mod Finding

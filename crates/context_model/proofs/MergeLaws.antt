@@ -5,10 +5,10 @@ use Rattle.std.specs.Cmp.{IsTotalOrder, tied_itself, tied_back, alike_right}
 use Rattle.std.specs.declared.cmp.Ordering.{Ordering}
 use Rattle.std.specs.declared.cmp.Ordering.TheVariants.{Less, Equal, Greater}
 use Rattle.std.specs.Ordering.{ordering_reverse}
-use Rattle.context_model.specs.Orders.{IsIn, Rises, by_order}
+use Rattle.context_model.specs.Orders.{IsIn, Rises}
 use Rattle.context_model.specs.Merge.{greedy_merge, merge_with, keys_of, EachPair, IsAt, AtTies}
 use Rattle.context_model.proofs.TwoLists.{two_lists}
-use Rattle.context_model.proofs.Rising.{greedy-right_empty, greedy-less, greedy-equal, greedy-greater}
+use Rattle.context_model.proofs.Rising.{Rises-tail, not_behind, greedy-right_empty, greedy-less, greedy-equal, greedy-greater}
 
 module _ {K X : Type 0} (R : K → K → Ordering) (f : X → X → X) where
   pub with-right_empty : (es : List (K × X)) → merge_with R f es [] ≡ es
@@ -254,3 +254,19 @@ module _ {K X : Type 0} (P : K → X → Type 0) where
   pub EachPair-from : (es : List (K × X)) → ((k : K) (v : X) → IsAt k v es → P k v) → EachPair P es
   EachPair-from [] any = tt
   EachPair-from (e ∷ es) any = (any e.0 e.1 (inl (refl, refl)), EachPair-from es (λ k v at. any k v (inr at)))
+
+module _ {K X : Type 0} where
+
+  -- The key of a pair is one of the keys.
+  pub IsIn-keys_of : (es : List (K × X)) (k : K) (v : X) → IsAt k v es → IsIn k (keys_of es)
+  IsIn-keys_of [] k v none = elim none [ ]
+  IsIn-keys_of (e ∷ es) k v (inl at) = inl at.0
+  IsIn-keys_of (e ∷ es) k v (inr at) = inr (IsIn-keys_of es k v at)
+
+  -- Where the keys rise, a key has one value.
+  pub IsAt-unique : (R : K → K → Ordering) → IsTotalOrder R → (es : List (K × X)) (k : K) (v w : X) → Rises R (keys_of es) → IsAt k v es → IsAt k w es → v ≡ w
+  IsAt-unique R total [] k v w rises none at = elim none [ ]
+  IsAt-unique R total (e ∷ es) k v w rises (inl at) (inl also) = at.1 ∙ sym also.1
+  IsAt-unique R total (e ∷ es) k v w rises (inl at) (inr also) = absurd (not_behind R total e.0 (keys_of es) k rises at.0 (IsIn-keys_of es k w also))
+  IsAt-unique R total (e ∷ es) k v w rises (inr at) (inl also) = absurd (not_behind R total e.0 (keys_of es) k rises also.0 (IsIn-keys_of es k v at))
+  IsAt-unique R total (e ∷ es) k v w rises (inr at) (inr also) = IsAt-unique R total es k v w (Rises-tail R e.0 (keys_of es) rises) at also

@@ -52,6 +52,13 @@ module _ {K : Type 0} (R : K → K → Ordering) (total : IsTotalOrder R) where
   Rises-before x (z ∷ zs) rises y (inl same) = let P : K → Type 0 = λ k. R x k ≡ Less in subst P (sym same) rises.0
   Rises-before x (z ∷ zs) rises y (inr later) = total.trans x z y rises.0 (Rises-before z zs rises.1 y later)
 
+  -- The first element of a list in order is none of the others.
+  pub not_behind : (x : K) (xs : List K) (y : K) → Rises R (x ∷ xs) → y ≡ x → IsIn y xs → ⊥
+  not_behind x xs y rises same at =
+      let less = Rises-before x xs rises y at in
+      let tie = tied_itself total x in
+      cc
+
   greedy-below : (a : K) (xs ys : List K) → IsBelow R a xs → IsBelow R a ys → IsBelow R a (greedy_merge R xs ys)
   greedy-below a [] ys p q = q
   greedy-below a (x ∷ xs) [] p q = p

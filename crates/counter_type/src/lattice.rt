@@ -37,6 +37,33 @@ pub trait Lattice: Drop {
     ghost laws: { LatticeLaws proper alike joined bottom };
 }
 
+/// The lattice of one value, which says nothing. A set is a map to it.
+impl Lattice for () {
+    ghost use Rattle.counter_type.specs.Laws.{unit_laws};
+
+    ghost proper = { λ _. Unit {0} };
+
+    ghost alike = { λ _ _. Unit {0} };
+
+    ghost joined = { λ unit _. unit };
+
+    ghost bottom = { λ _. Unit {0} };
+
+    ghost laws = { unit_laws };
+
+    fn join(&mut self, _other: &()) -> Result<(), Memory> {
+        Ok(())
+    }
+
+    fn is_bottom(&self) -> bool {
+        true
+    }
+
+    fn copy(&self) -> Result<(), Memory> {
+        Ok(())
+    }
+}
+
 /// The laws of the join hold for every lattice.
 pub fn keeps_join_laws<L: Lattice>()
     ensures { LatticeLaws L.proper L.alike L.joined L.bottom }
