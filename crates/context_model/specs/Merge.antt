@@ -1,4 +1,4 @@
-use Rattle.std.specs.Prelude.{◌≡◌, ◌⊎◌, List, [], ◌∷◌, Option, Some, None}
+use Rattle.std.specs.Prelude.{◌≡◌, ◌⊎◌, List, [], ◌∷◌, map, Option, Some, None}
 use Rattle.std.specs.declared.cmp.Ordering.{Ordering}
 use Rattle.std.specs.declared.cmp.Ordering.TheVariants.{Less, Equal}
 use Rattle.context_model.specs.Orders.{IsIn, by_order}
@@ -40,8 +40,7 @@ later v w = w
 
 -- the keys, without their values
 abbrev pub keys_of : {K X : Type 0} → List (K × X) → List K
-keys_of [] = []
-keys_of (e ∷ es) = e.0 ∷ keys_of es
+keys_of es = map (λ e. e.0) es
 
 -- P holds of each key and its value
 abbrev pub EachPair : {K X : Type 0} → (K → X → Type 0) → List (K × X) → Type 0

@@ -1,5 +1,5 @@
 -- The laws of sets and maps, for every codec in which a spelling belongs to one value and for every lattice of values.
-use Rattle.std.specs.Prelude.{◌≡◌, ℕ, ◌⊎◌, List, [], ◌∷◌}
+use Rattle.std.specs.Prelude.{◌≡◌, ℕ, ◌⊎◌, List, [], ◌∷◌, ◌++◌}
 use Rattle.std.specs.Cmp.{IsTotalOrder}
 use Rattle.std.specs.declared.cmp.Ordering.{Ordering}
 use Rattle.std.specs.declared.cmp.Ordering.TheVariants.{Equal}
@@ -9,8 +9,8 @@ use Rattle.std.proofs.lemmas.Map.Lookups.{exact_bytes}
 use Rattle.scalar_types.specs.Spelling.{OneValue}
 use Rattle.counter_type.specs.Laws.{LatticeLaws}
 use Rattle.context_model.specs.Orders.{IsIn, Rises}
-use Rattle.context_model.specs.Merge.{greedy_merge, merge_with, keys_of, EachPair, IsAt, AtOneKey}
-use Rattle.context_model.proofs.Rising.{Rises-greedy}
+use Rattle.context_model.specs.Merge.{greedy_merge, merge_with, keys_of, EachPair, IsAt, AtOneKey, AllBelow}
+use Rattle.context_model.proofs.Rising.{Rises-greedy, Rises-push}
 use Rattle.context_model.proofs.GreedyLaws.{greedy-comm, greedy-assoc, greedy-idem, greedy-from}
 use Rattle.context_model.proofs.MergeLaws.{IsMade, From, with-from, with-comm, with-assoc, with-idem, keys_of-merge_with, EachPair-at, EachPair-from, IsIn-keys_of, IsAt-unique}
 use Rattle.set_map_types.specs.Held.{Held, value_cmp, IsSet, IsMap, set_proper, set_joined, SameCodec, HoldsNothing, map_proper, MapAlike, map_joined}
@@ -154,3 +154,33 @@ module _ {C V L : Type 0} (fits : C → V → Type 0) (spelling : C → V → Li
     repeats = λ x p. (λ i. record { codec = x.codec; items = merge-idem (fits x.codec) (spelling x.codec) (one x.codec) proper alike joined bottom laws x.items p i });
     bottom_first = λ b x p q a e. (λ i. record { codec = a.codecs i; items = ap (λ l. merge_with (value_cmp (spelling b.codec)) joined l x.items) e i });
   }
+
+-- A set is a map to nothing.
+module _ {V : Type 0} (fits : V → Type 0) (spelling : V → List ℕ) where
+
+  pub IsMap-bare : (entries : List (V × Unit {0})) → IsSet fits spelling (keys_of entries) → IsMap fits spelling (λ u. Unit {0}) entries
+  IsMap-bare entries set = record {
+    keys = set;
+    values = EachPair-from (λ k v. Unit {0}) entries (λ k v at. tt);
+  }
+
+  in_push : (values : List V) (v w : V) → IsIn w (values ++ v ∷ []) → IsIn w values ⊎ (w ≡ v)
+  in_push [] v w (inl same) = inr same
+  in_push [] v w (inr none) = elim none [ ]
+  in_push (x ∷ xs) v w (inl same) = inl (inl same)
+  in_push (x ∷ xs) v w (inr later) = by (in_push xs v w later)
+    where
+    by : IsIn w xs ⊎ (w ≡ v) → IsIn w (x ∷ xs) ⊎ (w ≡ v)
+    by (inl at) = inl (inr at)
+    by (inr same) = inr same
+
+  -- A value that fits and comes behind all others can be added.
+  pub IsSet-push : (values : List V) (v : V) → IsSet fits spelling values → fits v → AllBelow (value_cmp spelling) values v → IsSet fits spelling (values ++ v ∷ [])
+  IsSet-push values v set fit below = record {
+    fit = λ w at. by w (in_push values v w at);
+    rise = Rises-push (value_cmp spelling) values v set.rise below;
+  }
+    where
+    by : (w : V) → IsIn w values ⊎ (w ≡ v) → fits w
+    by w (inl at) = set.fit w at
+    by w (inr same) = subst fits (sym same) fit

@@ -2,6 +2,10 @@
 #![tactic(auto)]
 
 mod entries;
+mod least;
 mod map_of;
+mod set_of;
 
+pub use least::Least;
 pub use map_of::MapOf;
+pub use set_of::SetOf;

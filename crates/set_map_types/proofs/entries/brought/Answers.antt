@@ -1,5 +1,6 @@
 use Rattle.std.proofs.Common.{◌≡◌, ◌≤◌, ◌⊎◌, inl, inr, length, sym, arith}
 use Rattle.std.proofs.lemmas.List.{take_rest}
+use Rattle.std.specs.declared.cmp.Ordering.TheVariants.{Equal}
 use Rattle.context_model.specs.Merge.{brings}
 use Rattle.context_model.proofs.MergeLaws.{IsIn-keys_of}
 use Rattle.context_model.proofs.MergeSteps.{brings_rest}
@@ -29,9 +30,10 @@ join_of-requires g c =
     let ours = c.args.ours.now in
     let theirs = c.args.theirs.now in
     let lattice = g.L.Lattice in
+    let tie : value_cmp (g.C.Codec.spelling codec) e.0 d.0 ≡ Equal = sym c.in-Equal.ensures in
     tied_alike (g.C.Codec.fits codec) (g.C.Codec.spelling codec) (g.met.C.Codec.one_value codec) lattice.proper lattice.alike lattice.joined lattice.bottom g.met.L.Lattice.laws
     ours theirs c.requires.ours c.requires.theirs c.requires.alike e.0 d.0 e.1 d.1
-    (IsAt-place ours c.loop-i.i e (omega arith) c.index-ours-i.is) (IsAt-place theirs c.loop-i.j d (omega arith) c.index-theirs-j.is) (sym c.in-Equal.ensures)
+    (IsAt-place ours c.loop-i.i e (omega arith) c.index-ours-i.is) (IsAt-place theirs c.loop-i.j d (omega arith) c.index-theirs-j.is) tie
 
 pub returns : goal.returns
 returns g c =
