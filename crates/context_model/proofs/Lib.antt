@@ -7,3 +7,11 @@ pub mod TrimmedLaws
 pub mod VarintForms
 pub mod VarintLaws
 pub mod VarintRows
+pub mod TwoLists
+pub mod Rising
+pub mod MergeLaws
+pub mod GreedyLaws
+pub mod Search
+pub mod Brought
+pub mod MergeSteps
+pub mod Finding

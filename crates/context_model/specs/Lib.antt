@@ -6,3 +6,4 @@ pub mod Orders
 pub mod Trimmed
 pub mod Varints
 pub mod WireFault
+pub mod Merge

@@ -1,0 +1,8 @@
+//! Values that are joined, and the counts of writers.
+#![tactic(auto)]
+
+mod counts;
+mod lattice;
+
+pub use counts::Counts;
+pub use lattice::{Lattice, join_repeats, joins_commute, joins_regroup, keeps_join_laws};
