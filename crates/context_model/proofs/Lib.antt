@@ -4,6 +4,7 @@ pub mod Frames
 pub mod FramingLaws
 pub mod KindLaws
 pub mod OrderLaws
+pub mod PathPlaces
 pub mod ShapeLaws
 pub mod TrimmedLaws
 pub mod VarintForms
