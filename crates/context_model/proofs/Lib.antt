@@ -1,8 +1,11 @@
 pub mod Digits
+pub mod Following
 pub mod Frames
 pub mod FramingLaws
 pub mod KindLaws
 pub mod OrderLaws
+pub mod PathPlaces
+pub mod ShapeLaws
 pub mod TrimmedLaws
 pub mod VarintForms
 pub mod VarintLaws

@@ -1,0 +1,28 @@
+-- What of a list can't have lost anything to a cut.
+use Rattle.std.specs.Prelude.{◌≡◌, ◌⊎◌, ℕ, List, [], ◌∷◌, ◌++◌}
+use Rattle.std.specs.declared.cmp.Ordering.TheVariants.{Less}
+use Rattle.context_model.specs.Atoms.{Atom}
+use Rattle.context_model.specs.Orders.{Path, path_cmp, IsIn}
+use Rattle.context_model.specs.Paths.{paths}
+
+-- A marker stands in the list.
+abbrev pub HasMarker : List Atom → Type 0
+HasMarker list = IsIn [] list
+
+-- The atoms before the first marker.
+abbrev pub front_of : List Atom → List Atom
+front_of [] = []
+front_of ([] ∷ list) = []
+front_of ((b ∷ bytes) ∷ list) = (b ∷ bytes) ∷ front_of list
+
+-- The path q is s or stands below it.
+abbrev pub IsBelow : Path → Path → Type 0
+IsBelow s q = (rest : Path) × (q ≡ s ++ rest)
+
+-- The path q comes after s and everything below it.
+abbrev pub IsBeyond : Path → Path → Type 0
+IsBeyond s q = (path_cmp s q ≡ Less) × (IsBelow s q → ⊥)
+
+-- Nothing below s can have been cut off: there is no marker, or some atom before the first one is beyond s.
+abbrev pub IsEnded : List Atom → Path → Type 0
+IsEnded list s = (HasMarker list → ⊥) ⊎ ((q : Path) × IsIn q (paths (front_of list)) × IsBeyond s q)
