@@ -1,5 +1,5 @@
 use Rattle.std.proofs.Common.{◌≡◌, take}
-use Rattle.atom_list.proofs.AtomList.copy.Given as goal
+use Rattle.atom_list.proofs.lists.AtomList.copy.Given as goal
 
 abbrev pub invariant-loop-atom : goal.invariant-loop-atom
 invariant-loop-atom l = record {
