@@ -18,3 +18,4 @@ pub mod Search
 pub mod Brought
 pub mod MergeSteps
 pub mod Finding
+pub mod ContextFronts

@@ -12,3 +12,4 @@ pub mod Varints
 pub mod WellFormed
 pub mod WireFault
 pub mod Merge
+pub mod ContextFault

@@ -1,7 +1,7 @@
 use Rattle.std.proofs.Common.{◌≡◌, ℕ, ◌++◌, length}
 use Rattle.context_model.specs.Atoms.{AreAtoms}
 use Rattle.context_model.specs.Framing.{bytes_of}
-use Rattle.wire_bytes.proofs.reading.read.Given as goal
+use Rattle.wire_bytes.proofs.reading.read_front.Given as goal
 
 abbrev pub invariant-loop-rest : goal.invariant-loop-rest
 invariant-loop-rest l = record {
