@@ -11,7 +11,7 @@ use Rattle.bdl_parser.specs.Lexemes.{Lexeme}
 use Rattle.bdl_parser.specs.Refusals.{IsRefused}
 use Rattle.grammar_model.specs.Stops.{behind, Stops, GoesOn}
 use Rattle.grammar_model.proofs.Growth.{Grows, grows_same}
-use Rattle.bdl_parser.proofs.GrammarLaws.{grows_type, grows_module}
+use Rattle.bdl_parser.proofs.GrammarLaws.{ender_module, grows_type, grows_module}
 
 compose : (n m k : ℕ) → Grows (a_type n) (a_type m) → Grows (a_type m) (a_type k) → Grows (a_type n) (a_type k)
 compose n m k g h = record { read = λ ts a rest r. h.read ts a rest (g.read ts a rest r); begun = λ ts b. h.begun ts (g.begun ts b) }
@@ -57,12 +57,12 @@ expected_at ts bad k r count =
       longest = λ j short b.
           ⊎_elim
           (λ (past : k < j).
-              let wide = r (32 + b.0) (omega arith) in
-              let same : wide.front ≡ s.front = append_cancel_right wide.front s.front bad (sym wide.cut ∙ s.cut) in
-              let it = goes_on s.front bad j (omega arith) (subst (λ xs. j ≤ length xs) s.cut short) in
-              let begun = (module_grows b.0).begun (take j ts) b.1 in
-              let there : take j ts ≡ wide.front ++ it.0 ∷ it.2 = ap (take j) s.cut ∙ it.4 ∙ ap (λ xs. xs ++ it.0 ∷ it.2) (sym same) in
-              absurd (wide.ends it.0 it.1 it.2 it.3 (subst (a_module (32 + b.0)).begins there begun)))
+          let wide = r (32 + b.0) (omega arith) in
+          let same : wide.front ≡ s.front = append_cancel_right wide.front s.front bad (sym wide.cut ∙ s.cut) in
+          let it = goes_on s.front bad j (omega arith) (subst (λ xs. j ≤ length xs) s.cut short) in
+          let begun = (module_grows b.0).begun (take j ts) b.1 in
+          let there : take j ts ≡ wide.front ++ it.0 ∷ it.2 = ap (take j) s.cut ∙ it.4 ∙ ap (λ xs. xs ++ it.0 ∷ it.2) (sym same) in
+          absurd (wide.ends it.0 it.1 it.2 it.3 (subst (a_module (32 + b.0)).begins there begun)))
           (λ fine. fine)
           (order k j);
       shallow = subst (a_module 32).begins (sym front_is) s.begun;
@@ -100,3 +100,21 @@ expected_within ts bad r = let s = r 32 (omega arith) in omega (arith, ap length
 
 pub nesting_within : (ts bad : List Lexeme) → IsRefused a_module 32 TypeNesting ts bad → length bad ≤ length ts
 nesting_within ts bad r = omega (arith, ap length r.cut, length-append r.front bad)
+
+-- the same at the number of tokens less those that are left
+
+pub expected_fault : (ts old bad : List Lexeme) (n left : ℕ) → old ≡ ts → IsRefused a_module 32 Expected old bad → left ≡ length bad → length ts ≡ n → ExpectedAt ts (n - left)
+expected_fault ts old bad n left same r is all =
+    let here : IsRefused a_module 32 Expected ts bad = subst (λ xs. IsRefused a_module 32 Expected xs bad) same r in
+    let within = expected_within ts bad here in
+    expected_at ts bad (n - left) here (omega arith)
+
+pub nesting_fault : (ts old bad : List Lexeme) (n left : ℕ) → old ≡ ts → IsRefused a_module 32 TypeNesting old bad → left ≡ length bad → length ts ≡ n → NestsAt ts (n - left)
+nesting_fault ts old bad n left same r is all =
+    let here : IsRefused a_module 32 TypeNesting ts bad = subst (λ xs. IsRefused a_module 32 TypeNesting xs bad) same r in
+    let within = nesting_within ts bad here in
+    nests_at ts bad (n - left) here (omega arith)
+
+-- a module is one
+pub one_module : (ts : List Lexeme) (a b : Module) → (a_module 32).reads ts a [] → (a_module 32).reads ts b [] → a ≡ b
+one_module ts a b r s = ((ender_module 32).one ts a b [] [] r s).0

@@ -104,7 +104,6 @@ lawful_type (suc n) =
     (lawful_either (set_of (a_type n)) (map_of (a_type n)) (λ t. is_some (key (codes "set") t)) (λ t. is_some (key (codes "map") t)) (lawful_set (a_type n) (lawful_type n)) (lawful_map (a_type n) (lawful_type n)) set_apart)
     leaf_apart
 
-
 -- a type begins with a word
 leaf_word : (what : What) (spot : Spot) → is_some (option_map (λ found. Rattle.bdl_parser.specs.Trees.leaf found spot) (leaf_in what)) ≡ true → (text : List ℕ) × (what ≡ word text)
 leaf_word (word text) spot e = (text, refl)

@@ -7,18 +7,20 @@ ghost use Rattle.bdl_parser.specs.FirstFault.{IsModuleOf, IsFaultOf};
 ghost use Rattle.bdl_parser.specs.Lexemes.{lexemes_of};
 
 mod decls;
+pub mod laws;
 mod lists;
 mod parser;
 mod trees;
 mod types;
 mod words;
 
-pub use lists::{BagFields, Decls, Imports, StructFields};
 use bdl_lexer::Token;
+pub use lists::{BagFields, Decls, Imports, StructFields};
 use parser::{Parser, Refusal};
 use std::alloc::Global;
-
-pub use trees::{BagField, Decl, Import, Module, ScalarWord, Spot, StructField, TypeForm, TypeNode};
+pub use trees::{
+    BagField, Decl, Import, Module, ScalarWord, Spot, StructField, TypeForm, TypeNode,
+};
 
 /// How many types may stand inside one another.
 pub const MAX_NESTING: u32 = 32;
@@ -62,3 +64,6 @@ pub fn parse(alloc: Global, source: &[u8], tokens: &[Token]) -> Result<Module, P
         Err(Refusal::Memory) => Err(ParseFault::Memory),
     }
 }
+
+#[cfg(test)]
+mod tests;

@@ -50,7 +50,6 @@ impl<'a> Model for Parser<'a> {
     ghost invariant = { λ parser. All (LiesIn parser.source.now) parser.rest.now };
 }
 
-
 /// What a token says.
 #[derive(Clone, Copy)]
 pub(crate) enum What<'a> {

@@ -90,7 +90,11 @@ pub(crate) fn plain_form(text: &[u8]) -> Option<TypeForm>
 pub(crate) fn opens_form(text: &[u8]) -> bool
     ensures { result ≡ opens_form text.now }
 {
-    is(text, "import") || is(text, "bag") || is(text, "struct") || is(text, "set") || is(text, "map")
+    is(text, "import")
+        || is(text, "bag")
+        || is(text, "struct")
+        || is(text, "set")
+        || is(text, "map")
 }
 
 /// Whether the word is no name.
