@@ -1,5 +1,5 @@
 -- For each sequence of the grammar: what is taken when each part is, and what is refused when one part is.
-use Rattle.std.proofs.Common.{ℕ, Bool, Option, List, codes}
+use Rattle.std.proofs.Common.{ℕ, List, codes}
 use Rattle.std.specs.Option.{is_some}
 use Rattle.bdl_parser.specs.declared.parser.Refusal.{Refusal}
 use Rattle.bdl_parser.specs.declared.trees.Decl.{Decl}
@@ -11,8 +11,8 @@ use Rattle.bdl_parser.specs.Refusals.{IsTokenRefused, IsRefused, is_type_first}
 use Rattle.bdl_parser.specs.Trees.{TypeTree, BagFieldTree, StructFieldTree}
 use Rattle.grammar_model.specs.Forms.{IsOne}
 use Rattle.grammar_model.specs.Stops.{Taken}
-use Rattle.bdl_parser.proofs.Families.{Family, one, pair, taken_token, refused_token, taken_made, refused_made, taken_two, refused_first, refused_second}
-use Rattle.bdl_parser.proofs.GrammarLaws.{law_token, lawful_type, lawful_bag_fields, lawful_struct_fields, first_or_brace}
+use Rattle.bdl_parser.proofs.Families.{one, pair, taken_token, refused_token, taken_made, refused_made, taken_two, refused_first, refused_second}
+use Rattle.bdl_parser.proofs.GrammarLaws.{law_token, lawful_type}
 
 -- set
 

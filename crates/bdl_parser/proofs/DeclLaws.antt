@@ -1,5 +1,5 @@
 -- Fields up to their brace, declarations up to the end, and a module.
-use Rattle.std.proofs.Common.{◌≡◌, ℕ, zero, suc, ◌+◌, ◌<◌, ◌≤◌, Bool, true, false, ◌||◌, Option, List, [], ◌∷◌, ◌++◌, length, codes, inl, inr, refl, sym, ap, ◌∙◌, subst, arith, length-append}
+use Rattle.std.proofs.Common.{◌≡◌, ℕ, suc, ◌+◌, ◌<◌, Bool, true, false, ◌||◌, List, [], ◌∷◌, ◌++◌, length, codes, inl, inr, refl, sym, ap, ◌∙◌, subst, arith, length-append}
 use Rattle.std.specs.Option.{is_some}
 use Rattle.bdl_parser.specs.declared.parser.Refusal.{Refusal}
 use Rattle.bdl_parser.specs.declared.parser.Refusal.TheVariants.{Expected, TypeNesting, Memory}
@@ -7,18 +7,17 @@ use Rattle.bdl_parser.specs.declared.trees.Decl.{Decl}
 use Rattle.bdl_parser.specs.declared.trees.Import.{Import}
 use Rattle.bdl_parser.specs.declared.trees.Module.{Module}
 use Rattle.bdl_parser.specs.declared.trees.Spot.{Spot}
-use Rattle.bdl_parser.specs.Grammar.{key, mark, a_type, a_bag_field, a_struct_field, bag_fields, struct_fields, a_bag, a_struct, a_decl, an_import, the_decls, a_module}
+use Rattle.bdl_parser.specs.Grammar.{key, mark, a_type, a_bag, a_struct, a_decl, an_import, the_decls, a_module}
 use Rattle.bdl_parser.specs.Lexemes.{Lexeme}
 use Rattle.bdl_parser.specs.Refusals.{meets, IsTokenRefused, IsRefused, is_type_first}
-use Rattle.bdl_parser.specs.Trees.{BagFieldTree, StructFieldTree}
-use Rattle.grammar_model.specs.Forms.{Form, IsOne, token, either, made, Repeats, many, ended}
-use Rattle.grammar_model.specs.Stops.{behind, first_passes, Stops, GoesOn, Taken}
-use Rattle.grammar_model.proofs.FormLaws.{IsLawful, IsEnder, Apart, Starts, ender_of}
+use Rattle.grammar_model.specs.Forms.{Form, IsOne, token, made, Repeats, many, ended}
+use Rattle.grammar_model.specs.Stops.{first_passes, Taken}
+use Rattle.grammar_model.proofs.FormLaws.{IsLawful, IsEnder, ender_of}
 use Rattle.grammar_model.proofs.ChoiceLaws.{ender_ended}
 use Rattle.grammar_model.proofs.Growth.{Grows, grows_same}
-use Rattle.grammar_model.proofs.StopLaws.{IsNotHere, not_here, not_here_apart, stops_here}
-use Rattle.bdl_parser.proofs.Families.{Family, one, pair, make_each, repeat_until, AreLawful, AreNotHere, TakenItems, taken_token, refused_token, taken_made, refused_made, refused_left, refused_right, taken_many, item_refused, last_refused}
-use Rattle.bdl_parser.proofs.GrammarLaws.{law_token, type_or_mark, lawful_bag_field, lawful_struct_field, lawful_bag, lawful_struct, bag_apart, is_decl_first, lawful_decl, lawful_import, never, decl_apart, ender_decls, is_decl_or_never, import_apart, grows_type, grows_bag_field, grows_struct_field, grows_decl}
+use Rattle.grammar_model.proofs.StopLaws.{not_here, not_here_apart, stops_here}
+use Rattle.bdl_parser.proofs.Families.{Family, one, repeat_until, AreLawful, AreNotHere, TakenItems, taken_token, taken_made, refused_made, refused_left, refused_right, taken_many, item_refused, last_refused}
+use Rattle.bdl_parser.proofs.GrammarLaws.{law_token, type_or_mark, lawful_bag, lawful_struct, bag_apart, is_decl_first, lawful_decl, lawful_import, never, decl_apart, ender_decls, is_decl_or_never, import_apart, grows_type, grows_decl}
 
 -- what is read is shorter than where it was read
 pub read_shorter : {A : Type 0} (f : Form Lexeme A) (first : Lexeme → Bool) → IsLawful f first → (ts : List Lexeme) (a : A) (rest : List Lexeme) → f.reads ts a rest → length rest < length ts

@@ -1,12 +1,12 @@
 -- What was taken and what was refused, for families of forms over the room for types.
-use Rattle.std.proofs.Common.{◌≡◌, ℕ, zero, suc, ◌+◌, ◌≤◌, Bool, true, false, Option, List, [], ◌∷◌, ◌++◌, refl, sym, ap, ◌∙◌, subst, arith}
+use Rattle.std.proofs.Common.{ℕ, ◌+◌, ◌≤◌, Bool, Option, List, [], ◌∷◌, ◌++◌, refl, sym, subst, arith}
 use Rattle.std.specs.Option.{is_some}
 use Rattle.bdl_parser.specs.declared.parser.Refusal.{Refusal}
 use Rattle.bdl_parser.specs.declared.parser.Refusal.TheVariants.{Expected, TypeNesting, Memory}
 use Rattle.bdl_parser.specs.Lexemes.{Lexeme}
-use Rattle.bdl_parser.specs.Refusals.{meets, IsTokenRefused, IsRefused}
+use Rattle.bdl_parser.specs.Refusals.{IsTokenRefused, IsRefused}
 use Rattle.grammar_model.specs.Forms.{Form, IsOne, token, two, either, made, Repeats, many}
-use Rattle.grammar_model.specs.Stops.{Stops, GoesOn, Taken}
+use Rattle.grammar_model.specs.Stops.{Stops, Taken}
 use Rattle.grammar_model.proofs.FormLaws.{IsLawful, IsEnder, Apart, lawful_token}
 use Rattle.grammar_model.proofs.GoOnLaws.{goes_made, goes_first, goes_second, goes_left, goes_right, goes_item, goes_last, goes_after}
 use Rattle.grammar_model.proofs.Growth.{Grows}

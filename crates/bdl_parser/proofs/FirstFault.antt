@@ -1,15 +1,14 @@
 -- From where the parser stops to the first fault.
-use Rattle.std.proofs.Common.{◌≡◌, ℕ, zero, suc, ◌+◌, ◌-◌, ◌<◌, ◌≤◌, List, [], ◌∷◌, ◌++◌, length, take, drop, refl, sym, ap, ◌∙◌, subst, ⊎_elim, arith, append_assoc, append-nil, length-append}
+use Rattle.std.proofs.Common.{◌≡◌, ℕ, zero, suc, ◌+◌, ◌-◌, ◌<◌, ◌≤◌, List, [], ◌∷◌, ◌++◌, length, take, refl, sym, ap, ◌∙◌, subst, ⊎_elim, arith, append_assoc, length-append}
 use Rattle.std.proofs.lemmas.List.{append_cancel_right, take_at}
 use Rattle.std.proofs.str.Laws.{order}
-use Rattle.bdl_parser.specs.declared.parser.Refusal.{Refusal}
-use Rattle.bdl_parser.specs.declared.parser.Refusal.TheVariants.{Expected, TypeNesting, Memory}
+use Rattle.bdl_parser.specs.declared.parser.Refusal.TheVariants.{Expected, TypeNesting}
 use Rattle.bdl_parser.specs.declared.trees.Module.{Module}
-use Rattle.bdl_parser.specs.FirstFault.{BeginsModule, ExpectedAt, NestsAt}
+use Rattle.bdl_parser.specs.FirstFault.{ExpectedAt, NestsAt}
 use Rattle.bdl_parser.specs.Grammar.{a_type, a_module}
 use Rattle.bdl_parser.specs.Lexemes.{Lexeme}
 use Rattle.bdl_parser.specs.Refusals.{IsRefused}
-use Rattle.grammar_model.specs.Stops.{behind, Stops, GoesOn}
+use Rattle.grammar_model.specs.Stops.{behind}
 use Rattle.grammar_model.proofs.Growth.{Grows, grows_same}
 use Rattle.bdl_parser.proofs.GrammarLaws.{ender_module, grows_type, grows_module}
 

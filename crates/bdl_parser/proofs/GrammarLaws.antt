@@ -1,5 +1,5 @@
 -- Each form of the grammar keeps the laws of forms.
-use Rattle.std.proofs.Common.{◌≡◌, ℕ, zero, suc, Bool, true, false, cond, ◌||◌, Option, None, Some, List, [], ◌∷◌, ◌⊎◌, inl, inr, codes, refl, sym, ap, ◌∙◌, subst, rules}
+use Rattle.std.proofs.Common.{◌≡◌, ℕ, zero, suc, Bool, true, false, cond, ◌||◌, Option, None, Some, List, [], ◌⊎◌, inl, inr, codes, refl, sym, ap, ◌∙◌, subst}
 use Rattle.std.specs.Option.{is_some, option_map}
 use Rattle.std.specs.Str.{bytes_eq}
 use Rattle.std.proofs.lemmas.Slice.Eq.{bytes_eq-Decides}
@@ -10,9 +10,9 @@ use Rattle.bdl_parser.specs.Lexemes.{What, Lexeme, word, number, quoted, sign}
 use Rattle.bdl_parser.specs.Refusals.{is_type_first}
 use Rattle.bdl_parser.specs.Trees.{Leaf, TypeTree, BagFieldTree, StructFieldTree}
 use Rattle.bdl_parser.specs.Words.{integer_of, other_scalar_of, plain_of, opens_form, leaf_of}
-use Rattle.grammar_model.specs.Forms.{Form, token, two, either, made, many, nothing, ended}
+use Rattle.grammar_model.specs.Forms.{Form, token, two, either, made, nothing, ended}
 use Rattle.grammar_model.proofs.ChoiceLaws.{lawful_either, lawful_many, ender_ended, ender_many}
-use Rattle.grammar_model.proofs.FormLaws.{IsLawful, IsEnder, Apart, ender_of, lawful_token, lawful_nothing, lawful_made, lawful_two}
+use Rattle.grammar_model.proofs.FormLaws.{IsLawful, IsEnder, Apart, lawful_token, lawful_nothing, lawful_made, lawful_two}
 use Rattle.grammar_model.proofs.Growth.{Grows, grows_same, grows_made, grows_two, grows_many, grows_either}
 
 -- laws, whose forms are found from those of the parts

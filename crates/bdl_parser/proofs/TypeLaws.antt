@@ -1,20 +1,19 @@
 -- One level of types: a type of one word, a set or a map, each with one type less room inside.
-use Rattle.std.proofs.Common.{◌≡◌, ℕ, zero, suc, ◌+◌, ◌≤◌, Bool, true, false, ◌||◌, Option, None, Some, List, [], ◌∷◌, ◌++◌, ◌⊎◌, inl, inr, codes, refl, sym, ap, ◌∙◌, subst, subst₂, arith, drop}
+use Rattle.std.proofs.Common.{◌≡◌, ℕ, zero, suc, ◌+◌, ◌≤◌, Bool, true, false, ◌||◌, Option, None, Some, List, [], ◌∷◌, ◌⊎◌, inl, inr, codes, refl, sym, ap, ◌∙◌, subst, subst₂, arith, drop}
 use Rattle.std.specs.Option.{is_some, option_map}
 use Rattle.bdl_parser.specs.declared.parser.Refusal.{Refusal}
 use Rattle.bdl_parser.specs.declared.parser.Refusal.TheVariants.{Expected, TypeNesting, Memory}
 use Rattle.bdl_parser.specs.Grammar.{key, a_leaf, set_of, map_of, a_type}
 use Rattle.bdl_parser.specs.declared.trees.Spot.{Spot}
 use Rattle.bdl_parser.specs.declared.trees.TypeForm.{TypeForm}
-use Rattle.bdl_parser.specs.Lexemes.{What, Lexeme, word}
+use Rattle.bdl_parser.specs.Lexemes.{Lexeme, word}
 use Rattle.bdl_parser.specs.Refusals.{meets, IsTokenRefused, IsRefused, is_type_first, HasFirst}
 use Rattle.bdl_parser.specs.Trees.{TypeTree, leaf}
 use Rattle.bdl_parser.specs.Views.{tree_at}
 use Rattle.bdl_parser.specs.Words.{leaf_of}
 use Rattle.grammar_model.specs.Forms.{Form, IsOne, token, either}
 use Rattle.grammar_model.specs.Stops.{first_passes, Stops, GoesOn, Taken}
-use Rattle.grammar_model.proofs.FormLaws.{IsLawful, IsEnder, Apart, ender_of}
-use Rattle.grammar_model.proofs.ChoiceLaws.{lawful_either}
+use Rattle.grammar_model.proofs.FormLaws.{Apart, ender_of}
 use Rattle.grammar_model.proofs.GoOnLaws.{goes_left, goes_right}
 use Rattle.grammar_model.proofs.StopLaws.{IsNotHere, not_here_apart, stops_here, stops_left, stops_right}
 use Rattle.bdl_parser.proofs.GrammarLaws.{law_token, leaf_apart, set_apart, lawful_set, lawful_map, lawful_type}

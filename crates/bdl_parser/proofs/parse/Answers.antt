@@ -1,8 +1,8 @@
-use Rattle.std.proofs.Common.{List, length, sym, subst, ap, arith}
+use Rattle.std.proofs.Common.{List, length, subst, ap, arith}
 use Rattle.std.proofs.lemmas.List.{length-map}
 use Rattle.bdl_parser.specs.FirstFault.{IsModuleOf}
 use Rattle.bdl_parser.specs.Lexemes.{Lexeme, lexeme_of, lexemes_of}
-use Rattle.bdl_parser.proofs.FirstFault.{expected_within, nesting_within, expected_fault, nesting_fault}
+use Rattle.bdl_parser.proofs.FirstFault.{expected_within, expected_fault, nesting_fault}
 use Rattle.bdl_parser.proofs.parse.Goals as goal
 
 pub overflow_sub-result : goal.overflow_sub-result

@@ -1,4 +1,4 @@
-use Rattle.std.proofs.Common.{◌≡◌, ◌+◌, refl, sym, subst, subst₂, arith}
+use Rattle.std.proofs.Common.{sym, subst, subst₂, arith}
 use Rattle.std.proofs.lemmas.Result.{IfOk-weaker, MatchResult-weaker}
 use Rattle.bdl_parser.specs.Grammar.{set_of, map_of, a_type}
 use Rattle.bdl_parser.specs.Trees.{set, map}

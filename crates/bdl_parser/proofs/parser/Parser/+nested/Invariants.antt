@@ -1,4 +1,4 @@
-use Rattle.std.proofs.Common.{ℕ, ◌+◌, ◌*◌}
+use Rattle.std.proofs.Common.{◌+◌, ◌*◌}
 use Rattle.bdl_parser.proofs.parser.Parser.+nested.Given as goal
 
 abbrev pub decreases-map_type : goal.decreases-map_type

@@ -1,4 +1,3 @@
-use Rattle.std.proofs.Common.{sym}
 use Rattle.bdl_parser.specs.declared.parser.Refusal.{Refusal}
 use Rattle.bdl_parser.proofs.DeclLaws.{module_imports, module_decls, module_taken}
 use Rattle.bdl_parser.proofs.Exits.{exit_err}
