@@ -1,12 +1,12 @@
 -- The longest token at a place is the one behind whose run another kind of byte follows.
-use Rattle.std.proofs.Common.{◌≡◌, ℕ, ◌<◌, ◌≤◌, Bool, true, false, ◌||◌, List, [], ◌∷◌, ◌++◌, length, refl, sym, ap, ◌∙◌, subst, arith, length-append, append_assoc}
+use Rattle.std.proofs.Common.{◌≡◌, ℕ, ◌<◌, ◌≤◌, true, ◌||◌, List, [], ◌∷◌, ◌++◌, length, refl, sym, ap, ◌∙◌, arith, length-append, append_assoc}
 use Rattle.std.specs.Char.{is_ascii_digit}
 use Rattle.std.specs.List.{AllPass}
 use Rattle.std.proofs.lemmas.List.Elements.{All-head, All-cons, All-same}
 use Rattle.bdl_lexer.specs.declared.TokenClass.{TokenClass}
 use Rattle.bdl_lexer.specs.declared.TokenClass.TheVariants.{Word, Number, Text, Sign}
 use Rattle.bdl_lexer.specs.Bytes.{is_letter, is_word_byte, is_text_byte}
-use Rattle.bdl_lexer.specs.Pieces.{value_of, IsWord, IsNumber, IsText, IsSign, HasForm, IsLongest}
+use Rattle.bdl_lexer.specs.Pieces.{IsWord, IsNumber, IsText, IsSign, HasForm, IsLongest}
 use Rattle.bdl_lexer.proofs.Runs.{StopsAt, run_longest}
 use Rattle.bdl_lexer.proofs.FirstBytes.{kind_of, kind_letter, kind_digit, kind_sign}
 

@@ -1,6 +1,5 @@
 -- A source is cut in one way: into its tokens, or up to its first fault.
-use Rattle.std.proofs.Common.{◌≡◌, ℕ, ◌+◌, ◌<◌, ◌≤◌, Bool, true, false, ◌||◌, ◌&&◌, eqb, Option, None, Some, List, [], ◌∷◌, ◌++◌, length, take, refl, sym, ap, ◌∙◌, subst, ⊎_elim, inl, inr, ◌⊎◌, arith, append_assoc, length-append}
-use Rattle.std.specs.Char.{is_ascii_digit}
+use Rattle.std.proofs.Common.{◌≡◌, ℕ, Option, List, [], ◌∷◌, ◌++◌, length, take, refl, sym, ap, ◌∙◌, subst, inl, inr, ◌⊎◌, arith, length-append}
 use Rattle.std.specs.Str.{IsUtf8, IsValidUpTo}
 use Rattle.std.proofs.lemmas.List.{take_all}
 use Rattle.std.proofs.lemmas.Str.{utf8_valid_len-IsValidUpTo}
@@ -8,15 +7,11 @@ use Rattle.bdl_lexer.specs.declared.LexCode.{LexCode}
 use Rattle.bdl_lexer.specs.declared.LexCode.TheVariants.{NotUtf8, BadByte, OpenComment, OpenString, NumberRange}
 use Rattle.bdl_lexer.specs.declared.Token.{Token}
 use Rattle.bdl_lexer.specs.declared.TokenClass.{TokenClass}
-use Rattle.bdl_lexer.specs.declared.TokenClass.TheVariants.{Word, Number, Text, Sign}
-use Rattle.bdl_lexer.specs.Bytes.{is_blank, is_letter, is_text_byte, is_sign}
-use Rattle.bdl_lexer.specs.Faults.{begins_comment, begins_piece, IsBadByte, IsOpenComment, IsOpenString, IsLargeNumber, IsFault, IsNotUtf8, IsFaultBehind, FirstFault}
-use Rattle.bdl_lexer.specs.Pieces.{HasForm, IsText, IsLongest, IsToken, EndsLine, IsLineComment, HasNoClose, IsBlockComment, IsPiece}
+use Rattle.bdl_lexer.specs.Faults.{IsFault, IsNotUtf8, IsFaultBehind, FirstFault}
+use Rattle.bdl_lexer.specs.Pieces.{IsPiece}
 use Rattle.bdl_lexer.specs.Places.{first_place, place_behind}
 use Rattle.bdl_lexer.specs.Tokens.{Piece, Begins, tokens_from, text_of, AreTokensOf}
-use Rattle.bdl_lexer.proofs.Longest.{Starts, same_kind, class_kind, form_starts, form_some, inner_same}
 use Rattle.bdl_lexer.proofs.OnePiece.{piece_same, piece_some, fault_some, piece_or_fault, code_same}
-use Rattle.bdl_lexer.proofs.Runs.{StopsAt, run_longest}
 
 -- no piece is whole here
 abbrev NoPiece : List ℕ → Type 0

@@ -1,7 +1,6 @@
 -- At one place stands at most one piece, or one fault.
-use Rattle.std.proofs.Common.{◌≡◌, ℕ, zero, suc, ◌+◌, ◌<◌, ◌≤◌, Bool, true, false, cond, eqb, ◌||◌, ◌&&◌, Option, None, Some, List, [], ◌∷◌, ◌++◌, length, get_or, take, drop, refl, sym, ap, ◌∙◌, subst, ⊎_elim, inl, inr, ◌⊎◌, arith, append_assoc, append-nil, length-append}
+use Rattle.std.proofs.Common.{◌≡◌, ℕ, ◌+◌, ◌<◌, ◌≤◌, Bool, true, false, cond, eqb, ◌||◌, ◌&&◌, Option, None, Some, List, [], ◌∷◌, ◌++◌, length, get_or, refl, sym, ap, ◌∙◌, subst, ⊎_elim, inl, inr, ◌⊎◌, arith, append_assoc, append-nil, length-append}
 use Rattle.std.specs.Char.{is_ascii_digit}
-use Rattle.std.specs.List.{AllPass}
 use Rattle.std.proofs.lemmas.Bool.Decides.{nat_tests}
 use Rattle.std.proofs.lemmas.List.{get_or_append_left, get_or_at}
 use Rattle.std.proofs.str.Laws.{order}
@@ -11,9 +10,9 @@ use Rattle.bdl_lexer.specs.declared.TokenClass.{TokenClass}
 use Rattle.bdl_lexer.specs.declared.TokenClass.TheVariants.{Word, Number, Text, Sign}
 use Rattle.bdl_lexer.specs.Bytes.{is_blank, is_letter, is_text_byte, is_line_byte, is_sign}
 use Rattle.bdl_lexer.specs.Faults.{begins_comment, begins_piece, IsBadByte, IsOpenComment, IsOpenString, IsLargeNumber, IsFault}
-use Rattle.bdl_lexer.specs.Pieces.{value_of, HasForm, IsText, IsLongest, IsToken, IsBlank, EndsLine, IsLineComment, HasNoClose, IsBlockComment, IsPiece}
-use Rattle.bdl_lexer.proofs.FirstBytes.{kind_of, kind_blank, kind_digit}
-use Rattle.bdl_lexer.proofs.Longest.{Starts, same_kind, class_kind, form_starts, form_some, inner_same}
+use Rattle.bdl_lexer.specs.Pieces.{HasForm, IsText, IsLongest, IsToken, IsBlank, EndsLine, IsLineComment, HasNoClose, IsBlockComment, IsPiece}
+use Rattle.bdl_lexer.proofs.FirstBytes.{kind_of, kind_blank}
+use Rattle.bdl_lexer.proofs.Longest.{Starts, same_kind, class_kind, form_starts}
 use Rattle.bdl_lexer.proofs.Runs.{StopsAt, run_longest}
 
 -- two texts at one place, as long as one another, are one

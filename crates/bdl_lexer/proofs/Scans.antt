@@ -1,5 +1,5 @@
 -- What each way of the scan finds at the front of some bytes.
-use Rattle.std.proofs.Common.{◌≡◌, ℕ, zero, suc, ◌+◌, ◌*◌, ◌-◌, ◌<◌, ◌≤◌, Bool, true, false, Option, None, Some, List, [], ◌∷◌, ◌++◌, length, get_or, take, drop, refl, sym, ap, ◌∙◌, subst, inl, inr, arith, append_assoc, add-zero}
+use Rattle.std.proofs.Common.{◌≡◌, ℕ, zero, suc, ◌+◌, ◌*◌, ◌-◌, ◌<◌, ◌≤◌, Bool, true, false, None, Some, List, [], ◌∷◌, ◌++◌, length, get_or, take, drop, refl, sym, ap, ◌∙◌, subst, inl, inr, arith, append_assoc, add-zero}
 use Rattle.std.specs.Char.{is_ascii_digit}
 use Rattle.std.specs.List.{AllPass, take_while, fold}
 use Rattle.std.proofs.Math.Seq.{take-suc}
@@ -7,11 +7,10 @@ use Rattle.std.proofs.lemmas.Bool.Decides.{nat_tests}
 use Rattle.std.proofs.lemmas.List.{get_or-take, get_or-drop, length-take-le, length-drop, take-append-drop}
 use Rattle.std.proofs.lemmas.List.Elements.{All-tail}
 use Rattle.std.proofs.lemmas.List.Sums.{fold-append, fold_more}
-use Rattle.bdl_lexer.specs.declared.TokenClass.{TokenClass}
 use Rattle.bdl_lexer.specs.declared.TokenClass.TheVariants.{Word, Number, Text, Sign}
 use Rattle.bdl_lexer.specs.Bytes.{is_blank, is_letter, is_word_byte, is_text_byte, is_line_byte, is_sign}
-use Rattle.bdl_lexer.specs.Faults.{IsBadByte, IsOpenComment, IsOpenString, IsLargeNumber}
-use Rattle.bdl_lexer.specs.Pieces.{value_of, IsNumber, EndsLine, HasNoClose, IsPiece}
+use Rattle.bdl_lexer.specs.Faults.{IsOpenComment, IsOpenString, IsLargeNumber}
+use Rattle.bdl_lexer.specs.Pieces.{value_of, IsNumber, EndsLine, HasNoClose}
 use Rattle.bdl_lexer.specs.Steps.{Stands, ClosesAt}
 use Rattle.bdl_lexer.proofs.Runs.{StopsAt, IsRun, run_of}
 use Rattle.bdl_lexer.proofs.Longest.{letter_in_word, word_longest, number_longest, text_longest, sign_longest}

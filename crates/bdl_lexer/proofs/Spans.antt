@@ -1,8 +1,8 @@
 -- The tokens among pieces lie in their source, in order.
-use Rattle.std.proofs.Common.{◌≡◌, ℕ, ◌+◌, ◌-◌, ◌<◌, ◌≤◌, Bool, true, false, Option, None, Some, List, [], ◌∷◌, ◌++◌, length, get_or, take, drop, refl, sym, ap, ◌∙◌, subst, subst₂, ⊎_elim, arith, append_assoc, length-append}
+use Rattle.std.proofs.Common.{◌≡◌, ℕ, ◌+◌, ◌-◌, ◌<◌, ◌≤◌, true, Option, None, Some, List, [], ◌∷◌, ◌++◌, length, get_or, take, drop, refl, sym, ap, ◌∙◌, subst, subst₂, ⊎_elim, arith, append_assoc, length-append}
 use Rattle.std.specs.List.{All, AllPass}
 use Rattle.std.specs.Option.{option_map, option_to_list}
-use Rattle.std.specs.Str.{IsUtf8, IsAscii}
+use Rattle.std.specs.Str.{IsUtf8}
 use Rattle.std.proofs.lemmas.Bool.Decides.{nat_tests}
 use Rattle.std.proofs.lemmas.List.{take_at, drop_at, get_or_at, get_or_past}
 use Rattle.std.proofs.lemmas.List.Elements.{All-nil, All-cons, All-append}
@@ -13,9 +13,9 @@ use Rattle.bdl_lexer.specs.declared.Token.{Token}
 use Rattle.bdl_lexer.specs.declared.TokenClass.{TokenClass}
 use Rattle.bdl_lexer.specs.declared.TokenClass.TheVariants.{Word, Number, Text, Sign}
 use Rattle.bdl_lexer.specs.Bytes.{is_word_byte}
-use Rattle.bdl_lexer.specs.Pieces.{IsText, HasForm, IsToken, IsPiece}
+use Rattle.bdl_lexer.specs.Pieces.{HasForm, IsToken, IsPiece}
 use Rattle.bdl_lexer.specs.Places.{first_place, next_place, place_behind}
-use Rattle.bdl_lexer.specs.Spans.{token_text, behind_token, between_quotes, IsSpelled, LiesIn, AreInOrder}
+use Rattle.bdl_lexer.specs.Spans.{between_quotes, IsSpelled, LiesIn, AreInOrder}
 use Rattle.bdl_lexer.specs.Tokens.{Piece, Begins, token_of, token_at, tokens_from, AreTokensOf}
 use Rattle.bdl_lexer.proofs.Longest.{word_bytes}
 

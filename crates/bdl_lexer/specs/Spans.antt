@@ -1,9 +1,9 @@
 -- What the tokens of a source say of it, token by token.
-use Rattle.std.specs.Prelude.{◌≡◌, ℕ, ◌+◌, ◌-◌, ◌≤◌, List, [], ◌∷◌, ◌++◌, length, take, drop}
+use Rattle.std.specs.Prelude.{ℕ, ◌+◌, ◌-◌, ◌≤◌, List, [], ◌∷◌, length, take, drop}
 use Rattle.std.specs.Str.{IsUtf8}
 use Rattle.bdl_lexer.specs.declared.Token.{Token}
 use Rattle.bdl_lexer.specs.declared.TokenClass.{TokenClass}
-use Rattle.bdl_lexer.specs.declared.TokenClass.TheVariants.{Word, Number, Text, Sign}
+use Rattle.bdl_lexer.specs.declared.TokenClass.TheVariants.{Word, Text}
 use Rattle.bdl_lexer.specs.Pieces.{IsToken}
 
 -- the bytes of a token

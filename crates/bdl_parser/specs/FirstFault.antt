@@ -1,7 +1,6 @@
 -- The module that tokens say, or the token at which they first go wrong.
-use Rattle.std.specs.Prelude.{◌≡◌, ℕ, ◌+◌, ◌<◌, ◌≤◌, List, [], length, take}
+use Rattle.std.specs.Prelude.{ℕ, ◌+◌, ◌<◌, ◌≤◌, List, [], length, take}
 use Rattle.bdl_parser.specs.declared.trees.Module.{Module}
-use Rattle.bdl_parser.specs.declared.ParseCode.{ParseCode}
 use Rattle.bdl_parser.specs.declared.ParseCode.TheVariants.{Expected, TypeNesting}
 use Rattle.bdl_parser.specs.declared.ParseFault.{ParseFault}
 use Rattle.bdl_parser.specs.declared.ParseFault.TheVariants.{At, Memory}

@@ -90,22 +90,22 @@ a_struct_field n =
     made (λ p. record { kind = p.0; name = p.1.0.0; name_at = p.1.0.1 }) (two (a_type n) (two (token a_name) (token (mark 59))))
 
 -- { type NAME "=" Number ";" } "}"
-abbrev pub bag_fields : ℕ → Form Lexeme (List BagFieldTree × Spot)
-bag_fields n = many (a_bag_field n) (token (mark 125))
+abbrev pub bag_fields : ℕ → Form Lexeme (List BagFieldTree)
+bag_fields n = made (λ p. p.0) (many (a_bag_field n) (token (mark 125)))
 
 -- { type NAME ";" } "}"
-abbrev pub struct_fields : ℕ → Form Lexeme (List StructFieldTree × Spot)
-struct_fields n = many (a_struct_field n) (token (mark 125))
+abbrev pub struct_fields : ℕ → Form Lexeme (List StructFieldTree)
+struct_fields n = made (λ p. p.0) (many (a_struct_field n) (token (mark 125)))
 
 -- "bag" NAME "{" fields
 abbrev pub a_bag : ℕ → Form Lexeme Decl
 a_bag n =
-    made (λ p. Bag p.1.0.0 p.1.0.1 p.1.1.1.0) (two (token (key (codes "bag"))) (two (token a_name) (two (token (mark 123)) (bag_fields n))))
+    made (λ p. Bag p.1.0.0 p.1.0.1 p.1.1.1) (two (token (key (codes "bag"))) (two (token a_name) (two (token (mark 123)) (bag_fields n))))
 
 -- "struct" NAME "{" fields
 abbrev pub a_struct : ℕ → Form Lexeme Decl
 a_struct n =
-    made (λ p. Struct p.1.0.0 p.1.0.1 p.1.1.1.0) (two (token (key (codes "struct"))) (two (token a_name) (two (token (mark 123)) (struct_fields n))))
+    made (λ p. Struct p.1.0.0 p.1.0.1 p.1.1.1) (two (token (key (codes "struct"))) (two (token a_name) (two (token (mark 123)) (struct_fields n))))
 
 -- bag | struct
 abbrev pub a_decl : ℕ → Form Lexeme Decl
@@ -116,6 +116,10 @@ abbrev pub an_import : Form Lexeme Import
 an_import =
     made (λ p. record { file = p.1.0.0; at = p.1.0.1 }) (two (token (key (codes "import"))) (two (token a_text) (token (mark 59))))
 
+-- { bag | struct }, to the end
+abbrev pub the_decls : ℕ → Form Lexeme (List Decl)
+the_decls n = made (λ p. p.0) (many (a_decl n) ended)
+
 -- { import } { bag | struct }, to the end
 abbrev pub a_module : ℕ → Form Lexeme Module
-a_module n = made (λ p. record { imports = p.0; decls = p.1.0 }) (many an_import (many (a_decl n) ended))
+a_module n = made (λ p. record { imports = p.0; decls = p.1 }) (many an_import (the_decls n))

@@ -1,5 +1,5 @@
 -- What the parser's own functions say where they refuse.
-use Rattle.std.specs.Prelude.{◌≡◌, ℕ, ◌+◌, Bool, false, Option, List, ◌∷◌, drop}
+use Rattle.std.specs.Prelude.{◌≡◌, ℕ, ◌+◌, Bool, false, Option, List, ◌∷◌, drop, ◌||◌, codes}
 use Rattle.std.specs.Option.{is_some}
 use Rattle.std.specs.Str.{IsUtf8}
 use Rattle.bdl_parser.specs.declared.parser.Refusal.{Refusal}
@@ -7,6 +7,7 @@ use Rattle.bdl_parser.specs.declared.parser.Refusal.TheVariants.{Expected, TypeN
 use Rattle.bdl_parser.specs.declared.parser.What.{What as Seen}
 use Rattle.bdl_parser.specs.declared.parser.What.TheVariants.{Word as SeenWord, Number as SeenNumber, Quoted as SeenQuoted, Sign as SeenSign}
 use Rattle.bdl_parser.specs.declared.trees.Spot.{Spot}
+use Rattle.bdl_parser.specs.Grammar.{a_leaf, key}
 use Rattle.bdl_parser.specs.Lexemes.{What, Lexeme, word, number, quoted, sign}
 use Rattle.grammar_model.specs.Forms.{Form}
 use Rattle.grammar_model.specs.Stops.{first_passes, StopsFrom, GoesOn}
@@ -14,6 +15,10 @@ use Rattle.grammar_model.specs.Stops.{first_passes, StopsFrom, GoesOn}
 -- whether the first token says something
 abbrev pub meets : {A : Type 0} → (Lexeme → Option A) → List Lexeme → Bool
 meets meant ts = first_passes (λ t. is_some (meant t)) ts
+
+-- a type begins with this token
+abbrev pub is_type_first : Lexeme → Bool
+is_type_first t = is_some (a_leaf t) || (is_some (key (codes "set") t) || is_some (key (codes "map") t))
 
 -- nothing was read, and the first token doesn't say it
 abbrev pub IsTokenRefused : {A : Type 0} → (Lexeme → Option A) → Refusal → List Lexeme → List Lexeme → Type 0

@@ -1,5 +1,5 @@
 -- Codes of trees, by which a proof tells values of the lists apart. They say nothing of a definition.
-use Rattle.std.specs.Prelude.{◌≡◌, ℕ, List, [], ◌⊎◌, ◌==◌, if◌then◌else◌}
+use Rattle.std.specs.Prelude.{◌≡◌, ℕ, List, ◌⊎◌, ◌==◌, if◌then◌else◌}
 use Rattle.std.specs.Coded.{Coded, code_by, coded×, coded⊎, coded_ℕ, coded_list}
 use Rattle.std.proofs.Common.{refl, inl, inr, ap, subst, sym}
 use Rattle.bdl_parser.specs.declared.trees.ScalarWord.{ScalarWord}

@@ -1,11 +1,10 @@
 -- The trees of the code's types and fields.
-use Rattle.std.specs.Prelude.{ℕ, List}
 use Rattle.bdl_parser.specs.declared.trees.BagField.{BagField}
 use Rattle.bdl_parser.specs.declared.trees.Spot.{Spot}
 use Rattle.bdl_parser.specs.declared.trees.StructField.{StructField}
 use Rattle.bdl_parser.specs.declared.trees.TypeForm.{TypeForm, Scalar, Float, Double, Taint, Counter, Set', Map', Name}
 use Rattle.bdl_parser.specs.declared.trees.TypeNode.{TypeNode}
-use Rattle.bdl_parser.specs.Trees.{Leaf, TypeTree, BagFieldTree, StructFieldTree, scalar, float, double, taint, counter, name, leaf, set, map}
+use Rattle.bdl_parser.specs.Trees.{TypeTree, BagFieldTree, StructFieldTree, scalar, float, double, taint, counter, name, leaf, set, map}
 
 -- the tree of a form at this place
 abbrev pub tree_at : Spot → TypeForm → TypeTree

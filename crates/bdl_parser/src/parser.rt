@@ -1,18 +1,16 @@
 //! A walk over the tokens of a source, and what it reads of one token.
 
 ghost use Rattle.std.specs.Prelude.{◌≡◌, ◌<◌, [], length, drop, MatchOption, IfSome, IfOk, IfErr};
-ghost use Rattle.std.specs.Str.{IsUtf8};
 ghost use Rattle.bdl_parser.specs.Grammar.{key, mark, a_name, a_number, a_text};
 ghost use Rattle.bdl_parser.specs.Refusals.{meets, IsTokenRefused, seen, IsSeenUtf8, HasFirst};
 ghost use Rattle.grammar_model.specs.Forms.{IsOne};
 
 use crate::trees::Spot;
-use crate::words::{is, is_reserved};
+use crate::words::{is, is_reserved, text_with};
 use bdl_lexer::{Token, TokenClass};
 use outside::{Memory, Text};
 use std::alloc::Global;
 use std::marker::Model;
-use std::str;
 
 /// Why a form wasn't read.
 #[derive(Clone, Copy)]
@@ -52,7 +50,6 @@ impl<'a> Model for Parser<'a> {
     ghost invariant = { λ parser. All (LiesIn parser.source.now) parser.rest.now };
 }
 
-
 /// What a token says.
 #[derive(Clone, Copy)]
 pub(crate) enum What<'a> {
@@ -61,17 +58,6 @@ pub(crate) enum What<'a> {
     /// The characters between the quotes.
     Quoted(&'a [u8]),
     Sign(u8),
-}
-
-/// A text with these characters.
-fn text_with(alloc: Global, bytes: &[u8]) -> Result<Text, Memory>
-    requires { IsUtf8 bytes.now }
-    ensures { IfOk result (λ made. made ≡ bytes.now) }
-{
-    match str::from_utf8(bytes) {
-        Ok(text) => Text::of(alloc, text),
-        Err(_) => unreachable!(),
-    }
 }
 
 impl<'a> Parser<'a> {
@@ -97,7 +83,7 @@ impl<'a> Parser<'a> {
     }
 
     /// The next token.
-    fn peek(&self) -> Option<(What<'a>, Spot)>
+    pub fn peek(&self) -> Option<(What<'a>, Spot)>
         ensures first { MatchOption result (self.now ≡ []) (λ found. HasFirst (seen found.0) found.1 self.now) }
         ensures utf8 { IfSome result (λ found. IsSeenUtf8 found.0) }
     {
@@ -117,7 +103,7 @@ impl<'a> Parser<'a> {
     }
 
     /// Goes on behind the next token.
-    fn advance(&mut self)
+    pub fn advance(&mut self)
         requires { 0 < length self.old }
         ensures { self.new ≡ drop 1 self.old }
     {

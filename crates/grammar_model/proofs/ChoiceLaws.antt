@@ -1,6 +1,6 @@
 -- The laws of a form for choices and repetitions, whose parts no token begins both.
-use Rattle.std.proofs.Common.{◌≡◌, ℕ, Bool, true, false, ◌||◌, Option, Some, List, [], ◌∷◌, ◌++◌, ◌⊎◌, inl, inr, refl, sym, ap, ◌∙◌, subst, append_assoc}
-use Rattle.grammar_model.specs.Forms.{Form, either, Repeats, AreMany, BeginsMany, many, ended}
+use Rattle.std.proofs.Common.{◌≡◌, Bool, true, false, ◌||◌, List, [], ◌∷◌, ◌++◌, ◌⊎◌, inl, inr, refl, sym, ap, ◌∙◌, subst, append_assoc}
+use Rattle.grammar_model.specs.Forms.{Form, either, Repeats, AreMany, many, ended}
 use Rattle.grammar_model.proofs.FormLaws.{Framed, Starts, IsLawful, IsEnder, Apart, starts_at, starts_not_empty, ender_of}
 
 or_left : (a b : Bool) → a ≡ true → (a || b) ≡ true

@@ -1,7 +1,7 @@
 -- The laws that a form keeps, and that each way to build forms keeps.
-use Rattle.std.proofs.Common.{◌≡◌, ℕ, Bool, true, false, ◌||◌, Option, Some, List, [], ◌∷◌, ◌++◌, ◌⊎◌, inl, inr, refl, sym, ap, ◌∙◌, subst, append_assoc}
+use Rattle.std.proofs.Common.{◌≡◌, Bool, true, Option, Some, List, [], ◌∷◌, ◌++◌, ◌⊎◌, inl, inr, refl, sym, ap, ◌∙◌, subst, append_assoc}
 use Rattle.std.specs.Option.{is_some}
-use Rattle.grammar_model.specs.Forms.{Form, IsOne, BeginsOne, token, AreTwo, BeginsSecond, two, either, IsMade, made, Repeats, AreMany, BeginsMany, many, nothing, ended}
+use Rattle.grammar_model.specs.Forms.{Form, BeginsOne, token, AreTwo, BeginsSecond, two, IsMade, made, nothing}
 
 -- a sentence is a front of the list, and is one before any other rest
 pub record Framed {T A : Type 0} (f : Form T A) (ts : List T) (a : A) (rest : List T) : Type 0 where

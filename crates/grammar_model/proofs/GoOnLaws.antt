@@ -1,9 +1,8 @@
 -- A form that stops and, with one more token, goes on in another form: what is built from the two does so too.
-use Rattle.std.proofs.Common.{◌≡◌, ℕ, Bool, true, false, ◌||◌, Option, Some, List, [], ◌∷◌, ◌++◌, ◌⊎◌, inl, inr, refl, sym, ap, ◌∙◌, subst, append_assoc}
-use Rattle.std.proofs.lemmas.List.{append_cancel_right}
-use Rattle.grammar_model.specs.Forms.{Form, BeginsSecond, two, either, made, Repeats, BeginsMany, many}
-use Rattle.grammar_model.specs.Stops.{Stops, GoesOn}
-use Rattle.grammar_model.proofs.FormLaws.{Framed, IsLawful, IsEnder, Apart}
+use Rattle.std.proofs.Common.{Bool, List, [], ◌∷◌, ◌++◌, inl, inr, refl, sym, ap, ◌∙◌, subst, append_assoc}
+use Rattle.grammar_model.specs.Forms.{Form, two, either, made, Repeats, many}
+use Rattle.grammar_model.specs.Stops.{GoesOn}
+use Rattle.grammar_model.proofs.FormLaws.{IsLawful, IsEnder, Apart}
 use Rattle.grammar_model.proofs.Growth.{Grows}
 use Rattle.grammar_model.proofs.StopLaws.{IsNotHere, stops_made, stops_first, stops_second, stops_left, stops_right, stops_item, stops_last, stops_later}
 

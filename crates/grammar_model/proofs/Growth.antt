@@ -1,6 +1,6 @@
 -- A form that reads and begins all that another does: what is built from it does so too.
-use Rattle.std.proofs.Common.{◌≡◌, ℕ, Option, List, [], ◌∷◌, ◌⊎◌, inl, inr, refl}
-use Rattle.grammar_model.specs.Forms.{Form, AreTwo, BeginsSecond, two, either, IsMade, made, Repeats, AreMany, BeginsMany, many}
+use Rattle.std.proofs.Common.{List, [], ◌∷◌, ◌⊎◌, inl, inr}
+use Rattle.grammar_model.specs.Forms.{Form, BeginsSecond, two, either, made, Repeats, many}
 
 pub record Grows {T A : Type 0} (f wide : Form T A) : Type 0 where
   pub read : (ts : List T) (a : A) (rest : List T) → f.reads ts a rest → wide.reads ts a rest

@@ -1,8 +1,8 @@
 -- Where a form that is built from others stops.
-use Rattle.std.proofs.Common.{◌≡◌, ℕ, Bool, true, false, ◌||◌, Option, Some, List, [], ◌∷◌, ◌++◌, ◌⊎◌, inl, inr, refl, sym, ap, ◌∙◌, subst, append_assoc}
-use Rattle.grammar_model.specs.Forms.{Form, AreTwo, BeginsSecond, two, either, IsMade, made, Repeats, AreMany, BeginsMany, many}
+use Rattle.std.proofs.Common.{◌≡◌, Bool, true, false, List, [], ◌∷◌, ◌++◌, ◌⊎◌, inl, inr, refl, sym, ap, ◌∙◌, subst, append_assoc}
+use Rattle.grammar_model.specs.Forms.{Form, AreTwo, BeginsSecond, two, either, made, Repeats, many}
 use Rattle.grammar_model.specs.Stops.{behind, first_passes, Stops}
-use Rattle.grammar_model.proofs.FormLaws.{Framed, Starts, IsLawful, IsEnder, Apart, starts_at, starts_not_empty}
+use Rattle.grammar_model.proofs.FormLaws.{Framed, IsLawful, IsEnder, Apart, starts_at, starts_not_empty}
 
 true_or_false : (b : Bool) → b ≡ true → b ≡ false → ⊥
 true_or_false b p q = let e : true ≡ false = sym p ∙ q in cc

@@ -1,5 +1,5 @@
 -- Grammars: forms over a list of tokens, and the ways to build them.
-use Rattle.std.specs.Prelude.{◌≡◌, Bool, true, Option, Some, List, [], ◌∷◌, ◌⊎◌}
+use Rattle.std.specs.Prelude.{◌≡◌, true, Option, Some, List, [], ◌∷◌, ◌⊎◌}
 use Rattle.std.specs.Option.{is_some}
 
 -- A form: which tokens it takes from the front of a list, with what they say and which tokens are left, and which

@@ -1,4 +1,4 @@
-use Rattle.std.proofs.Common.{◌≡◌, List, ◌++◌, ◌∷◌, [], arith, ◌∙◌, sym, ap, subst, append-nil}
+use Rattle.std.proofs.Common.{List, ◌++◌, arith, ◌∙◌, sym, ap, subst, append-nil}
 use Rattle.std.specs.Option.{option_to_list}
 use Rattle.bdl_lexer.specs.declared.Token.{Token}
 use Rattle.bdl_lexer.specs.Tokens.{AreTokensOf}

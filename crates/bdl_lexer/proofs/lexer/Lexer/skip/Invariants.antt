@@ -1,5 +1,4 @@
-use Rattle.std.proofs.Common.{◌≡◌, ℕ, ◌+◌, ◌≤◌, take}
-use Rattle.bdl_lexer.specs.declared.lexer.Place.{Place}
+use Rattle.std.proofs.Common.{◌≡◌, ◌+◌, ◌≤◌, take}
 use Rattle.bdl_lexer.specs.Places.{place_behind}
 use Rattle.bdl_lexer.proofs.lexer.Lexer.skip.Given as goal
 
