@@ -4,7 +4,9 @@
 mod codec;
 mod escapes;
 mod fixed_codecs;
+mod kind_codec;
 mod kinds;
+mod packed;
 mod plain_codecs;
 mod scalars;
 mod varint_codecs;
