@@ -2,3 +2,4 @@ pub mod Codes
 pub mod NumberCodes
 pub mod ScalarOrder
 pub mod SpellingOrder
+pub mod SpellingRows

@@ -6,3 +6,4 @@ pub mod ScalarViews
 pub mod ScalarFalls
 pub mod Escapes
 pub mod WordCodecs
+pub mod KindLaws

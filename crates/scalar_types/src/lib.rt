@@ -4,15 +4,22 @@
 mod codec;
 mod escapes;
 mod fixed_codecs;
+mod kind_codec;
 mod kinds;
+mod laws;
+mod packed;
 mod plain_codecs;
 mod scalars;
 mod varint_codecs;
 mod word_codecs;
 
+#[cfg(test)]
+mod tests;
+
 pub use codec::{Codec, TakeFault, respelled, round_trip};
 pub use fixed_codecs::{Fixed, SignedFixed};
 pub use kinds::{KindList, ScalarKind};
+pub use laws::spellings_keep_order;
 pub use plain_codecs::{Flag, Raw, Unit, Utf8};
 pub use scalars::{Scalar, ScalarList};
 pub use varint_codecs::{LexI, LexU};

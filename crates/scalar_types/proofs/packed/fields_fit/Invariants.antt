@@ -1,0 +1,6 @@
+use Rattle.std.proofs.Common.{◌≡◌, ◌↔◌, length, drop}
+use Rattle.scalar_types.proofs.PackedSteps.{Fit}
+use Rattle.scalar_types.proofs.packed.fields_fit.Given as goal
+
+abbrev pub invariant-loop-at : goal.invariant-loop-at
+invariant-loop-at l = Fit l.kinds l.values ↔ Fit (drop l.at l.kinds) (drop l.at l.values)

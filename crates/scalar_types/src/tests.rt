@@ -1,0 +1,297 @@
+//! Spellings of known values, each codec through its bound, and bytes that are no spelling.
+
+use crate::{
+    Codec, Fixed, Flag, KindList, LexI, LexU, Raw, Scalar, ScalarKind, ScalarList, SignedFixed,
+    TakeFault, Unit, Utf8, respelled, round_trip, spellings_keep_order,
+};
+use outside::{Memory, Octets, Text};
+use std::alloc::Global;
+use std::cmp::Ordering;
+use std::process::Abort;
+use std::test::Fail;
+
+/// The value has this spelling, by every call of the codec.
+fn spells<C: Codec>(
+    rt: &impl Abort,
+    alloc: Global,
+    codec: &C,
+    value: &C::Value,
+    spelling: &[u8],
+) -> Result<(), Fail> {
+    let codec = &codec.copy_codec()?;
+    let value = &codec.copy(value)?;
+    assert!(rt; codec.fits(value));
+    let mut bytes = Vec::from_slice(alloc, b"before")?;
+    codec.put(value, &mut bytes)?;
+    assert!(rt; bytes.len() == 6 + spelling.len());
+    assert!(rt; &bytes[6..] == spelling);
+    assert!(rt; codec.spelled(spelling));
+    let taken = codec.take(alloc, spelling)?;
+    assert!(rt; codec.compare(&taken, value) == Ordering::Equal);
+    let taken = round_trip(alloc, codec, value)?;
+    assert!(rt; codec.fits(&taken));
+    assert!(rt; respelled(alloc, codec, spelling)?.as_slice() == spelling);
+    Ok(())
+}
+
+/// No value has these bytes as its spelling.
+fn refuses<C: Codec>(rt: &impl Abort, alloc: Global, codec: &C, bytes: &[u8]) {
+    assert!(rt; !codec.spelled(bytes));
+    assert!(rt; matches!(codec.take(alloc, bytes), Err(TakeFault::NotSpelled)));
+}
+
+/// The first value is less than the second.
+fn rises<C: Codec>(rt: &impl Abort, codec: &C, less: &C::Value, more: &C::Value) {
+    assert!(rt; codec.fits(less));
+    assert!(rt; codec.fits(more));
+    assert!(rt; codec.compare(less, more) == Ordering::Less);
+    assert!(rt; codec.compare(more, less) == Ordering::Greater);
+}
+
+#[test]
+fn plain_values(rt: HostRuntime) -> Result<(), Fail> {
+    let alloc = rt.alloc();
+    spells(&rt, alloc, &Unit, &(), b"")?;
+    refuses(&rt, alloc, &Unit, b"\x00");
+    spells(&rt, alloc, &Flag, &false, b"\x00")?;
+    spells(&rt, alloc, &Flag, &true, b"\x01")?;
+    rises(&rt, &Flag, &false, &true);
+    for bytes in [b"".as_slice(), b"\x02", b"\x00\x00", b"\x01\x00"] {
+        refuses(&rt, alloc, &Flag, bytes);
+    }
+    for text in ["", "a", "a\0", "\u{e4}\u{20ac}\u{1f600}"] {
+        spells(&rt, alloc, &Utf8, &Text::of(alloc, text)?, text.as_bytes())?;
+    }
+    for bytes in [b"\xff".as_slice(), b"\xc0\x80", b"\xed\xa0\x80", b"\xe2\x82", b"a\x80"] {
+        refuses(&rt, alloc, &Utf8, bytes);
+        spells(&rt, alloc, &Raw, &Octets::of(alloc, bytes)?, bytes)?;
+    }
+    rises(&rt, &Utf8, &Text::of(alloc, "b")?, &Text::of(alloc, "ba")?);
+    rises(&rt, &Utf8, &Text::of(alloc, "aa")?, &Text::of(alloc, "b")?);
+    rises(&rt, &Raw, &Octets::of(alloc, b"\x00")?, &Octets::of(alloc, b"\x00\x00")?);
+    Ok(())
+}
+
+#[test]
+fn varints(rt: HostRuntime) -> Result<(), Fail> {
+    let alloc = rt.alloc();
+    let narrow = LexU { wide: false };
+    let wide = LexU { wide: true };
+    let unsigned = [
+        (0, b"\x00".as_slice()),
+        (1, b"\x01"),
+        (63, b"\x3f"),
+        (64, b"\x40"),
+        (127, b"\x7f"),
+        (128, b"\x80\x80"),
+        (16_383, b"\xbf\xff"),
+        (16_384, b"\xc0\x40\x00"),
+        (4_294_967_295, b"\xf0\xff\xff\xff\xff"),
+    ];
+    for (value, spelling) in unsigned {
+        spells(&rt, alloc, &narrow, &value, spelling)?;
+        spells(&rt, alloc, &wide, &value, spelling)?;
+    }
+    spells(&rt, alloc, &wide, &4_294_967_296, b"\xf1\x00\x00\x00\x00")?;
+    spells(&rt, alloc, &wide, &u64::MAX, b"\xff\xff\xff\xff\xff\xff\xff\xff\xff")?;
+    assert!(rt; !narrow.fits(&4_294_967_296));
+    for bytes in [b"\x7f\x00".as_slice(), b"", b"\x80\x00", b"\x80\x7f", b"\xbf"] {
+        refuses(&rt, alloc, &narrow, bytes);
+        refuses(&rt, alloc, &wide, bytes);
+    }
+    refuses(&rt, alloc, &narrow, b"\xf1\x00\x00\x00\x00");
+    rises(&rt, &narrow, &127, &128);
+
+    let narrow = LexI { wide: false };
+    let wide = LexI { wide: true };
+    let signed = [
+        (-2_147_483_648, b"\x07\x80\x00\x00\x00".as_slice()),
+        (-65, b"\x3f\xbf"),
+        (-64, b"\x40"),
+        (-1, b"\x7f"),
+        (0, b"\x80"),
+        (1, b"\x81"),
+        (63, b"\xbf"),
+        (64, b"\xc0\x40"),
+        (2_147_483_647, b"\xf8\x7f\xff\xff\xff"),
+    ];
+    for (value, spelling) in signed {
+        spells(&rt, alloc, &narrow, &value, spelling)?;
+        spells(&rt, alloc, &wide, &value, spelling)?;
+    }
+    spells(&rt, alloc, &wide, &i64::MIN, b"\x00\x80\x00\x00\x00\x00\x00\x00\x00")?;
+    spells(&rt, alloc, &wide, &i64::MAX, b"\xff\x7f\xff\xff\xff\xff\xff\xff\xff")?;
+    assert!(rt; !narrow.fits(&2_147_483_648));
+    assert!(rt; !narrow.fits(&-2_147_483_649));
+    for bytes in [b"\xbf\x00".as_slice(), b"", b"\xc0\x3f", b"\x3f\xc0", b"\xc0"] {
+        refuses(&rt, alloc, &narrow, bytes);
+        refuses(&rt, alloc, &wide, bytes);
+    }
+    refuses(&rt, alloc, &narrow, b"\xf8\x80\x00\x00\x00");
+    rises(&rt, &narrow, &-65, &-64);
+    rises(&rt, &narrow, &-1, &0);
+    Ok(())
+}
+
+#[test]
+fn fixed_numbers(rt: HostRuntime) -> Result<(), Fail> {
+    let alloc = rt.alloc();
+    let narrow = Fixed { wide: false };
+    let wide = Fixed { wide: true };
+    spells(&rt, alloc, &narrow, &0, b"\x00\x00\x00\x00")?;
+    spells(&rt, alloc, &narrow, &7, b"\x00\x00\x00\x07")?;
+    spells(&rt, alloc, &narrow, &4_294_967_295, b"\xff\xff\xff\xff")?;
+    spells(&rt, alloc, &wide, &4_294_967_296, b"\x00\x00\x00\x01\x00\x00\x00\x00")?;
+    spells(&rt, alloc, &wide, &u64::MAX, b"\xff\xff\xff\xff\xff\xff\xff\xff")?;
+    assert!(rt; !narrow.fits(&4_294_967_296));
+    refuses(&rt, alloc, &narrow, b"\x00\x00\x00");
+    refuses(&rt, alloc, &narrow, b"\x00\x00\x00\x00\x00");
+    refuses(&rt, alloc, &wide, b"\x00\x00\x00\x07");
+    rises(&rt, &narrow, &255, &256);
+
+    let narrow = SignedFixed { wide: false };
+    let wide = SignedFixed { wide: true };
+    spells(&rt, alloc, &narrow, &-2_147_483_648, b"\x00\x00\x00\x00")?;
+    spells(&rt, alloc, &narrow, &-1, b"\x7f\xff\xff\xff")?;
+    spells(&rt, alloc, &narrow, &0, b"\x80\x00\x00\x00")?;
+    spells(&rt, alloc, &narrow, &1, b"\x80\x00\x00\x01")?;
+    spells(&rt, alloc, &narrow, &2_147_483_647, b"\xff\xff\xff\xff")?;
+    spells(&rt, alloc, &wide, &i64::MIN, b"\x00\x00\x00\x00\x00\x00\x00\x00")?;
+    spells(&rt, alloc, &wide, &-1, b"\x7f\xff\xff\xff\xff\xff\xff\xff")?;
+    spells(&rt, alloc, &wide, &i64::MAX, b"\xff\xff\xff\xff\xff\xff\xff\xff")?;
+    assert!(rt; !narrow.fits(&2_147_483_648));
+    assert!(rt; !narrow.fits(&-2_147_483_649));
+    refuses(&rt, alloc, &wide, b"\x80\x00\x00\x00");
+    rises(&rt, &narrow, &-1, &0);
+    Ok(())
+}
+
+#[test]
+fn kinds_of_words(rt: HostRuntime) -> Result<(), Fail> {
+    let alloc = rt.alloc();
+    spells(&rt, alloc, &ScalarKind::Bool, &Scalar::Bool(true), b"\x01")?;
+    for kind in [ScalarKind::Int32, ScalarKind::Sint32] {
+        spells(&rt, alloc, &kind, &Scalar::Signed(-1), b"\x7f")?;
+        assert!(rt; !kind.fits(&Scalar::Signed(2_147_483_648)));
+        assert!(rt; !kind.fits(&Scalar::Unsigned(1)));
+    }
+    for kind in [ScalarKind::Int64, ScalarKind::Sint64] {
+        spells(&rt, alloc, &kind, &Scalar::Signed(i64::MIN), b"\x00\x80\x00\x00\x00\x00\x00\x00\x00")?;
+    }
+    spells(&rt, alloc, &ScalarKind::Uint32, &Scalar::Unsigned(16_383), b"\xbf\xff")?;
+    spells(&rt, alloc, &ScalarKind::Uint64, &Scalar::Unsigned(4_294_967_296), b"\xf1\x00\x00\x00\x00")?;
+    spells(&rt, alloc, &ScalarKind::Fixed32, &Scalar::Unsigned(7), b"\x00\x00\x00\x07")?;
+    spells(&rt, alloc, &ScalarKind::Fixed64, &Scalar::Unsigned(7), b"\x00\x00\x00\x00\x00\x00\x00\x07")?;
+    spells(&rt, alloc, &ScalarKind::Sfixed32, &Scalar::Signed(-1), b"\x7f\xff\xff\xff")?;
+    spells(&rt, alloc, &ScalarKind::Sfixed64, &Scalar::Signed(0), b"\x80\x00\x00\x00\x00\x00\x00\x00")?;
+    spells(&rt, alloc, &ScalarKind::Str, &text(alloc, "a\0")?, b"a\x00")?;
+    spells(&rt, alloc, &ScalarKind::Bytes, &octets(alloc, b"\x00\xff")?, b"\x00\xff")?;
+    refuses(&rt, alloc, &ScalarKind::Bool, b"\x02");
+    refuses(&rt, alloc, &ScalarKind::Uint32, b"\xf1\x00\x00\x00\x00");
+    refuses(&rt, alloc, &ScalarKind::Fixed32, b"\x00\x00\x00\x00\x00\x00\x00\x07");
+    refuses(&rt, alloc, &ScalarKind::Str, b"\xff");
+    rises(&rt, &ScalarKind::Sint64, &Scalar::Signed(-65), &Scalar::Signed(64));
+    Ok(())
+}
+
+#[test]
+fn structs(rt: HostRuntime) -> Result<(), Fail> {
+    let alloc = rt.alloc();
+    let mut kinds = KindList::new(alloc);
+    assert!(rt; kinds.is_empty());
+    kinds.push(ScalarKind::Str)?;
+    kinds.push(ScalarKind::Int32)?;
+    assert_eq!(rt; kinds.len(), 2);
+    assert_eq!(rt; kinds.as_slice().len(), 2);
+    let kind = ScalarKind::Packed(kinds);
+    let rows = [
+        ("a\0", -1, b"\x61\x00\xff\x00\x01\x7f".as_slice()),
+        ("", 0, b"\x00\x01\x80"),
+        ("\0\0", 63, b"\x00\xff\x00\xff\x00\x01\xbf"),
+        ("\u{1}a", 64, b"\x01\x61\x00\x01\xc0\x40"),
+        ("\u{e4}", -2_147_483_648, b"\xc3\xa4\x00\x01\x07\x80\x00\x00\x00"),
+    ];
+    for (text, number, spelling) in rows {
+        spells(&rt, alloc, &kind, &pair(alloc, text, number)?, spelling)?;
+    }
+    let unspelled = [
+        b"".as_slice(),
+        b"\x61\x00\xff\x00\x01",
+        b"\x61\x00\xff\x00\x01\x7f\x00",
+        b"\x61\x00\xff\x00",
+        b"\x61\x00\x02\x00\x01\x7f",
+        b"\x61",
+        b"\xff\x00\x01\x7f",
+        b"\xc3\x00\xff\xa4\x00\x01\x7f",
+        b"\xc0\x80\x00\x01\x7f",
+        b"\x61\x00\x01\xf8\x80\x00\x00\x00",
+    ];
+    for bytes in unspelled {
+        refuses(&rt, alloc, &kind, bytes);
+    }
+    let rising = [("", 64), ("a", -1), ("a", 0), ("a\0", -1), ("aa", -1), ("b", -1)];
+    let mut less = pair(alloc, "", 63)?;
+    for (text, number) in rising {
+        let more = pair(alloc, text, number)?;
+        rises(&rt, &kind, &less, &more);
+        less = more;
+    }
+    assert!(rt; !kind.fits(&pair(alloc, "a", 2_147_483_648)?));
+    assert!(rt; !kind.fits(&text(alloc, "a")?));
+    assert!(rt; !kind.fits(&Scalar::Packed(ScalarList::new(alloc))));
+    assert!(rt; !ScalarKind::Str.fits(&less));
+    Ok(())
+}
+
+#[test]
+fn empty_fields(rt: HostRuntime) -> Result<(), Fail> {
+    let alloc = rt.alloc();
+    let mut kinds = KindList::new(alloc);
+    kinds.push(ScalarKind::Bytes)?;
+    kinds.push(ScalarKind::Str)?;
+    kinds.push(ScalarKind::Bool)?;
+    kinds.push(ScalarKind::Fixed32)?;
+    let kind = ScalarKind::Packed(kinds);
+    let mut values = ScalarList::new(alloc);
+    assert!(rt; values.is_empty());
+    values.push(Scalar::Bytes(Octets::of(alloc, b"\x00\xff\xff")?))?;
+    values.push(Scalar::Str(Text::of(alloc, "")?))?;
+    values.push(Scalar::Bool(true))?;
+    values.push(Scalar::Unsigned(7))?;
+    assert_eq!(rt; values.len(), 4);
+    assert_eq!(rt; values.as_slice().len(), 4);
+    let value = Scalar::Packed(values);
+    spells(
+        &rt,
+        alloc,
+        &kind,
+        &value,
+        b"\x00\xff\xff\xff\x00\x01\x00\x01\x01\x00\x00\x00\x07",
+    )?;
+    refuses(&rt, alloc, &kind, b"\x00\x01\x00\x01\x02\x00\x00\x00\x07");
+    assert!(rt; value.order(&Scalar::Bool(true)) == Ordering::Greater);
+    assert!(rt; Scalar::Bool(true).order(&value) == Ordering::Less);
+    assert!(rt; Scalar::Signed(1).order(&Scalar::Unsigned(0)) == Ordering::Less);
+    assert!(rt; value.copy()?.order(&value) == Ordering::Equal);
+    let nothing = ScalarKind::Packed(KindList::new(alloc));
+    spells(&rt, alloc, &nothing, &Scalar::Packed(ScalarList::new(alloc)), b"")?;
+    refuses(&rt, alloc, &nothing, b"\x00");
+    spellings_keep_order();
+    Ok(())
+}
+
+/// The value of a struct of a text and a number with a sign.
+fn pair(alloc: Global, text: &str, number: i64) -> Result<Scalar, Memory> {
+    let mut values = ScalarList::new(alloc);
+    values.push(Scalar::Str(Text::of(alloc, text)?))?;
+    values.push(Scalar::Signed(number))?;
+    Ok(Scalar::Packed(values))
+}
+
+fn text(alloc: Global, text: &str) -> Result<Scalar, Memory> {
+    Ok(Scalar::Str(Text::of(alloc, text)?))
+}
+
+fn octets(alloc: Global, bytes: &[u8]) -> Result<Scalar, Memory> {
+    Ok(Scalar::Bytes(Octets::of(alloc, bytes)?))
+}
