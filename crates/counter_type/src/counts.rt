@@ -7,6 +7,7 @@ ghost use Rattle.context_model.specs.Merge.{AllBelow, Finds, brings, keys_of, la
 ghost use Rattle.counter_type.specs.Counted.{IsCounted, counts_joined, writer_cmp};
 
 use crate::lattice::Lattice;
+use crate::moves::{move_first, move_rest, room_for};
 use outside::{Memory, Octets};
 use std::alloc::Global;
 use std::cmp::Ordering;
@@ -193,16 +194,6 @@ fn brought(alloc: Global, ours: &[Entry], theirs: &[Entry]) -> Result<Vec<Entry>
     Ok(news)
 }
 
-/// An empty list with room for as many entries.
-fn room_for(alloc: Global, ours: usize, news: usize) -> Result<Vec<Entry>, Memory>
-    ensures empty { IfOk result (λ room. room.items ≡ []) }
-    ensures capacity { IfOk result (λ room. ours + news ≤ vec_capacity room) }
-{
-    let count = ours.checked_add(news).ok_or(Memory)?;
-    let room = Vec::with_capacity(alloc, count)?;
-    Ok(room)
-}
-
 /// Both lists in one, in the order of their writers, moved into a list that has room for them. It takes no memory. At a
 /// writer of both the count of the news stands.
 fn merged(mut ours: VecDeque<Entry>, mut news: VecDeque<Entry>, room: Vec<Entry>) -> Vec<Entry>
@@ -225,32 +216,6 @@ fn merged(mut ours: VecDeque<Entry>, mut news: VecDeque<Entry>, room: Vec<Entry>
     move_rest(ours, &mut entries);
     move_rest(news, &mut entries);
     entries
-}
-
-/// Moves the first entry behind the others.
-fn move_first(from: &mut VecDeque<Entry>, into: &mut Vec<Entry>)
-    requires some { 0 < deque_len from.old }
-    requires room { vec_len into.old < vec_capacity into.old }
-    ensures moved { (entry : List ℕ × ℕ) × (from.old.items ≡ entry ∷ from.new.items) × (into.new.items ≡ into.old.items ++ entry ∷ []) }
-    ensures fewer { deque_len from.old ≡ deque_len from.new + 1 }
-    ensures more { vec_len into.new ≡ vec_len into.old + 1 }
-    ensures capacity { vec_capacity into.old ≤ vec_capacity into.new }
-{
-    if let Some(entry) = from.pop_front() {
-        into.push(entry).unwrap();
-    }
-}
-
-/// Moves all entries behind the others.
-fn move_rest(mut from: VecDeque<Entry>, into: &mut Vec<Entry>)
-    requires { vec_len into.old + deque_len from ≤ vec_capacity into.old }
-    ensures moved { into.new.items ≡ into.old.items ++ from.items }
-    ensures more { vec_len into.new ≡ vec_len into.old + deque_len from }
-    ensures capacity { vec_capacity into.old ≤ vec_capacity into.new }
-{
-    while !from.is_empty() {
-        move_first(&mut from, into);
-    }
 }
 
 /// Adds copies of the entries at the end.

@@ -3,6 +3,9 @@
 
 mod counts;
 mod lattice;
+pub mod moves;
+#[cfg(test)]
+mod tests;
 
 pub use counts::Counts;
 pub use lattice::{Lattice, join_repeats, joins_commute, joins_regroup, keeps_join_laws};
