@@ -15,3 +15,4 @@ pub mod Search
 pub mod Brought
 pub mod MergeSteps
 pub mod Finding
+pub mod Meets

@@ -3,8 +3,9 @@
 ghost use Rattle.std.specs.Prelude.{◌≡◌, ◌+◌, ◌<◌, ◌≤◌, ℕ, max, vec_len, vec_capacity, List, [], ◌∷◌, ◌++◌, length, sum_by, IfOk, OnOk, OnErr, slice_get};
 ghost use Rattle.std.specs.Option.{option_map};
 ghost use Rattle.std.specs.VecDeque.{deque_len};
-ghost use Rattle.context_model.specs.Merge.{AllBelow, Finds, brings, keys_of, later, merge_with};
-ghost use Rattle.counter_type.specs.Counted.{IsCounted, counts_joined, writer_cmp};
+ghost use Rattle.context_model.specs.Merge.{AllBelow, Finds, IsUnion, brings, keys_of, later, merge_with};
+ghost use Rattle.context_model.specs.Orders.{atom_cmp};
+ghost use Rattle.counter_type.specs.Counted.{IsCounted, counts_joined};
 
 use crate::lattice::Lattice;
 use crate::moves::{move_first, move_rest, room_for};
@@ -96,7 +97,7 @@ impl Counts {
 
     /// Adds a writer, greater than each writer held, with its count. Want of memory leaves the counts unchanged.
     pub fn push(&mut self, writer: &[u8], count: u64) -> Result<(), Memory>
-        requires { AllBelow writer_cmp (keys_of self.old) writer.now }
+        requires { AllBelow atom_cmp (keys_of self.old) writer.now }
         ensures ok { OnOk result (self.new ≡ self.old ++ (writer.now, count) ∷ []) }
         ensures err { OnErr result (self.new ≡ self.old) }
     {
@@ -140,6 +141,12 @@ impl Lattice for Counts {
     }
 }
 
+/// A join of counts is their union: the writers of both, and at a writer of both the greater count.
+pub fn counts_join_is_union()
+    ensures { (a b : List (List ℕ × ℕ)) → IsCounted a → IsCounted b → IsUnion max a b (counts_joined a b) }
+{
+}
+
 /// The count as a part of a total.
 fn widened(count: u64) -> u128
     ensures value { result ≡ count }
@@ -169,7 +176,7 @@ fn count_of(entries: &[Entry], writer: &[u8]) -> Option<u64>
 
 /// What a join brings to our entries: a copy of each of theirs, with the greater count where we have the writer.
 fn brought(alloc: Global, ours: &[Entry], theirs: &[Entry]) -> Result<Vec<Entry>, Memory>
-    ensures { IfOk result (λ news. news.items ≡ brings writer_cmp max ours.now theirs.now) }
+    ensures { IfOk result (λ news. news.items ≡ brings atom_cmp max ours.now theirs.now) }
 {
     let mut news = Vec::new(alloc);
     let mut i = 0;
@@ -199,7 +206,7 @@ fn brought(alloc: Global, ours: &[Entry], theirs: &[Entry]) -> Result<Vec<Entry>
 fn merged(mut ours: VecDeque<Entry>, mut news: VecDeque<Entry>, room: Vec<Entry>) -> Vec<Entry>
     requires empty { room.items ≡ [] }
     requires capacity { deque_len ours + deque_len news ≤ vec_capacity room }
-    ensures { result.items ≡ merge_with writer_cmp later ours.items news.items }
+    ensures { result.items ≡ merge_with atom_cmp later ours.items news.items }
 {
     let mut entries = room;
     while !ours.is_empty() && !news.is_empty() {

@@ -1,4 +1,4 @@
-use crate::{Counts, Lattice, join_repeats, joins_commute, joins_regroup, keeps_join_laws};
+use crate::{Counts, counts_join_is_union, Lattice, join_repeats, joins_commute, joins_regroup, keeps_join_laws};
 use std::process::Abort;
 use std::test::Fail;
 
@@ -62,5 +62,6 @@ fn joins_of_counts(rt: HostRuntime) -> Result<(), Fail> {
     let (back, _) = joins_commute(&c, &a)?;
     seen(&rt, &back, &[(b"a", 3), (b"c", 5)]);
     let _ = joins(&rt, &(), &(), &())?;
+    counts_join_is_union();
     Ok(())
 }

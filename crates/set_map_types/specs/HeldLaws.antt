@@ -1,5 +1,5 @@
 -- The laws of sets and maps, for every codec in which a spelling belongs to one value and for every lattice of values.
-use Rattle.std.specs.Prelude.{◌≡◌, ℕ, ◌⊎◌, List, [], ◌∷◌, ◌++◌}
+use Rattle.std.specs.Prelude.{◌≡◌, ℕ, ◌⊎◌, ◌↔◌, List, [], ◌∷◌, ◌++◌}
 use Rattle.std.specs.Cmp.{IsTotalOrder}
 use Rattle.std.specs.declared.cmp.Ordering.{Ordering}
 use Rattle.std.specs.declared.cmp.Ordering.TheVariants.{Equal}
@@ -9,9 +9,10 @@ use Rattle.std.proofs.lemmas.Map.Lookups.{exact_bytes}
 use Rattle.scalar_types.specs.Spelling.{OneValue}
 use Rattle.counter_type.specs.Laws.{LatticeLaws}
 use Rattle.context_model.specs.Orders.{IsIn, Rises}
-use Rattle.context_model.specs.Merge.{greedy_merge, merge_with, keys_of, EachPair, IsAt, AtOneKey, AllBelow}
+use Rattle.context_model.specs.Merge.{greedy_merge, merge_with, keys_of, EachPair, IsAt, AtOneKey, AllBelow, IsUnion}
 use Rattle.context_model.proofs.Rising.{Rises-greedy, Rises-push}
 use Rattle.context_model.proofs.GreedyLaws.{greedy-comm, greedy-assoc, greedy-idem, greedy-from}
+use Rattle.context_model.proofs.Meets.{greedy-holds, with-union}
 use Rattle.context_model.proofs.MergeLaws.{IsMade, From, with-from, with-comm, with-assoc, with-idem, keys_of-merge_with, EachPair-at, EachPair-from, IsIn-keys_of, IsAt-unique}
 use Rattle.set_map_types.specs.Held.{Held, value_cmp, IsSet, IsMap, set_proper, set_joined, SameCodec, HoldsNothing, map_proper, MapAlike, map_joined}
 
@@ -184,3 +185,23 @@ module _ {V : Type 0} (fits : V → Type 0) (spelling : V → List ℕ) where
     by : (w : V) → IsIn w values ⊎ (w ≡ v) → fits w
     by w (inl at) = set.fit w at
     by w (inr same) = subst fits (sym same) fit
+
+module _ {C V : Type 0} (fits : C → V → Type 0) (spelling : C → V → List ℕ) (one : (c : C) → OneValue (fits c) (spelling c)) where
+
+  -- A value is in the join of two sets exactly where it is in one of them.
+  pub set_union : (s t : Held C V) → set_proper fits spelling s → set_proper fits spelling t → s.codec ≡ t.codec → (v : V) → IsIn v (set_joined spelling s t).items ↔ (IsIn v s.items ⊎ IsIn v t.items)
+  set_union s t p q same v =
+      let total = value_cmp_total (fits s.codec) (spelling s.codec) (one s.codec) in
+      let there = along fits spelling one s t same q in (
+        greedy-from (value_cmp (spelling s.codec)) total s.items t.items v,
+        greedy-holds (value_cmp (spelling s.codec)) total s.items t.items (λ x y a b tie. value_cmp_exact (fits s.codec) (spelling s.codec) (one s.codec) x y (p.fit x a) (there.fit y b) tie) v,
+      )
+
+  -- The join of two maps is their union, whatever their values are joined to.
+  pub map_union : {L : Type 0} (proper : L → Type 0) (joined : L → L → L) (s t : Held C (V × L)) → map_proper fits spelling proper s → map_proper fits spelling proper t → s.codec ≡ t.codec
+      → IsUnion joined s.items t.items (map_joined spelling joined s t).items
+  map_union proper joined s t p q same =
+      let total = value_cmp_total (fits s.codec) (spelling s.codec) (one s.codec) in
+      let there = subst (λ (c : C). IsMap (fits c) (spelling c) proper t.items) (sym same) q in
+      with-union (value_cmp (spelling s.codec)) total joined s.items t.items p.keys.rise there.keys.rise
+      (λ x y a b tie. value_cmp_exact (fits s.codec) (spelling s.codec) (one s.codec) x y (p.keys.fit x a) (there.keys.fit y b) tie)
