@@ -4,7 +4,7 @@ use Rattle.context_model.specs.Merge.{AllBelow, keys_of}
 use Rattle.context_model.proofs.Rising.{Rises-push}
 use Rattle.context_model.specs.Orders.{Rises, atom_cmp}
 use Rattle.counter_type.specs.Counted.{IsCounted}
-use Rattle.std.proofs.Common.{subst, sym, ap, refl, ◌∙◌}
+use Rattle.std.proofs.Common.{subst, sym, ap, refl}
 
 keys_of-push : (es : List (List ℕ × ℕ)) (e : List ℕ × ℕ) → keys_of (es ++ e ∷ []) ≡ keys_of es ++ e.0 ∷ []
 keys_of-push [] e = refl

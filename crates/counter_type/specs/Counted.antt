@@ -1,10 +1,10 @@
 use Rattle.std.specs.Prelude.{◌≡◌, ℕ, List, [], max}
-use Rattle.std.proofs.Common.{refl, sym, ◌∙◌, ap, subst, arith}
+use Rattle.std.proofs.Common.{sym, ap, subst, arith}
 use Rattle.std.proofs.lemmas.Cmp.{nat_list_cmp_total}
 use Rattle.std.proofs.lemmas.Map.Lookups.{exact_bytes}
 use Rattle.counter_type.specs.Laws.{LatticeLaws}
 use Rattle.context_model.specs.Orders.{Rises, atom_cmp}
-use Rattle.context_model.specs.Merge.{greedy_merge, merge_with, keys_of, IsUnion}
+use Rattle.context_model.specs.Merge.{merge_with, keys_of, IsUnion}
 use Rattle.context_model.proofs.Rising.{Rises-greedy}
 use Rattle.context_model.proofs.Meets.{with-union}
 use Rattle.context_model.proofs.MergeLaws.{keys_of-merge_with, with-comm, with-assoc, with-idem, EachPair-from}

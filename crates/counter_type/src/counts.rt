@@ -144,8 +144,7 @@ impl Lattice for Counts {
 /// A join of counts is their union: the writers of both, and at a writer of both the greater count.
 pub fn counts_join_is_union()
     ensures { (a b : List (List ℕ × ℕ)) → IsCounted a → IsCounted b → IsUnion max a b (counts_joined a b) }
-{
-}
+{}
 
 /// The count as a part of a total.
 fn widened(count: u64) -> u128

@@ -1,4 +1,7 @@
-use crate::{Counts, counts_join_is_union, Lattice, join_repeats, joins_commute, joins_regroup, keeps_join_laws};
+use crate::{
+    Counts, Lattice, counts_join_is_union, join_repeats, joins_commute, joins_regroup,
+    keeps_join_laws,
+};
 use std::process::Abort;
 use std::test::Fail;
 

@@ -112,5 +112,4 @@ impl<C: Codec, L: Lattice> Lattice for MapOf<C, L> {
 /// A join of maps of one codec is their union: the keys of both, and at a common key the join of both values.
 pub fn map_join_is_union<C: Codec, L: Lattice>()
     ensures { (s t : Held C (C.Value × L)) → map_proper C.fits C.spelling L.proper s → map_proper C.fits C.spelling L.proper t → s.codec ≡ t.codec → IsUnion L.joined s.items t.items (map_joined C.spelling L.joined s t).items }
-{
-}
+{}

@@ -125,5 +125,4 @@ impl<C: Codec> Lattice for SetOf<C> {
 /// A join of sets of one codec is their union: a value is in it exactly where it is in one of them.
 pub fn set_join_is_union<C: Codec>()
     ensures { (s t : Held C C.Value) → set_proper C.fits C.spelling s → set_proper C.fits C.spelling t → s.codec ≡ t.codec → (v : C.Value) → IsIn v (set_joined C.spelling s t).items ↔ (IsIn v s.items ⊎ IsIn v t.items) }
-{
-}
+{}

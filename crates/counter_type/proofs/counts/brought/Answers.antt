@@ -1,4 +1,4 @@
-use Rattle.std.proofs.Common.{◌≡◌, ◌≤◌, ◌⊎◌, inl, inr, max, length, drop, arith}
+use Rattle.std.proofs.Common.{◌≤◌, ◌⊎◌, inl, inr, max, length, arith}
 use Rattle.std.proofs.lemmas.List.{take_rest}
 use Rattle.context_model.specs.Merge.{brings}
 use Rattle.context_model.proofs.MergeSteps.{brings_rest}

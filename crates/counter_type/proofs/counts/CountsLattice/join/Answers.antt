@@ -1,4 +1,4 @@
-use Rattle.std.proofs.Common.{◌≡◌, max}
+use Rattle.std.proofs.Common.{max}
 use Rattle.context_model.proofs.Brought.{brings-completes}
 use Rattle.context_model.specs.Orders.{atom_cmp}
 use Rattle.counter_type.specs.Counted.{IsCounted-joined}
