@@ -19,3 +19,4 @@ pub mod Brought
 pub mod MergeSteps
 pub mod Finding
 pub mod ContextFronts
+pub mod Meets

@@ -1,4 +1,4 @@
-use Rattle.std.specs.Prelude.{◌≡◌, ◌⊎◌, List, [], ◌∷◌, map, Option, Some, None}
+use Rattle.std.specs.Prelude.{◌≡◌, ◌⊎◌, ◌↔◌, List, [], ◌∷◌, map, Option, Some, None}
 use Rattle.std.specs.declared.cmp.Ordering.{Ordering}
 use Rattle.std.specs.declared.cmp.Ordering.TheVariants.{Less, Equal}
 use Rattle.context_model.specs.Orders.{IsIn, by_order}
@@ -69,3 +69,11 @@ AllBelow R (x ∷ xs) k = (R x k ≡ Less) × AllBelow R xs k
 abbrev pub Finds : {K X : Type 0} → List (K × X) → K → Option X → Type 0
 Finds es k None = ¬ (IsIn k (keys_of es))
 Finds es k (Some v) = IsAt k v es
+
+-- The union of two lists of keys with values: the keys of both, at a key of both what f makes of its two values, and at a
+-- key of one alone its value there.
+pub record IsUnion {K X : Type 0} (f : X → X → X) (es ds union : List (K × X)) : Type 0 where
+  pub keys : (k : K) → IsIn k (keys_of union) ↔ (IsIn k (keys_of es) ⊎ IsIn k (keys_of ds))
+  pub both : (k : K) (v w : X) → IsAt k v es → IsAt k w ds → IsAt k (f v w) union
+  pub first : (k : K) (v : X) → IsAt k v es → ¬ (IsIn k (keys_of ds)) → IsAt k v union
+  pub second : (k : K) (w : X) → ¬ (IsIn k (keys_of es)) → IsAt k w ds → IsAt k w union

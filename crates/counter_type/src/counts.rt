@@ -3,10 +3,12 @@
 ghost use Rattle.std.specs.Prelude.{◌≡◌, ◌+◌, ◌<◌, ◌≤◌, ℕ, max, vec_len, vec_capacity, List, [], ◌∷◌, ◌++◌, length, sum_by, IfOk, OnOk, OnErr, slice_get};
 ghost use Rattle.std.specs.Option.{option_map};
 ghost use Rattle.std.specs.VecDeque.{deque_len};
-ghost use Rattle.context_model.specs.Merge.{AllBelow, Finds, brings, keys_of, later, merge_with};
-ghost use Rattle.counter_type.specs.Counted.{IsCounted, counts_joined, writer_cmp};
+ghost use Rattle.context_model.specs.Merge.{AllBelow, Finds, IsUnion, brings, keys_of, later, merge_with};
+ghost use Rattle.context_model.specs.Orders.{atom_cmp};
+ghost use Rattle.counter_type.specs.Counted.{IsCounted, counts_joined};
 
 use crate::lattice::Lattice;
+use crate::moves::{move_first, move_rest, room_for};
 use outside::{Memory, Octets};
 use std::alloc::Global;
 use std::cmp::Ordering;
@@ -95,7 +97,7 @@ impl Counts {
 
     /// Adds a writer, greater than each writer held, with its count. Want of memory leaves the counts unchanged.
     pub fn push(&mut self, writer: &[u8], count: u64) -> Result<(), Memory>
-        requires { AllBelow writer_cmp (keys_of self.old) writer.now }
+        requires { AllBelow atom_cmp (keys_of self.old) writer.now }
         ensures ok { OnOk result (self.new ≡ self.old ++ (writer.now, count) ∷ []) }
         ensures err { OnErr result (self.new ≡ self.old) }
     {
@@ -139,6 +141,11 @@ impl Lattice for Counts {
     }
 }
 
+/// A join of counts is their union: the writers of both, and at a writer of both the greater count.
+pub fn counts_join_is_union()
+    ensures { (a b : List (List ℕ × ℕ)) → IsCounted a → IsCounted b → IsUnion max a b (counts_joined a b) }
+{}
+
 /// The count as a part of a total.
 fn widened(count: u64) -> u128
     ensures value { result ≡ count }
@@ -168,7 +175,7 @@ fn count_of(entries: &[Entry], writer: &[u8]) -> Option<u64>
 
 /// What a join brings to our entries: a copy of each of theirs, with the greater count where we have the writer.
 fn brought(alloc: Global, ours: &[Entry], theirs: &[Entry]) -> Result<Vec<Entry>, Memory>
-    ensures { IfOk result (λ news. news.items ≡ brings writer_cmp max ours.now theirs.now) }
+    ensures { IfOk result (λ news. news.items ≡ brings atom_cmp max ours.now theirs.now) }
 {
     let mut news = Vec::new(alloc);
     let mut i = 0;
@@ -193,22 +200,12 @@ fn brought(alloc: Global, ours: &[Entry], theirs: &[Entry]) -> Result<Vec<Entry>
     Ok(news)
 }
 
-/// An empty list with room for as many entries.
-fn room_for(alloc: Global, ours: usize, news: usize) -> Result<Vec<Entry>, Memory>
-    ensures empty { IfOk result (λ room. room.items ≡ []) }
-    ensures capacity { IfOk result (λ room. ours + news ≤ vec_capacity room) }
-{
-    let count = ours.checked_add(news).ok_or(Memory)?;
-    let room = Vec::with_capacity(alloc, count)?;
-    Ok(room)
-}
-
 /// Both lists in one, in the order of their writers, moved into a list that has room for them. It takes no memory. At a
 /// writer of both the count of the news stands.
 fn merged(mut ours: VecDeque<Entry>, mut news: VecDeque<Entry>, room: Vec<Entry>) -> Vec<Entry>
     requires empty { room.items ≡ [] }
     requires capacity { deque_len ours + deque_len news ≤ vec_capacity room }
-    ensures { result.items ≡ merge_with writer_cmp later ours.items news.items }
+    ensures { result.items ≡ merge_with atom_cmp later ours.items news.items }
 {
     let mut entries = room;
     while !ours.is_empty() && !news.is_empty() {
@@ -225,32 +222,6 @@ fn merged(mut ours: VecDeque<Entry>, mut news: VecDeque<Entry>, room: Vec<Entry>
     move_rest(ours, &mut entries);
     move_rest(news, &mut entries);
     entries
-}
-
-/// Moves the first entry behind the others.
-fn move_first(from: &mut VecDeque<Entry>, into: &mut Vec<Entry>)
-    requires some { 0 < deque_len from.old }
-    requires room { vec_len into.old < vec_capacity into.old }
-    ensures moved { (entry : List ℕ × ℕ) × (from.old.items ≡ entry ∷ from.new.items) × (into.new.items ≡ into.old.items ++ entry ∷ []) }
-    ensures fewer { deque_len from.old ≡ deque_len from.new + 1 }
-    ensures more { vec_len into.new ≡ vec_len into.old + 1 }
-    ensures capacity { vec_capacity into.old ≤ vec_capacity into.new }
-{
-    if let Some(entry) = from.pop_front() {
-        into.push(entry).unwrap();
-    }
-}
-
-/// Moves all entries behind the others.
-fn move_rest(mut from: VecDeque<Entry>, into: &mut Vec<Entry>)
-    requires { vec_len into.old + deque_len from ≤ vec_capacity into.old }
-    ensures moved { into.new.items ≡ into.old.items ++ from.items }
-    ensures more { vec_len into.new ≡ vec_len into.old + deque_len from }
-    ensures capacity { vec_capacity into.old ≤ vec_capacity into.new }
-{
-    while !from.is_empty() {
-        move_first(&mut from, into);
-    }
 }
 
 /// Adds copies of the entries at the end.

@@ -1,5 +1,5 @@
 -- The laws of sets and maps, for every codec in which a spelling belongs to one value and for every lattice of values.
-use Rattle.std.specs.Prelude.{◌≡◌, ℕ, ◌⊎◌, List, [], ◌∷◌, ◌++◌}
+use Rattle.std.specs.Prelude.{◌≡◌, ℕ, ◌⊎◌, ◌↔◌, List, [], ◌∷◌, ◌++◌}
 use Rattle.std.specs.Cmp.{IsTotalOrder}
 use Rattle.std.specs.declared.cmp.Ordering.{Ordering}
 use Rattle.std.specs.declared.cmp.Ordering.TheVariants.{Equal}
@@ -9,15 +9,15 @@ use Rattle.std.proofs.lemmas.Map.Lookups.{exact_bytes}
 use Rattle.scalar_types.specs.Spelling.{OneValue}
 use Rattle.counter_type.specs.Laws.{LatticeLaws}
 use Rattle.context_model.specs.Orders.{IsIn, Rises}
-use Rattle.context_model.specs.Merge.{greedy_merge, merge_with, keys_of, EachPair, IsAt, AtOneKey, AllBelow}
+use Rattle.context_model.specs.Merge.{greedy_merge, merge_with, keys_of, EachPair, IsAt, AtOneKey, AllBelow, IsUnion}
 use Rattle.context_model.proofs.Rising.{Rises-greedy, Rises-push}
 use Rattle.context_model.proofs.GreedyLaws.{greedy-comm, greedy-assoc, greedy-idem, greedy-from}
+use Rattle.context_model.proofs.Meets.{greedy-holds, with-union}
 use Rattle.context_model.proofs.MergeLaws.{IsMade, From, with-from, with-comm, with-assoc, with-idem, keys_of-merge_with, EachPair-at, EachPair-from, IsIn-keys_of, IsAt-unique}
 use Rattle.set_map_types.specs.Held.{Held, value_cmp, IsSet, IsMap, set_proper, set_joined, SameCodec, HoldsNothing, map_proper, MapAlike, map_joined}
 
 -- The laws of lists of values of one codec.
 module _ {V : Type 0} (fits : V → Type 0) (spelling : V → List ℕ) (one : OneValue fits spelling) where
-
   pub value_cmp_total : IsTotalOrder (value_cmp spelling)
   value_cmp_total = on_total spelling nat_list_cmp_total
 
@@ -31,15 +31,14 @@ module _ {V : Type 0} (fits : V → Type 0) (spelling : V → List ℕ) (one : O
     rise = Rises-greedy (value_cmp spelling) value_cmp_total xs ys p.rise q.rise;
   }
     where
-    by : (v : V) → IsIn v xs ⊎ IsIn v ys → fits v
-    by v (inl at) = p.fit v at
-    by v (inr at) = q.fit v at
+      by : (v : V) → IsIn v xs ⊎ IsIn v ys → fits v
+      by v (inl at) = p.fit v at
+      by v (inr at) = q.fit v at
 
   union-comm : (xs ys : List V) → IsSet fits spelling xs → IsSet fits spelling ys → greedy_merge (value_cmp spelling) xs ys ≡ greedy_merge (value_cmp spelling) ys xs
   union-comm xs ys p q = greedy-comm (value_cmp spelling) value_cmp_total xs ys (λ x y s t tie. value_cmp_exact x y (p.fit x s) (q.fit y t) tie)
 
 module _ {C V : Type 0} (fits : C → V → Type 0) (spelling : C → V → List ℕ) (one : (c : C) → OneValue (fits c) (spelling c)) where
-
   -- What is a set for a codec is one for an equal codec.
   along : (s t : Held C V) → SameCodec s t → set_proper fits spelling t → IsSet (fits s.codec) (spelling s.codec) t.items
   along s t same p = subst (λ (c : C). IsSet (fits c) (spelling c) t.items) (sym same) p
@@ -61,7 +60,6 @@ module _ {C V : Type 0} (fits : C → V → Type 0) (spelling : C → V → List
 
 -- The laws of lists of entries of one codec.
 module _ {V L : Type 0} (fits : V → Type 0) (spelling : V → List ℕ) (one : OneValue fits spelling) (proper : L → Type 0) (alike : L → L → Type 0) (joined : L → L → L) (bottom : L → Type 0) (laws : LatticeLaws proper alike joined bottom) where
-
   abbrev R : V → V → Ordering
   R = value_cmp spelling
 
@@ -96,9 +94,9 @@ module _ {V L : Type 0} (fits : V → Type 0) (spelling : V → List ℕ) (one :
 
   pub merge-comm : (es ds : List (V × L)) → IsMap fits spelling proper es → IsMap fits spelling proper ds → AtOneKey alike es ds → merge_with R joined es ds ≡ merge_with R joined ds es
   merge-comm es ds p q a = with-comm R (value_cmp_total fits spelling one) joined es ds (λ k j v w s t tie. (
-      tied_keys es ds p q k j v w s t tie,
-      laws.commutes v w (proper_at es p k v s) (proper_at ds q j w t) (tied_alike es ds p q a k j v w s t tie),
-    ))
+    tied_keys es ds p q k j v w s t tie,
+    laws.commutes v w (proper_at es p k v s) (proper_at ds q j w t) (tied_alike es ds p q a k j v w s t tie),
+  ))
 
   pub merge-assoc : (es ds gs : List (V × L)) → IsMap fits spelling proper es → IsMap fits spelling proper ds → IsMap fits spelling proper gs → AtOneKey alike es ds → AtOneKey alike ds gs → AtOneKey alike es gs
       → merge_with R joined (merge_with R joined es ds) gs ≡ merge_with R joined es (merge_with R joined ds gs)
@@ -122,19 +120,18 @@ module _ {V L : Type 0} (fits : V → Type 0) (spelling : V → List ℕ) (one :
       → AtOneKey alike (merge_with R joined es ds) gs
   alike-merge es ds gs p q r a b c k v w s t = by (with-from R joined es ds k v s)
     where
-    by : From R joined es ds k v → alike v w
-    by (inl at) = c k v w at t
-    by (inr (inl at)) = b k v w at t
-    by (inr (inr m)) =
-        let same = tied_keys es ds p q k m.other m.first m.second m.in_first m.in_second m.tied in
-        subst (λ (x : L). alike x w) (sym m.made)
-        (laws.alike_joined m.first m.second w (proper_at es p k m.first m.in_first) (proper_at ds q m.other m.second m.in_second) (proper_at gs r k w t)
-        (tied_alike es ds p q a k m.other m.first m.second m.in_first m.in_second m.tied)
-        (b m.other m.second w m.in_second (subst (λ (i : V). IsAt i w gs) same t))
-        (c k m.first w m.in_first t))
+      by : From R joined es ds k v → alike v w
+      by (inl at) = c k v w at t
+      by (inr (inl at)) = b k v w at t
+      by (inr (inr m)) =
+          let same = tied_keys es ds p q k m.other m.first m.second m.in_first m.in_second m.tied in
+          subst (λ (x : L). alike x w) (sym m.made)
+          (laws.alike_joined m.first m.second w (proper_at es p k m.first m.in_first) (proper_at ds q m.other m.second m.in_second) (proper_at gs r k w t)
+          (tied_alike es ds p q a k m.other m.first m.second m.in_first m.in_second m.tied)
+          (b m.other m.second w m.in_second (subst (λ (i : V). IsAt i w gs) same t))
+          (c k m.first w m.in_first t))
 
 module _ {C V L : Type 0} (fits : C → V → Type 0) (spelling : C → V → List ℕ) (one : (c : C) → OneValue (fits c) (spelling c)) (proper : L → Type 0) (alike : L → L → Type 0) (joined : L → L → L) (bottom : L → Type 0) (laws : LatticeLaws proper alike joined bottom) where
-
   -- What is a map for a codec is one for an equal codec.
   map_along : (s t : Held C (V × L)) → s.codec ≡ t.codec → IsMap (fits t.codec) (spelling t.codec) proper t.items → IsMap (fits s.codec) (spelling s.codec) proper t.items
   map_along s t same p = subst (λ (c : C). IsMap (fits c) (spelling c) proper t.items) (sym same) p
@@ -157,7 +154,6 @@ module _ {C V L : Type 0} (fits : C → V → Type 0) (spelling : C → V → Li
 
 -- A set is a map to nothing.
 module _ {V : Type 0} (fits : V → Type 0) (spelling : V → List ℕ) where
-
   pub IsMap-bare : (entries : List (V × Unit {0})) → IsSet fits spelling (keys_of entries) → IsMap fits spelling (λ u. Unit {0}) entries
   IsMap-bare entries set = record {
     keys = set;
@@ -170,9 +166,9 @@ module _ {V : Type 0} (fits : V → Type 0) (spelling : V → List ℕ) where
   in_push (x ∷ xs) v w (inl same) = inl (inl same)
   in_push (x ∷ xs) v w (inr later) = by (in_push xs v w later)
     where
-    by : IsIn w xs ⊎ (w ≡ v) → IsIn w (x ∷ xs) ⊎ (w ≡ v)
-    by (inl at) = inl (inr at)
-    by (inr same) = inr same
+      by : IsIn w xs ⊎ (w ≡ v) → IsIn w (x ∷ xs) ⊎ (w ≡ v)
+      by (inl at) = inl (inr at)
+      by (inr same) = inr same
 
   -- A value that fits and comes behind all others can be added.
   pub IsSet-push : (values : List V) (v : V) → IsSet fits spelling values → fits v → AllBelow (value_cmp spelling) values v → IsSet fits spelling (values ++ v ∷ [])
@@ -181,6 +177,25 @@ module _ {V : Type 0} (fits : V → Type 0) (spelling : V → List ℕ) where
     rise = Rises-push (value_cmp spelling) values v set.rise below;
   }
     where
-    by : (w : V) → IsIn w values ⊎ (w ≡ v) → fits w
-    by w (inl at) = set.fit w at
-    by w (inr same) = subst fits (sym same) fit
+      by : (w : V) → IsIn w values ⊎ (w ≡ v) → fits w
+      by w (inl at) = set.fit w at
+      by w (inr same) = subst fits (sym same) fit
+
+module _ {C V : Type 0} (fits : C → V → Type 0) (spelling : C → V → List ℕ) (one : (c : C) → OneValue (fits c) (spelling c)) where
+  -- A value is in the join of two sets exactly where it is in one of them.
+  pub set_union : (s t : Held C V) → set_proper fits spelling s → set_proper fits spelling t → s.codec ≡ t.codec → (v : V) → IsIn v (set_joined spelling s t).items ↔ (IsIn v s.items ⊎ IsIn v t.items)
+  set_union s t p q same v =
+      let total = value_cmp_total (fits s.codec) (spelling s.codec) (one s.codec) in
+      let there = along fits spelling one s t same q in (
+        greedy-from (value_cmp (spelling s.codec)) total s.items t.items v,
+        greedy-holds (value_cmp (spelling s.codec)) total s.items t.items (λ x y a b tie. value_cmp_exact (fits s.codec) (spelling s.codec) (one s.codec) x y (p.fit x a) (there.fit y b) tie) v,
+      )
+
+  -- The join of two maps is their union, whatever their values are joined to.
+  pub map_union : {L : Type 0} (proper : L → Type 0) (joined : L → L → L) (s t : Held C (V × L)) → map_proper fits spelling proper s → map_proper fits spelling proper t → s.codec ≡ t.codec
+      → IsUnion joined s.items t.items (map_joined spelling joined s t).items
+  map_union proper joined s t p q same =
+      let total = value_cmp_total (fits s.codec) (spelling s.codec) (one s.codec) in
+      let there = subst (λ (c : C). IsMap (fits c) (spelling c) proper t.items) (sym same) q in
+      with-union (value_cmp (spelling s.codec)) total joined s.items t.items p.keys.rise there.keys.rise
+      (λ x y a b tie. value_cmp_exact (fits s.codec) (spelling s.codec) (one s.codec) x y (p.keys.fit x a) (there.keys.fit y b) tie)

@@ -9,7 +9,6 @@ use Rattle.counter_type.specs.Laws.{LatticeLaws}
 use Rattle.set_map_types.specs.Picked.{HeldOne, IfThere, first_of, one_proper, one_joined, SameCodecOfOne, IsAbsent}
 
 module _ {V : Type 0} (R : V → V → Ordering) (total : IsTotalOrder R) where
-
   picks_first : (v w : V) → R v w ≡ Less → first_of R (Some v) (Some w) ≡ Some v
   picks_first v w h = rw h refl
 
@@ -28,10 +27,10 @@ module _ {V : Type 0} (R : V → V → Ordering) (total : IsTotalOrder R) where
   first_of-comm fits exact (Some v) None p q = refl
   first_of-comm fits exact (Some v) (Some w) p q = by (R v w) refl
     where
-    by : (r : Ordering) → R v w ≡ r → first_of R (Some v) (Some w) ≡ first_of R (Some w) (Some v)
-    by Less h = picks_first v w h ∙ sym (picks_second w v (turned v w Less h))
-    by Equal h = picks_tied v w h ∙ ap Some (exact v w p q h) ∙ sym (picks_tied w v (turned v w Equal h))
-    by Greater h = picks_second v w h ∙ sym (picks_first w v (turned v w Greater h))
+      by : (r : Ordering) → R v w ≡ r → first_of R (Some v) (Some w) ≡ first_of R (Some w) (Some v)
+      by Less h = picks_first v w h ∙ sym (picks_second w v (turned v w Less h))
+      by Equal h = picks_tied v w h ∙ ap Some (exact v w p q h) ∙ sym (picks_tied w v (turned v w Equal h))
+      by Greater h = picks_second v w h ∙ sym (picks_first w v (turned v w Greater h))
 
   pub first_of-idem : (a : Option V) → first_of R a a ≡ a
   first_of-idem None = refl
@@ -40,27 +39,27 @@ module _ {V : Type 0} (R : V → V → Ordering) (total : IsTotalOrder R) where
   three : (v w u : V) → first_of R (first_of R (Some v) (Some w)) (Some u) ≡ first_of R (Some v) (first_of R (Some w) (Some u))
   three v w u = by (R v w) refl (R w u) refl
     where
-    by : (r : Ordering) → R v w ≡ r → (s : Ordering) → R w u ≡ s → first_of R (first_of R (Some v) (Some w)) (Some u) ≡ first_of R (Some v) (first_of R (Some w) (Some u))
-    by Less p Less q = ap (λ o. first_of R o (Some u)) (picks_first v w p) ∙ picks_first v u (total.trans v w u p q) ∙ sym (ap (first_of R (Some v)) (picks_first w u q) ∙ picks_first v w p)
-    by Less p Equal q = ap (λ o. first_of R o (Some u)) (picks_first v w p) ∙ picks_first v u (sym (alike_right total w u v q) ∙ p) ∙ sym (ap (first_of R (Some v)) (picks_tied w u q) ∙ picks_first v w p)
-    by Less p Greater q = ap (λ o. first_of R o (Some u)) (picks_first v w p) ∙ sym (ap (first_of R (Some v)) (picks_second w u q))
-    by Equal p Less q = ap (λ o. first_of R o (Some u)) (picks_tied v w p) ∙ picks_first v u (total.congr v w u p ∙ q) ∙ sym (ap (first_of R (Some v)) (picks_first w u q) ∙ picks_tied v w p)
-    by Equal p Equal q = ap (λ o. first_of R o (Some u)) (picks_tied v w p) ∙ picks_tied v u (total.congr v w u p ∙ q) ∙ sym (ap (first_of R (Some v)) (picks_tied w u q) ∙ picks_tied v w p)
-    by Equal p Greater q = ap (λ o. first_of R o (Some u)) (picks_tied v w p) ∙ sym (ap (first_of R (Some v)) (picks_second w u q))
-    by Greater p Less q = ap (λ o. first_of R o (Some u)) (picks_second v w p) ∙ picks_first w u q ∙ sym (ap (first_of R (Some v)) (picks_first w u q) ∙ picks_second v w p)
-    by Greater p Equal q = ap (λ o. first_of R o (Some u)) (picks_second v w p) ∙ picks_tied w u q ∙ sym (ap (first_of R (Some v)) (picks_tied w u q) ∙ picks_second v w p)
-    by Greater p Greater q =
-        let back : R u v ≡ Less = total.trans u w v (turned w u Greater q) (turned v w Greater p) in
-        ap (λ o. first_of R o (Some u)) (picks_second v w p) ∙ picks_second w u q ∙ sym (ap (first_of R (Some v)) (picks_second w u q) ∙ picks_second v u (turned u v Less back))
+      by : (r : Ordering) → R v w ≡ r → (s : Ordering) → R w u ≡ s → first_of R (first_of R (Some v) (Some w)) (Some u) ≡ first_of R (Some v) (first_of R (Some w) (Some u))
+      by Less p Less q = ap (λ o. first_of R o (Some u)) (picks_first v w p) ∙ picks_first v u (total.trans v w u p q) ∙ sym (ap (first_of R (Some v)) (picks_first w u q) ∙ picks_first v w p)
+      by Less p Equal q = ap (λ o. first_of R o (Some u)) (picks_first v w p) ∙ picks_first v u (sym (alike_right total w u v q) ∙ p) ∙ sym (ap (first_of R (Some v)) (picks_tied w u q) ∙ picks_first v w p)
+      by Less p Greater q = ap (λ o. first_of R o (Some u)) (picks_first v w p) ∙ sym (ap (first_of R (Some v)) (picks_second w u q))
+      by Equal p Less q = ap (λ o. first_of R o (Some u)) (picks_tied v w p) ∙ picks_first v u (total.congr v w u p ∙ q) ∙ sym (ap (first_of R (Some v)) (picks_first w u q) ∙ picks_tied v w p)
+      by Equal p Equal q = ap (λ o. first_of R o (Some u)) (picks_tied v w p) ∙ picks_tied v u (total.congr v w u p ∙ q) ∙ sym (ap (first_of R (Some v)) (picks_tied w u q) ∙ picks_tied v w p)
+      by Equal p Greater q = ap (λ o. first_of R o (Some u)) (picks_tied v w p) ∙ sym (ap (first_of R (Some v)) (picks_second w u q))
+      by Greater p Less q = ap (λ o. first_of R o (Some u)) (picks_second v w p) ∙ picks_first w u q ∙ sym (ap (first_of R (Some v)) (picks_first w u q) ∙ picks_second v w p)
+      by Greater p Equal q = ap (λ o. first_of R o (Some u)) (picks_second v w p) ∙ picks_tied w u q ∙ sym (ap (first_of R (Some v)) (picks_tied w u q) ∙ picks_second v w p)
+      by Greater p Greater q =
+          let back : R u v ≡ Less = total.trans u w v (turned w u Greater q) (turned v w Greater p) in
+          ap (λ o. first_of R o (Some u)) (picks_second v w p) ∙ picks_second w u q ∙ sym (ap (first_of R (Some v)) (picks_second w u q) ∙ picks_second v u (turned u v Less back))
 
   pub first_of-assoc : (a b c : Option V) → first_of R (first_of R a b) c ≡ first_of R a (first_of R b c)
   first_of-assoc None b c = refl
   first_of-assoc (Some v) None c = refl
   first_of-assoc (Some v) (Some w) None = none_last (first_of R (Some v) (Some w))
     where
-    none_last : (a : Option V) → first_of R a None ≡ a
-    none_last None = refl
-    none_last (Some x) = refl
+      none_last : (a : Option V) → first_of R a None ≡ a
+      none_last None = refl
+      none_last (Some x) = refl
   first_of-assoc (Some v) (Some w) (Some u) = three v w u
 
   pub first_of-there : (P : V → Type 0) (a b : Option V) → IfThere P a → IfThere P b → IfThere P (first_of R a b)
@@ -68,13 +67,12 @@ module _ {V : Type 0} (R : V → V → Ordering) (total : IsTotalOrder R) where
   first_of-there P (Some v) None p q = p
   first_of-there P (Some v) (Some w) p q = by (R v w) refl
     where
-    by : (r : Ordering) → R v w ≡ r → IfThere P (first_of R (Some v) (Some w))
-    by Less h = rw h p
-    by Equal h = rw h p
-    by Greater h = rw h q
+      by : (r : Ordering) → R v w ≡ r → IfThere P (first_of R (Some v) (Some w))
+      by Less h = rw h p
+      by Equal h = rw h p
+      by Greater h = rw h q
 
 module _ {C V : Type 0} (fits : C → V → Type 0) (order : C → V → V → Ordering) (total : (c : C) → IsTotalOrder (order c)) (exact : (c : C) (v w : V) → fits c v → fits c w → order c v w ≡ Equal → v ≡ w) where
-
   along : (s t : HeldOne C V) → SameCodecOfOne s t → one_proper fits t → IfThere (fits s.codec) t.value
   along s t same p = subst (λ (c : C). IfThere (fits c) t.value) (sym same) p
 

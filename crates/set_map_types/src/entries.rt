@@ -8,6 +8,7 @@ ghost use Rattle.context_model.specs.Merge.{AtOneKey, Finds, brings, keys_of, la
 ghost use Rattle.set_map_types.specs.Held.{IsMap, IsSet, value_cmp};
 
 use counter_type::Lattice;
+use counter_type::moves::{move_first, move_rest, room_for};
 use outside::Memory;
 use scalar_types::Codec;
 use std::alloc::Global;
@@ -133,16 +134,6 @@ fn push_entry<C: Codec, L: Lattice>(
     Ok(())
 }
 
-/// An empty list with room for as many entries.
-fn room_for<T: Drop>(alloc: Global, ours: usize, news: usize) -> Result<Vec<T>, Memory>
-    ensures empty { IfOk result (λ room. room.items ≡ []) }
-    ensures capacity { IfOk result (λ room. ours + news ≤ vec_capacity room) }
-{
-    let count = ours.checked_add(news).ok_or(Memory)?;
-    let room = Vec::with_capacity(alloc, count)?;
-    Ok(room)
-}
-
 /// Both lists in one, in the order of their keys, moved into a list that has room for them. It takes no memory. At a
 /// common key the value of the news stands.
 fn merged<C: Codec, L: Lattice>(
@@ -189,31 +180,5 @@ fn replace_first<K: Drop, L: Drop>(
         if let Some(new) = news.pop_front() {
             into.push((our.0, new.1)).unwrap();
         }
-    }
-}
-
-/// Moves the first entry behind the others.
-fn move_first<T: Drop>(from: &mut VecDeque<T>, into: &mut Vec<T>)
-    requires some { 0 < deque_len from.old }
-    requires room { vec_len into.old < vec_capacity into.old }
-    ensures moved { (entry : T) × (from.old.items ≡ entry ∷ from.new.items) × (into.new.items ≡ into.old.items ++ entry ∷ []) }
-    ensures fewer { deque_len from.old ≡ deque_len from.new + 1 }
-    ensures more { vec_len into.new ≡ vec_len into.old + 1 }
-    ensures capacity { vec_capacity into.old ≤ vec_capacity into.new }
-{
-    if let Some(entry) = from.pop_front() {
-        into.push(entry).unwrap();
-    }
-}
-
-/// Moves all entries behind the others.
-fn move_rest<T: Drop>(mut from: VecDeque<T>, into: &mut Vec<T>)
-    requires { vec_len into.old + deque_len from ≤ vec_capacity into.old }
-    ensures moved { into.new.items ≡ into.old.items ++ from.items }
-    ensures more { vec_len into.new ≡ vec_len into.old + deque_len from }
-    ensures capacity { vec_capacity into.old ≤ vec_capacity into.new }
-{
-    while !from.is_empty() {
-        move_first(&mut from, into);
     }
 }

@@ -5,7 +5,9 @@ mod entries;
 mod least;
 mod map_of;
 mod set_of;
+#[cfg(test)]
+mod tests;
 
 pub use least::Least;
-pub use map_of::MapOf;
-pub use set_of::SetOf;
+pub use map_of::{MapOf, map_join_is_union};
+pub use set_of::{SetOf, set_join_is_union};

@@ -3,7 +3,8 @@
 ghost use Rattle.std.specs.Prelude.{◌≡◌, ◌↔◌, List, [], ◌∷◌, length, IsTrue, IfOk};
 ghost use Rattle.std.specs.Option.{option_copied};
 ghost use Rattle.context_model.specs.Orders.{IsIn};
-ghost use Rattle.context_model.specs.Merge.{Finds, keys_of};
+ghost use Rattle.context_model.specs.Merge.{Finds, IsUnion, keys_of};
+ghost use Rattle.set_map_types.specs.Held.{Held, map_joined, map_proper};
 
 use crate::entries::{append, join_entries, value_at};
 use counter_type::Lattice;
@@ -107,3 +108,8 @@ impl<C: Codec, L: Lattice> Lattice for MapOf<C, L> {
         Ok(MapOf { codec, entries })
     }
 }
+
+/// A join of maps of one codec is their union: the keys of both, and at a common key the join of both values.
+pub fn map_join_is_union<C: Codec, L: Lattice>()
+    ensures { (s t : Held C (C.Value × L)) → map_proper C.fits C.spelling L.proper s → map_proper C.fits C.spelling L.proper t → s.codec ≡ t.codec → IsUnion L.joined s.items t.items (map_joined C.spelling L.joined s t).items }
+{}

@@ -1,10 +1,10 @@
 //! Sets of the values of a codec.
 
-ghost use Rattle.std.specs.Prelude.{◌≡◌, ◌↔◌, List, [], ◌∷◌, ◌++◌, length, slice_get, IsTrue, IfOk, OnOk, OnErr};
+ghost use Rattle.std.specs.Prelude.{◌≡◌, ◌↔◌, ◌⊎◌, List, [], ◌∷◌, ◌++◌, length, slice_get, IsTrue, IfOk, OnOk, OnErr};
 ghost use Rattle.std.specs.Option.{option_copied};
 ghost use Rattle.context_model.specs.Orders.{IsIn};
 ghost use Rattle.context_model.specs.Merge.{AllBelow};
-ghost use Rattle.set_map_types.specs.Held.{value_cmp};
+ghost use Rattle.set_map_types.specs.Held.{Held, set_joined, set_proper, value_cmp};
 
 use crate::entries::{append, join_entries, value_at};
 use counter_type::Lattice;
@@ -121,3 +121,8 @@ impl<C: Codec> Lattice for SetOf<C> {
         Ok(SetOf { codec, entries })
     }
 }
+
+/// A join of sets of one codec is their union: a value is in it exactly where it is in one of them.
+pub fn set_join_is_union<C: Codec>()
+    ensures { (s t : Held C C.Value) → set_proper C.fits C.spelling s → set_proper C.fits C.spelling t → s.codec ≡ t.codec → (v : C.Value) → IsIn v (set_joined C.spelling s t).items ↔ (IsIn v s.items ⊎ IsIn v t.items) }
+{}

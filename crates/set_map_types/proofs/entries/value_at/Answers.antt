@@ -22,8 +22,8 @@ loop-low-preserved-in-Less g c =
       ordered = omega arith;
       within = omega arith;
       before =
-        pairs_before (value_cmp spelling) (value_cmp_total (g.C.Codec.fits codec) spelling (g.met.C.Codec.one_value codec)) c.args.key.now c.args.entries.now c.requires.keys.rise
-        (c.loop-low.low + (c.loop-low.high - c.loop-low.low) / 2) c.index-entries-middle.result (omega arith) c.index-entries-middle.is less;
+          pairs_before (value_cmp spelling) (value_cmp_total (g.C.Codec.fits codec) spelling (g.met.C.Codec.one_value codec)) c.args.key.now c.args.entries.now c.requires.keys.rise
+          (c.loop-low.low + (c.loop-low.high - c.loop-low.low) / 2) c.index-entries-middle.result (omega arith) c.index-entries-middle.is less;
       behind = c.loop-low.invariant.behind;
     }
 
@@ -37,8 +37,8 @@ loop-low-preserved g c =
       within = omega arith;
       before = c.loop-low.invariant.before;
       behind =
-        pairs_behind (value_cmp spelling) (value_cmp_total (g.C.Codec.fits codec) spelling (g.met.C.Codec.one_value codec)) c.args.key.now c.args.entries.now c.requires.keys.rise
-        (c.loop-low.low + (c.loop-low.high - c.loop-low.low) / 2) c.index-entries-middle.result (omega arith) c.index-entries-middle.is greater;
+          pairs_behind (value_cmp spelling) (value_cmp_total (g.C.Codec.fits codec) spelling (g.met.C.Codec.one_value codec)) c.args.key.now c.args.entries.now c.requires.keys.rise
+          (c.loop-low.low + (c.loop-low.high - c.loop-low.low) / 2) c.index-entries-middle.result (omega arith) c.index-entries-middle.is greater;
     }
 
 pub returns-in-Equal : goal.returns-in-Equal
