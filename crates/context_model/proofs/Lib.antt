@@ -1,4 +1,6 @@
+pub mod Beyond
 pub mod Digits
+pub mod EndedLaws
 pub mod Following
 pub mod Frames
 pub mod FramingLaws

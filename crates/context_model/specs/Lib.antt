@@ -3,6 +3,7 @@ pub mod ByteCodes
 pub mod Ended
 pub mod Framing
 pub mod Kinds
+pub mod Merge
 pub mod Nearest
 pub mod Orders
 pub mod Paths
@@ -11,4 +12,4 @@ pub mod Trimmed
 pub mod Varints
 pub mod WellFormed
 pub mod WireFault
-pub mod Merge
+pub mod WithoutData
