@@ -70,10 +70,10 @@ module _ {K X : Type 0} (R : K → K → Ordering) (f : X → X → X) where
   brings-keys_step : (e d : K × X) (es ds : List (K × X)) → HasSecondKeys es (d ∷ ds) → HasSecondKeys es ds → HasSecondKeys (e ∷ es) ds → HasSecondKeys (e ∷ es) (d ∷ ds)
   brings-keys_step e d es ds less both more = by (R e.0 d.0) refl
     where
-      by : (r : Ordering) → R e.0 d.0 ≡ r → HasSecondKeys (e ∷ es) (d ∷ ds)
-      by Less h = ap keys_of (brings-less e d es ds h) ∙ less
-      by Equal h = ap keys_of (brings-equal e d es ds h) ∙ ap (λ l. d.0 ∷ l) both
-      by Greater h = ap keys_of (brings-greater e d es ds h) ∙ ap (λ l. d.0 ∷ l) more
+    by : (r : Ordering) → R e.0 d.0 ≡ r → HasSecondKeys (e ∷ es) (d ∷ ds)
+    by Less h = ap keys_of (brings-less e d es ds h) ∙ less
+    by Equal h = ap keys_of (brings-equal e d es ds h) ∙ ap (λ l. d.0 ∷ l) both
+    by Greater h = ap keys_of (brings-greater e d es ds h) ∙ ap (λ l. d.0 ∷ l) more
 
   -- The keys of what is brought are those of the second list.
   pub keys_of-brings : (es ds : List (K × X)) → keys_of (brings R f es ds) ≡ keys_of ds

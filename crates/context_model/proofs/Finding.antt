@@ -7,6 +7,7 @@ use Rattle.context_model.specs.Merge.{Finds, keys_of}
 use Rattle.context_model.proofs.MergeLaws.{IsIn-keys_of}
 
 module _ {K X : Type 0} where
+
   -- Something is found exactly where the key is one of the keys.
   pub Finds-some : (es : List (K × X)) (k : K) (found : Option X) → Finds es k found → IsTrue (is_some found) ↔ IsIn k (keys_of es)
   Finds-some es k None none = (λ no. (cc), λ at. absurd (none at))

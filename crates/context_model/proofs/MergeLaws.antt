@@ -256,6 +256,7 @@ module _ {K X : Type 0} (P : K → X → Type 0) where
   EachPair-from (e ∷ es) any = (any e.0 e.1 (inl (refl, refl)), EachPair-from es (λ k v at. any k v (inr at)))
 
 module _ {K X : Type 0} where
+
   -- The key of a pair is one of the keys.
   pub IsIn-keys_of : (es : List (K × X)) (k : K) (v : X) → IsAt k v es → IsIn k (keys_of es)
   IsIn-keys_of [] k v none = elim none [ ]
