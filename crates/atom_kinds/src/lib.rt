@@ -18,6 +18,8 @@ use outside::{Memory, Octets};
 use std::alloc::Global;
 use std::cmp::Ordering;
 
+pub mod laws;
+
 #[cfg(test)]
 mod tests;
 
