@@ -19,7 +19,6 @@ use std::alloc::Global;
 use std::cmp::Ordering;
 
 pub mod laws;
-
 #[cfg(test)]
 mod tests;
 

@@ -20,3 +20,4 @@ pub mod Search
 pub mod Brought
 pub mod MergeSteps
 pub mod Finding
+pub mod EndedSteps

@@ -62,12 +62,12 @@ depth-length q (b ∷ bytes) f = by (nat_le 128 b) refl
     by false e = header_count-length q
 
 -- an atom that is no header leaves the headers in their places
-keeps_headers : (q : Path) (a : Atom) (n : ℕ) → is_header a ≡ false → n < header_count q → slice_get (path_after q a) n ≡ slice_get q n
+pub keeps_headers : (q : Path) (a : Atom) (n : ℕ) → is_header a ≡ false → n < header_count q → slice_get (path_after q a) n ≡ slice_get q n
 keeps_headers q [] n e h = place_below (length q) n q [] (let l : header_count q ≤ length q = header_count-length q in omega arith) (le_refl (length q))
 keeps_headers q (b ∷ bytes) n e h =
     ap (λ v. slice_get (take (cond v (level (b ∷ bytes)) (header_count q)) q ++ (b ∷ bytes) ∷ []) n) e ∙ place_below (header_count q) n q (b ∷ bytes) h (header_count-length q)
 
-header_path : (q : Path) (a : Atom) → is_header a ≡ true → path_after q a ≡ take (level a) q ++ a ∷ []
+pub header_path : (q : Path) (a : Atom) → is_header a ≡ true → path_after q a ≡ take (level a) q ++ a ∷ []
 header_path q [] e = cc
 header_path q (b ∷ bytes) e = ap (λ v. take (cond v (level (b ∷ bytes)) (header_count q)) q ++ (b ∷ bytes) ∷ []) e
 

@@ -1,7 +1,9 @@
 -- What of a list can't have lost anything to a cut.
-use Rattle.std.specs.Prelude.{◌≡◌, ◌⊎◌, ◌↔◌, true, List, [], ◌∷◌, ◌++◌}
+use Rattle.std.specs.Prelude.{◌≡◌, ◌⊎◌, ◌↔◌, ℕ, suc, true, List, [], ◌∷◌, ◌++◌}
 use Rattle.std.specs.declared.cmp.Ordering.TheVariants.{Less}
 use Rattle.context_model.specs.Atoms.{Atom}
+use Rattle.context_model.specs.Kinds.{atom_of}
+use Rattle.context_model.specs.Kinds.Kind.{Indexed}
 use Rattle.context_model.specs.Orders.{Path, path_cmp, IsIn}
 use Rattle.context_model.specs.Paths.{is_header, paths}
 use Rattle.context_model.specs.WellFormed.{IsWellFormed}
@@ -40,3 +42,12 @@ EndsAtMarkers = (list : List Atom) (s : Path) → IsWellFormed list → IsEnded 
 abbrev pub AreHeaders : Path → Type 0
 AreHeaders [] = Unit {0}
 AreHeaders (a ∷ q) = (is_header a ≡ true) × AreHeaders q
+
+-- The path of a field of nested bags: the indexed headers with these numbers, from this level on.
+abbrev pub field_path_from : ℕ → List ℕ → Path
+field_path_from n [] = []
+field_path_from n (number ∷ numbers) = atom_of (Indexed n number) ∷ field_path_from (suc n) numbers
+
+-- The path of the field with these numbers.
+abbrev pub field_path : List ℕ → Path
+field_path = field_path_from 0

@@ -1,9 +1,9 @@
-use Rattle.std.proofs.Common.{◌≡◌, ℕ, ◌∷◌, [], ◌<◌, ◌≤◌, ◌%◌, ◌/◌, ◌-◌, List, Ok, Err, sym, subst, ap, ◌∙◌, arith, inl, inr}
+use Rattle.std.proofs.Common.{◌∷◌, ◌<◌, ◌/◌, ◌-◌, Ok, Err, sym, subst, ap, ◌∙◌}
 use Rattle.std.proofs.lemmas.List.{nil_from_length}
 use Rattle.context_model.specs.Kinds.Kind.{Marker as PlainMarker, Datum as PlainDatum, Indexed as PlainIndexed, Keyed as PlainKeyed}
 use Rattle.atom_kinds.specs.declared.Kind.TheVariants.{Marker, Datum, Indexed, Keyed}
-use Rattle.atom_kinds.specs.declared.KindFault.TheVariants.{BadPrefix, BadIndex}
-use Rattle.atom_kinds.proofs.FirstBytes.{Answers, kind_at, bad_prefix, bad_index, no_start, no_number, header_indexed, header_keyed, level_below, first_byte}
+use Rattle.atom_kinds.specs.declared.KindFault.TheVariants.{BadIndex}
+use Rattle.atom_kinds.proofs.FirstBytes.{Answers, kind_at, bad_index, no_number, header_indexed, header_keyed, level_below, first_byte}
 use Rattle.atom_kinds.proofs.kind_of.Goals as goal
 
 pub returns-in_default : goal.returns-in_default

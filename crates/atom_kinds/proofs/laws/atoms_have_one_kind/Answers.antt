@@ -1,4 +1,4 @@
-use Rattle.std.proofs.Common.{◌≡◌, sym, ap, ◌∙◌}
+use Rattle.std.proofs.Common.{sym, ap, ◌∙◌}
 use Rattle.context_model.proofs.KindLaws.{HasKind-unique}
 use Rattle.atom_kinds.specs.Told.{told}
 use Rattle.atom_kinds.proofs.laws.atoms_have_one_kind.Goals as goal
