@@ -21,3 +21,4 @@ pub mod Brought
 pub mod MergeSteps
 pub mod Finding
 pub mod EndedSteps
+pub mod Places
