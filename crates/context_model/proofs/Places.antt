@@ -10,10 +10,10 @@ pub last_path_after-more : (q : Path) (list : List Atom) (i : ℕ) (a : Atom) �
     → last_path_after q (take (i + 1) list) ≡ path_after (last_path_after q (take i list)) a
 last_path_after-more q list i a e = ap (λ n. last_path_after q (take n list)) (add-one i) ∙ by q list i e
   where
-  by : (q : Path) (list : List Atom) (i : ℕ) → slice_get list i ≡ Some a → last_path_after q (take (suc i) list) ≡ path_after (last_path_after q (take i list)) a
-  by q [] i e = cc
-  by q (x ∷ list) zero e = let h : x ≡ a = cc in ap (path_after q) h
-  by q (x ∷ list) (suc i) e = by (path_after q x) list i e
+    by : (q : Path) (list : List Atom) (i : ℕ) → slice_get list i ≡ Some a → last_path_after q (take (suc i) list) ≡ path_after (last_path_after q (take i list)) a
+    by q [] i e = cc
+    by q (x ∷ list) zero e = let h : x ≡ a = cc in ap (path_after q) h
+    by q (x ∷ list) (suc i) e = by (path_after q x) list i e
 
 pub path_at : (q : Path) (list : List Atom) (i : ℕ) (a : Atom) → slice_get list i ≡ Some a → IsIn (path_after (last_path_after q (take i list)) a) (paths_after q list)
 path_at q [] i a e = cc
@@ -55,9 +55,9 @@ front_of-take (x ∷ list) zero n (inr l) = absurd (omega arith)
 front_of-take ([] ∷ list) (suc i) n e = absurd (n zero (omega arith) refl)
 front_of-take ((b ∷ bytes) ∷ list) (suc i) n e = ap (λ v. (b ∷ bytes) ∷ v) (front_of-take list i (λ k l h. n (suc k) (omega arith) h) (next e))
   where
-  next : (slice_get list i ≡ Some []) ⊎ (length ((b ∷ bytes) ∷ list) ≤ suc i) → (slice_get list i ≡ Some []) ⊎ (length list ≤ i)
-  next (inl e) = inl e
-  next (inr l) = inr (omega arith)
+    next : (slice_get list i ≡ Some []) ⊎ (length ((b ∷ bytes) ∷ list) ≤ suc i) → (slice_get list i ≡ Some []) ⊎ (length list ≤ i)
+    next (inl e) = inl e
+    next (inr l) = inr (omega arith)
 
 -- ---- ended, from what a loop over the front knows
 
@@ -85,10 +85,12 @@ take_front (x ∷ list) (suc n) (suc i) l = ap (λ v. x ∷ v) (take_front list 
 pub IsEnded-at : (list : List Atom) (s : Path) (n i : ℕ) (a : Atom) → front_of list ≡ take n list → i < n → slice_get list i ≡ Some a
     → IsBeyond s (path_after (last_path_after [] (take i list)) a) → IsEnded list s
 IsEnded-at list s n i a f l e b =
-    inr (path_after (last_path_after [] (take i list)) a,
-         subst (λ v. IsIn (path_after (last_path_after [] (take i list)) a) (paths v)) (sym f)
-         (subst (λ v. IsIn (path_after (last_path_after [] v) a) (paths (take n list))) (take_front list n i l) (path_at [] (take n list) i a (take-slice_get list n i a l e))),
-         b)
+    inr (
+      path_after (last_path_after [] (take i list)) a,
+      subst (λ v. IsIn (path_after (last_path_after [] (take i list)) a) (paths v)) (sym f)
+          (subst (λ v. IsIn (path_after (last_path_after [] v) a) (paths (take n list))) (take_front list n i l) (path_at [] (take n list) i a (take-slice_get list n i a l e))),
+      b,
+    )
 
 -- a marker, and no such atom before it
 pub IsEnded-nowhere : (list : List Atom) (s : Path) (n : ℕ) → HasMarker list → front_of list ≡ take n list
