@@ -1,5 +1,5 @@
 -- Bytes that are the code of a number from the first to the last.
-use Rattle.std.proofs.Common.{◌≡◌, ℕ, ◌+◌, ◌^◌, ◌<◌, ◌↔◌, List, [], ◌∷◌, ◌++◌, length, Result, Ok, Err, Some, None, sym, refl, ap, ◌∙◌, subst, arith, append-nil, length-append}
+use Rattle.std.proofs.Common.{◌≡◌, ℕ, ◌^◌, ◌<◌, List, [], ◌∷◌, ◌++◌, length, Result, Ok, Err, Some, None, sym, ap, ◌∙◌, arith, append-nil, length-append}
 use Rattle.std.specs.Result.{result_ok}
 use Rattle.context_model.specs.Varints.{unsigned_varint}
 use Rattle.lex_varint.specs.Fronts.{IsUnsignedAt}

@@ -18,6 +18,7 @@ use outside::{Memory, Octets};
 use std::alloc::Global;
 use std::cmp::Ordering;
 
+pub mod laws;
 #[cfg(test)]
 mod tests;
 
@@ -43,6 +44,9 @@ pub enum KindFault {
     BadIndex,
 }
 
+/// The least first byte of a header, which is that of level 15.
+const LOWEST_HEADER: u8 = 0x80;
+
 /// The number whose code the bytes are, from the first to the last.
 fn whole_number(bytes: &[u8]) -> Option<u64>
     ensures { MatchOption result ((number : ℕ) → number < 2 ^ 64 → bytes.now ≡ unsigned_varint number → ⊥) (λ number. (number < 2 ^ 64) × (bytes.now ≡ unsigned_varint number)) }
@@ -67,7 +71,7 @@ pub fn kind_of(atom: &[u8]) -> Result<Kind, KindFault>
     if *first == 0 {
         return Ok(Kind::Datum);
     }
-    if *first < 0x80 {
+    if *first < LOWEST_HEADER {
         return Err(KindFault::BadPrefix);
     }
     let level = (0xff - *first) / 8;

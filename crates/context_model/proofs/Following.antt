@@ -1,7 +1,7 @@
 -- Paths that follow one another: well-formed lists by cases.
-use Rattle.std.proofs.Common.{◌≡◌, ℕ, zero, suc, ◌+◌, ◌-◌, ◌/◌, ◌<◌, ◌≤◌, ◌⊎◌, ◌↔◌, Bool, true, false, cond, nat_le, List, [], ◌∷◌, ◌++◌, length, take, map, filter, Ordering, Less, Equal, Greater, sym, refl, ap, ap₂, ◌∙◌, subst, arith, inl, inr, add-one, add-zero, le_refl, drop, take-append-drop}
+use Rattle.std.proofs.Common.{◌≡◌, ℕ, zero, suc, ◌+◌, ◌≤◌, Bool, true, false, cond, nat_le, List, [], ◌∷◌, ◌++◌, length, take, map, filter, Less, sym, refl, ap, ◌∙◌, subst, arith, add-zero, le_refl, drop, take-append-drop}
 use Rattle.std.specs.List.{AllByRecursion}
-use Rattle.std.proofs.lemmas.List.{length-take-le, take_all}
+use Rattle.std.proofs.lemmas.List.{take_all}
 use Rattle.context_model.specs.Atoms.{Atom}
 use Rattle.context_model.specs.Kinds.{HasKind}
 use Rattle.context_model.specs.Orders.{Path, path_cmp, Rises}
@@ -11,8 +11,8 @@ use Rattle.context_model.specs.Kinds.Kind.{Marker}
 use Rattle.context_model.specs.Framing.{size_of}
 use Rattle.context_model.specs.Trimmed.{cut_at, kept_of, trimmed}
 use Rattle.context_model.proofs.OrderLaws.{atoms_total}
-use Rattle.context_model.specs.Paths.{is_header, level, header_count, depth_after, path_after, paths_after, paths, last_path_after}
-use Rattle.context_model.specs.WellFormed.{RiseByOneAtMost, IsWellFormed}
+use Rattle.context_model.specs.Paths.{is_header, level, header_count, depth_after, path_after, paths_after, last_path_after}
+use Rattle.context_model.specs.WellFormed.{RiseByOneAtMost, IsWellFormed, TrimsWellFormed}
 
 -- The atom may follow one with the path q: its level is at most one above, and its path comes later.
 pub record Fits (q : Path) (a : Atom) : Type 0 where
@@ -30,24 +30,24 @@ pub header_count-length : (q : Path) → header_count q ≤ length q
 header_count-length [] = omega arith
 header_count-length (a ∷ q) = by (is_header a) (header_count-length q)
   where
-  by : (b : Bool) → header_count q ≤ length q → cond b (suc (header_count q)) 0 ≤ suc (length q)
-  by true h = omega arith
-  by false h = omega arith
+    by : (b : Bool) → header_count q ≤ length q → cond b (suc (header_count q)) 0 ≤ suc (length q)
+    by true h = omega arith
+    by false h = omega arith
 
 -- some of the headers of a path, and one atom behind them
 pub header_count-take : (n : ℕ) (q : Path) (x : Atom) → n ≤ header_count q → header_count (take n q ++ x ∷ []) ≡ n + cond (is_header x) 1 0
 header_count-take zero q x h = by (is_header x)
   where
-  by : (b : Bool) → cond b 1 0 ≡ 0 + cond b 1 0
-  by true = refl
-  by false = refl
+    by : (b : Bool) → cond b 1 0 ≡ 0 + cond b 1 0
+    by true = refl
+    by false = refl
 header_count-take (suc n) [] x h = absurd (omega arith)
 header_count-take (suc n) (a ∷ q) x h = by (is_header a) h (λ l. header_count-take n q x l)
   where
-  by : (b : Bool) → suc n ≤ cond b (suc (header_count q)) 0 → (n ≤ header_count q → header_count (take n q ++ x ∷ []) ≡ n + cond (is_header x) 1 0)
-     → cond b (suc (header_count (take n q ++ x ∷ []))) 0 ≡ suc n + cond (is_header x) 1 0
-  by true l f = let e : header_count (take n q ++ x ∷ []) ≡ n + cond (is_header x) 1 0 = f (omega arith) in omega arith
-  by false l f = absurd (omega arith)
+    by : (b : Bool) → suc n ≤ cond b (suc (header_count q)) 0 → (n ≤ header_count q → header_count (take n q ++ x ∷ []) ≡ n + cond (is_header x) 1 0)
+        → cond b (suc (header_count (take n q ++ x ∷ []))) 0 ≡ suc n + cond (is_header x) 1 0
+    by true l f = let e : header_count (take n q ++ x ∷ []) ≡ n + cond (is_header x) 1 0 = f (omega arith) in omega arith
+    by false l f = absurd (omega arith)
 
 pub header_count-more : (q : Path) → header_count (q ++ [] ∷ []) ≡ header_count q
 header_count-more [] = refl
@@ -58,9 +58,9 @@ pub next_bound : (q : Path) (a : Atom) → (is_header a ≡ true → level a ≤
 next_bound q [] f = ap header_count (ap (λ v. v ++ [] ∷ []) (take_all (length q) q (le_refl (length q)))) ∙ header_count-more q
 next_bound q (b ∷ bytes) f = by (nat_le 128 b) refl
   where
-  by : (h : Bool) → nat_le 128 b ≡ h → header_count (take (cond h (level (b ∷ bytes)) (header_count q)) q ++ (b ∷ bytes) ∷ []) ≡ cond h (level (b ∷ bytes) + 1) (header_count q)
-  by true e = header_count-take (level (b ∷ bytes)) q (b ∷ bytes) (f e) ∙ ap (λ v. level (b ∷ bytes) + cond v 1 0) e
-  by false e = header_count-take (header_count q) q (b ∷ bytes) (le_refl (header_count q)) ∙ ap (λ v. header_count q + cond v 1 0) e ∙ add-zero (header_count q)
+    by : (h : Bool) → nat_le 128 b ≡ h → header_count (take (cond h (level (b ∷ bytes)) (header_count q)) q ++ (b ∷ bytes) ∷ []) ≡ cond h (level (b ∷ bytes) + 1) (header_count q)
+    by true e = header_count-take (level (b ∷ bytes)) q (b ∷ bytes) (f e) ∙ ap (λ v. level (b ∷ bytes) + cond v 1 0) e
+    by false e = header_count-take (header_count q) q (b ∷ bytes) (le_refl (header_count q)) ∙ ap (λ v. header_count q + cond v 1 0) e ∙ add-zero (header_count q)
 
 -- ---- both ways between the three facts of the whole list and the cases
 
@@ -78,7 +78,7 @@ Follows-from : (q : Path) (list : List Atom) → RiseByOneAtMost (header_count q
 Follows-from q [] h r = tt
 Follows-from q (a ∷ list) h r =
     let s : (is_header a ≡ true → level a ≤ header_count q) × RiseByOneAtMost (cond (is_header a) (level a + 1) (header_count q)) (map level (filter is_header list)) =
-        split_level (header_count q) a (is_header a) (filter is_header list) h in
+    split_level (header_count q) a (is_header a) (filter is_header list) h in
     (record { level = s.0; later = r.0 }, Follows-from (path_after q a) list (subst (λ v. RiseByOneAtMost v (map level (filter is_header list))) (sym (next_bound q a s.0)) s.1) r.1)
 
 Follows-levels : (q : Path) (list : List Atom) → Follows q list → RiseByOneAtMost (header_count q) (map level (filter is_header list))
@@ -96,9 +96,9 @@ rises_from_empty : (list : List Atom) → Rises path_cmp (paths_after [] list) �
 rises_from_empty [] h = tt
 rises_from_empty (a ∷ list) h = (first (depth_after [] a), h)
   where
-  first : (n : ℕ) → path_cmp [] (take n [] ++ a ∷ []) ≡ Less
-  first zero = refl
-  first (suc n) = refl
+    first : (n : ℕ) → path_cmp [] (take n [] ++ a ∷ []) ≡ Less
+    first zero = refl
+    first (suc n) = refl
 
 rises_tail : (q : Path) (qs : List Path) → Rises path_cmp (q ∷ qs) → Rises path_cmp qs
 rises_tail q [] h = tt
@@ -177,13 +177,13 @@ pub IsWellFormed-take : (n : ℕ) (list : List Atom) → IsWellFormed list → I
 IsWellFormed-take n list w = IsWellFormed-front (take n list) (drop n list) (subst IsWellFormed (sym (take-append-drop n list)) w)
 
 -- a trimmed well-formed list is well formed
-pub trimmed-well_formed : (list : List Atom) (budget : ℕ) → IsWellFormed list → IsWellFormed (trimmed list budget)
+pub trimmed-well_formed : TrimsWellFormed
 unfolding trimmed
 trimmed-well_formed list budget w = by (nat_le (size_of list) budget)
   where
-  by : (b : Bool) → IsWellFormed (cond b list (cut_at (kept_of list budget) list))
-  by true = w
-  by false = IsWellFormed-cut (kept_of list budget) list w
+    by : (b : Bool) → IsWellFormed (cond b list (cut_at (kept_of list budget) list))
+    by true = w
+    by false = IsWellFormed-cut (kept_of list budget) list w
 
 pub IsWellFormed-empty : IsWellFormed []
 IsWellFormed-empty = record { kinds = tt; levels = tt; order = tt }

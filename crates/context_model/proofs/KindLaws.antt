@@ -1,8 +1,8 @@
 -- At most one kind fits an atom, and what the first byte says of the kind.
-use Rattle.std.proofs.Common.{◌≡◌, ℕ, ◌+◌, ◌-◌, ◌*◌, ◌/◌, ◌%◌, ◌^◌, ◌<◌, ◌≤◌, List, [], ◌∷◌, length, sym, refl, ap, ap₂, ◌∙◌, subst, arith}
+use Rattle.std.proofs.Common.{◌≡◌, ◌-◌, ◌*◌, sym, refl, ap, ap₂, ◌∙◌, arith}
 use Rattle.context_model.specs.Atoms.{Atom}
 use Rattle.context_model.specs.Varints.{unsigned_varint}
-use Rattle.context_model.specs.Kinds.{Kind, atom_of, IsKind, HasKind, IsIndexLike, HasBadPrefix, HasBadIndex}
+use Rattle.context_model.specs.Kinds.{Kind, atom_of, IsKind, HasKind}
 use Rattle.context_model.specs.Kinds.Kind.{Marker, Datum, Indexed, Keyed}
 use Rattle.context_model.proofs.VarintLaws.{unsigned_varint-injective}
 

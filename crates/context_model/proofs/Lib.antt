@@ -1,4 +1,6 @@
+pub mod Beyond
 pub mod Digits
+pub mod EndedLaws
 pub mod Following
 pub mod Frames
 pub mod FramingLaws
@@ -20,3 +22,5 @@ pub mod MergeSteps
 pub mod Finding
 pub mod ContextFronts
 pub mod Meets
+pub mod EndedSteps
+pub mod Places

@@ -1,10 +1,8 @@
 -- The order of atoms and that of paths are total, and only equal ones tie.
-use Rattle.std.proofs.Common.{◌≡◌, ℕ, List, [], ◌∷◌, Ordering, Less, Equal, Greater}
 use Rattle.std.specs.Cmp.{IsTotalOrder}
-use Rattle.std.specs.Cmp.Lexicographic.{slice_cmp, lists_total, nat_list_cmp_total}
+use Rattle.std.specs.Cmp.Lexicographic.{lists_total, nat_list_cmp_total}
 use Rattle.std.specs.FinMap.{IsAntisymmetric, slice_cmp-IsAntisymmetric, nat_cmp-IsAntisymmetric}
-use Rattle.context_model.specs.Atoms.{Atom}
-use Rattle.context_model.specs.Orders.{Path, atom_cmp, path_cmp}
+use Rattle.context_model.specs.Orders.{atom_cmp, path_cmp}
 
 pub atoms_total : IsTotalOrder atom_cmp
 atoms_total = nat_list_cmp_total

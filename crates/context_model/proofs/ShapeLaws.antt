@@ -1,16 +1,15 @@
 -- A list has at most one first fault, and none where it is well formed.
-use Rattle.std.proofs.Common.{◌≡◌, ℕ, zero, suc, ◌+◌, ◌<◌, ◌≤◌, ◌⊎◌, Bool, true, false, List, [], ◌∷◌, ◌++◌, length, take, drop, slice_get, Some, None, Less, sym, refl, ap, ap₂, ◌∙◌, subst, arith, inl, inr}
-use Rattle.std.specs.List.{AllByRecursion}
+use Rattle.std.proofs.Common.{◌≡◌, ℕ, zero, suc, ◌<◌, ◌≤◌, ◌⊎◌, List, [], ◌∷◌, ◌++◌, take, slice_get, Some, sym, refl, ap, ◌∙◌, subst, arith, inl, inr}
 use Rattle.std.proofs.lemmas.Bool.{cases_order}
 use Rattle.context_model.specs.Atoms.{Atom}
 use Rattle.context_model.specs.ByteCodes.{ByteCode}
 use Rattle.context_model.specs.ByteCodes.ByteCode.{CutLength, AtomTooLong, LongForm, CutBody, BadPrefix, BadIndex, LevelJump, OutOfOrder}
-use Rattle.context_model.specs.Kinds.{HasKind, HasBadPrefix, HasBadIndex}
-use Rattle.context_model.specs.Orders.{Path, path_cmp}
-use Rattle.context_model.specs.Paths.{is_header, level, header_count, path_after, last_path_after}
+use Rattle.context_model.specs.Kinds.{HasKind}
+use Rattle.context_model.specs.Orders.{Path}
+use Rattle.context_model.specs.Paths.{level, header_count, last_path_after}
 use Rattle.context_model.specs.WellFormed.{IsWellFormed}
-use Rattle.context_model.specs.ShapeFault.{JumpsLevel, IsWrong, IsFirstShapeFault, HasOneShape}
-use Rattle.context_model.proofs.Following.{Fits, Follows, Follows-back, IsWellFormed-follows, kinds_back}
+use Rattle.context_model.specs.ShapeFault.{IsWrong, IsFirstShapeFault, FaultsOnce}
+use Rattle.context_model.proofs.Following.{Fits, Follows-back, IsWellFormed-follows, kinds_back}
 
 -- an atom that may follow has nothing wrong
 pub wrong_apart : (code : ByteCode) (q : Path) (a : Atom) → IsWrong code q a → HasKind a → Fits q a → ⊥
@@ -72,23 +71,23 @@ not_inside list i j c f w h =
     let k : HasKind f.atom × Fits (last_path_after [] (take i list)) f.atom = fits_there (take i list) f.atom s.0 (subst IsWellFormed (s.1) w) in
     wrong_apart c (last_path_after [] (take i list)) f.atom f.wrong k.0 k.1
 
-pub has_one_shape : (list : List Atom) → HasOneShape list
+pub has_one_shape : FaultsOnce
 has_one_shape list = record { fault = λ i j c d f g. by i j c d f g (cases_order i j); either = either }
   where
-  same : (i j : ℕ) (c d : ByteCode) → IsFirstShapeFault list i c → IsFirstShapeFault list j d → i ≡ j → c ≡ d
-  same i j c d f g e =
-      let there : slice_get list i ≡ Some g.atom = ap (slice_get list) e ∙ g.there in
-      let one : Some f.atom ≡ Some g.atom = sym f.there ∙ there in
-      let atoms : f.atom ≡ g.atom = cc in
-      wrong_unique c d (last_path_after [] (take i list)) f.atom f.wrong (subst (λ a. IsWrong d (last_path_after [] (take i list)) a) (sym atoms) (subst (λ k. IsWrong d (last_path_after [] (take k list)) g.atom) (sym e) g.wrong))
+    same : (i j : ℕ) (c d : ByteCode) → IsFirstShapeFault list i c → IsFirstShapeFault list j d → i ≡ j → c ≡ d
+    same i j c d f g e =
+        let there : slice_get list i ≡ Some g.atom = ap (slice_get list) e ∙ g.there in
+        let one : Some f.atom ≡ Some g.atom = sym f.there ∙ there in
+        let atoms : f.atom ≡ g.atom = cc in
+        wrong_unique c d (last_path_after [] (take i list)) f.atom f.wrong (subst (λ a. IsWrong d (last_path_after [] (take i list)) a) (sym atoms) (subst (λ k. IsWrong d (last_path_after [] (take k list)) g.atom) (sym e) g.wrong))
 
-  by : (i j : ℕ) (c d : ByteCode) → IsFirstShapeFault list i c → IsFirstShapeFault list j d → (i ≡ j) ⊎ ((i < j) ⊎ (j < i)) → (i ≡ j) × (c ≡ d)
-  by i j c d f g (inl e) = (e, same i j c d f g e)
-  by i j c d f g (inr (inl h)) = absurd (not_inside list i j c f g.before h)
-  by i j c d f g (inr (inr h)) = absurd (not_inside list j i d g f.before h)
+    by : (i j : ℕ) (c d : ByteCode) → IsFirstShapeFault list i c → IsFirstShapeFault list j d → (i ≡ j) ⊎ ((i < j) ⊎ (j < i)) → (i ≡ j) × (c ≡ d)
+    by i j c d f g (inl e) = (e, same i j c d f g e)
+    by i j c d f g (inr (inl h)) = absurd (not_inside list i j c f g.before h)
+    by i j c d f g (inr (inr h)) = absurd (not_inside list j i d g f.before h)
 
-  either : (i : ℕ) (c : ByteCode) → IsWellFormed list → IsFirstShapeFault list i c → ⊥
-  either i c w f =
-      let s : (rest : List Atom) × (list ≡ take i list ++ f.atom ∷ rest) = split_at list i f.atom f.there in
-      let k : HasKind f.atom × Fits (last_path_after [] (take i list)) f.atom = fits_there (take i list) f.atom s.0 (subst IsWellFormed (s.1) w) in
-      wrong_apart c (last_path_after [] (take i list)) f.atom f.wrong k.0 k.1
+    either : (i : ℕ) (c : ByteCode) → IsWellFormed list → IsFirstShapeFault list i c → ⊥
+    either i c w f =
+        let s : (rest : List Atom) × (list ≡ take i list ++ f.atom ∷ rest) = split_at list i f.atom f.there in
+        let k : HasKind f.atom × Fits (last_path_after [] (take i list)) f.atom = fits_there (take i list) f.atom s.0 (subst IsWellFormed (s.1) w) in
+        wrong_apart c (last_path_after [] (take i list)) f.atom f.wrong k.0 k.1

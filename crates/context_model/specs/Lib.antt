@@ -3,6 +3,7 @@ pub mod ByteCodes
 pub mod Ended
 pub mod Framing
 pub mod Kinds
+pub mod Merge
 pub mod Nearest
 pub mod Orders
 pub mod Paths
@@ -13,3 +14,4 @@ pub mod WellFormed
 pub mod WireFault
 pub mod Merge
 pub mod ContextFault
+pub mod WithoutData

@@ -1,5 +1,5 @@
 -- The path of each atom of a list: the headers around it, and then the atom itself.
-use Rattle.std.specs.Prelude.{ℕ, suc, ◌-◌, ◌/◌, Bool, true, false, cond, nat_le, List, [], ◌∷◌, ◌++◌, length, take}
+use Rattle.std.specs.Prelude.{ℕ, suc, ◌-◌, ◌/◌, Bool, false, cond, nat_le, List, [], ◌∷◌, ◌++◌, length, take}
 use Rattle.context_model.specs.Atoms.{Atom}
 use Rattle.context_model.specs.Orders.{Path}
 

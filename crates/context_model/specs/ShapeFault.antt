@@ -1,5 +1,5 @@
 -- The first fault of a list that isn't well formed.
-use Rattle.std.specs.Prelude.{◌≡◌, ◌≢◌, ℕ, ◌<◌, ◌≤◌, Bool, true, List, [], ◌∷◌, ◌++◌, length, take, slice_get, Some}
+use Rattle.std.specs.Prelude.{◌≡◌, ◌≢◌, ℕ, ◌<◌, true, List, [], take, slice_get, Some}
 use Rattle.std.specs.declared.cmp.Ordering.TheVariants.{Less}
 use Rattle.context_model.specs.Atoms.{Atom}
 use Rattle.context_model.specs.ByteCodes.{ByteCode}
@@ -32,3 +32,7 @@ pub record IsFirstShapeFault (list : List Atom) (place : ℕ) (code : ByteCode) 
 pub record HasOneShape (list : List Atom) : Type 0 where
   pub fault : (i j : ℕ) (c d : ByteCode) → IsFirstShapeFault list i c → IsFirstShapeFault list j d → (i ≡ j) × (c ≡ d)
   pub either : (i : ℕ) (c : ByteCode) → IsWellFormed list → IsFirstShapeFault list i c → ⊥
+
+-- Each list has one shape: it is well formed, or has one first fault.
+abbrev pub FaultsOnce : Type 0
+FaultsOnce = (list : List Atom) → HasOneShape list

@@ -5,6 +5,7 @@ use Rattle.context_model.specs.Atoms.{Atom}
 use Rattle.context_model.specs.Kinds.{HasKind}
 use Rattle.context_model.specs.Orders.{path_cmp, Rises}
 use Rattle.context_model.specs.Paths.{is_header, level, paths}
+use Rattle.context_model.specs.Trimmed.{trimmed}
 
 -- The first is at most the bound, and each of the others at most one more than the one before.
 abbrev pub RiseByOneAtMost : ℕ → List ℕ → Type 0
@@ -16,3 +17,7 @@ pub record IsWellFormed (list : List Atom) : Type 0 where
   pub kinds : AllByRecursion HasKind list
   pub levels : RiseByOneAtMost 0 (map level (filter is_header list))
   pub order : Rises path_cmp (paths list)
+
+-- A trimmed well-formed list is well formed.
+abbrev pub TrimsWellFormed : Type 0
+TrimsWellFormed = (list : List Atom) (budget : ℕ) → IsWellFormed list → IsWellFormed (trimmed list budget)

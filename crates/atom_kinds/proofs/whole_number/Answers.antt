@@ -1,5 +1,4 @@
-use Rattle.std.proofs.Common.{◌≡◌, ◌<◌, ◌^◌, ◌∙◌, ℕ, sym, ap, length, Ok, MatchOption}
-use Rattle.context_model.specs.Varints.{unsigned_varint}
+use Rattle.std.proofs.Common.{◌∙◌, sym, length}
 use Rattle.lex_varint.specs.Fronts.{IsUnsignedAt}
 use Rattle.atom_kinds.proofs.Numbers.{whole_front, front_whole, ok_from, none_from, count_of}
 use Rattle.atom_kinds.proofs.whole_number.Goals as goal
