@@ -12,6 +12,5 @@ pub mod Trimmed
 pub mod Varints
 pub mod WellFormed
 pub mod WireFault
-pub mod Merge
 pub mod ContextFault
 pub mod WithoutData
