@@ -24,3 +24,4 @@ pub mod ContextFronts
 pub mod Meets
 pub mod EndedSteps
 pub mod Places
+pub mod HeadersAfter
