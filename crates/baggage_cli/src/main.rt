@@ -6,6 +6,8 @@ mod commands;
 mod delivery;
 mod hex_lines;
 mod refusals;
+#[cfg(test)]
+mod tests;
 mod top;
 mod trimming;
 

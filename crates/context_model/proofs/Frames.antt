@@ -103,7 +103,7 @@ frame_cancel a b xs ys short_a short_b e =
     (same, sym (drop_at a xs (length a) refl) ∙ ap (drop (length a)) behind ∙ drop_at b ys (length a) (sym long))
 
 -- Each atom has at least the byte of its length.
-frame_some : (a xs : List ℕ) → 1 ≤ length (frame a ++ xs)
+pub frame_some : (a xs : List ℕ) → 1 ≤ length (frame a ++ xs)
 frame_some a xs =
     let code = length_code (length a) in
     let some = length-length_code (length a) in

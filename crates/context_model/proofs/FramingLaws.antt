@@ -1,10 +1,10 @@
 -- The laws of framing: bytes and size of fronts, and of lists put together.
-use Rattle.std.proofs.Common.{◌≡◌, ℕ, ◌+◌, ◌-◌, ◌<◌, ◌≤◌, zero, suc, Bool, true, false, [], List, ◌∷◌, ◌++◌, length, take, drop, get_or, slice_get, Some, refl, sym, ◌∙◌, ap, subst, append_assoc, length-append, arith}
-use Rattle.std.proofs.lemmas.List.{take_more, take-append-drop, take_all, take-take, append-nil}
+use Rattle.std.proofs.Common.{◌≡◌, ℕ, ◌+◌, ◌<◌, ◌≤◌, [], List, ◌∷◌, ◌++◌, length, take, drop, get_or, slice_get, Some, refl, sym, ◌∙◌, ap, subst, length-append, arith}
+use Rattle.std.proofs.lemmas.List.{take_more, take-append-drop, take-take, append-nil}
 use Rattle.std.proofs.lemmas.Grind.{flat_map-append}
 use Rattle.std.proofs.lemmas.Option.{get_or_from_slice_get, slice_get_within}
 use Rattle.std.proofs.lemmas.Bool.Decides.{nat_tests}
-use Rattle.context_model.specs.Atoms.{Atom, AreAtoms}
+use Rattle.context_model.specs.Atoms.{Atom}
 use Rattle.context_model.specs.Framing.{length_code, frame, bytes_of, size_of}
 use Rattle.context_model.specs.Trimmed.{cut_at}
 

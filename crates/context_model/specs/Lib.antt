@@ -1,6 +1,16 @@
 pub mod Atoms
 pub mod ByteCodes
+pub mod Ended
 pub mod Framing
+pub mod Kinds
+pub mod Merge
+pub mod Nearest
+pub mod Orders
+pub mod Paths
+pub mod ShapeFault
 pub mod Trimmed
 pub mod Varints
+pub mod WellFormed
 pub mod WireFault
+pub mod ContextFault
+pub mod WithoutData

@@ -1,5 +1,5 @@
 -- A list that is cut to a budget of bytes, with a marker where something was cut off.
-use Rattle.std.specs.Prelude.{◌≡◌, ℕ, ◌+◌, ◌<◌, ◌≤◌, zero, suc, Bool, List, [], ◌∷◌, ◌++◌, length, take, min, nat_le, if◌then◌else◌}
+use Rattle.std.specs.Prelude.{◌≡◌, ℕ, ◌<◌, ◌≤◌, zero, suc, Bool, List, [], ◌∷◌, ◌++◌, length, take, min, nat_le, if◌then◌else◌}
 use Rattle.context_model.specs.Atoms.{Atom}
 use Rattle.context_model.specs.Framing.{size_of}
 

@@ -8,6 +8,8 @@ mod gates;
 mod in_memory;
 mod libraries;
 mod streams;
+#[cfg(test)]
+mod tests;
 mod texts;
 mod transfers;
 

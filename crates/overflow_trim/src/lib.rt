@@ -3,8 +3,9 @@
 
 ghost use Rattle.std.specs.Prelude.{◌≡◌, ◌<◌};
 ghost use Rattle.context_model.specs.Trimmed.{kept_of, trimmed, KeepsLongest, CutsOnce};
+ghost use Rattle.context_model.specs.WellFormed.{IsWellFormed};
 
-use atom_list::AtomList;
+use atom_list::{AtomList, Context};
 use wire_bytes::frame_len;
 
 /// How many atoms of a list stay within a budget of bytes: all of them where the list fits, and otherwise as many as fit
@@ -35,6 +36,18 @@ pub fn trim(list: &mut AtomList, budget: u64)
     let keep = kept(list, budget);
     if keep < list.len() {
         list.cut_to_marker(keep);
+    }
+}
+
+/// Cuts a context to a budget of bytes, as [`trim`] cuts its list: what stays is a context.
+pub fn trim_context(context: &mut Context, budget: u64)
+    requires { 0 < budget }
+    ensures trimmed { context.new ≡ trimmed context.old budget }
+    ensures well_formed { IsWellFormed context.new }
+{
+    let keep = kept(context.list(), budget);
+    if keep < context.list().len() {
+        context.cut_to_marker(keep);
     }
 }
 

@@ -1,21 +1,50 @@
 -- What the enums of faults say.
-use Rattle.std.specs.Prelude.{ℕ, List}
-use Rattle.context_model.specs.ByteCodes.{ByteCode}
+use Rattle.std.specs.Prelude.{◌≡◌, ℕ, ◌<◌, List, ◌++◌, length, Option, Some, None}
+use Rattle.context_model.specs.Atoms.{Atom}
+use Rattle.context_model.specs.Framing.{bytes_of}
+use Rattle.context_model.specs.ByteCodes.{ByteCode as PlainCode}
 use Rattle.context_model.specs.ByteCodes as plain
-use Rattle.context_model.specs.WireFault.{IsFirstWireFault}
+use Rattle.context_model.specs.WireFault.{wire_code, IsFirstWireFault}
+use Rattle.context_model.specs.ContextFault.{IsFirstContextFault}
 use Rattle.wire_bytes.specs.declared.reading.WireCode.{WireCode}
 use Rattle.wire_bytes.specs.declared.reading.WireCode.TheVariants.{CutLength, AtomTooLong, LongForm, CutBody}
 use Rattle.wire_bytes.specs.declared.reading.WireFault.{WireFault}
 use Rattle.wire_bytes.specs.declared.reading.WireFault.TheVariants.{At, Memory}
+use Rattle.wire_bytes.specs.declared.contexts.ByteCode.{ByteCode}
+use Rattle.wire_bytes.specs.declared.contexts.ByteCode.TheVariants as bytes
+use Rattle.wire_bytes.specs.declared.contexts.ContextFault.{ContextFault}
+use Rattle.wire_bytes.specs.declared.contexts.ContextFault.TheVariants as contexts
 
--- What a code says.
-abbrev pub code_of : WireCode → ByteCode
+-- What a code of bytes says.
+abbrev pub code_of : WireCode → PlainCode
 code_of CutLength = plain.ByteCode.CutLength
 code_of AtomTooLong = plain.ByteCode.AtomTooLong
 code_of LongForm = plain.ByteCode.LongForm
 code_of CutBody = plain.ByteCode.CutBody
 
+-- What a code of a context's bytes says.
+abbrev pub byte_code_of : ByteCode → PlainCode
+byte_code_of bytes.CutLength = plain.ByteCode.CutLength
+byte_code_of bytes.AtomTooLong = plain.ByteCode.AtomTooLong
+byte_code_of bytes.LongForm = plain.ByteCode.LongForm
+byte_code_of bytes.CutBody = plain.ByteCode.CutBody
+byte_code_of bytes.BadPrefix = plain.ByteCode.BadPrefix
+byte_code_of bytes.BadIndex = plain.ByteCode.BadIndex
+byte_code_of bytes.LevelJump = plain.ByteCode.LevelJump
+byte_code_of bytes.OutOfOrder = plain.ByteCode.OutOfOrder
+
 -- The answer names the first fault; want of memory claims nothing.
 abbrev pub IsFaultOf : List ℕ → WireFault → Type 0
-IsFaultOf bytes (At offset code) = IsFirstWireFault bytes offset (code_of code)
-IsFaultOf bytes Memory = Unit {0}
+IsFaultOf input (At offset code) = IsFirstWireFault input offset (code_of code)
+IsFaultOf input Memory = Unit {0}
+
+-- The answer names the first fault of a context; want of memory claims nothing.
+abbrev pub IsContextFaultOf : List ℕ → ContextFault → Type 0
+IsContextFaultOf input (contexts.At offset code) = IsFirstContextFault input offset (byte_code_of code)
+IsContextFaultOf input contexts.Memory = Unit {0}
+
+-- The input is the bytes of the list, or it goes on behind them with what can't be read.
+abbrev pub StopsAt : List ℕ → List Atom → Option (ℕ × WireCode) → Type 0
+StopsAt input list None = input ≡ bytes_of list
+StopsAt input list (Some fault) =
+    (fault.0 ≡ length (bytes_of list)) × ((rest : List ℕ) × (input ≡ bytes_of list ++ rest) × (0 < length rest) × (wire_code rest ≡ Some (code_of fault.1)))

@@ -1,3 +1,4 @@
 pub mod Codes
 pub use Rattle.context_model.specs.Framing
 pub use Rattle.context_model.specs.WireFault
+pub use Rattle.context_model.specs.ContextFault

@@ -4,7 +4,7 @@ ghost use Rattle.std.specs.Prelude.{◌≡◌, ◌+◌, ◌<◌, ◌≤◌, ◌+
 ghost use Rattle.context_model.specs.Atoms.{AreAtoms};
 ghost use Rattle.context_model.specs.Framing.{frame, bytes_of};
 ghost use Rattle.context_model.specs.WireFault.{wire_code, ReadsOneWay};
-ghost use Rattle.wire_bytes.specs.Codes.{code_of, IsFaultOf};
+ghost use Rattle.wire_bytes.specs.Codes.{code_of, IsFaultOf, StopsAt};
 
 use crate::LENGTH_MAX;
 use crate::lengths::front_length;
@@ -76,13 +76,18 @@ fn front(bytes: &[u8]) -> Result<(&[u8], &[u8]), WireCode>
     Ok(rest.split_at(len))
 }
 
-/// The list whose bytes these are. The refusal is the first fault: the longest front that is the bytes of a list ends at
-/// its offset.
-pub fn read(alloc: Global, bytes: &[u8]) -> Result<AtomList, WireFault>
-    ensures found { IfOk result (λ list. bytes.now ≡ bytes_of list) }
-    ensures atoms { IfOk result AreAtoms }
-    ensures fault { IfErr result (IsFaultOf bytes.now) }
-    ensures only { (list : List (List ℕ)) → AreAtoms list → bytes.now ≡ bytes_of list → MatchResult result (λ made. made ≡ list) (λ fault. fault ≡ WireFault.Memory) }
+/// The list at the front of the bytes, as far as it goes, and what is wrong behind it.
+#[derive(Drop)]
+pub(crate) struct FrontList {
+    pub(crate) list: AtomList,
+    /// Where the list ends and what is wrong there, unless the bytes end there.
+    pub(crate) fault: Option<(usize, WireCode)>,
+}
+
+/// Reads atoms for as long as there are any.
+pub(crate) fn read_front(alloc: Global, bytes: &[u8]) -> Result<FrontList, Memory>
+    ensures atoms { IfOk result (λ front. AreAtoms front.list) }
+    ensures stops { IfOk result (λ front. StopsAt bytes.now front.list front.fault) }
 {
     let mut list = AtomList::new(alloc);
     let mut rest = bytes;
@@ -93,14 +98,30 @@ pub fn read(alloc: Global, bytes: &[u8]) -> Result<AtomList, WireFault>
                 rest = behind;
             }
             Err(code) => {
-                return Err(WireFault::At {
-                    offset: bytes.len() - rest.len(),
-                    code,
+                let offset = bytes.len() - rest.len();
+                return Ok(FrontList {
+                    list,
+                    fault: Some((offset, code)),
                 });
             }
         }
     }
-    Ok(list)
+    Ok(FrontList { list, fault: None })
+}
+
+/// The list whose bytes these are. The refusal is the first fault: the longest front that is the bytes of a list ends at
+/// its offset.
+pub fn read(alloc: Global, bytes: &[u8]) -> Result<AtomList, WireFault>
+    ensures found { IfOk result (λ list. bytes.now ≡ bytes_of list) }
+    ensures atoms { IfOk result AreAtoms }
+    ensures fault { IfErr result (IsFaultOf bytes.now) }
+    ensures only { (list : List (List ℕ)) → AreAtoms list → bytes.now ≡ bytes_of list → MatchResult result (λ made. made ≡ list) (λ fault. fault ≡ WireFault.Memory) }
+{
+    let FrontList { list, fault } = read_front(alloc, bytes)?;
+    match fault {
+        None => Ok(list),
+        Some((offset, code)) => Err(WireFault::At { offset, code }),
+    }
 }
 
 /// Bytes are those of at most one list, have at most one first fault, and never both.

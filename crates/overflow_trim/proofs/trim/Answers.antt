@@ -1,16 +1,8 @@
-use Rattle.std.proofs.Common.{◌≡◌, ℕ, ◌<◌, ◌≤◌, List, length, ◌⊎◌, inl, inr, sym, ◌∙◌, ap, arith}
-use Rattle.std.proofs.lemmas.Bool.{cases_lt}
-use Rattle.context_model.specs.Framing.{size_of}
-use Rattle.context_model.specs.Trimmed.{cut_at, kept_of, trimmed}
-use Rattle.context_model.proofs.TrimmedLaws.{kept_of-fits, kept_of-all, trimmed-fits, trimmed-cut}
+use Rattle.std.proofs.Common.{◌≡◌, ◌≤◌, length, sym, ◌∙◌, ap, arith}
+use Rattle.context_model.specs.Trimmed.{cut_at, kept_of}
+use Rattle.context_model.proofs.TrimmedLaws.{kept_of-all, trimmed-fits, trimmed-cut}
+use Rattle.overflow_trim.proofs.Overs.{over}
 use Rattle.overflow_trim.proofs.trim.Goals as goal
-
--- Where fewer atoms stay the list doesn't fit.
-over : (list : List (List ℕ)) (budget keep : ℕ) → keep ≡ kept_of list budget → keep < length list → budget < size_of list
-over list budget keep is less = elim (cases_lt budget (size_of list)) [
-    inl more ↦ more
-  | inr fits ↦ (let all = kept_of-fits list budget fits in absurd (omega arith))
-  ]
 
 pub returns-then-keep-len : goal.returns-then-keep-len
 returns-then-keep-len c =

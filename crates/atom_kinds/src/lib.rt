@@ -1,0 +1,129 @@
+//! The kinds of atoms, which are byte strings, by their first byte.
+//!
+//! The empty atom is a marker, and the byte `00` begins a datum, whose payload may be any bytes. A header of level 0 to
+//! 15 is indexed, `80 + 8 * (15 - level)` and then one varint, or keyed, `81 + 8 * (15 - level)` and then any bytes as
+//! its key. No other byte begins an atom.
+#![tactic(auto)]
+
+ghost use Rattle.std.specs.Prelude.{◌≡◌, ◌↔◌, ℕ, ◌^◌, ◌<◌, ◌≤◌, ◌∷◌, length, IfOk, MatchOption};
+ghost use Rattle.context_model.specs.Kinds.{atom_of, HasBadPrefix, HasBadIndex};
+ghost use Rattle.context_model.specs.Kinds.Kind.{Datum as PlainDatum, Indexed as PlainIndexed, Keyed as PlainKeyed};
+ghost use Rattle.context_model.specs.Varints.{unsigned_varint};
+ghost use Rattle.context_model.specs.Orders.{atom_cmp};
+ghost use Rattle.atom_kinds.specs.Told.{TellsKind};
+ghost use Rattle.atom_kinds.specs.declared.Kind.{Kind as AnyKind};
+
+use lex_varint::{put_u64, take_u64};
+use outside::{Memory, Octets};
+use std::alloc::Global;
+use std::cmp::Ordering;
+
+pub mod laws;
+#[cfg(test)]
+mod tests;
+
+/// What an atom is. The key of a keyed header is what follows its first byte, and so is the payload of a datum.
+#[derive(Clone, Copy, Debug, PartialEq, Eq)]
+pub enum Kind {
+    /// The empty atom: something was cut off here.
+    Marker,
+    /// Holds a payload.
+    Datum,
+    /// Opens the field with this number.
+    Indexed { level: u8, number: u64 },
+    /// Opens the entry with the key that follows.
+    Keyed { level: u8 },
+}
+
+/// Why a byte string is no atom of any kind.
+#[derive(Clone, Copy, Debug, PartialEq, Eq)]
+pub enum KindFault {
+    /// No kind of atom begins with this byte.
+    BadPrefix,
+    /// Behind the first byte of an indexed header stands anything but one varint.
+    BadIndex,
+}
+
+/// The least first byte of a header, which is that of level 15.
+const LOWEST_HEADER: u8 = 0x80;
+
+/// The number whose code the bytes are, from the first to the last.
+fn whole_number(bytes: &[u8]) -> Option<u64>
+    ensures { MatchOption result ((number : ℕ) → number < 2 ^ 64 → bytes.now ≡ unsigned_varint number → ⊥) (λ number. (number < 2 ^ 64) × (bytes.now ≡ unsigned_varint number)) }
+{
+    let (number, count) = take_u64(bytes).ok()?;
+    if count == bytes.len() {
+        Some(number)
+    } else {
+        None
+    }
+}
+
+/// The kind of an atom. Levels are from 0 to 15.
+pub fn kind_of(atom: &[u8]) -> Result<Kind, KindFault>
+    ensures kind { (kind : AnyKind) → (result ≡ Ok kind) ↔ TellsKind atom.now kind }
+    ensures prefix { (result ≡ Err KindFault.BadPrefix) ↔ HasBadPrefix atom.now }
+    ensures index { (result ≡ Err KindFault.BadIndex) ↔ HasBadIndex atom.now }
+{
+    let Some((first, rest)) = atom.split_first() else {
+        return Ok(Kind::Marker);
+    };
+    if *first == 0 {
+        return Ok(Kind::Datum);
+    }
+    if *first < LOWEST_HEADER {
+        return Err(KindFault::BadPrefix);
+    }
+    let level = (0xff - *first) / 8;
+    match *first % 8 {
+        0 => match whole_number(rest) {
+            Some(number) => Ok(Kind::Indexed { level, number }),
+            None => Err(KindFault::BadIndex),
+        },
+        1 => Ok(Kind::Keyed { level }),
+        _ => Err(KindFault::BadPrefix),
+    }
+}
+
+/// The order of atoms: byte by byte, and an atom before each longer one that begins with it.
+pub fn compare(a: &[u8], b: &[u8]) -> Ordering
+    ensures { result ≡ atom_cmp a.now b.now }
+{
+    a.cmp(b)
+}
+
+/// The atom with this first byte and these bytes behind it.
+fn atom_from(alloc: Global, first: u8, rest: &[u8]) -> Result<Octets, Memory>
+    requires { length rest.now ≤ 65534 }
+    ensures { IfOk result (λ made. made ≡ first ∷ rest.now) }
+{
+    let mut bytes = Vec::with_capacity(alloc, rest.len() + 1)?;
+    bytes.push(first)?;
+    bytes.extend_from_slice(rest)?;
+    Ok(Octets::from_vec(bytes))
+}
+
+/// The indexed header of a level and a number.
+pub fn indexed(alloc: Global, level: u8, number: u64) -> Result<Octets, Memory>
+    requires { level ≤ 15 }
+    ensures { IfOk result (λ made. made ≡ atom_of (PlainIndexed level number)) }
+{
+    atom_from(alloc, 0xf8 - 8 * level, put_u64(number).as_slice())
+}
+
+/// The keyed header of a level and a key of at most 65,534 bytes.
+pub fn keyed(alloc: Global, level: u8, key: &[u8]) -> Result<Octets, Memory>
+    requires level { level ≤ 15 }
+    requires key { length key.now ≤ 65534 }
+    ensures { IfOk result (λ made. made ≡ atom_of (PlainKeyed level key.now)) }
+{
+    atom_from(alloc, 0xf9 - 8 * level, key)
+}
+
+/// The datum of a payload of at most 65,534 bytes.
+pub fn datum(alloc: Global, payload: &[u8]) -> Result<Octets, Memory>
+    requires { length payload.now ≤ 65534 }
+    ensures { IfOk result (λ made. made ≡ atom_of (PlainDatum payload.now)) }
+{
+    atom_from(alloc, 0, payload)
+}

@@ -1,0 +1,12 @@
+-- What the enum of shape faults says.
+use Rattle.context_model.specs.ByteCodes.{ByteCode}
+use Rattle.context_model.specs.ByteCodes as plain
+use Rattle.atom_list.specs.declared.contexts.ShapeFault.{ShapeFault}
+use Rattle.atom_list.specs.declared.contexts.ShapeFault.TheVariants.{BadPrefix, BadIndex, LevelJump, OutOfOrder}
+
+-- What a fault says.
+abbrev pub code_of : ShapeFault → ByteCode
+code_of BadPrefix = plain.ByteCode.BadPrefix
+code_of BadIndex = plain.ByteCode.BadIndex
+code_of LevelJump = plain.ByteCode.LevelJump
+code_of OutOfOrder = plain.ByteCode.OutOfOrder

@@ -1,0 +1,103 @@
+//! Contexts: lists of atoms that are well formed.
+
+ghost use Rattle.std.specs.Prelude.{◌≡◌, ◌<◌, [], ◌∷◌, ◌++◌, length, take, IfOk, IfErr};
+ghost use Rattle.context_model.specs.WellFormed.{IsWellFormed};
+ghost use Rattle.context_model.specs.ShapeFault.{IsFirstShapeFault};
+ghost use Rattle.atom_list.specs.Codes.{code_of};
+
+use crate::lists::AtomList;
+use crate::open_headers::OpenHeaders;
+use outside::Memory;
+use std::alloc::Global;
+use std::marker::Model;
+
+/// What is wrong where a list ceases to be well formed. At one place the first of these counts.
+#[derive(Clone, Copy, Debug, PartialEq, Eq)]
+pub enum ShapeFault {
+    /// No kind of atom begins with the atom's first byte.
+    BadPrefix,
+    /// Behind the first byte of an indexed header stands anything but one varint.
+    BadIndex,
+    /// The level of a header is more than one above that of the last header before it, or isn't 0 where there is none.
+    LevelJump,
+    /// The path of the atom isn't greater than that of the atom before it.
+    OutOfOrder,
+}
+
+/// A context: a list of atoms each of which has a kind, whose headers go down one level at most at a time, and whose paths
+/// strictly rise. Contracts see it as the list.
+#[derive(Drop)]
+pub struct Context {
+    list: AtomList,
+}
+
+impl Model for Context {
+    ghost use Rattle.std.specs.Prelude.{List, ℕ};
+    ghost use Rattle.context_model.specs.WellFormed.{IsWellFormed};
+
+    ghost Value = { List (List ℕ) };
+
+    ghost view = { λ context. context.list };
+
+    ghost invariant = { λ context. IsWellFormed context.list };
+}
+
+impl Context {
+    /// The empty context. It takes no memory.
+    pub fn empty(alloc: Global) -> Context
+        ensures { result ≡ [] }
+    {
+        Context {
+            list: AtomList::new(alloc),
+        }
+    }
+
+    /// The context of a well-formed list, or what is first wrong with the list, at which place, and the list. It takes no
+    /// memory.
+    pub fn check(list: AtomList) -> Result<Context, (ShapeFault, usize, AtomList)>
+        ensures ok { IfOk result (λ context. context ≡ list) }
+        ensures well_formed { IfOk result IsWellFormed }
+        ensures fault { IfErr result (λ refused. IsFirstShapeFault list refused.1 (code_of refused.0)) }
+        ensures back { IfErr result (λ refused. refused.2 ≡ list) }
+    {
+        let mut open = OpenHeaders::new();
+        for at in 0..list.len() {
+            if let Err(fault) = open.take(&list, at) {
+                return Err((fault, at, list));
+            }
+        }
+        Ok(Context { list })
+    }
+
+    /// The context's list.
+    pub fn list(&self) -> &AtomList
+        ensures list { result.now ≡ self.now }
+        ensures well_formed { IsWellFormed self.now }
+    {
+        &self.list
+    }
+
+    /// The context's list, as a list.
+    pub fn into_list(self) -> AtomList
+        ensures list { result ≡ self }
+        ensures well_formed { IsWellFormed self }
+    {
+        self.list
+    }
+
+    /// Keeps the first `keep` atoms and puts a marker behind them. It takes no memory.
+    pub fn cut_to_marker(&mut self, keep: usize)
+        requires { keep < length self.old }
+        ensures { self.new ≡ take keep self.old ++ [] ∷ [] }
+    {
+        self.list.cut_to_marker(keep);
+    }
+
+    /// The same context again.
+    pub fn copy(&self) -> Result<Context, Memory>
+        ensures { IfOk result (λ made. made ≡ self.now) }
+    {
+        let list = self.list.copy()?;
+        Ok(Context { list })
+    }
+}

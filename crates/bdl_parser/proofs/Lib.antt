@@ -1,0 +1,7 @@
+pub mod GrammarLaws
+pub mod Families
+pub mod Chains
+pub mod TypeLaws
+pub mod Exits
+pub mod DeclLaws
+pub mod FirstFault

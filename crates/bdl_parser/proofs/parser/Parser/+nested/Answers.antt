@@ -1,0 +1,78 @@
+use Rattle.std.proofs.Common.{sym, subst, subst₂, arith}
+use Rattle.std.proofs.lemmas.Result.{IfOk-weaker, MatchResult-weaker}
+use Rattle.bdl_parser.specs.Grammar.{set_of, map_of, a_type}
+use Rattle.bdl_parser.specs.Trees.{set, map}
+use Rattle.bdl_parser.specs.Views.{tree_of}
+use Rattle.grammar_model.specs.Stops.{Taken}
+use Rattle.bdl_parser.specs.declared.trees.TypeNode.{TypeNode}
+use Rattle.bdl_parser.specs.declared.parser.Refusal.{Refusal}
+use Rattle.bdl_parser.proofs.Chains.{set_taken, set_at_1, set_at_2, set_at_3, map_taken, map_at_1, map_at_2, map_at_3, map_at_4, map_at_5}
+use Rattle.bdl_parser.proofs.Exits.{exit_err}
+use Rattle.bdl_parser.proofs.TypeLaws.{leaf_taken, set_taken_type, map_taken_type, leaf_refused, set_refused_type, map_refused_type}
+use Rattle.bdl_parser.proofs.parser.Parser.+nested.Goals as goal
+
+pub set_type-returns-in_err-sign-clause-err : goal.set_type-returns-in_err-sign-clause-err
+set_type-returns-in_err-sign-clause-err t c =
+    exit_err {E = Refusal} _ _ c.in_err-sign.field-0.0 c.from_residual-in_err-sign.ensures.1 (set_at_1 c.args.room c.in_err-sign.field-0.0 c.args.self.now c.key.new.self c.sign.new.self c.in_ok-at.at c.in_ok-at.ensures.ok c.in_err-sign.ensures.err)
+
+pub set_type-returns-in_err-element-clause-err : goal.set_type-returns-in_err-element-clause-err
+set_type-returns-in_err-element-clause-err t c =
+    exit_err {E = Refusal} _ _ c.in_err-element.field-0.0 c.from_residual-in_err-element.ensures.1 (set_at_2 c.args.room c.in_err-element.field-0.0 c.args.self.now c.key.new.self c.sign.new.self c.type_node.new.self c.in_ok-at.at c.in_ok-sign.field-0 c.in_ok-at.ensures.ok c.in_ok-sign.ensures.ok c.in_err-element.ensures.err)
+
+pub set_type-returns-in_err-sign-2-clause-err : goal.set_type-returns-in_err-sign-2-clause-err
+set_type-returns-in_err-sign-2-clause-err t c =
+    exit_err {E = Refusal} _ _ c.in_err-sign-2.field-0.0 c.from_residual-in_err-sign-2.ensures.1 (set_at_3 c.args.room c.in_err-sign-2.field-0.0 c.args.self.now c.key.new.self c.sign.new.self c.type_node.new.self c.sign-2.new.self c.in_ok-at.at c.in_ok-sign.field-0 (tree_of c.in_ok-element.element) c.in_ok-at.ensures.ok c.in_ok-sign.ensures.ok c.in_ok-element.ensures.ok c.in_err-sign-2.ensures.err)
+
+pub set_type-returns-clause-ok : goal.set_type-returns-clause-ok
+set_type-returns-clause-ok t c =
+    subst (λ (node : TypeNode). Taken (λ n. set_of (a_type n)) c.args.room c.args.self.now (set (tree_of node) c.in_ok-at.at) c.sign-2.new.self) (sym c.in_ok-boxed.ensures)
+    (set_taken c.args.room c.args.self.now c.key.new.self c.sign.new.self c.type_node.new.self c.sign-2.new.self c.in_ok-at.at c.in_ok-sign.field-0 (tree_of c.in_ok-element.element) c.in_ok-sign-2.field-0 c.in_ok-at.ensures.ok c.in_ok-sign.ensures.ok c.in_ok-element.ensures.ok c.in_ok-sign-2.ensures.ok)
+
+pub map_type-returns-in_err-sign-clause-err : goal.map_type-returns-in_err-sign-clause-err
+map_type-returns-in_err-sign-clause-err t c =
+    exit_err {E = Refusal} _ _ c.in_err-sign.field-0.0 c.from_residual-in_err-sign.ensures.1 (map_at_1 c.args.room c.in_err-sign.field-0.0 c.args.self.now c.key.new.self c.sign.new.self c.in_ok-at.at c.in_ok-at.ensures.ok c.in_err-sign.ensures.err)
+
+pub map_type-returns-in_err-key-clause-err : goal.map_type-returns-in_err-key-clause-err
+map_type-returns-in_err-key-clause-err t c =
+    exit_err {E = Refusal} _ _ c.in_err-key.field-0.0 c.from_residual-in_err-key.ensures.1 (map_at_2 c.args.room c.in_err-key.field-0.0 c.args.self.now c.key.new.self c.sign.new.self c.type_node.new.self c.in_ok-at.at c.in_ok-sign.field-0 c.in_ok-at.ensures.ok c.in_ok-sign.ensures.ok c.in_err-key.ensures.err)
+
+pub map_type-returns-in_err-sign-2-clause-err : goal.map_type-returns-in_err-sign-2-clause-err
+map_type-returns-in_err-sign-2-clause-err t c =
+    exit_err {E = Refusal} _ _ c.in_err-sign-2.field-0.0 c.from_residual-in_err-sign-2.ensures.1 (map_at_3 c.args.room c.in_err-sign-2.field-0.0 c.args.self.now c.key.new.self c.sign.new.self c.type_node.new.self c.sign-2.new.self c.in_ok-at.at c.in_ok-sign.field-0 (tree_of c.in_ok-key.key) c.in_ok-at.ensures.ok c.in_ok-sign.ensures.ok c.in_ok-key.ensures.ok c.in_err-sign-2.ensures.err)
+
+pub map_type-returns-in_err-value-clause-err : goal.map_type-returns-in_err-value-clause-err
+map_type-returns-in_err-value-clause-err t c =
+    exit_err {E = Refusal} _ _ c.in_err-value.field-0.0 c.from_residual-in_err-value.ensures.1 (map_at_4 c.args.room c.in_err-value.field-0.0 c.args.self.now c.key.new.self c.sign.new.self c.type_node.new.self c.sign-2.new.self c.type_node-2.new.self c.in_ok-at.at c.in_ok-sign.field-0 (tree_of c.in_ok-key.key) c.in_ok-sign-2.field-0 c.in_ok-at.ensures.ok c.in_ok-sign.ensures.ok c.in_ok-key.ensures.ok c.in_ok-sign-2.ensures.ok c.in_err-value.ensures.err)
+
+pub map_type-returns-in_err-sign-3-clause-err : goal.map_type-returns-in_err-sign-3-clause-err
+map_type-returns-in_err-sign-3-clause-err t c =
+    exit_err {E = Refusal} _ _ c.in_err-sign-3.field-0.0 c.from_residual-in_err-sign-3.ensures.1 (map_at_5 c.args.room c.in_err-sign-3.field-0.0 c.args.self.now c.key.new.self c.sign.new.self c.type_node.new.self c.sign-2.new.self c.type_node-2.new.self c.sign-3.new.self c.in_ok-at.at c.in_ok-sign.field-0 (tree_of c.in_ok-key.key) c.in_ok-sign-2.field-0 (tree_of c.in_ok-value.value) c.in_ok-at.ensures.ok c.in_ok-sign.ensures.ok c.in_ok-key.ensures.ok c.in_ok-sign-2.ensures.ok c.in_ok-value.ensures.ok c.in_err-sign-3.ensures.err)
+
+pub map_type-returns-clause-ok : goal.map_type-returns-clause-ok
+map_type-returns-clause-ok t c =
+    subst₂ (λ (key value : TypeNode). Taken (λ n. map_of (a_type n)) c.args.room c.args.self.now (map (tree_of key) (tree_of value) c.in_ok-at.at) c.sign-3.new.self) (sym c.in_ok-boxed.ensures) (sym c.in_ok-boxed-2.ensures)
+    (map_taken c.args.room c.args.self.now c.key.new.self c.sign.new.self c.type_node.new.self c.sign-2.new.self c.type_node-2.new.self c.sign-3.new.self c.in_ok-at.at c.in_ok-sign.field-0 (tree_of c.in_ok-key.key) c.in_ok-sign-2.field-0 (tree_of c.in_ok-value.value) c.in_ok-sign-3.field-0 c.in_ok-at.ensures.ok c.in_ok-sign.ensures.ok c.in_ok-key.ensures.ok c.in_ok-sign-2.ensures.ok c.in_ok-value.ensures.ok c.in_ok-sign-3.ensures.ok)
+
+pub type_node-returns-then-is_at_key-clause-ok : goal.type_node-returns-then-is_at_key-clause-ok
+type_node-returns-then-is_at_key-clause-ok t c =
+    IfOk-weaker c.set_type.result _ _ (λ node taken. set_taken_type c.args.room c.in-Some.inner c.args.self.now (tree_of node) c.set_type.new.self (omega (arith, c.in-Some.ensures)) taken) c.set_type.ensures.ok
+
+pub type_node-returns-then-is_at_key-clause-err : goal.type_node-returns-then-is_at_key-clause-err
+type_node-returns-then-is_at_key-clause-err t c =
+    MatchResult-weaker c.set_type.result c.set_type.ensures.err (λ node taken. tt) (λ e refused. set_refused_type c.args.room c.in-Some.inner e c.args.self.now c.set_type.new.self (omega (arith, c.in-Some.ensures)) (sym c.if-is_at_key.ensures) refused)
+
+pub type_node-returns-then-is_at_key-2-clause-ok : goal.type_node-returns-then-is_at_key-2-clause-ok
+type_node-returns-then-is_at_key-2-clause-ok t c =
+    IfOk-weaker c.map_type.result _ _ (λ node taken. map_taken_type c.args.room c.in-Some.inner c.args.self.now (tree_of node) c.map_type.new.self (omega (arith, c.in-Some.ensures)) taken) c.map_type.ensures.ok
+
+pub type_node-returns-then-is_at_key-2-clause-err : goal.type_node-returns-then-is_at_key-2-clause-err
+type_node-returns-then-is_at_key-2-clause-err t c =
+    MatchResult-weaker c.map_type.result c.map_type.ensures.err (λ node taken. tt) (λ e refused. map_refused_type c.args.room c.in-Some.inner e c.args.self.now c.map_type.new.self (omega (arith, c.in-Some.ensures)) (sym c.if-is_at_key-2.ensures) refused)
+
+pub type_node-returns-clause-ok : goal.type_node-returns-clause-ok
+type_node-returns-clause-ok t c =
+    IfOk-weaker c.leaf.result _ _ (λ node taken. leaf_taken c.args.room c.in-Some.inner c.args.self.now (tree_of node) c.leaf.new.self (omega (arith, c.in-Some.ensures)) taken) c.leaf.ensures.ok
+
+pub type_node-returns-clause-err : goal.type_node-returns-clause-err
+type_node-returns-clause-err t c =
+    MatchResult-weaker c.leaf.result c.leaf.ensures.err (λ node taken. tt) (λ e refused. leaf_refused c.args.room e c.args.self.now c.leaf.new.self (sym c.if-is_at_key.ensures) (sym c.if-is_at_key-2.ensures) refused)

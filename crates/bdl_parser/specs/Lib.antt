@@ -1,0 +1,9 @@
+pub mod Trees
+pub mod TreeCode
+pub mod DeclCode
+pub mod Views
+pub mod Lexemes
+pub mod Words
+pub mod Grammar
+pub mod FirstFault
+pub mod Refusals

@@ -1,0 +1,148 @@
+-- Codes of trees, by which a proof tells values of the lists apart. They say nothing of a definition.
+use Rattle.std.specs.Prelude.{◌≡◌, ℕ, List, ◌⊎◌, ◌==◌, if◌then◌else◌}
+use Rattle.std.specs.Coded.{Coded, code_by, coded×, coded⊎, coded_ℕ, coded_list}
+use Rattle.std.proofs.Common.{refl, inl, inr, ap, subst, sym}
+use Rattle.bdl_parser.specs.declared.trees.ScalarWord.{ScalarWord}
+use Rattle.bdl_parser.specs.declared.trees.ScalarWord.TheVariants.{Bool, Int32, Int64, Sint32, Sint64, Uint32, Uint64, Fixed32, Fixed64, Sfixed32, Sfixed64, Str, Bytes}
+use Rattle.bdl_parser.specs.declared.trees.Spot.{Spot}
+use Rattle.bdl_parser.specs.Trees.{Leaf, TypeTree, BagFieldTree, StructFieldTree, scalar, float, double, taint, counter, name, leaf, set, map}
+use base.Stored.{Gv, gnil, gnum, gcons}
+
+abbrev pub spot_code : Coded Spot
+spot_code =
+    code_by (ℕ × ℕ) (coded× coded_ℕ coded_ℕ) (λ spot. (spot.line, spot.column)) (λ p. record { line = p.0; column = p.1 }) (λ _. refl)
+
+abbrev pub scalar_number : ScalarWord → ℕ
+scalar_number Bool = 0
+scalar_number Int32 = 1
+scalar_number Int64 = 2
+scalar_number Sint32 = 3
+scalar_number Sint64 = 4
+scalar_number Uint32 = 5
+scalar_number Uint64 = 6
+scalar_number Fixed32 = 7
+scalar_number Fixed64 = 8
+scalar_number Sfixed32 = 9
+scalar_number Sfixed64 = 10
+scalar_number Str = 11
+scalar_number Bytes = 12
+
+abbrev pub scalar_back : ℕ → ScalarWord
+scalar_back n =
+    if n == 0 then Bool else (if n == 1 then Int32 else (if n == 2 then Int64 else (if n == 3 then Sint32 else (if n == 4 then Sint64
+    else (if n == 5 then Uint32 else (if n == 6 then Uint64 else (if n == 7 then Fixed32 else (if n == 8 then Fixed64
+    else (if n == 9 then Sfixed32 else (if n == 10 then Sfixed64 else (if n == 11 then Str else Bytes)))))))))))
+
+pub scalar_undone : (word : ScalarWord) → scalar_back (scalar_number word) ≡ word
+scalar_undone Bool = refl
+scalar_undone Int32 = refl
+scalar_undone Int64 = refl
+scalar_undone Sint32 = refl
+scalar_undone Sint64 = refl
+scalar_undone Uint32 = refl
+scalar_undone Uint64 = refl
+scalar_undone Fixed32 = refl
+scalar_undone Fixed64 = refl
+scalar_undone Sfixed32 = refl
+scalar_undone Sfixed64 = refl
+scalar_undone Str = refl
+scalar_undone Bytes = refl
+
+abbrev pub scalar_code : Coded ScalarWord
+scalar_code = code_by ℕ coded_ℕ scalar_number scalar_back scalar_undone
+
+-- a word of one value, a name, or one of four others
+abbrev pub LeafParts : Type 0
+LeafParts = ScalarWord ⊎ (List ℕ ⊎ ℕ)
+
+abbrev pub leaf_parts : Leaf → LeafParts
+leaf_parts (scalar word) = inl word
+leaf_parts (name text) = inr (inl text)
+leaf_parts float = inr (inr 0)
+leaf_parts double = inr (inr 1)
+leaf_parts taint = inr (inr 2)
+leaf_parts counter = inr (inr 3)
+
+abbrev pub leaf_back : LeafParts → Leaf
+leaf_back (inl word) = scalar word
+leaf_back (inr (inl text)) = name text
+leaf_back (inr (inr n)) = if n == 0 then float else (if n == 1 then double else (if n == 2 then taint else counter))
+
+pub leaf_undone : (l : Leaf) → leaf_back (leaf_parts l) ≡ l
+leaf_undone (scalar word) = refl
+leaf_undone (name text) = refl
+leaf_undone float = refl
+leaf_undone double = refl
+leaf_undone taint = refl
+leaf_undone counter = refl
+
+abbrev pub leaf_code : Coded Leaf
+leaf_code = code_by LeafParts (coded⊎ scalar_code (coded⊎ (coded_list coded_ℕ) coded_ℕ)) leaf_parts leaf_back leaf_undone
+
+abbrev pub tree_gv : TypeTree → Gv
+tree_gv (leaf l spot) = gcons gnil (gcons (leaf_code.code l) (spot_code.code spot))
+tree_gv (set inner spot) = gcons (gnum 0) (gcons (tree_gv inner) (spot_code.code spot))
+tree_gv (map key value spot) = gcons (gcons gnil gnil) (gcons (gcons (tree_gv key) (tree_gv value)) (spot_code.code spot))
+
+abbrev left : Gv → Gv
+left gnil = gnil
+left (gnum n) = gnil
+left (gcons a b) = a
+
+abbrev right : Gv → Gv
+right gnil = gnil
+right (gnum n) = gnil
+right (gcons a b) = b
+
+abbrev IsNil : Gv → Type 0
+IsNil gnil = Unit {0}
+IsNil (gnum n) = ⊥
+IsNil (gcons a b) = ⊥
+
+abbrev IsNum : Gv → Type 0
+IsNum gnil = ⊥
+IsNum (gnum n) = Unit {0}
+IsNum (gcons a b) = ⊥
+
+pub tree_inj : (x y : TypeTree) → tree_gv x ≡ tree_gv y → x ≡ y
+tree_inj (leaf l spot) (leaf m place) p = λ i.
+    leaf (leaf_code.inj l m (ap (λ g. left (right g)) p) i) (spot_code.inj spot place (ap (λ g. right (right g)) p) i)
+tree_inj (set t spot) (set u place) p = λ i.
+    set (tree_inj t u (ap (λ g. left (right g)) p) i) (spot_code.inj spot place (ap (λ g. right (right g)) p) i)
+tree_inj (map k t spot) (map j u place) p = λ i.
+    map (tree_inj k j (ap (λ g. left (left (right g))) p) i) (tree_inj t u (ap (λ g. right (left (right g))) p) i) (spot_code.inj spot place (ap (λ g. right (right g)) p) i)
+tree_inj (leaf l spot) (set u place) p = absurd (subst IsNil (ap left p) tt)
+tree_inj (leaf l spot) (map j u place) p = absurd (subst IsNil (ap left p) tt)
+tree_inj (set t spot) (leaf m place) p = absurd (subst IsNum (ap left p) tt)
+tree_inj (set t spot) (map j u place) p = absurd (subst IsNum (ap left p) tt)
+tree_inj (map k t spot) (leaf m place) p = absurd (subst IsNil (sym (ap left p)) tt)
+tree_inj (map k t spot) (set u place) p = absurd (subst IsNum (sym (ap left p)) tt)
+
+abbrev pub tree_code : Coded TypeTree
+tree_code = record { code = tree_gv; inj = tree_inj }
+
+abbrev pub name_code : Coded (List ℕ)
+name_code = coded_list coded_ℕ
+
+abbrev pub BagFieldParts : Type 0
+BagFieldParts = TypeTree × (List ℕ × (Spot × (ℕ × Spot)))
+
+abbrev pub bag_field_code : Coded BagFieldTree
+bag_field_code =
+    code_by BagFieldParts (coded× tree_code (coded× name_code (coded× spot_code (coded× coded_ℕ spot_code))))
+    (λ field. (field.kind, (field.name, (field.name_at, (field.number, field.number_at)))))
+    (λ p. record { kind = p.0; name = p.1.0; name_at = p.1.1.0; number = p.1.1.1.0; number_at = p.1.1.1.1 }) (λ _. refl)
+
+abbrev pub StructFieldParts : Type 0
+StructFieldParts = TypeTree × (List ℕ × Spot)
+
+abbrev pub struct_field_code : Coded StructFieldTree
+struct_field_code =
+    code_by StructFieldParts (coded× tree_code (coded× name_code spot_code)) (λ field. (field.kind, (field.name, field.name_at)))
+    (λ p. record { kind = p.0; name = p.1.0; name_at = p.1.1 }) (λ _. refl)
+
+abbrev pub bag_fields_code : Coded (List BagFieldTree)
+bag_fields_code = coded_list bag_field_code
+
+abbrev pub struct_fields_code : Coded (List StructFieldTree)
+struct_fields_code = coded_list struct_field_code

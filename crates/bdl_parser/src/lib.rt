@@ -1,0 +1,69 @@
+//! The module of a baggage definition, from its tokens, or its first parse fault.
+#![tactic(auto)]
+
+ghost use Rattle.std.specs.Prelude.{All, IfOk, IfErr};
+ghost use Rattle.bdl_lexer.specs.Spans.{LiesIn};
+ghost use Rattle.bdl_parser.specs.FirstFault.{IsModuleOf, IsFaultOf};
+ghost use Rattle.bdl_parser.specs.Lexemes.{lexemes_of};
+
+mod decls;
+pub mod laws;
+mod lists;
+mod parser;
+mod trees;
+mod types;
+mod words;
+
+use bdl_lexer::Token;
+pub use lists::{BagFields, Decls, Imports, StructFields};
+use parser::{Parser, Refusal};
+use std::alloc::Global;
+pub use trees::{
+    BagField, Decl, Import, Module, ScalarWord, Spot, StructField, TypeForm, TypeNode,
+};
+
+/// How many types may stand inside one another.
+pub const MAX_NESTING: u32 = 32;
+
+/// Why tokens are no module.
+#[derive(Clone, Copy, Debug, PartialEq, Eq)]
+pub enum ParseCode {
+    /// No module goes on with this token, or none ends here.
+    Expected,
+    /// Here a type begins inside 32 others.
+    TypeNesting,
+}
+
+/// The first parse fault.
+#[derive(Clone, Copy, Debug, PartialEq, Eq)]
+pub enum ParseFault {
+    /// The token with this number, from 0 on, or the count of the tokens where the end is the fault.
+    At { token: usize, code: ParseCode },
+    /// There is no memory for the module.
+    Memory,
+}
+
+/// Reads the tokens of a source once, from the first to the last or to the first fault. The condition is what `lex`
+/// ensures of its tokens.
+pub fn parse(alloc: Global, source: &[u8], tokens: &[Token]) -> Result<Module, ParseFault>
+    requires { All (LiesIn source.now) tokens.now }
+    ensures module { IfOk result (IsModuleOf (lexemes_of source.now tokens.now)) }
+    ensures fault { IfErr result (IsFaultOf (lexemes_of source.now tokens.now)) }
+{
+    let mut parser = Parser::new(source, tokens);
+    match parser.module(alloc) {
+        Ok(module) => Ok(module),
+        Err(Refusal::Expected) => Err(ParseFault::At {
+            token: tokens.len() - parser.left(),
+            code: ParseCode::Expected,
+        }),
+        Err(Refusal::TypeNesting) => Err(ParseFault::At {
+            token: tokens.len() - parser.left(),
+            code: ParseCode::TypeNesting,
+        }),
+        Err(Refusal::Memory) => Err(ParseFault::Memory),
+    }
+}
+
+#[cfg(test)]
+mod tests;

@@ -1,0 +1,5 @@
+use Rattle.counter_type.specs.Counted.{counts_union}
+use Rattle.counter_type.proofs.counts.counts_join_is_union.Goals as goal
+
+pub returns : goal.returns
+returns c = counts_union

@@ -1,0 +1,70 @@
+use crate::{
+    Counts, Lattice, counts_join_is_union, join_repeats, joins_commute, joins_regroup,
+    keeps_join_laws,
+};
+use std::process::Abort;
+use std::test::Fail;
+
+/// What the tests see of counts.
+fn seen(rt: &impl Abort, counts: &Counts, expected: &[(&[u8], u64)]) {
+    assert_eq!(rt; counts.len(), expected.len());
+    for at in 0..expected.len() {
+        let (writer, count) = counts.nth(at).expect(rt, "an entry");
+        assert_eq!(rt; writer, expected[at].0);
+        assert_eq!(rt; count, expected[at].1);
+        assert_eq!(rt; counts.get(writer), Some(count));
+    }
+    assert!(rt; counts.nth(expected.len()).is_none());
+}
+
+#[test]
+fn counts_of_writers(rt: HostRuntime) -> Result<(), Fail> {
+    let alloc = rt.alloc();
+    let none = Counts::new(alloc);
+    assert!(rt; none.is_bottom());
+    assert_eq!(rt; none.total(), 0);
+    seen(&rt, &none, &[]);
+
+    let mut counts = Counts::of(alloc, b"a", 3)?;
+    assert!(rt; !counts.is_bottom());
+    seen(&rt, &counts.copy()?, &[(b"a", 3)]);
+    counts.push(b"b", 2)?;
+    seen(&rt, &counts, &[(b"a", 3), (b"b", 2)]);
+    assert_eq!(rt; counts.total(), 5);
+    assert_eq!(rt; counts.get(b"c"), None);
+
+    let mut most = Counts::of(alloc, b"a", u64::MAX)?;
+    most.join(&Counts::of(alloc, b"b", u64::MAX)?)?;
+    assert_eq!(rt; most.total(), 36_893_488_147_419_103_230);
+    Ok(())
+}
+
+/// Joins through the bound: in both orders, in both groupings, and twice.
+fn joins<L: Lattice>(rt: &impl Abort, a: &L, b: &L, c: &L) -> Result<(L, L), Fail>
+    requires first_two { L.alike a.now b.now }
+    requires last_two { L.alike b.now c.now }
+    requires ends { L.alike a.now c.now }
+{
+    keeps_join_laws::<L>();
+    let (joined, _) = joins_commute(a, b)?;
+    assert_eq!(rt; join_repeats(&joined)?.is_bottom(), joined.is_bottom());
+    let (first, second) = joins_regroup(a, b, c)?;
+    Ok((first, second))
+}
+
+#[test]
+fn joins_of_counts(rt: HostRuntime) -> Result<(), Fail> {
+    let alloc = rt.alloc();
+    let mut a = Counts::of(alloc, b"a", 3)?;
+    a.push(b"c", 1)?;
+    let b = Counts::of(alloc, b"b", 2)?;
+    let c = Counts::of(alloc, b"c", 5)?;
+    let (first, second) = joins(&rt, &a, &b, &c)?;
+    seen(&rt, &first, &[(b"a", 3), (b"b", 2), (b"c", 5)]);
+    seen(&rt, &second, &[(b"a", 3), (b"b", 2), (b"c", 5)]);
+    let (back, _) = joins_commute(&c, &a)?;
+    seen(&rt, &back, &[(b"a", 3), (b"c", 5)]);
+    let _ = joins(&rt, &(), &(), &())?;
+    counts_join_is_union();
+    Ok(())
+}

@@ -1,0 +1,5 @@
+pub mod FormLaws
+pub mod ChoiceLaws
+pub mod StopLaws
+pub mod GoOnLaws
+pub mod Growth

@@ -1,0 +1,2 @@
+pub mod Laws
+pub use Rattle.context_model.specs.Merge

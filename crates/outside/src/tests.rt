@@ -1,0 +1,65 @@
+//! What no clause says: that these calls succeed, which calls of an object in memory fail, and how much a piece holds.
+
+ghost use Rattle.std.specs.Prelude.{◌+◌, ◌^◌, ◌<◌};
+
+use crate::{Gate, Library, MemorySink, MemorySource, Octets, Open, ReadFault, Sink, Source, SureLibrary, SureSink, SureSource, Text, Words, read_all, write_all};
+use std::alloc::Global;
+use std::test::Fail;
+
+#[test]
+fn small_types(rt: HostRuntime) -> Result<(), Fail> {
+    let alloc = rt.alloc();
+    let text = Text::of(alloc, "a")?;
+    assert_eq!(rt; text.as_str(), "a");
+    assert_eq!(rt; text.copy()?.as_str(), "a");
+    let octets = Octets::of(alloc, &[0])?;
+    assert_eq!(rt; octets.as_slice(), [0].as_slice());
+    assert_eq!(rt; octets.copy()?.as_slice(), [0].as_slice());
+    assert!(rt; Octets::empty(alloc).as_slice().is_empty());
+    assert_eq!(rt; Octets::from_vec(vec![in alloc; 7]?).as_slice(), [7].as_slice());
+    let mut words = Words::new(alloc);
+    assert!(rt; words.is_empty());
+    words.push(text)?;
+    assert_eq!(rt; words.len(), 1);
+    assert!(rt; matches!(words.get(0), Some(word) if word.as_str() == "a"));
+    assert!(rt; words.get(1).is_none());
+    Open.enter(0);
+    Ok(())
+}
+
+/// Reads a source to its end, through the bound.
+fn reads<S: Source>(alloc: Global, source: &mut S, limit: usize) -> Result<Vec<u8>, ReadFault>
+    requires { limit + 1 < 2 ^ 64 }
+{
+    read_all(alloc, source, limit)
+}
+
+#[test]
+fn whole_transfers(rt: HostRuntime) -> Result<(), Fail> {
+    let alloc = rt.alloc();
+    let content = b"0123456789";
+    let failing = |calls: &[u64]| Vec::from_slice(alloc, calls);
+    let mut sure = SureSource::new(Vec::from_slice(alloc, content)?, 3);
+    assert_eq!(rt; reads(alloc, &mut sure, 10)?.as_slice(), content.as_slice());
+    assert_eq!(rt; reads(alloc, &mut sure, 10)?.len(), 0);
+    let mut source = MemorySource::new(Vec::from_slice(alloc, content)?, 3, failing(&[5])?);
+    assert_eq!(rt; reads(alloc, &mut source, 10)?.as_slice(), content.as_slice());
+    assert!(rt; matches!(reads(alloc, &mut source, 10), Err(ReadFault::Failed)));
+    let mut buffer = [0; 8];
+    let mut source = MemorySource::new(Vec::from_slice(alloc, content)?, 3, failing(&[1])?);
+    assert_eq!(rt; source.read(&mut buffer).unwrap_or(9), 3);
+    assert!(rt; source.read(&mut buffer).is_err());
+    assert_eq!(rt; source.read(&mut buffer[..2]).unwrap_or(9), 2);
+    assert_eq!(rt; &buffer[..2], b"34".as_slice());
+    let mut long = SureSource::new(Vec::from_slice(alloc, content)?, 4);
+    assert!(rt; matches!(reads(alloc, &mut long, 9), Err(ReadFault::TooLong)));
+    let mut sink = MemorySink::new(alloc, 12, 4, failing(&[3])?)?;
+    assert!(rt; write_all(&mut sink, content).is_ok());
+    assert!(rt; write_all(&mut sink, content).is_err());
+    assert_eq!(rt; sink.write(content).unwrap_or(9), 2);
+    assert_eq!(rt; sink.taken(), b"012345678901".as_slice());
+    assert!(rt; sink.write(content).is_err());
+    assert_eq!(rt; SureSink::new().write(content).unwrap_or(9), 10);
+    assert!(rt; matches!(SureLibrary::new(alloc).fetch(alloc, "f"), Ok(None)));
+    Ok(())
+}

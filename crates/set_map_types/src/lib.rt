@@ -1,0 +1,13 @@
+//! Scalars, sets and maps over any codec, as values that are joined.
+#![tactic(auto)]
+
+mod entries;
+mod least;
+mod map_of;
+mod set_of;
+#[cfg(test)]
+mod tests;
+
+pub use least::Least;
+pub use map_of::{MapOf, map_join_is_union};
+pub use set_of::{SetOf, set_join_is_union};

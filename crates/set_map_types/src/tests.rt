@@ -1,0 +1,111 @@
+use crate::{Least, MapOf, SetOf, map_join_is_union, set_join_is_union};
+use counter_type::{Counts, Lattice, join_repeats, joins_commute, joins_regroup, keeps_join_laws};
+use outside::{Memory, Text};
+use scalar_types::{LexU, Utf8};
+use std::alloc::Global;
+use std::process::Abort;
+use std::test::Fail;
+
+/// What the tests see of a set of texts.
+fn seen(rt: &impl Abort, set: &SetOf<Utf8>, expected: &[&str]) {
+    assert_eq!(rt; set.len(), expected.len());
+    for at in 0..expected.len() {
+        let value = set.get(at).expect(rt, "a value");
+        assert_eq!(rt; value.as_str(), expected[at]);
+    }
+    assert!(rt; set.get(expected.len()).is_none());
+}
+
+#[test]
+fn least_of_two(rt: HostRuntime) -> Result<(), Fail> {
+    let alloc = rt.alloc();
+    assert!(rt; Least::new(Utf8)?.is_bottom());
+    let a = Least::of(Utf8, Text::of(alloc, "a")?)?;
+    assert!(rt; !a.is_bottom());
+    assert_eq!(rt; a.copy()?.get().expect(&rt, "a value").as_str(), "a");
+
+    let nine = Least::of(LexU { wide: true }, 9)?;
+    let seven = Least::of(LexU { wide: true }, 7)?;
+    let (first, second) = joins_commute(&nine, &seven)?;
+    assert_eq!(rt; *first.get().expect(&rt, "a value"), 7);
+    assert_eq!(rt; *second.get().expect(&rt, "a value"), 7);
+    let none = Least::new(LexU { wide: true })?;
+    let (first, second) = joins_regroup(&none, &nine, &seven)?;
+    assert_eq!(rt; *first.get().expect(&rt, "a value"), 7);
+    assert_eq!(rt; *join_repeats(&second)?.get().expect(&rt, "a value"), 7);
+    keeps_join_laws::<Least<LexU>>();
+    Ok(())
+}
+
+#[test]
+fn union_of_sets(rt: HostRuntime) -> Result<(), Fail> {
+    let alloc = rt.alloc();
+    let none = SetOf::new(alloc, Utf8)?;
+    assert!(rt; none.is_bottom());
+    seen(&rt, &none, &[]);
+    let a = SetOf::of(alloc, Utf8, Text::of(alloc, "a")?)?;
+    let text = Text::of(alloc, "b")?;
+    let b = SetOf::of(alloc, Utf8, text.copy()?)?;
+    assert!(rt; !b.is_bottom());
+    assert!(rt; b.contains(&text) && !a.contains(&text));
+    let (first, second) = joins_commute(&b, &a)?;
+    seen(&rt, &first, &["a", "b"]);
+    seen(&rt, &second, &["a", "b"]);
+
+    let mut pushed = a.copy()?;
+    pushed.push(text)?;
+    seen(&rt, &pushed, &["a", "b"]);
+    let (first, _) = joins_regroup(&pushed, &none, &b)?;
+    seen(&rt, &join_repeats(&first)?, &["a", "b"]);
+    keeps_join_laws::<SetOf<Utf8>>();
+    set_join_is_union::<Utf8>();
+    Ok(())
+}
+
+#[test]
+fn maps_of_counts(rt: HostRuntime) -> Result<(), Fail> {
+    let alloc = rt.alloc();
+    let key = Text::of(alloc, "k")?;
+    let map = MapOf::of(alloc, Utf8, key.copy()?, Counts::of(alloc, b"w", 3)?)?;
+    let same = join_repeats(&map)?;
+    assert_eq!(rt; same.len(), 1);
+    assert!(rt; same.contains(&key));
+    assert_eq!(rt; same.value(&key).expect(&rt, "counts").get(b"w"), Some(3));
+
+    let none: MapOf<Utf8, Counts> = MapOf::new(alloc, Utf8)?;
+    assert!(rt; none.is_bottom() && !map.is_bottom());
+    assert!(rt; none.value(&key).is_none());
+    let empty = MapOf::of(alloc, Utf8, Text::of(alloc, "l")?, Counts::new(alloc))?;
+    assert!(rt; !empty.is_bottom());
+    let (joined, _) = joins_commute(&map, &empty)?;
+    assert_eq!(rt; joined.copy()?.len(), 2);
+    let (joined, _) = joins_regroup(&map, &none, &empty)?;
+    assert_eq!(rt; joined.len(), 2);
+    keeps_join_laws::<MapOf<Utf8, Counts>>();
+    map_join_is_union::<Utf8, Counts>();
+    Ok(())
+}
+
+/// A map of maps of counts: one writer's count, at a text and a number.
+fn nested(
+    alloc: Global,
+    text: &str,
+    number: u64,
+    count: u64,
+) -> Result<MapOf<Utf8, MapOf<LexU, Counts>>, Memory> {
+    let counts = Counts::of(alloc, b"w", count)?;
+    let inner = MapOf::of(alloc, LexU { wide: true }, number, counts)?;
+    MapOf::of(alloc, Utf8, Text::of(alloc, text)?, inner)
+}
+
+#[test]
+fn maps_of_maps(rt: HostRuntime) -> Result<(), Fail> {
+    let alloc = rt.alloc();
+    let map = nested(alloc, "k", 7, 3)?;
+    let same = join_repeats(&map)?;
+    assert_eq!(rt; same.len(), 1);
+    let key = Text::of(alloc, "k")?;
+    let inner = same.value(&key).expect(&rt, "a map");
+    assert_eq!(rt; inner.len(), 1);
+    Ok(())
+}

@@ -1,0 +1,140 @@
+//! A context from its bytes, or their first fault.
+
+ghost use Rattle.std.specs.Prelude.{◌≡◌, List, ℕ, IfOk, IfErr, MatchResult};
+ghost use Rattle.context_model.specs.Framing.{bytes_of};
+ghost use Rattle.context_model.specs.ContextFault.{IsContextOf, HasOneContext};
+ghost use Rattle.wire_bytes.specs.Codes.{IsContextFaultOf};
+
+use crate::reading::{FrontList, WireCode, read_front};
+use crate::writing::offset;
+use atom_list::{Context, ShapeFault};
+use outside::Memory;
+use std::alloc::Global;
+use std::fmt;
+
+/// What is wrong where bytes cease to be those of a context. At one place the first of these counts.
+#[derive(Clone, Copy, Debug, PartialEq, Eq)]
+pub enum ByteCode {
+    /// The input ends inside a length.
+    CutLength,
+    /// A length is above [`crate::LENGTH_MAX`], or a fourth byte of it would follow.
+    AtomTooLong,
+    /// A length has more bytes than it needs.
+    LongForm,
+    /// Fewer bytes follow than a length says.
+    CutBody,
+    /// No kind of atom begins with an atom's first byte.
+    BadPrefix,
+    /// Behind the first byte of an indexed header stands anything but one varint.
+    BadIndex,
+    /// The level of a header is more than one above that of the last header before it.
+    LevelJump,
+    /// The path of an atom isn't greater than that of the atom before it.
+    OutOfOrder,
+}
+
+/// Why bytes weren't read as a context.
+#[derive(Clone, Copy, Debug, PartialEq, Eq)]
+pub enum ContextFault {
+    /// The bytes from `offset` on begin with no atom that may stand there; those before are a context.
+    At { offset: usize, code: ByteCode },
+    /// There is no memory for the context.
+    Memory,
+}
+
+impl fmt::Display for ByteCode {
+    ghost use Rattle.std.specs.Prelude.{Some};
+    ghost use Rattle.context_model.specs.ByteCodes.{code_name};
+    ghost use Rattle.wire_bytes.specs.Codes.{byte_code_of};
+
+    ghost output = { λ code. Some (code_name (byte_code_of code)) };
+
+    fn fmt<W: fmt::Write>(&self, f: &mut fmt::Formatter<W>) -> fmt::Result {
+        match self {
+            ByteCode::CutLength => write!(f, "CutLength"),
+            ByteCode::AtomTooLong => write!(f, "AtomTooLong"),
+            ByteCode::LongForm => write!(f, "LongForm"),
+            ByteCode::CutBody => write!(f, "CutBody"),
+            ByteCode::BadPrefix => write!(f, "BadPrefix"),
+            ByteCode::BadIndex => write!(f, "BadIndex"),
+            ByteCode::LevelJump => write!(f, "LevelJump"),
+            ByteCode::OutOfOrder => write!(f, "OutOfOrder"),
+        }
+    }
+}
+
+impl From<WireCode> for ByteCode {
+    ghost use Rattle.std.specs.Prelude.{◌≡◌};
+    ghost use Rattle.wire_bytes.specs.Codes.{code_of, byte_code_of};
+
+    ghost from_gives = { λ wire code. byte_code_of code ≡ code_of wire };
+
+    fn from(wire: WireCode) -> ByteCode {
+        match wire {
+            WireCode::CutLength => ByteCode::CutLength,
+            WireCode::AtomTooLong => ByteCode::AtomTooLong,
+            WireCode::LongForm => ByteCode::LongForm,
+            WireCode::CutBody => ByteCode::CutBody,
+        }
+    }
+}
+
+impl From<ShapeFault> for ByteCode {
+    ghost use Rattle.std.specs.Prelude.{◌≡◌};
+    ghost use Rattle.atom_list.specs.Codes.{code_of as shape_code_of};
+    ghost use Rattle.wire_bytes.specs.Codes.{byte_code_of};
+
+    ghost from_gives = { λ shape code. byte_code_of code ≡ shape_code_of shape };
+
+    fn from(shape: ShapeFault) -> ByteCode {
+        match shape {
+            ShapeFault::BadPrefix => ByteCode::BadPrefix,
+            ShapeFault::BadIndex => ByteCode::BadIndex,
+            ShapeFault::LevelJump => ByteCode::LevelJump,
+            ShapeFault::OutOfOrder => ByteCode::OutOfOrder,
+        }
+    }
+}
+
+impl From<Memory> for ContextFault {
+    ghost use Rattle.std.specs.Prelude.{◌≡◌};
+    ghost use Rattle.wire_bytes.specs.declared.contexts.ContextFault.TheVariants.{Memory};
+
+    ghost from_gives = { λ _ fault. fault ≡ Memory };
+
+    fn from(_want: Memory) -> ContextFault {
+        ContextFault::Memory
+    }
+}
+
+/// The context whose bytes these are. The refusal is the first fault: the longest front that is the bytes of a context ends
+/// at its offset.
+pub fn read_context(alloc: Global, bytes: &[u8]) -> Result<Context, ContextFault>
+    ensures found { IfOk result (λ context. IsContextOf context bytes.now) }
+    ensures fault { IfErr result (IsContextFaultOf bytes.now) }
+    ensures only { (list : List (List ℕ)) → IsContextOf list bytes.now → MatchResult result (λ made. made ≡ list) (λ fault. fault ≡ ContextFault.Memory) }
+{
+    let FrontList { list, fault } = read_front(alloc, bytes)?;
+    let context = match Context::check(list) {
+        Ok(context) => context,
+        Err((shape, place, list)) => {
+            return Err(ContextFault::At {
+                offset: offset(&list, place) as usize,
+                code: ByteCode::from(shape),
+            });
+        }
+    };
+    match fault {
+        None => Ok(context),
+        Some((offset, wire)) => Err(ContextFault::At {
+            offset,
+            code: ByteCode::from(wire),
+        }),
+    }
+}
+
+/// Bytes are those of at most one context, have at most one first fault, and never both.
+pub fn reads_one_context()
+    ensures { (bytes : List ℕ) → HasOneContext bytes }
+{
+}
