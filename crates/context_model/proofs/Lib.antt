@@ -24,3 +24,5 @@ pub mod ContextFronts
 pub mod Meets
 pub mod EndedSteps
 pub mod Places
+pub mod Lexicographic
+pub mod MergePaths
