@@ -26,3 +26,4 @@ pub mod EndedSteps
 pub mod Places
 pub mod Lexicographic
 pub mod MergePaths
+pub mod GreedyElements

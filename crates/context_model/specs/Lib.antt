@@ -14,3 +14,4 @@ pub mod WellFormed
 pub mod WireFault
 pub mod ContextFault
 pub mod WithoutData
+pub mod Merged
