@@ -27,3 +27,4 @@ pub mod Places
 pub mod Lexicographic
 pub mod MergePaths
 pub mod GreedyElements
+pub mod MergedLaws
