@@ -28,3 +28,4 @@ pub mod Lexicographic
 pub mod MergePaths
 pub mod GreedyElements
 pub mod MergedLaws
+pub mod FirstMarkers

@@ -1,6 +1,7 @@
 -- Merges: the one well-formed list that has exactly the paths of some lists, and what a merge keeps of them.
 use Rattle.std.specs.Prelude.{◌≡◌, ◌⊎◌, ◌↔◌, ℕ, List, [], ◌∷◌, ◌++◌, Some, slice_get, take}
 use Rattle.std.specs.List.{AllByRecursion}
+use Rattle.std.specs.declared.cmp.Ordering.TheVariants.{Less}
 use Rattle.context_model.specs.Atoms.{Atom, AreAtoms}
 use Rattle.context_model.specs.Orders.{Path, atom_cmp, path_cmp, IsIn}
 use Rattle.context_model.specs.Merge.{greedy_merge}
@@ -76,6 +77,27 @@ MarkersStay = (lists : List (List Atom)) (a : List Atom) (q : Path) → IsMerged
 -- A path is ended in a merge of well-formed lists exactly where it is ended in each of them.
 abbrev pub EndsWithEach : Type 0
 EndsWithEach = (lists : List (List Atom)) (a : List Atom) (s : Path) → AllByRecursion IsWellFormed lists → IsMerged lists a → IsEnded a s ↔ AllByRecursion (λ list. IsEnded list s) lists
+
+-- The first marker of the list stands behind the atom with the path q; where q is empty, it is the first atom.
+pub record HasFirstMarkerBehind (list : List Atom) (q : Path) : Type 0 where
+  pub marker : HasMarker list
+  pub behind : last_path_after [] (front_of list) ≡ q
+
+-- The first marker of one of the lists stands behind q, and that of no list behind a lesser path.
+pub record HasLeastFirstMarker (lists : List (List Atom)) (q : Path) : Type 0 where
+  pub list : List Atom
+  pub among : IsIn list lists
+  pub first : HasFirstMarkerBehind list q
+  pub least : (other : List Atom) (p : Path) → IsIn other lists → HasFirstMarkerBehind other p → path_cmp p q ≡ Less → ⊥
+
+-- The first marker of a merge of well-formed lists is the least of their first markers, and stands behind the same atom as there.
+abbrev pub FirstMarkersStay : Type 0
+FirstMarkersStay = (lists : List (List Atom)) (a : List Atom) (q : Path) → AllByRecursion IsWellFormed lists → IsMerged lists a → HasFirstMarkerBehind a q ↔ HasLeastFirstMarker lists q
+
+-- The atoms of a merge before its first marker have those paths of the lists that come before each marker's path.
+abbrev pub MergesFronts : Type 0
+MergesFronts = (lists : List (List Atom)) (a : List Atom) (p : Path) → IsMerged lists a
+    → IsIn p (paths (front_of a)) ↔ (SomeHasPath lists p × ((q : Path) → SomeHasPath lists (q ++ [] ∷ []) → path_cmp p (q ++ [] ∷ []) ≡ Less))
 
 -- The merge of any two lists, well formed or not, doesn't know which came first, nor the grouping of three, and that of a list with itself is the list.
 pub record MergesAnyLists : Type 0 where
