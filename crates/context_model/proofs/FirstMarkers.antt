@@ -8,12 +8,13 @@ use Rattle.context_model.specs.Orders.{Path, atom_cmp, path_cmp, IsIn}
 use Rattle.context_model.specs.Paths.{depth_after, path_after, paths_after, paths, last_path_after}
 use Rattle.context_model.specs.WellFormed.{IsWellFormed}
 use Rattle.context_model.specs.Ended.{HasMarker, front_of}
-use Rattle.context_model.specs.Merged.{IsMerged, HasMarkerBehind, HasFirstMarkerBehind, HasLeastFirstMarker, FirstMarkersStay, MergesFronts}
+use Rattle.context_model.specs.MergedMarkers.{HasMarkerBehind, HasFirstMarkerBehind, HasLeastFirstMarker, KeepsFirstMarker, KeepsFronts}
 use Rattle.context_model.proofs.OrderLaws.{paths_total, paths_anti}
 use Rattle.context_model.proofs.GreedyElements.{All-at}
 use Rattle.context_model.proofs.Following.{Follows, IsWellFormed-follows, path_after-marker}
 use Rattle.context_model.proofs.Places.{marker_at}
-use Rattle.context_model.proofs.MergedLaws.{same_end, merged_path, HasMarkerBehind-path}
+use Rattle.context_model.proofs.MergedLaws.{same_end, merged_path}
+use Rattle.context_model.proofs.MergedMarkers.{HasMarkerBehind-path}
 
 -- ---- the order of paths
 
@@ -83,8 +84,8 @@ first-from_least list q w least = record { marker = marker; behind = by (path_cm
     by Equal e = paths_anti (last_path_after [] (front_of list)) q e
     by Greater e = absurd (also.1 q least.0 (paths_total.antisymm q (last_path_after [] (front_of list)) ∙ ap ordering_reverse e))
 
-pub first_markers_stay : FirstMarkersStay
-first_markers_stay lists a q each f = (there, back)
+pub keeps_first_marker : KeepsFirstMarker
+keeps_first_marker lists a q each f = (there, back)
   where
     there : HasFirstMarkerBehind a q → HasLeastFirstMarker lists q
     there first =
@@ -149,8 +150,8 @@ to_front q ((c ∷ bytes) ∷ list) p f b = elim b.0 [ inl e ↦ inl e | inr i �
 pub front-paths : (list : List Atom) (p : Path) → IsWellFormed list → IsIn p (paths (front_of list)) ↔ IsBeforeMarkers (paths list) p
 front-paths list p w = ((λ i. in_front [] list p (IsWellFormed-follows list w) i), λ b. to_front [] list p (IsWellFormed-follows list w) b)
 
-pub merges_fronts : MergesFronts
-merges_fronts lists a p f = (
+pub keeps_fronts : KeepsFronts
+keeps_fronts lists a p f = (
   (λ i. let b = (front-paths a p f.well_formed).0 i in ((f.exact p).0 b.0, λ q s. b.1 q ((f.exact (q ++ [] ∷ [])).1 s))),
   λ s. (front-paths a p f.well_formed).1 ((f.exact p).1 s.0, λ q i. s.1 q ((f.exact (q ++ [] ∷ [])).0 i)),
 )

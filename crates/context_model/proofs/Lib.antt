@@ -28,4 +28,5 @@ pub mod Lexicographic
 pub mod MergePaths
 pub mod GreedyElements
 pub mod MergedLaws
+pub mod MergedMarkers
 pub mod FirstMarkers

@@ -1,4 +1,4 @@
--- The greedy merge of well-formed lists is their merge, and what a merge keeps of them.
+-- The greedy merge of two well-formed lists is their merge, and so for any number of lists.
 use Rattle.std.proofs.Common.{◌≡◌, ℕ, ◌⊎◌, inl, inr, ◌↔◌, List, [], ◌∷◌, ◌++◌, map, take, length, ◌≤◌, Some, sym, refl, ap, ◌∙◌, subst}
 use Rattle.std.specs.List.{AllByRecursion}
 use Rattle.outside.specs.declared.TheConstants.{ATOM_MAX}
@@ -7,23 +7,14 @@ use Rattle.context_model.specs.Kinds.{HasKind}
 use Rattle.context_model.specs.Orders.{Path, atom_cmp, path_cmp, IsIn}
 use Rattle.context_model.specs.Paths.{depth_after, path_after, paths_after, paths, last_path_after}
 use Rattle.context_model.specs.WellFormed.{IsWellFormed}
-use Rattle.context_model.specs.Ended.{IsEnded}
 use Rattle.context_model.specs.Merge.{greedy_merge}
-use Rattle.context_model.specs.Merged.{HasPaths, SomeHasPath, IsMerged, PathsTell, MergesOnce, MergesGreedily, MergesFew, MergesInGroups, MergesOfMerges, MergesMembers, MergesTheirAtoms, MergesTheirMarkers, MergesWithinLimit, HasMarkerBehind, MarkersStay, EndsWithEach, MergesAnyLists, MergesElements}
+use Rattle.context_model.specs.Merged.{HasPaths, SomeHasPath, IsMerged, merge_of, last_atom, PathsTellLists, HasOneMerge, HasLastAtoms, MergesGreedily, MergesFew, MergesOneByOne, MergesInGroups, MergesOfMerges, MergesMembers, KeepsElements, KeepsAtoms, StaysWithinLimit}
 use Rattle.context_model.proofs.OrderLaws.{atoms_total, atoms_anti, paths_total, paths_anti}
-use Rattle.context_model.proofs.GreedyLaws.{greedy-comm, greedy-assoc, greedy-idem}
 use Rattle.context_model.proofs.GreedyElements.{All-at, All-from, IsIn-greedy, All-greedy, Rises-unique}
 use Rattle.context_model.proofs.Following.{IsWellFormed-follows, IsWellFormed-from, IsWellFormed-empty, path_after-marker}
 use Rattle.context_model.proofs.MergePaths.{Goes, merges}
-use Rattle.context_model.proofs.Places.{path_at, StandsThere, place_of}
-use Rattle.context_model.proofs.EndedLaws.{ends_at_markers}
 
 -- ---- the last atom of a path, and what stands before it
-
--- the last atom of a path behind d
-abbrev last_or : Atom → Path → Atom
-last_or d [] = d
-last_or d (x ∷ q) = last_or x q
 
 -- x and a path without their last atom
 abbrev front_or : Atom → Path → Path
@@ -35,9 +26,10 @@ abbrev all_but_last : Path → Path
 all_but_last [] = []
 all_but_last (x ∷ q) = front_or x q
 
-last_or-end : (d : Atom) (q : Path) (a : Atom) → last_or d (q ++ a ∷ []) ≡ a
-last_or-end d [] a = refl
-last_or-end d (x ∷ q) a = last_or-end x q a
+last_atom-end : (q : Path) (a : Atom) → last_atom (q ++ a ∷ []) ≡ a
+last_atom-end [] a = refl
+last_atom-end (x ∷ []) a = refl
+last_atom-end (x ∷ y ∷ q) a = last_atom-end (y ∷ q) a
 
 front_or-end : (x : Atom) (q : Path) (a : Atom) → front_or x (q ++ a ∷ []) ≡ x ∷ q
 front_or-end x [] a = refl
@@ -50,42 +42,42 @@ all_but_last-end (x ∷ q) a = front_or-end x q a
 -- two paths with one atom behind each are equal only where both parts are
 pub same_end : (q r : Path) (a b : Atom) → q ++ a ∷ [] ≡ r ++ b ∷ [] → (q ≡ r) × (a ≡ b)
 same_end q r a b e =
-    (sym (all_but_last-end q a) ∙ ap all_but_last e ∙ all_but_last-end r b, sym (last_or-end [] q a) ∙ ap (last_or []) e ∙ last_or-end [] r b)
+    (sym (all_but_last-end q a) ∙ ap all_but_last e ∙ all_but_last-end r b, sym (last_atom-end q a) ∙ ap last_atom e ∙ last_atom-end r b)
 
-last_after : (q : Path) (a : Atom) → last_or [] (path_after q a) ≡ a
-last_after q a = last_or-end [] (take (depth_after q a) q) a
+last_after : (q : Path) (a : Atom) → last_atom (path_after q a) ≡ a
+last_after q a = last_atom-end (take (depth_after q a) q) a
 
 -- a list is the last atoms of its paths
-last_atoms : (q : Path) (list : List Atom) → map (last_or []) (paths_after q list) ≡ list
+last_atoms : (q : Path) (list : List Atom) → map last_atom (paths_after q list) ≡ list
 last_atoms q [] = refl
 last_atoms q (a ∷ list) = λ i. last_after q a i ∷ last_atoms (path_after q a) list i
 
 -- the last atom of a path of a list stands in the list
-last_in : (q : Path) (list : List Atom) (p : Path) → IsIn p (paths_after q list) → IsIn (last_or [] p) list
+last_in : (q : Path) (list : List Atom) (p : Path) → IsIn p (paths_after q list) → IsIn (last_atom p) list
 last_in q [] p none = elim none [ ]
-last_in q (a ∷ list) p (inl e) = inl (ap (last_or []) e ∙ last_after q a)
+last_in q (a ∷ list) p (inl e) = inl (ap last_atom e ∙ last_after q a)
 last_in q (a ∷ list) p (inr i) = inr (last_in (path_after q a) list p i)
 
 -- and each atom of a list is the last one of a path of it
-path_with : (q : Path) (list : List Atom) (a : Atom) → IsIn a list → (p : Path) × IsIn p (paths_after q list) × (a ≡ last_or [] p)
+path_with : (q : Path) (list : List Atom) (a : Atom) → IsIn a list → (p : Path) × IsIn p (paths_after q list) × (a ≡ last_atom p)
 path_with q [] a none = elim none [ ]
 path_with q (x ∷ list) a (inl e) = (path_after q x, inl refl, e ∙ sym (last_after q x))
-path_with q (x ∷ list) a (inr i) = let s : (p : Path) × IsIn p (paths_after (path_after q x) list) × (a ≡ last_or [] p) = path_with (path_after q x) list a i in (s.0, inr s.1, s.2)
+path_with q (x ∷ list) a (inr i) = let s : (p : Path) × IsIn p (paths_after (path_after q x) list) × (a ≡ last_atom p) = path_with (path_after q x) list a i in (s.0, inr s.1, s.2)
 
 -- ---- at most one list has given paths
 
-pub paths_tell : PathsTell
-paths_tell a b v w same = sym (last_atoms [] a) ∙ ap (map (last_or [])) (Rises-unique path_cmp paths_total (paths a) (paths b) v.order w.order same) ∙ last_atoms [] b
+pub paths_tell_lists : PathsTellLists
+paths_tell_lists a b v w same = sym (last_atoms [] a) ∙ ap (map last_atom) (Rises-unique path_cmp paths_total (paths a) (paths b) v.order w.order same) ∙ last_atoms [] b
 
 pub HasPaths-unique : (P : Path → Type 0) (a b : List Atom) → HasPaths a P → HasPaths b P → a ≡ b
-HasPaths-unique P a b f g = paths_tell a b f.well_formed g.well_formed (λ q. ((λ i. (g.exact q).1 ((f.exact q).0 i)), λ i. (f.exact q).1 ((g.exact q).0 i)))
+HasPaths-unique P a b f g = paths_tell_lists a b f.well_formed g.well_formed (λ q. ((λ i. (g.exact q).1 ((f.exact q).0 i)), λ i. (f.exact q).1 ((g.exact q).0 i)))
 
--- a list has other paths that say the same
+-- a list with some paths has those of every predicate that says the same
 pub HasPaths-alike : (P Q : Path → Type 0) (a : List Atom) → ((q : Path) → P q ↔ Q q) → HasPaths a P → HasPaths a Q
 HasPaths-alike P Q a same f = record { well_formed = f.well_formed; exact = λ q. ((λ i. (same q).0 ((f.exact q).0 i)), λ i. (f.exact q).1 ((same q).1 i)) }
 
-pub merges_once : MergesOnce
-merges_once lists = HasPaths-unique (SomeHasPath lists)
+pub has_one_merge : HasOneMerge
+has_one_merge lists = HasPaths-unique (SomeHasPath lists)
 
 -- ---- the greedy merge of two well-formed lists
 
@@ -154,10 +146,19 @@ merges_few = record {
   one = λ a v. record { well_formed = v; exact = λ q. ((λ i. inl i), λ s. elim s [ inl i ↦ i | inr none ↦ absurd none ]) };
 }
 
+pub has_last_atoms : HasLastAtoms
+has_last_atoms lists a ps f rises same =
+    sym (last_atoms [] a)
+    ∙ ap (map last_atom) (Rises-unique path_cmp paths_total (paths a) ps f.well_formed.order rises (λ q. ((λ i. (same q).1 ((f.exact q).0 i)), λ i. (f.exact q).1 ((same q).0 i))))
+
 pub merges_in_groups : MergesInGroups
 merges_in_groups some others a b f g =
     HasPaths-alike (λ q. SomeHasPath some q ⊎ SomeHasPath others q) (SomeHasPath (some ++ others)) (greedy_merge atom_cmp a b)
         (λ q. let s = SomeHasPath-append some others q in (s.1, s.0)) (HasPaths-greedy (SomeHasPath some) (SomeHasPath others) a b f g)
+
+pub merges_one_by_one : MergesOneByOne
+merges_one_by_one [] each = merges_few.none
+merges_one_by_one (list ∷ lists) each = merges_in_groups (list ∷ []) lists list (merge_of lists) (merges_few.one list each.0) (merges_one_by_one lists each.1)
 
 pub merges_of_merges : MergesOfMerges
 merges_of_merges some others a b f = (
@@ -196,78 +197,32 @@ merges_members lists others a same f =
 pub merged_path : (lists : List (List Atom)) (a : List Atom) (q : Path) → IsMerged lists a → IsIn q (paths a) ↔ ((list : List Atom) × IsIn list lists × IsIn q (paths list))
 merged_path lists a q f = ((λ i. SomeHasPath-list lists q ((f.exact q).0 i)), λ s. (f.exact q).1 (SomeHasPath-of lists s.0 q s.1 s.2))
 
-pub merges_their_atoms : MergesTheirAtoms
-merges_their_atoms lists a atom f = (there, back)
+pub keeps_atoms : KeepsAtoms
+keeps_atoms lists a atom f = (there, back)
   where
     there : IsIn atom a → (list : List Atom) × IsIn list lists × IsIn atom list
     there i =
-        let p : (p : Path) × IsIn p (paths a) × (atom ≡ last_or [] p) = path_with [] a atom i in
+        let p : (p : Path) × IsIn p (paths a) × (atom ≡ last_atom p) = path_with [] a atom i in
         let s : (list : List Atom) × IsIn list lists × IsIn p.0 (paths list) = (merged_path lists a p.0 f).0 p.1 in
         (s.0, s.1, subst (λ x. IsIn x s.0) (sym p.2) (last_in [] s.0 p.0 s.2))
 
     back : (list : List Atom) × IsIn list lists × IsIn atom list → IsIn atom a
     back s =
-        let p : (p : Path) × IsIn p (paths s.0) × (atom ≡ last_or [] p) = path_with [] s.0 atom s.2 in
+        let p : (p : Path) × IsIn p (paths s.0) × (atom ≡ last_atom p) = path_with [] s.0 atom s.2 in
         subst (λ x. IsIn x a) (sym p.2) (last_in [] a p.0 ((merged_path lists a p.0 f).1 (s.0, s.1, p.1)))
-
-pub merges_their_markers : MergesTheirMarkers
-merges_their_markers lists a = merges_their_atoms lists a []
 
 -- an atom within the limit
 abbrev IsWithinLimit : Atom → Type 0
 IsWithinLimit atom = length atom ≤ ATOM_MAX
 
-pub merges_within_limit : MergesWithinLimit
-merges_within_limit lists a each f =
-    All-from IsWithinLimit a (λ atom i. let s = (merges_their_atoms lists a atom f).0 i in All-at IsWithinLimit s.0 atom (All-at AreAtoms lists s.0 each s.1) s.2)
+pub stays_within_limit : StaysWithinLimit
+stays_within_limit lists a each f =
+    All-from IsWithinLimit a (λ atom i. let s = (keeps_atoms lists a atom f).0 i in All-at IsWithinLimit s.0 atom (All-at AreAtoms lists s.0 each s.1) s.2)
 
--- ---- markers
+-- ---- merges of any two lists
 
--- a marker stands behind the atom with the path q exactly where q with a marker is a path
-pub HasMarkerBehind-path : (list : List Atom) (q : Path) → HasMarkerBehind list q ↔ IsIn (q ++ [] ∷ []) (paths list)
-HasMarkerBehind-path list q = (there, back)
-  where
-    there : HasMarkerBehind list q → IsIn (q ++ [] ∷ []) (paths list)
-    there m = subst (λ p. IsIn p (paths list)) (path_after-marker (last_path_after [] (take m.place list)) ∙ ap (λ p. p ++ [] ∷ []) m.behind) (path_at [] list m.place [] m.there)
+pub keeps_elements : KeepsElements
+keeps_elements a b atom = IsIn-greedy atom_cmp atoms_total atoms_anti a b atom
 
-    back : IsIn (q ++ [] ∷ []) (paths list) → HasMarkerBehind list q
-    back i =
-        let s : StandsThere [] list (q ++ [] ∷ []) = place_of [] list (q ++ [] ∷ []) i in
-        let before : Path = last_path_after [] (take s.place list) in
-        let marker : s.atom ≡ [] = sym (same_end q (take (depth_after before s.atom) before) [] s.atom s.path_is).1 in
-        let here : q ++ [] ∷ [] ≡ before ++ [] ∷ [] = s.path_is ∙ ap (path_after before) marker ∙ path_after-marker before in
-        record { place = s.place; there = s.there ∙ ap (λ x. Some x) marker; behind = sym (same_end q before [] [] here).0 }
-
-pub markers_stay : MarkersStay
-markers_stay lists a q f = (there, back)
-  where
-    there : HasMarkerBehind a q → (list : List Atom) × IsIn list lists × HasMarkerBehind list q
-    there m = let s = (merged_path lists a (q ++ [] ∷ []) f).0 ((HasMarkerBehind-path a q).0 m) in (s.0, s.1, (HasMarkerBehind-path s.0 q).1 s.2)
-
-    back : (list : List Atom) × IsIn list lists × HasMarkerBehind list q → HasMarkerBehind a q
-    back s = (HasMarkerBehind-path a q).1 ((merged_path lists a (q ++ [] ∷ []) f).1 (s.0, s.1, (HasMarkerBehind-path s.0 q).0 s.2))
-
--- ---- ended
-
-pub ends_with_each : EndsWithEach
-ends_with_each lists a s each f = (there, back)
-  where
-    there : IsEnded a s → AllByRecursion (λ list. IsEnded list s) lists
-    there e = All-from _ lists (λ list m. (ends_at_markers list s (All-at IsWellFormed lists list each m)).1 (λ q i. (ends_at_markers a s f.well_formed).0 e q ((merged_path lists a (q ++ [] ∷ []) f).1 (list, m, i))))
-
-    back : AllByRecursion (λ list. IsEnded list s) lists → IsEnded a s
-    back all = (ends_at_markers a s f.well_formed).1 (λ q i.
-        let t = (merged_path lists a (q ++ [] ∷ []) f).0 i in
-        (ends_at_markers t.0 s (All-at IsWellFormed lists t.0 each t.1)).0 (All-at (λ list. IsEnded list s) lists t.0 all t.1) q t.2)
-
--- ---- merges of any lists
-
-pub merges_any_lists : MergesAnyLists
-merges_any_lists = record {
-  commutes = λ a b. greedy-comm atom_cmp atoms_total a b (λ x y i j tie. atoms_anti x y tie);
-  regroups = greedy-assoc atom_cmp atoms_total;
-  repeats = greedy-idem atom_cmp atoms_total;
-}
-
-pub merges_elements : MergesElements
-merges_elements a b atom = IsIn-greedy atom_cmp atoms_total atoms_anti a b atom
+pub AreAtoms-greedy : (a b : List Atom) → AreAtoms a → AreAtoms b → AreAtoms (greedy_merge atom_cmp a b)
+AreAtoms-greedy = All-greedy atom_cmp atoms_total atoms_anti IsWithinLimit

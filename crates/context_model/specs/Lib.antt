@@ -15,3 +15,4 @@ pub mod WireFault
 pub mod ContextFault
 pub mod WithoutData
 pub mod Merged
+pub mod MergedMarkers
