@@ -30,3 +30,4 @@ pub mod GreedyElements
 pub mod MergedLaws
 pub mod MergedMarkers
 pub mod FirstMarkers
+pub mod MergeRows
