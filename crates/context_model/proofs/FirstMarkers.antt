@@ -7,12 +7,15 @@ use Rattle.context_model.specs.Atoms.{Atom}
 use Rattle.context_model.specs.Orders.{Path, atom_cmp, path_cmp, IsIn}
 use Rattle.context_model.specs.Paths.{depth_after, path_after, paths_after, paths, last_path_after}
 use Rattle.context_model.specs.WellFormed.{IsWellFormed}
-use Rattle.context_model.specs.Ended.{HasMarker, front_of}
-use Rattle.context_model.specs.MergedMarkers.{HasMarkerBehind, HasFirstMarkerBehind, HasLeastFirstMarker, KeepsFirstMarker, KeepsFronts}
+use Rattle.context_model.specs.Ended.{HasMarker, front_of, IsBeyond}
+use Rattle.context_model.specs.Behind.{HasMarkerBehind, HasFirstMarkerBehind, EndsAtFirstMarker}
+use Rattle.context_model.specs.MergedMarkers.{HasLeastFirstMarker, KeepsFirstMarker, KeepsFronts}
 use Rattle.context_model.proofs.OrderLaws.{paths_total, paths_anti}
 use Rattle.context_model.proofs.GreedyElements.{All-at}
 use Rattle.context_model.proofs.Following.{Follows, IsWellFormed-follows, path_after-marker}
 use Rattle.context_model.proofs.Places.{marker_at}
+use Rattle.context_model.proofs.Beyond.{IsBeyond-later}
+use Rattle.context_model.proofs.EndedLaws.{ends_at_markers}
 use Rattle.context_model.proofs.MergedLaws.{same_end, merged_path}
 use Rattle.context_model.proofs.MergedMarkers.{HasMarkerBehind-path}
 
@@ -83,6 +86,20 @@ first-from_least list q w least = record { marker = marker; behind = by (path_cm
     by Less e = absurd (least.1 (last_path_after [] (front_of list)) also.0 e)
     by Equal e = paths_anti (last_path_after [] (front_of list)) q e
     by Greater e = absurd (also.1 q least.0 (paths_total.antisymm q (last_path_after [] (front_of list)) ∙ ap ordering_reverse e))
+
+pub ends_at_first_marker : EndsAtFirstMarker
+ends_at_first_marker list s q w first = (
+  (λ e. (ends_at_markers list s w).0 e q least.0),
+  λ b. (ends_at_markers list s w).1 (λ p i. by p b (least.1 p i) (path_cmp q p) refl),
+)
+  where
+    least : IsLeastMarker (paths list) q
+    least = first-least list q w first
+
+    by : (p : Path) → IsBeyond s q → (path_cmp p q ≡ Less → ⊥) → (r : Ordering) → path_cmp q p ≡ r → IsBeyond s p
+    by p b n Less e = IsBeyond-later s q p b e
+    by p b n Equal e = subst (IsBeyond s) (paths_anti q p e) b
+    by p b n Greater e = absurd (n (paths_total.antisymm p q ∙ ap ordering_reverse e))
 
 pub keeps_first_marker : KeepsFirstMarker
 keeps_first_marker lists a q each f = (there, back)

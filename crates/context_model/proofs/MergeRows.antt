@@ -5,7 +5,7 @@ use Rattle.context_model.specs.Orders.{atom_cmp}
 use Rattle.context_model.specs.Merge.{greedy_merge}
 use Rattle.context_model.specs.Framing.{length_code, bytes_of}
 use Rattle.context_model.specs.Merged.{merge_of}
-use Rattle.context_model.specs.MergedMarkers.{HasMarkerBehind, HasFirstMarkerBehind}
+use Rattle.context_model.specs.Behind.{HasMarkerBehind}
 
 -- a key with one datum, below the field 4 and below the field 5
 abbrev at_four : List Atom

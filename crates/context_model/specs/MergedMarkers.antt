@@ -1,32 +1,22 @@
 -- What a merge keeps of the markers of its lists, and of what they say was cut off.
-use Rattle.std.specs.Prelude.{◌≡◌, ◌↔◌, ℕ, List, [], ◌∷◌, ◌++◌, Some, slice_get, take}
+use Rattle.std.specs.Prelude.{◌≡◌, ◌↔◌, List, [], ◌∷◌, ◌++◌}
 use Rattle.std.specs.List.{AllByRecursion}
 use Rattle.std.specs.declared.cmp.Ordering.TheVariants.{Less}
 use Rattle.context_model.specs.Atoms.{Atom}
 use Rattle.context_model.specs.Orders.{Path, path_cmp, IsIn}
-use Rattle.context_model.specs.Paths.{paths, last_path_after}
+use Rattle.context_model.specs.Paths.{paths}
 use Rattle.context_model.specs.WellFormed.{IsWellFormed}
 use Rattle.context_model.specs.Ended.{HasMarker, front_of, IsEnded}
+use Rattle.context_model.specs.Behind.{HasMarkerBehind, HasFirstMarkerBehind}
 use Rattle.context_model.specs.Merged.{SomeHasPath, IsMerged}
 
 -- A merge has a marker exactly where one of the lists has one.
 abbrev pub KeepsMarkers : Type 0
 KeepsMarkers = (lists : List (List Atom)) (a : List Atom) → IsMerged lists a → HasMarker a ↔ ((list : List Atom) × IsIn list lists × HasMarker list)
 
--- A marker stands in the list, directly behind the atom with the path q; where q is empty, it stands first.
-pub record HasMarkerBehind (list : List Atom) (q : Path) : Type 0 where
-  pub place : ℕ
-  pub there : slice_get list place ≡ Some []
-  pub behind : last_path_after [] (take place list) ≡ q
-
 -- A marker stays directly behind the atom that it followed: a merge has one there exactly where one of the lists has one there.
 abbrev pub KeepsMarkersBehind : Type 0
 KeepsMarkersBehind = (lists : List (List Atom)) (a : List Atom) (q : Path) → IsMerged lists a → HasMarkerBehind a q ↔ ((list : List Atom) × IsIn list lists × HasMarkerBehind list q)
-
--- The first marker of the list stands behind the atom with the path q; where q is empty, it is the first atom.
-pub record HasFirstMarkerBehind (list : List Atom) (q : Path) : Type 0 where
-  pub marker : HasMarker list
-  pub behind : last_path_after [] (front_of list) ≡ q
 
 -- The first marker of one of the lists stands behind q, and that of no list behind a lesser path.
 pub record HasLeastFirstMarker (lists : List (List Atom)) (q : Path) : Type 0 where
