@@ -27,10 +27,10 @@ header_path q (b ∷ bytes) e = ap (λ v. take (cond v (level (b ∷ bytes)) (he
 
 pub marker_follows : (q : Path) → MayFollow q []
 marker_follows q = let f = Fits-marker q in record {
-    kind = marker_kind;
-    level = f.level;
-    later = f.later;
-  }
+  kind = marker_kind;
+  level = f.level;
+  later = f.later;
+}
 
 marker_ends : (list : List Atom) (q : Path) (count : ℕ) (datum : Option ℕ) → count ≡ header_count q → EndsWith list q count datum → EndsWith list (path_after q []) count datum
 marker_ends list q count (Some place) number (payload, stands) =
@@ -42,14 +42,14 @@ marker_ends list q count None number (inl whole) =
 
 pub marker_opens : (list : List Atom) (q : Path) (count : ℕ) (above : List ℕ) (datum : Option ℕ) → IsOpen list q count above datum → IsOpen list (path_after q []) count above datum
 marker_opens list q count above datum opened = record {
-    number = opened.number ∙ sym (next_bound q [] (λ e. cc));
-    few = opened.few;
-    headers = λ k below. (
+  number = opened.number ∙ sym (next_bound q [] (λ e. cc));
+  few = opened.few;
+  headers = λ k below. (
       let h = opened.headers k below in
       (h.0, (h.1.0, place_below (length q) k q [] (slice_get_within q k h.0 h.1.1) (le_refl (length q)) ∙ h.1.1))
-    );
-    behind = marker_ends list q count datum opened.number opened.behind;
-  }
+      );
+  behind = marker_ends list q count datum opened.number opened.behind;
+}
 
 -- ---- data
 
@@ -71,7 +71,7 @@ datum_is_less list q count above datum payload opened later place is =
     let stands : EndsWith list q count (Some place) = subst (EndsWith list q count) is opened.behind in
     let same = get_or_from_slice_get list place (0 ∷ stands.0) [] stands.1.0 in
     subst (λ x. atom_cmp x (0 ∷ payload) ≡ Less) (sym same)
-      ((later_place count q (0 ∷ payload) (0 ∷ stands.0) stands.1.1).0 (subst (λ n. path_cmp q (take n q ++ (0 ∷ payload) ∷ []) ≡ Less) (sym opened.number) later))
+    ((later_place count q (0 ∷ payload) (0 ∷ stands.0) stands.1.1).0 (subst (λ n. path_cmp q (take n q ++ (0 ∷ payload) ∷ []) ≡ Less) (sym opened.number) later))
 
 -- The datum stands in the list.
 pub datum_within : (list : List Atom) (q : Path) (count : ℕ) (above : List ℕ) (datum : Option ℕ) → IsOpen list q count above datum → (place : ℕ) → datum ≡ Some place → place < length list
@@ -93,9 +93,9 @@ datum_opens list q count above datum at payload opened there =
       number = opened.number ∙ sym (next_bound q (0 ∷ payload) (λ e. cc));
       few = opened.few;
       headers = λ k below. (
-        let h = opened.headers k below in
-        (h.0, (h.1.0, place_below (header_count q) k q (0 ∷ payload) (let n = opened.number in omega arith) few ∙ h.1.1))
-      );
+          let h = opened.headers k below in
+          (h.0, (h.1.0, place_below (header_count q) k q (0 ∷ payload) (let n = opened.number in omega arith) few ∙ h.1.1))
+          );
       behind = (payload, (there, subst (λ n. slice_get (path_after q (0 ∷ payload)) n ≡ Some (0 ∷ payload)) (sym opened.number) (place_at (header_count q) q (0 ∷ payload) few)));
     }
 
@@ -128,8 +128,7 @@ header_beside list q count above datum a opened header below =
     let h = opened.headers (level a) below in
     let same = get_or_from_slice_get list (get_or above (level a) 0) h.0 [] h.1.0 in
     let here = later_place (level a) q a h.0 h.1.1 in
-    let path = header_path q a header in
-    (
+    let path = header_path q a header in (
       λ later. subst (λ x. atom_cmp x a ≡ Less) (sym same) (here.0 (subst (λ p. path_cmp q p ≡ Less) path later)),
       λ less. subst (λ p. path_cmp q p ≡ Less) (sym path) (here.1 (subst (λ x. atom_cmp x a ≡ Less) same less)),
     )
@@ -144,21 +143,25 @@ header_opens list q count above datum at a opened header upto few long there =
       number = sym (next_bound q a (λ e. omega arith) ∙ ap (λ b. cond b (level a + 1) (header_count q)) header);
       few = omega arith;
       headers = λ k below. elim (cases_lt k (level a)) [
-          inl less ↦ (
-            let h = opened.headers k (omega arith) in
-            (h.0, (
-              subst (λ p. slice_get list p ≡ Some h.0) (sym (get_or-set_other above (level a) k at 0 (λ same. omega arith))) h.1.0,
-              subst (λ p. slice_get p k ≡ Some h.0) (sym path) (place_below (level a) k q a less (omega arith) ∙ h.1.1),
-            ))
-          )
+        | inl less ↦ (
+            let h = opened.headers k (omega arith) in (
+              h.0,
+              (
+                subst (λ p. slice_get list p ≡ Some h.0) (sym (get_or-set_other above (level a) k at 0 (λ same. omega arith))) h.1.0,
+                subst (λ p. slice_get p k ≡ Some h.0) (sym path) (place_below (level a) k q a less (omega arith) ∙ h.1.1),
+              ),
+            )
+            )
         | inr last ↦ (
-            let same : k ≡ level a = omega arith in
-            (a, (
-              subst (λ p. slice_get list p ≡ Some a) (sym (ap (λ i. get_or (set above (level a) at) i 0) same ∙ get_or-set_same above (level a) at 0 (omega arith))) there,
-              subst (λ p. slice_get p k ≡ Some a) (sym path) (ap (slice_get (take (level a) q ++ a ∷ [])) same ∙ place_at (level a) q a (omega arith)),
-            ))
-          )
-        ];
+            let same : k ≡ level a = omega arith in (
+              a,
+              (
+                subst (λ p. slice_get list p ≡ Some a) (sym (ap (λ i. get_or (set above (level a) at) i 0) same ∙ get_or-set_same above (level a) at 0 (omega arith))) there,
+                subst (λ p. slice_get p k ≡ Some a) (sym path) (ap (slice_get (take (level a) q ++ a ∷ [])) same ∙ place_at (level a) q a (omega arith)),
+              ),
+            )
+            )
+      ];
       behind = inl (subst (λ p. length p ≡ level a + 1) (sym path) (length_at (level a) q a (omega arith)));
     }
 
@@ -166,11 +169,11 @@ header_opens list q count above datum at a opened header upto few long there =
 
 pub none_open : (list : List Atom) (above : List ℕ) → IsOpen list [] 0 above None
 none_open list above = record {
-    number = refl;
-    few = omega arith;
-    headers = λ k below. absurd (omega arith);
-    behind = inl refl;
-  }
+  number = refl;
+  few = omega arith;
+  headers = λ k below. absurd (omega arith);
+  behind = inl refl;
+}
 
 -- ---- what the kind of an atom says of it
 
@@ -194,11 +197,11 @@ told_marker a (f, is) = by f.kind f.spelled is
 
 header_of : (a : Atom) (n first : ℕ) (rest : List ℕ) → HasKind a → n < 16 → a ≡ first ∷ rest → 128 ≤ first → (255 - first) / 8 ≡ n → IsHeaderOf a n
 header_of a n first rest f few e high is = record {
-    kind = f;
-    header = ap is_header e ∙ le-leb 128 first high;
-    level = ap level e ∙ is;
-    few = few;
-  }
+  kind = f;
+  header = ap is_header e ∙ le-leb 128 first high;
+  level = ap level e ∙ is;
+  few = few;
+}
 
 pub told_indexed : (a : Atom) (n number : ℕ) → TellsKind a (Indexed n number) → IsHeaderOf a n
 told_indexed a n number (f, is) = by f.kind f.spelled f.fits is
@@ -261,19 +264,19 @@ header_jumps list q count above datum a n opened header over = (header.kind, (he
 pub header_follows : (list : List Atom) (q : Path) (count : ℕ) (above : List ℕ) (datum : Option ℕ) (a : Atom) (n : ℕ) → IsOpen list q count above datum → IsHeaderOf a n → n ≤ count
     → (n < count → atom_cmp (atom_at list (get_or above n 0)) a ≡ Less) → MayFollow q a
 header_follows list q count above datum a n opened header upto less = record {
-    kind = header.kind;
-    level = λ e. (let l = header.level in let m = opened.number in omega arith);
-    later = elim (cases_lt n count) [
-        inl below ↦ (
-          let at_level : level a < count = (let l = header.level in omega arith) in
-          (header_beside list q count above datum a opened header.header at_level).1 (subst (λ k. atom_cmp (atom_at list (get_or above k 0)) a ≡ Less) (sym header.level) (less below))
+  kind = header.kind;
+  level = λ e. (let l = header.level in let m = opened.number in omega arith);
+  later = elim (cases_lt n count) [
+    | inl below ↦ (
+        let at_level : level a < count = (let l = header.level in omega arith) in
+        (header_beside list q count above datum a opened header.header at_level).1 (subst (λ k. atom_cmp (atom_at list (get_or above k 0)) a ≡ Less) (sym header.level) (less below))
         )
-      | inr last ↦ header_below list q count above datum a opened header.header (let l = header.level in omega arith)
-      ];
-  }
+    | inr last ↦ header_below list q count above datum a opened header.header (let l = header.level in omega arith)
+  ];
+}
 
 pub header_taken : (list : List Atom) (q : Path) (count : ℕ) (above : List ℕ) (datum : Option ℕ) (at n : ℕ) → IsOpen list q count above datum → at < length list → IsHeaderOf (atom_at list at) n → n ≤ count → length above ≡ 16
     → IsOpen list (path_after q (atom_at list at)) (n + 1) (set above n at) None
 header_taken list q count above datum at n opened within header upto long =
     subst (λ k. IsOpen list (path_after q (atom_at list at)) (k + 1) (set above k at) None) header.level
-      (header_opens list q count above datum at (atom_at list at) opened header.header (let l = header.level in omega arith) (let l = header.level in let f = header.few in omega arith) long (slice_get-get_or list at [] within))
+    (header_opens list q count above datum at (atom_at list at) opened header.header (let l = header.level in omega arith) (let l = header.level in let f = header.few in omega arith) long (slice_get-get_or list at [] within))

@@ -2,6 +2,8 @@
 #![tactic(auto)]
 
 mod contexts;
+mod fronts;
+pub mod laws;
 mod lists;
 mod open_headers;
 #[cfg(test)]

@@ -1,11 +1,11 @@
 -- Truth values, numbers in their forms and escaped bytes keep their order, whatever follows them.
-use Rattle.std.proofs.Common.{◌≡◌, ℕ, zero, suc, ◌+◌, ◌-◌, ◌*◌, ◌^◌, ◌<◌, ◌≤◌, ◌%◌, ℤ, pos, negsuc, ◌<ℤ◌, Bool, true, false, List, [], ◌∷◌, ◌++◌, map, Ordering, Less, Equal, Greater, nat_cmp, int_cmp, FitsSigned, w32, w64, sym, refl, ap, ap₂, ◌∙◌, arith, subst, subst₂}
+use Rattle.std.proofs.Common.{◌≡◌, ℕ, zero, suc, ◌^◌, ◌<◌, ℤ, pos, negsuc, ◌<ℤ◌, Bool, true, false, List, [], ◌∷◌, ◌++◌, Ordering, Less, Equal, Greater, nat_cmp, int_cmp, FitsSigned, w64, sym, refl, ap, ap₂, ◌∙◌, arith, subst₂}
 use Rattle.std.proofs.Math.Nat.{mod-eq_of_lt}
 use Rattle.std.proofs.lemmas.List.{map-id, append_assoc}
 use Rattle.std.proofs.lemmas.Int.{ints}
 use Rattle.std.proofs.lemmas.Cmp.{int_ranked}
-use Rattle.std.specs.Ordering.{ordering_then, bool_cmp, MatchOrdering, ordering_reverse}
-use Rattle.std.specs.Cmp.{ranks, nat_cmp_is}
+use Rattle.std.specs.Ordering.{ordering_then, bool_cmp, MatchOrdering}
+use Rattle.std.specs.Cmp.{nat_cmp_is}
 use Rattle.std.specs.Cmp.Lexicographic.{slice_cmp}
 use Rattle.std.specs.FinMap.{IsAntisymmetric, nat_cmp-IsAntisymmetric, int_cmp-IsAntisymmetric}
 use Rattle.std.specs.List.{flat_map}
@@ -13,7 +13,7 @@ use Rattle.context_model.specs.Varints.{big_endian, unsigned_varint, signed_vari
 use Rattle.context_model.proofs.Digits.{keeps, digits-order, then-assoc}
 use Rattle.context_model.proofs.VarintLaws.{unsigned_varint-order, signed_varint-order}
 use Rattle.bag_model.specs.Scalars.{IsUnsigned, IsSigned, truth_bytes, fixed_bytes, sign_flipped, signed_fixed_bytes, escape, ended}
-use Rattle.bag_model.proofs.Codes.{KeepsOrder, bytes_exact, code_order}
+use Rattle.bag_model.proofs.Codes.{KeepsOrder, bytes_exact}
 
 pub bool_exact : IsAntisymmetric bool_cmp
 bool_exact false false e = refl
@@ -89,11 +89,11 @@ flipped_less true (negsuc m) (negsuc n) p q h = let small = p.sfits in omega (ar
 pub sign_flipped-order : (wide : Bool) (y z : ℤ) → IsSigned wide y → IsSigned wide z → nat_cmp (sign_flipped wide y) (sign_flipped wide z) ≡ int_cmp y z
 sign_flipped-order wide y z p q = sym (nat_cmp_is (sign_flipped wide y) (sign_flipped wide z) (int_cmp y z) (by wide y z p q (int_cmp y z) (int_ranked y z (int_cmp y z) refl)))
   where
-  by : (wide : Bool) (y z : ℤ) → IsSigned wide y → IsSigned wide z → (r : Ordering) → MatchOrdering r (y <ℤ z) (y ≡ z) (z <ℤ y)
-     → MatchOrdering r (sign_flipped wide y < sign_flipped wide z) (sign_flipped wide y ≡ sign_flipped wide z) (sign_flipped wide z < sign_flipped wide y)
-  by wide y z p q Less h = flipped_less wide y z p q h
-  by wide y z p q Equal h = ap (sign_flipped wide) h
-  by wide y z p q Greater h = flipped_less wide z y q p h
+    by : (wide : Bool) (y z : ℤ) → IsSigned wide y → IsSigned wide z → (r : Ordering) → MatchOrdering r (y <ℤ z) (y ≡ z) (z <ℤ y)
+        → MatchOrdering r (sign_flipped wide y < sign_flipped wide z) (sign_flipped wide y ≡ sign_flipped wide z) (sign_flipped wide z < sign_flipped wide y)
+    by wide y z p q Less h = flipped_less wide y z p q h
+    by wide y z p q Equal h = ap (sign_flipped wide) h
+    by wide y z p q Greater h = flipped_less wide z y q p h
 
 pub signed_fixed_code : (wide : Bool) → KeepsOrder (IsSigned wide) (signed_fixed_bytes wide) int_cmp
 signed_fixed_code wide = record {

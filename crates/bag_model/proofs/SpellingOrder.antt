@@ -1,11 +1,11 @@
 -- The spellings of scalars keep the order of the values: form by form, field by field, kind by kind.
-use Rattle.std.proofs.Common.{◌≡◌, ℕ, ℤ, pos, Bool, true, false, List, [], ◌∷◌, ◌++◌, Ordering, Less, Equal, Greater, nat_cmp, int_cmp, sym, refl, ap, ap₂, ◌∙◌, arith}
+use Rattle.std.proofs.Common.{◌≡◌, ℕ, ℤ, pos, Bool, true, false, List, [], ◌∷◌, ◌++◌, Ordering, Less, nat_cmp, int_cmp, sym, refl, ap, ap₂, ◌∙◌, arith}
 use Rattle.std.proofs.lemmas.List.{append-nil, append_assoc}
 use Rattle.std.proofs.lemmas.Bool.Decides.{nat_tests}
 use Rattle.std.specs.Ordering.{ordering_then, bool_cmp}
 use Rattle.std.specs.Cmp.Lexicographic.{slice_cmp}
 use Rattle.context_model.proofs.Digits.{then-assoc}
-use Rattle.bag_model.specs.Scalars.{Word, Form, TruthByte, UnsignedVarint, SignedVarint, FixedBytes, SignedFixedBytes, TextBytes, RawBytes, form_of, ScalarKind, Plain, Truth, Signed, Unsigned, Text, Octets, ScalarValue, IsOfForm, IsPlainOf, ArePlainsOf, IsScalarOf, plain_cmp, scalar_cmp, plain_spelling, field_spelling, packed_spelling, spelling}
+use Rattle.bag_model.specs.Scalars.{Word, Form, TruthByte, UnsignedVarint, SignedVarint, FixedBytes, SignedFixedBytes, TextBytes, RawBytes, form_of, ScalarKind, Plain, Truth, Signed, Unsigned, Text, Octets, ScalarValue, IsOfForm, ArePlainsOf, IsScalarOf, plain_cmp, scalar_cmp, plain_spelling, field_spelling, packed_spelling, spelling}
 use Rattle.bag_model.specs.SpellingLaws.{SpellingsKeepOrder}
 use Rattle.bag_model.proofs.Codes.{KeepsOrder, then-equal, bytes_tied, code_order, code_apart}
 use Rattle.bag_model.proofs.NumberCodes.{truth_code, unsigned_code, signed_code, fixed_code, signed_fixed_code, ended_code}
@@ -25,8 +25,8 @@ signed_cmp y z = then-equal (int_cmp y z)
 unsigned_cmp : (m n : ℕ) → plain_cmp (Unsigned m) (Unsigned n) ≡ nat_cmp m n
 unsigned_cmp m n = then-equal (int_cmp (pos m) (pos n)) ∙ from_zero
   where
-  from_zero : int_cmp (pos m) (pos n) ≡ nat_cmp m n
-  from_zero = grind (arith, nat_tests)
+    from_zero : int_cmp (pos m) (pos n) ≡ nat_cmp m n
+    from_zero = grind (arith, nat_tests)
 
 -- first the values, of which this order is told, and then what follows
 behind : (o p : Ordering) (s t : List ℕ) → p ≡ o → ordering_then o (slice_cmp nat_cmp s t) ≡ ordering_then p (slice_cmp nat_cmp s t)

@@ -14,15 +14,15 @@ by_parse : {E : Type 0} (word : List ℕ) (r : Result ℕ E) → OkIff r ((all_a
 unfolding number_of
 by_parse word (Ok n) (fits, is) first = grind (arith, nat_tests, fits.0, fits.1, fits.2, is)
 by_parse word (Err e) none first = elim (cases_Bool (all_ascii_digits word)) [
-    inl digits ↦ elim (cases_lt 0 (length word)) [
-        inl some ↦ elim (cases_lt (digits_value 10 word) (2 ^ 32)) [
-            inl fits ↦ absurd (none (digits, some, fits))
-          | inr big ↦ grind (arith, nat_tests)
-          ]
-      | inr empty ↦ grind (arith, nat_tests)
-      ]
-  | inr other ↦ grind (arith, nat_tests)
+  | inl digits ↦ elim (cases_lt 0 (length word)) [
+    | inl some ↦ elim (cases_lt (digits_value 10 word) (2 ^ 32)) [
+      | inl fits ↦ absurd (none (digits, some, fits))
+      | inr big ↦ grind (arith, nat_tests)
+    ]
+    | inr empty ↦ grind (arith, nat_tests)
   ]
+  | inr other ↦ grind (arith, nat_tests)
+]
 
 pub parsed : {E : Type 0} (word : List ℕ) (r : Result ℕ E) → ParsesUnsigned 32 10 word r → get_or word 0 0 ≢ 43 → get_or word 0 0 ≢ 48 → result_ok r ≡ number_of word
 parsed word r p plus first = by_parse word r (parse_plain (numerals_by_value _ tells_all_ascii_digits) 32 word r p plus) first

@@ -14,11 +14,11 @@ pub record Change (A : Type 0) : Type 0 where
 -- The change of an object from the old to the new.
 abbrev pub change : {A S : Type 0} → (S → Option A) → (S → ℕ) → S → S → Change A
 change content faults old new = record {
-    before = content old;
-    after = content new;
-    faults_before = faults old;
-    faults_after = faults new;
-  }
+  before = content old;
+  after = content new;
+  faults_before = faults old;
+  faults_after = faults new;
+}
 
 -- The four objects of a call.
 pub record Scene : Type 0 where

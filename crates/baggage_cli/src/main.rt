@@ -23,7 +23,16 @@ fn main(rt: HostRuntime) -> ExitCode {
     let mut out = StreamSink::new(rt.stdout());
     let mut errs = StreamSink::new(rt.stderr());
     let status = match words_of(&rt) {
-        Ok(words) => baggage_top(&rt, alloc, &Open, &words, &mut library, &mut source, &mut out, &mut errs),
+        Ok(words) => baggage_top(
+            &rt,
+            alloc,
+            &Open,
+            &words,
+            &mut library,
+            &mut source,
+            &mut out,
+            &mut errs,
+        ),
         Err(Memory) => delivery::tell(&mut errs, b"memory\n", 6),
     };
     ExitCode::from(status)

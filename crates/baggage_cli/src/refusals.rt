@@ -19,7 +19,10 @@ pub enum InputCode {
 #[derive(Clone, Copy, Debug, PartialEq, Eq)]
 pub enum Refusal {
     /// A line of the input is bad. Line 0 is the input as a whole.
-    Input { line: u64, code: InputCode },
+    Input {
+        line: u64,
+        code: InputCode,
+    },
     /// The bytes of a line aren't those of a list.
     Wire {
         line: u64,
@@ -75,7 +78,9 @@ impl Refusal {
     {
         match self {
             Refusal::Input { line, code } => Ok(format!(in alloc; "input line {line} {code}\n")?),
-            Refusal::Wire { line, offset, code } => Ok(format!(in alloc; "context line {line} offset {offset} {code}\n")?),
+            Refusal::Wire { line, offset, code } => Ok(format!(in alloc;
+                "context line {line} offset {offset} {code}\n"
+            )?),
             Refusal::SourceFailed => Ok(String::from_str(alloc, "source failed\n")?),
             Refusal::Memory => Ok(String::from_str(alloc, "memory\n")?),
         }

@@ -20,7 +20,13 @@ use std::alloc::Global;
 use std::thread::Threads;
 
 /// Carries a command out: its output, or why there is none.
-fn carry_out<L: Library, S: Source>(alloc: Global, command: Command, words: &Words, library: &mut L, source: &mut S) -> Result<String, Refusal>
+fn carry_out<L: Library, S: Source>(
+    alloc: Global,
+    command: Command,
+    words: &Words,
+    library: &mut L,
+    source: &mut S,
+) -> Result<String, Refusal>
     requires { IsSound command }
     ensures ok { IfOk result (λ output. Comes words.now command (change L.files L.faults library.old library.new) (change S.left S.faults source.old source.new) (Ok (string_bytes output))) }
     ensures err { IfErr result (λ refusal. Comes words.now command (change L.files L.faults library.old library.new) (change S.left S.faults source.old source.new) (Err refusal)) }
@@ -31,7 +37,15 @@ fn carry_out<L: Library, S: Source>(alloc: Global, command: Command, words: &Wor
 }
 
 /// Carries a command out and delivers what it comes to.
-fn answer_command<L: Library, S: Source, K: Sink, E: Sink>(alloc: Global, command: Command, words: &Words, library: &mut L, source: &mut S, out: &mut K, errs: &mut E) -> u8
+fn answer_command<L: Library, S: Source, K: Sink, E: Sink>(
+    alloc: Global,
+    command: Command,
+    words: &Words,
+    library: &mut L,
+    source: &mut S,
+    out: &mut K,
+    errs: &mut E,
+) -> u8
     requires { IsSound command }
     ensures { Answers words.now (Some command) (record {
       library = change L.files L.faults library.old library.new;
@@ -47,7 +61,14 @@ fn answer_command<L: Library, S: Source, K: Sink, E: Sink>(alloc: Global, comman
 }
 
 /// Decides the words, carries their command out and delivers what it comes to.
-fn answer_words<L: Library, S: Source, K: Sink, E: Sink>(alloc: Global, words: &Words, library: &mut L, source: &mut S, out: &mut K, errs: &mut E) -> u8
+fn answer_words<L: Library, S: Source, K: Sink, E: Sink>(
+    alloc: Global,
+    words: &Words,
+    library: &mut L,
+    source: &mut S,
+    out: &mut K,
+    errs: &mut E,
+) -> u8
     ensures { Answers words.now (asked words.now) (record {
       library = change L.files L.faults library.old library.new;
       source = change S.left S.faults source.old source.new;
@@ -66,7 +87,16 @@ fn answer_words<L: Library, S: Source, K: Sink, E: Sink>(alloc: Global, words: &
 ///
 /// `trim N` reads one line of hexadecimal digits from the source, which frames a list of atoms, and writes the line of the
 /// list trimmed to `N` bytes.
-pub fn baggage_top<R: Threads + Sync, G: Gate, L: Library, S: Source, K: Sink, E: Sink>(_rt: &R, alloc: Global, _gate: &G, words: &Words, library: &mut L, source: &mut S, out: &mut K, errs: &mut E) -> u8
+pub fn baggage_top<R: Threads + Sync, G: Gate, L: Library, S: Source, K: Sink, E: Sink>(
+    _rt: &R,
+    alloc: Global,
+    _gate: &G,
+    words: &Words,
+    library: &mut L,
+    source: &mut S,
+    out: &mut K,
+    errs: &mut E,
+) -> u8
     // Exactly what the call comes to, and how it is delivered.
     ensures answer { Answers words.now (asked words.now) (record {
       library = change L.files L.faults library.old library.new;

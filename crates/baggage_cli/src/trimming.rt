@@ -59,5 +59,4 @@ pub fn trim_source<S: Source>(alloc: Global, source: &mut S, budget: u32) -> Res
 /// Trimming gives one outcome for an input.
 pub fn trim_gives_one()
     ensures { TrimGivesOne }
-{
-}
+{}

@@ -5,3 +5,4 @@ pub mod TypeLaws
 pub mod Exits
 pub mod DeclLaws
 pub mod FirstFault
+pub mod Outcomes

@@ -1,6 +1,7 @@
 -- The module that tokens say, or the token at which they first go wrong.
 use Rattle.std.specs.Prelude.{ℕ, ◌+◌, ◌<◌, ◌≤◌, List, [], length, take}
 use Rattle.bdl_parser.specs.declared.trees.Module.{Module}
+use Rattle.bdl_parser.specs.declared.ParseCode.{ParseCode}
 use Rattle.bdl_parser.specs.declared.ParseCode.TheVariants.{Expected, TypeNesting}
 use Rattle.bdl_parser.specs.declared.ParseFault.{ParseFault}
 use Rattle.bdl_parser.specs.declared.ParseFault.TheVariants.{At, Memory}
@@ -30,8 +31,12 @@ pub record NestsAt (ts : List Lexeme) (k : ℕ) : Type 0 where
   pub begins : BeginsModule (take (k + 1) ts)
   pub deep : (a_module 32).begins (take (k + 1) ts) → ⊥
 
--- what a fault says of the tokens
+-- the first fault of the tokens
+abbrev pub FaultAt : List Lexeme → ℕ → ParseCode → Type 0
+FaultAt ts k Expected = ExpectedAt ts k
+FaultAt ts k TypeNesting = NestsAt ts k
+
+-- what a refusal says: the first fault, or that there is no memory
 abbrev pub IsFaultOf : List Lexeme → ParseFault → Type 0
-IsFaultOf ts (At k Expected) = ExpectedAt ts k
-IsFaultOf ts (At k TypeNesting) = NestsAt ts k
+IsFaultOf ts (At k code) = FaultAt ts k code
 IsFaultOf ts Memory = Unit {0}

@@ -181,4 +181,6 @@ fn one_tree(rt: HostRuntime) -> Result<(), Fail> {
 #[test]
 fn laws() {
     laws::modules_are_unique();
+    laws::modules_exclude_faults();
+    laws::faults_are_unique();
 }

@@ -24,7 +24,7 @@ goes_on [] (b ∷ other) rest more short short' e less = (b, other, refl, short'
 goes_on (a ∷ list) [] rest more short short' e less = absurd (omega arith)
 goes_on (a ∷ list) (b ∷ other) rest more short short' e less =
     let parts = frame_cancel a b (bytes_of list ++ rest) (bytes_of other ++ more) short.0 short'.0
-        (sym (append_assoc (frame a) (bytes_of list) rest) ∙ e ∙ append_assoc (frame b) (bytes_of other) more) in
+    (sym (append_assoc (frame a) (bytes_of list) rest) ∙ e ∙ append_assoc (frame b) (bytes_of other) more) in
     let l = length-append (frame a) (bytes_of list) in
     let k = length-append (frame b) (bytes_of other) in
     let m = ap (λ x. length (frame x)) parts.0 in
@@ -38,14 +38,14 @@ pub no_further : (list other : List Atom) (rest more : List ℕ) (code : ByteCod
     → IsWrongBehind list rest code → length (bytes_of other) ≤ length (bytes_of list)
 no_further list other rest more code short short' formed e (inl wire) = not_longer list other rest more code short short' e wire
 no_further list other rest more code short short' formed e (inr (atom, behind, fits, is, wrong)) = elim (cases_lt (length (bytes_of list)) (length (bytes_of other))) [
-    inr not ↦ not
+  | inr not ↦ not
   | inl less ↦ (
       let next = goes_on list other rest more short short' e less in
       let same = (frame_cancel atom next.0 behind (bytes_of next.1 ++ more) fits next.3 (sym is ∙ next.4)).0 in
       let there = fits_there list next.0 next.1 (subst IsWellFormed next.2 formed) in
       absurd (wrong_apart code (last_path_after [] list) next.0 (subst (IsWrong code (last_path_after [] list)) same wrong) there.0 there.1)
-    )
-  ]
+      )
+]
 
 -- What is wrong behind a context is the first fault.
 pub first_context_fault : (bytes rest : List ℕ) (list : List Atom) (code : ByteCode) → AreAtoms list → IsWellFormed list → bytes ≡ bytes_of list ++ rest → 0 < length rest → IsWrongBehind list rest code
@@ -58,12 +58,12 @@ first_context_fault bytes rest list code short formed split some wrong =
       within = omega arith;
       front = (short, formed, ap (take (length front)) split ∙ take_at front rest (length front) refl);
       longest = λ n other upto framed. (
-        let whole : front ++ rest ≡ bytes_of other ++ drop n bytes = sym split ∙ sym (take-append-drop n bytes) ∙ ap (λ xs. xs ++ drop n bytes) framed.2 in
-        let less = no_further list other rest (drop n bytes) code short framed.0 framed.1 whole wrong in
-        let n_is = ap length framed.2 in
-        let n_long = length-take-le n bytes upto in
-        omega arith
-      );
+          let whole : front ++ rest ≡ bytes_of other ++ drop n bytes = sym split ∙ sym (take-append-drop n bytes) ∙ ap (λ xs. xs ++ drop n bytes) framed.2 in
+          let less = no_further list other rest (drop n bytes) code short framed.0 framed.1 whole wrong in
+          let n_is = ap length framed.2 in
+          let n_long = length-take-le n bytes upto in
+          omega arith
+          );
       applies = subst (λ xs. IsWrongBehind list xs code) (sym (ap (drop (length front)) split ∙ drop_at front rest (length front) refl)) wrong;
     }
 
@@ -78,18 +78,18 @@ wrong_behind_unique list rest c d (inr (atom, more, short, is, wrong)) (inr (oth
 
 pub has_one_context : (bytes : List ℕ) → HasOneContext bytes
 has_one_context bytes = record {
-    list = λ a b of_a of_b. bytes_of_cancel a b of_a.0 of_b.0 (sym of_a.2 ∙ of_b.2);
-    fault = λ i j c d a b. (
+  list = λ a b of_a of_b. bytes_of_cancel a b of_a.0 of_b.0 (sym of_a.2 ∙ of_b.2);
+  fault = λ i j c d a b. (
       let up = b.longest i a.list (let w = a.within in omega arith) a.front in
       let down = a.longest j b.list (let w = b.within in omega arith) b.front in
       let same : i ≡ j = omega arith in
       let lists = bytes_of_cancel b.list a.list b.front.0 a.front.0 (sym b.front.2 ∙ ap (λ n. take n bytes) (sym same) ∙ a.front.2) in
       (same, wrong_behind_unique a.list (drop i bytes) c d a.applies (subst (λ list. IsWrongBehind list (drop i bytes) d) lists (subst (λ n. IsWrongBehind b.list (drop n bytes) d) (sym same) b.applies)))
-    );
-    either = λ list offset code of_list fault. (
+      );
+  either = λ list offset code of_list fault. (
       let all : take (length bytes) bytes ≡ bytes = take_all (length bytes) bytes (omega arith) in
       let late = fault.longest (length bytes) list (omega arith) (of_list.0, of_list.1, all ∙ of_list.2) in
       let w = fault.within in
       absurd (omega arith)
-    );
-  }
+      );
+}

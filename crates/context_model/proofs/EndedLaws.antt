@@ -98,7 +98,7 @@ kept_path q r (b ∷ bytes) k n f = by (nat_le 128 b) refl
     by false e = ap (λ v. v ++ (b ∷ bytes) ∷ []) k.headers
 
 -- the headers of a path with one atom behind them
-headers_front : (q : Path) (a : Atom) → headers_of q ≡ take (header_count q) (headers_of q ++ a ∷ [])
+pub headers_front : (q : Path) (a : Atom) → headers_of q ≡ take (header_count q) (headers_of q ++ a ∷ [])
 headers_front q a = sym (take_at (headers_of q) (a ∷ []) (header_count q) (length-take-le (header_count q) q (header_count-length q)))
 
 kept_drop : (q r : Path) (payload : List ℕ) → Kept q r → Fits q (0 ∷ payload) → Kept (path_after q (0 ∷ payload)) r
@@ -111,11 +111,11 @@ kept_drop q r payload k f = record {
     count : header_count (headers_of q ++ (0 ∷ payload) ∷ []) ≡ header_count q
     count = header_count-take (header_count q) q (0 ∷ payload) (le_refl (header_count q)) ∙ add-zero (header_count q)
 
-headers_more : (q : Path) → headers_of (q ++ [] ∷ []) ≡ headers_of q
+pub headers_more : (q : Path) → headers_of (q ++ [] ∷ []) ≡ headers_of q
 headers_more q = ap (λ v. take v (q ++ [] ∷ [])) (header_count-more q) ∙ take-append-le (header_count q) q ([] ∷ []) (header_count-length q)
 
 -- nothing lies between a path and that path with a marker
-before_marker : (x p : Path) → path_cmp x (p ++ [] ∷ []) ≡ Less → path_cmp x p ≡ Greater → ⊥
+pub before_marker : (x p : Path) → path_cmp x (p ++ [] ∷ []) ≡ Less → path_cmp x p ≡ Greater → ⊥
 before_marker [] [] h g = let clash : Equal ≡ Greater = g in cc
 before_marker [] (a ∷ p) h g = let clash : Less ≡ Greater = g in cc
 before_marker ([] ∷ []) [] h g = let clash : Equal ≡ Less = h in cc

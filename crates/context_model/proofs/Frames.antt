@@ -38,43 +38,43 @@ front_three a b c xs h k m = grind (arith, nat_tests)
 
 pub length_front-code : (n : ℕ) (xs : List ℕ) → n ≤ 65535 → length_front (length_code n ++ xs) ≡ length_code n
 length_front-code n xs within = elim (cases_lt n 128) [
-    inl one ↦ rw (code_one n one) (front_one n xs one)
+  | inl one ↦ rw (code_one n one) (front_one n xs one)
   | inr more ↦ elim (cases_lt n 16384) [
-        inl two ↦ rw (code_two n more two) (front_two (n % 128 + 128) (n / 128) xs (omega arith) (omega arith))
-      | inr three ↦ rw (code_three n three) (front_three (n % 128 + 128) (n / 128 % 128 + 128) (n / 16384) xs (omega arith) (omega arith) (omega arith))
-      ]
+    | inl two ↦ rw (code_two n more two) (front_two (n % 128 + 128) (n / 128) xs (omega arith) (omega arith))
+    | inr three ↦ rw (code_three n three) (front_three (n % 128 + 128) (n / 128 % 128 + 128) (n / 16384) xs (omega arith) (omega arith) (omega arith))
   ]
+]
 
 pub length_said-code : (n : ℕ) → n ≤ 65535 → length_said (length_code n) ≡ n
 length_said-code n within = elim (cases_lt n 128) [
-    inl one ↦ rw (code_one n one) (omega arith)
+  | inl one ↦ rw (code_one n one) (omega arith)
   | inr more ↦ elim (cases_lt n 16384) [
-        inl two ↦ rw (code_two n more two) (omega arith)
-      | inr three ↦ rw (code_three n three) (omega arith)
-      ]
+    | inl two ↦ rw (code_two n more two) (omega arith)
+    | inr three ↦ rw (code_three n three) (omega arith)
   ]
+]
 
 -- The last byte of a length has no top bit, and isn't 0 where there is one before it.
 code_ends : (n : ℕ) → n ≤ 65535 → is_open (length_code n) ≡ false
 code_ends n within = elim (cases_lt n 128) [
-    inl one ↦ rw (code_one n one) (grind (arith, nat_tests))
+  | inl one ↦ rw (code_one n one) (grind (arith, nat_tests))
   | inr more ↦ elim (cases_lt n 16384) [
-        inl two ↦ rw (code_two n more two) (grind (arith, nat_tests))
-      | inr three ↦ rw (code_three n three) (grind (arith, nat_tests))
-      ]
+    | inl two ↦ rw (code_two n more two) (grind (arith, nat_tests))
+    | inr three ↦ rw (code_three n three) (grind (arith, nat_tests))
   ]
+]
 
 abbrev long_form : List ℕ → Bool
 long_form code = nat_lt 1 (length code) && (get_or code (length code - 1) 0 == 0)
 
 code_short : (n : ℕ) → long_form (length_code n) ≡ false
 code_short n = elim (cases_lt n 128) [
-    inl one ↦ rw (code_one n one) refl
+  | inl one ↦ rw (code_one n one) refl
   | inr more ↦ elim (cases_lt n 16384) [
-        inl two ↦ rw (code_two n more two) (grind (arith, nat_tests))
-      | inr three ↦ rw (code_three n three) (grind (arith, nat_tests))
-      ]
+    | inl two ↦ rw (code_two n more two) (grind (arith, nat_tests))
+    | inr three ↦ rw (code_three n three) (grind (arith, nat_tests))
   ]
+]
 
 -- What is wrong behind a length that is rightly spelled: that the body is cut, or nothing.
 pub wire_code-length : (n : ℕ) (behind : List ℕ) → n ≤ 65535 → wire_code (length_code n ++ behind) ≡ (if nat_lt (length behind) n then Some CutBody else None)
@@ -133,7 +133,7 @@ not_longer [] (b ∷ other) rest more code short short' e wrong =
 not_longer (a ∷ list) [] rest more code short short' e wrong = omega arith
 not_longer (a ∷ list) (b ∷ other) rest more code short short' e wrong =
     let parts = frame_cancel a b (bytes_of list ++ rest) (bytes_of other ++ more) short.0 short'.0
-        (sym (append_assoc (frame a) (bytes_of list) rest) ∙ e ∙ append_assoc (frame b) (bytes_of other) more) in
+    (sym (append_assoc (frame a) (bytes_of list) rest) ∙ e ∙ append_assoc (frame b) (bytes_of other) more) in
     let later = not_longer list other rest more code short.1 short'.1 parts.1 wrong in
     let l = length-append (frame a) (bytes_of list) in
     let k = length-append (frame b) (bytes_of other) in
@@ -151,13 +151,13 @@ first_fault bytes rest list code short split some wrong =
       within = omega arith;
       framed = (list, short, ap (take (length front)) split ∙ take_at front rest (length front) refl);
       longest = λ n upto framed. (
-        let other = framed.0 in
-        let whole : front ++ rest ≡ bytes_of other ++ drop n bytes = sym split ∙ sym (take-append-drop n bytes) ∙ ap (λ xs. xs ++ drop n bytes) framed.2 in
-        let less = not_longer list other rest (drop n bytes) code short framed.1 whole wrong in
-        let n_is = ap length framed.2 in
-        let n_long = length-take-le n bytes upto in
-        omega arith
-      );
+          let other = framed.0 in
+          let whole : front ++ rest ≡ bytes_of other ++ drop n bytes = sym split ∙ sym (take-append-drop n bytes) ∙ ap (λ xs. xs ++ drop n bytes) framed.2 in
+          let less = not_longer list other rest (drop n bytes) code short framed.1 whole wrong in
+          let n_is = ap length framed.2 in
+          let n_long = length-take-le n bytes upto in
+          omega arith
+          );
       applies = ap wire_code (ap (drop (length front)) split ∙ drop_at front rest (length front) refl) ∙ wrong;
     })
 
@@ -187,7 +187,7 @@ front_shorter bytes atom behind e =
 
 pub reads_one_way : ReadsOneWay
 reads_one_way bytes = record {
-    list = λ a b short_a short_b e f. bytes_of_cancel a b short_a short_b (sym e ∙ f);
-    fault = one_fault bytes;
-    either = λ list offset code short e fault. no_fault bytes list offset code short e fault;
-  }
+  list = λ a b short_a short_b e f. bytes_of_cancel a b short_a short_b (sym e ∙ f);
+  fault = one_fault bytes;
+  either = λ list offset code short e fault. no_fault bytes list offset code short e fault;
+}

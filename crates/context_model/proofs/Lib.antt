@@ -31,3 +31,4 @@ pub mod MergedLaws
 pub mod MergedMarkers
 pub mod FirstMarkers
 pub mod MergeRows
+pub mod HeadersAfter

@@ -1,5 +1,6 @@
 -- Paths, markers and fronts by places, for loops over a list.
 use Rattle.std.proofs.Common.{◌≡◌, ℕ, zero, suc, ◌+◌, ◌<◌, ◌≤◌, ◌⊎◌, ◌↔◌, List, [], ◌∷◌, ◌++◌, length, take, slice_get, Some, None, sym, refl, ap, ap₂, ◌∙◌, subst, arith, inl, inr, add-one}
+use Rattle.std.proofs.lemmas.List.{length-take-le}
 use Rattle.context_model.specs.Atoms.{Atom}
 use Rattle.context_model.specs.Orders.{Path, IsIn}
 use Rattle.context_model.specs.Paths.{path_after, paths_after, paths, last_path_after}
@@ -100,3 +101,29 @@ IsEnded-nowhere list s n m f u (inr (p, i, b)) =
     let t : StandsThere [] (take n list) p = place_of [] (take n list) p (subst (λ v. IsIn p (paths v)) f i) in
     let g : (t.place < n) × (slice_get list t.place ≡ Some t.atom) = slice_get-take list n t.place t.atom t.there in
     u t.place t.atom g.0 g.1 (subst (λ v. IsBeyond s (path_after (last_path_after [] v) t.atom)) (take_front list n t.place g.0) (subst (IsBeyond s) t.path_is b))
+
+-- ---- how many atoms the front has
+
+pub front_of-length : (list : List Atom) → length (front_of list) ≤ length list
+front_of-length [] = omega arith
+front_of-length ([] ∷ list) = omega arith
+front_of-length ((b ∷ bytes) ∷ list) = let l : length (front_of list) ≤ length list = front_of-length list in omega arith
+
+-- a marker stands in a list exactly where its front is shorter
+pub front_of-marker : (list : List Atom) → (length (front_of list) < length list) ↔ HasMarker list
+front_of-marker list = (to list, from list)
+  where
+    to : (list : List Atom) → length (front_of list) < length list → HasMarker list
+    to [] h = absurd (omega arith)
+    to ([] ∷ list) h = inl refl
+    to ((b ∷ bytes) ∷ list) h = inr (to list (omega arith))
+
+    from : (list : List Atom) → HasMarker list → length (front_of list) < length list
+    from [] h = absurd h
+    from ([] ∷ list) h = omega arith
+    from ((b ∷ bytes) ∷ list) (inl e) = cc
+    from ((b ∷ bytes) ∷ list) (inr h) = let l : length (front_of list) < length list = from list h in omega arith
+
+-- how long the front is, from what a loop knows
+pub length-front_of : (list : List Atom) (i : ℕ) → i ≤ length list → ((k : ℕ) → k < i → slice_get list k ≡ Some [] → ⊥) → (slice_get list i ≡ Some []) ⊎ (length list ≤ i) → i ≡ length (front_of list)
+length-front_of list i l n e = sym (ap length (front_of-take list i n e) ∙ length-take-le i list l)

@@ -32,9 +32,9 @@ le-greatest test (suc n) m within passes = by (λ below. le-greatest test n m be
     by : (m ≤ n → m ≤ greatest test n) → (b : Bool) → test (suc n) ≡ b → m ≤ (if b then suc n else greatest test n)
     by later true e = within
     by later false e = elim (cases_lt n m) [
-        inl above ↦ (let same : m ≡ suc n = omega arith in absurd (cc (ap test same, e, passes)))
+      | inl above ↦ (let same : m ≡ suc n = omega arith in absurd (cc (ap test same, e, passes)))
       | inr below ↦ later below
-      ]
+    ]
 
 -- The test that kept_of asks.
 abbrev fits_in : List Atom → ℕ → ℕ → Bool
@@ -72,16 +72,16 @@ keeps_longest list budget some over =
     let keep = greatest test n in
     let upto : keep ≤ n = greatest-le test n in
     let fits : size_of (cut_at keep list) ≤ budget = elim (greatest-passes test n) [
-        inl passes ↦ leb-true (size_of (cut_at keep list)) budget passes
+      | inl passes ↦ leb-true (size_of (cut_at keep list)) budget passes
       | inr none ↦ subst (λ k. size_of (cut_at k list) ≤ budget) (sym none) (let one = size_of-cut 0 list in omega arith)
-      ] in
+    ] in
     let whole : size_of (take n list) ≡ size_of list = ap size_of (take_all n list (omega arith)) in
     let within : keep < n = elim (cases_lt keep n) [
-        inl less ↦ less
+      | inl less ↦ less
       | inr all ↦ (let same : keep ≡ n = omega arith in
           let cut : size_of (cut_at n list) ≤ budget = subst (λ k. size_of (cut_at k list) ≤ budget) same fits in
           let more = size_of-cut n list in absurd (omega arith))
-      ] in
+    ] in
     subst (λ k. IsLongestFit list budget k) (sym (kept_of-cut list budget over)) (record {
       within = within;
       fits = fits;
@@ -92,7 +92,7 @@ keeps_longest list budget some over =
 pub cut_at-cut_at : (m k : ℕ) (list : List Atom) → m ≤ k → k ≤ length list → cut_at m (cut_at k list) ≡ cut_at m list
 cut_at-cut_at m k list below within =
     let front : take m (take k list ++ [] ∷ []) ≡ take m list =
-      take-append-le m (take k list) ([] ∷ []) (let l = length-take-le k list within in omega arith) ∙ take-take m k list below in
+    take-append-le m (take k list) ([] ∷ []) (let l = length-take-le k list within in omega arith) ∙ take-take m k list below in
     ap (λ xs. xs ++ [] ∷ []) front
 
 length-cut_at : (k : ℕ) (list : List Atom) → k ≤ length list → length (cut_at k list) ≡ k + 1
@@ -107,7 +107,7 @@ cuts_again list b k some over within bound =
     let fit : IsLongestFit list b at = keeps_longest list b some over in
     let at_k : at ≤ k = bound at (let w = fit.within in omega arith) fit.fits in
     elim (cases_lt b (size_of cut)) [
-        inl more ↦ (
+      | inl more ↦ (
           let again : IsLongestFit cut b (kept_of cut b) = keeps_longest cut b some more in
           let len : length cut ≡ k + 1 = length-cut_at k list (omega arith) in
           let m : ℕ = kept_of cut b in
@@ -117,60 +117,60 @@ cuts_again list b k some over within bound =
           let down : at ≤ m = again.longest at (omega arith) (subst (λ xs. size_of xs ≤ b) (sym (cut_at-cut_at at k list at_k (omega arith))) fit.fits) in
           let equal : m ≡ at = omega arith in
           trimmed-cut cut b more ∙ same ∙ ap (λ n. cut_at n list) equal
-        )
+          )
       | inr fits ↦ (
           let up : k ≤ at = fit.longest k (omega arith) fits in
           let equal : k ≡ at = omega arith in
           trimmed-fits cut b fits ∙ ap (λ n. cut_at n list) equal
-        )
-      ]
+          )
+    ]
 
 -- To trim to one budget and then to another is to trim to the lesser of the two.
 pub cuts_once : CutsOnce
 cuts_once list a b some_a some_b = elim (cases_lt a (size_of list)) [
-    inr fits ↦ rw (trimmed-fits list a fits) (
+  | inr fits ↦ rw (trimmed-fits list a fits) (
       elim (cases_lt a b) [
-          inl less ↦ (
+        | inl less ↦ (
             let least : min a b ≡ a = omega arith in
             trimmed-fits list b (omega arith) ∙ sym (trimmed-fits list a fits) ∙ ap (trimmed list) (sym least)
-          )
+            )
         | inr not_less ↦ (let least : min a b ≡ b = omega arith in ap (trimmed list) (sym least))
-        ]
-    )
+      ]
+      )
   | inl over ↦ (
       let k : ℕ = kept_of list a in
       let fit : IsLongestFit list a k = keeps_longest list a some_a over in
       rw (trimmed-cut list a over) (
-        elim (cases_lt b a) [
-            inl less ↦ (
-              let least : min a b ≡ b = omega arith in
-              cuts_again list b k some_b (omega arith) fit.within (λ n upto fits. fit.longest n upto (omega arith))
-                ∙ sym (trimmed-cut list b (omega arith)) ∙ ap (trimmed list) (sym least)
+      elim (cases_lt b a) [
+        | inl less ↦ (
+            let least : min a b ≡ b = omega arith in
+            cuts_again list b k some_b (omega arith) fit.within (λ n upto fits. fit.longest n upto (omega arith))
+            ∙ sym (trimmed-cut list b (omega arith)) ∙ ap (trimmed list) (sym least)
             )
-          | inr not_less ↦ (
-              let least : min a b ≡ a = omega arith in
-              trimmed-fits (cut_at k list) b (let f = fit.fits in omega arith) ∙ sym (trimmed-cut list a over) ∙ ap (trimmed list) (sym least)
+        | inr not_less ↦ (
+            let least : min a b ≡ a = omega arith in
+            trimmed-fits (cut_at k list) b (let f = fit.fits in omega arith) ∙ sym (trimmed-cut list a over) ∙ ap (trimmed list) (sym least)
             )
-          ]
+      ]
       )
-    )
-  ]
+      )
+]
 
 -- The longest front that fits ends at the first atom with which the budget is passed, or one before where no byte is left for the marker.
 fit_before : (list : List Atom) (budget i : ℕ) → 0 < budget → i < length list → size_of (take i list) ≤ budget → budget < size_of (take (i + 1) list)
     → IsLongestFit list budget (if nat_lt (size_of (take i list)) budget then i else i - 1)
 fit_before list budget i some within fits over = elim (cases_lt (size_of (take i list)) budget) [
-    inl room ↦ (
+  | inl room ↦ (
       let here : (if nat_lt (size_of (take i list)) budget then i else i - 1) ≡ i = grind (arith, nat_tests) in
       subst (IsLongestFit list budget) (sym here) (record {
         within = within;
         fits = let e = size_of-cut i list in omega arith;
         longest = λ n upto fit. (
-          let e = size_of-cut n list in
-          elim (cases_lt i n) [ inl more ↦ (let m = size_of-take-le (i + 1) n list (omega arith) in absurd (omega arith)) | inr less ↦ less ]
-        );
+            let e = size_of-cut n list in
+            elim (cases_lt i n) [ inl more ↦ (let m = size_of-take-le (i + 1) n list (omega arith) in absurd (omega arith)) | inr less ↦ less ]
+            );
       })
-    )
+      )
   | inr full ↦ (
       let here : (if nat_lt (size_of (take i list)) budget then i else i - 1) ≡ i - 1 = grind (arith, nat_tests) in
       let later : 0 < i = elim (cases_lt 0 i) [ inl more ↦ more | inr first ↦ (let z : i ≡ 0 = omega arith in let e : size_of (take i list) ≡ 0 = ap (λ k. size_of (take k list)) z in absurd (omega arith)) ] in
@@ -180,12 +180,12 @@ fit_before list budget i some within fits over = elim (cases_lt (size_of (take i
         within = omega arith;
         fits = let e = size_of-cut (i - 1) list in omega arith;
         longest = λ n upto fit. (
-          let e = size_of-cut n list in
-          elim (cases_lt (i - 1) n) [ inl more ↦ (let m = size_of-take-le i n list (omega arith) in absurd (omega arith)) | inr less ↦ less ]
-        );
+            let e = size_of-cut n list in
+            elim (cases_lt (i - 1) n) [ inl more ↦ (let m = size_of-take-le i n list (omega arith) in absurd (omega arith)) | inr less ↦ less ]
+            );
       })
-    )
-  ]
+      )
+]
 
 pub kept_of-before : (list : List Atom) (budget i : ℕ) → 0 < budget → i < length list → size_of (take i list) ≤ budget → budget < size_of (take (i + 1) list)
     → kept_of list budget ≡ (if nat_lt (size_of (take i list)) budget then i else i - 1)
@@ -196,6 +196,6 @@ kept_of-before list budget i some within fits over =
 -- All atoms stay exactly where the list fits.
 pub kept_of-all : (list : List Atom) (budget : ℕ) → 0 < budget → length list ≤ kept_of list budget → size_of list ≤ budget
 kept_of-all list budget some all = elim (cases_lt budget (size_of list)) [
-    inl over ↦ (let fit = keeps_longest list budget some over in let w = fit.within in absurd (omega arith))
+  | inl over ↦ (let fit = keeps_longest list budget some over in let w = fit.within in absurd (omega arith))
   | inr fits ↦ fits
-  ]
+]

@@ -3,3 +3,4 @@ pub mod ChoiceLaws
 pub mod StopLaws
 pub mod GoOnLaws
 pub mod Growth
+pub mod Fronts

@@ -59,17 +59,14 @@ pub fn merge_lists(alloc: Global, a: &AtomList, b: &AtomList) -> Result<AtomList
 /// The merge of two lists doesn't know which came first.
 pub fn merges_in_any_order()
     ensures { MergesInAnyOrder }
-{
-}
+{}
 
 /// Three lists can be merged in either grouping.
 pub fn merges_in_any_grouping()
     ensures { MergesInAnyGrouping }
-{
-}
+{}
 
 /// A list merged with itself is the list.
 pub fn merges_once()
     ensures { MergesOnce }
-{
-}
+{}

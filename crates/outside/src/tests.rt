@@ -2,7 +2,10 @@
 
 ghost use Rattle.std.specs.Prelude.{◌+◌, ◌^◌, ◌<◌};
 
-use crate::{Gate, Library, MemorySink, MemorySource, Octets, Open, ReadFault, Sink, Source, SureLibrary, SureSink, SureSource, Text, Words, read_all, write_all};
+use crate::{
+    Gate, Library, MemorySink, MemorySource, Octets, Open, ReadFault, Sink, Source, SureLibrary,
+    SureSink, SureSource, Text, Words, read_all, write_all,
+};
 use std::alloc::Global;
 use std::test::Fail;
 
@@ -16,7 +19,10 @@ fn small_types(rt: HostRuntime) -> Result<(), Fail> {
     assert_eq!(rt; octets.as_slice(), [0].as_slice());
     assert_eq!(rt; octets.copy()?.as_slice(), [0].as_slice());
     assert!(rt; Octets::empty(alloc).as_slice().is_empty());
-    assert_eq!(rt; Octets::from_vec(vec![in alloc; 7]?).as_slice(), [7].as_slice());
+    assert_eq!(rt;
+        Octets::from_vec(vec![in alloc; 7]?).as_slice(),
+        [7].as_slice()
+    );
     let mut words = Words::new(alloc);
     assert!(rt; words.is_empty());
     words.push(text)?;
@@ -43,7 +49,10 @@ fn whole_transfers(rt: HostRuntime) -> Result<(), Fail> {
     assert_eq!(rt; reads(alloc, &mut sure, 10)?.as_slice(), content.as_slice());
     assert_eq!(rt; reads(alloc, &mut sure, 10)?.len(), 0);
     let mut source = MemorySource::new(Vec::from_slice(alloc, content)?, 3, failing(&[5])?);
-    assert_eq!(rt; reads(alloc, &mut source, 10)?.as_slice(), content.as_slice());
+    assert_eq!(rt;
+        reads(alloc, &mut source, 10)?.as_slice(),
+        content.as_slice()
+    );
     assert!(rt; matches!(reads(alloc, &mut source, 10), Err(ReadFault::Failed)));
     let mut buffer = [0; 8];
     let mut source = MemorySource::new(Vec::from_slice(alloc, content)?, 3, failing(&[1])?);

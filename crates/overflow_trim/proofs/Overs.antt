@@ -9,6 +9,6 @@ use Rattle.context_model.proofs.TrimmedLaws.{kept_of-fits}
 -- Where fewer atoms stay the list doesn't fit.
 pub over : (list : List Atom) (budget keep : ℕ) → keep ≡ kept_of list budget → keep < length list → budget < size_of list
 over list budget keep is less = elim (cases_lt budget (size_of list)) [
-    inl more ↦ more
+  | inl more ↦ more
   | inr fits ↦ (let all = kept_of-fits list budget fits in absurd (omega arith))
-  ]
+]

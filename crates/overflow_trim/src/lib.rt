@@ -54,11 +54,9 @@ pub fn trim_context(context: &mut Context, budget: u64)
 /// A list that doesn't fit its budget keeps its longest front that fits with a marker behind it.
 pub fn keeps_longest()
     ensures { KeepsLongest }
-{
-}
+{}
 
 /// To trim to one budget and then to another is to trim to the lesser of the two.
 pub fn cuts_once()
     ensures { CutsOnce }
-{
-}
+{}

@@ -1,11 +1,11 @@
 -- What begins with a field, piece by piece.
-use Rattle.std.proofs.Common.{◌≡◌, ◌≢◌, ℕ, zero, suc, ◌+◌, ◌<◌, ◌≤◌, Bool, true, false, List, [], ◌∷◌, ◌++◌, length, get_or, All, sym, refl, ap, ◌∙◌, subst, lit<, arith, inl, inr, ◌⊎◌}
+use Rattle.std.proofs.Common.{◌≡◌, ℕ, zero, suc, ◌+◌, ◌<◌, Bool, true, false, List, [], ◌∷◌, ◌++◌, length, get_or, All, sym, refl, ap, ◌∙◌, subst, lit<, arith, inl, inr, ◌⊎◌}
 use Rattle.std.proofs.lemmas.List.Elements.{All-head, All-tail, All-get_or}
 use Rattle.std.proofs.lemmas.Str.{IsUtf8-append, IsUtf8-from_ascii, IsUtf8-drop, IsUtf8-take, IsCharBoundary-after_ascii, IsCharBoundary-at_seam}
 use Rattle.std.proofs.lemmas.List.{length-append, append_assoc}
 use Rattle.std.proofs.Math.Seq.{drop-append-add, take-append_seam, get_or-append_seam}
 use Rattle.std.specs.Str.{IsAscii, IsUtf8}
-use Rattle.bag_model.specs.Scalars.{escape, ended}
+use Rattle.bag_model.specs.Scalars.{ended}
 use Rattle.scalar_types.specs.Spelling.{AlwaysFits}
 use Rattle.scalar_types.specs.Fronts.{Begins, BeginsWithSome}
 use Rattle.scalar_types.specs.Escapes.{IsNonzero, IsPiece, FitsOpen}
@@ -54,8 +54,9 @@ zero_cases (r ∷ run) tail (suc b ∷ v) t h e =
     let first : suc b ≡ r = cc in
     let others : ended v ++ t ≡ run ++ 0 ∷ tail = cc in
     elim (zero_cases run tail v t (All-tail IsNonzero r run h) others) [
-        inl d ↦ inl record { whole = λ i. first i ∷ d.whole i; end = d.end }
-      | inr d ↦ inr record { more = d.more; parts = λ i. first i ∷ d.parts i; next = d.next } ]
+      | inl d ↦ inl record { whole = λ i. first i ∷ d.whole i; end = d.end }
+      | inr d ↦ inr record { more = d.more; parts = λ i. first i ∷ d.parts i; next = d.next }
+    ]
 
 -- ---- bytes that no field begins
 
@@ -67,8 +68,9 @@ no_zero bytes all b =
 pub neither_byte : (bytes run tail : List ℕ) → All IsNonzero run → bytes ≡ run ++ 0 ∷ tail
     → ((t : List ℕ) → tail ≡ 1 ∷ t → ⊥) → ((t : List ℕ) → tail ≡ 255 ∷ t → ⊥) → BeginsWithSome AlwaysFits ended bytes → ⊥
 neither_byte bytes run tail all e no_end no_more b = elim (zero_cases run tail b.0 b.1.0 all (b.1.1.same ∙ e)) [
-    inl d ↦ no_end b.1.0 d.end
-  | inr d ↦ no_more (ended d.more ++ b.1.0) d.next ]
+  | inl d ↦ no_end b.1.0 d.end
+  | inr d ↦ no_more (ended d.more ++ b.1.0) d.next
+]
 
 -- ---- a field through a piece
 
@@ -82,23 +84,25 @@ more_begins bytes run rest v t p e = ended-more run v t p.nonzero ∙ ap (λ l. 
 pub more_follows : (bytes run rest v t : List ℕ) → IsPiece bytes run false rest → ended v ++ t ≡ bytes
     → (w : List ℕ) × (v ≡ run ++ 0 ∷ w) × (ended w ++ t ≡ rest)
 more_follows bytes run rest v t p e = elim (zero_cases run (255 ∷ rest) v t p.nonzero (e ∙ p.same)) [
-    inl d ↦ absurd (other d.end)
-  | inr d ↦ (d.more, d.parts, sym (tails d.next)) ]
+  | inl d ↦ absurd (other d.end)
+  | inr d ↦ (d.more, d.parts, sym (tails d.next))
+]
   where
-  other : 255 ∷ rest ≡ 1 ∷ t → ⊥
-  other same = let heads : ◌≡◌ {A = ℕ} 255 1 = cc in absurd (omega arith)
+    other : 255 ∷ rest ≡ 1 ∷ t → ⊥
+    other same = let heads : ◌≡◌ {A = ℕ} 255 1 = cc in absurd (omega arith)
 
-  tails : {x : List ℕ} → 255 ∷ rest ≡ 255 ∷ x → rest ≡ x
-  tails same = cc
+    tails : {x : List ℕ} → 255 ∷ rest ≡ 255 ∷ x → rest ≡ x
+    tails same = cc
 
 -- where a field ends, its bytes are those before the zero
 pub last_follows : (bytes run rest v t : List ℕ) → IsPiece bytes run true rest → ended v ++ t ≡ bytes → v ≡ run
 last_follows bytes run rest v t p e = elim (zero_cases run (1 ∷ rest) v t p.nonzero (e ∙ p.same)) [
-    inl d ↦ d.whole
-  | inr d ↦ absurd (other d.next) ]
+  | inl d ↦ d.whole
+  | inr d ↦ absurd (other d.next)
+]
   where
-  other : {x : List ℕ} → 1 ∷ rest ≡ 255 ∷ x → ⊥
-  other same = let heads : ◌≡◌ {A = ℕ} 1 255 = cc in absurd (omega arith)
+    other : {x : List ℕ} → 1 ∷ rest ≡ 255 ∷ x → ⊥
+    other same = let heads : ◌≡◌ {A = ℕ} 1 255 = cc in absurd (omega arith)
 
 -- ---- the same for texts, whose pieces are valid alone
 

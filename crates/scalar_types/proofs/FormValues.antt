@@ -1,5 +1,5 @@
 -- What is spelled in a form, and what begins with it: the same as with the values that the form's codec has.
-use Rattle.std.proofs.Common.{◌≡◌, ◌↔◌, ℕ, ℤ, Bool, true, false, List, Option, Some, None, IfSome, Bor, sym, ◌∙◌}
+use Rattle.std.proofs.Common.{◌≡◌, ◌↔◌, ℕ, Bool, true, false, List, Option, Some, None, IfSome, Bor, sym, ◌∙◌}
 use Rattle.std.specs.Prelude.{IsUtf8}
 use Rattle.context_model.specs.Varints.{unsigned_varint, signed_varint}
 use Rattle.bag_model.specs.Scalars.{Plain, Truth, Signed, Unsigned, Text, Octets, TruthByte, UnsignedVarint, SignedVarint, FixedBytes, SignedFixedBytes, TextBytes, RawBytes, IsUnsigned, IsSigned, IsOfForm, truth_bytes, fixed_bytes, signed_fixed_bytes, ended, plain_spelling, field_spelling}

@@ -1,7 +1,7 @@
 -- From what begins some bytes to what is spelled by all of them.
-use Rattle.std.proofs.Common.{◌≡◌, ℕ, List, [], ◌∷◌, ◌++◌, sym, refl, ap, ◌∙◌}
+use Rattle.std.proofs.Common.{◌≡◌, ℕ, List, [], ◌++◌, sym, ap, ◌∙◌}
 use Rattle.std.proofs.lemmas.List.{append-nil}
-use Rattle.bag_model.proofs.Codes.{KeepsOrder, code_apart, code_rest}
+use Rattle.bag_model.proofs.Codes.{KeepsOrder, code_rest}
 use Rattle.scalar_types.specs.Spelling.{Spells, IsSpelled}
 use Rattle.scalar_types.specs.Fronts.{Begins, BeginsWithSome}
 use Rattle.std.specs.declared.cmp.Ordering.{Ordering}

@@ -1,5 +1,5 @@
 -- What a kind's values spell: the same as the plain values of its word, or of its fields.
-use Rattle.std.proofs.Common.{◌≡◌, ◌↔◌, ℕ, List, Result, Ok, Err, IfOk, sym, refl, ap, ◌∙◌, subst}
+use Rattle.std.proofs.Common.{◌≡◌, ◌↔◌, ℕ, List, Result, Ok, Err, IfOk, sym, refl, subst}
 use Rattle.bag_model.specs.Scalars as model
 use Rattle.bag_model.specs.Scalars.{Word, Form, Plain, form_of, IsOfForm, ArePlainsOf, IsScalarOf, plain_spelling, packed_spelling, spelling}
 use Rattle.scalar_types.specs.declared.kinds.ScalarKind.{ScalarKind}
@@ -41,9 +41,10 @@ as_word word bytes (model.ScalarValue.One v) s = (v, record { fit = s.fit; same 
 as_word word bytes (model.ScalarValue.Packed vs) s = absurd s.fit
 
 word_alone : (word : Word) (bytes : List ℕ) → IsSpelled (IsOfForm (form_of word)) (plain_spelling (form_of word)) bytes ↔ KindSpelled (model.ScalarKind.One word) bytes
-word_alone word bytes =
-    (λ s. with_scalar (model.ScalarKind.One word) bytes (model.ScalarValue.One s.0) record { fit = s.1.fit; same = s.1.same },
-     λ s. as_word word bytes (value_of s.0) record { fit = s.1.fit; same = s.1.same })
+word_alone word bytes = (
+  λ s. with_scalar (model.ScalarKind.One word) bytes (model.ScalarValue.One s.0) record { fit = s.1.fit; same = s.1.same },
+  λ s. as_word word bytes (value_of s.0) record { fit = s.1.fit; same = s.1.same },
+)
 
 pub word_spelled : (kind : ScalarKind) (f : Form) → IsWord kind → f ≡ form_of (word_of kind) → (bytes : List ℕ)
     → IsSpelled (IsOfForm f) (plain_spelling f) bytes ↔ KindSpelled (kind_of kind) bytes
@@ -58,7 +59,7 @@ word_spells kind f h e bytes v p s =
     let formed : Spells (IsOfForm (form_of (word_of kind))) (plain_spelling (form_of (word_of kind))) bytes (plain_of v) = subst (λ g. Spells (IsOfForm g) (plain_spelling g) bytes (plain_of v)) e s in
     let alone : Spells (IsScalarOf (model.ScalarKind.One (word_of kind))) (spelling (model.ScalarKind.One (word_of kind))) bytes (model.ScalarValue.One (plain_of v)) = record { fit = formed.fit; same = formed.same } in
     let valued : Spells (IsScalarOf (model.ScalarKind.One (word_of kind))) (spelling (model.ScalarKind.One (word_of kind))) bytes (value_of v) =
-        subst (Spells (IsScalarOf (model.ScalarKind.One (word_of kind))) (spelling (model.ScalarKind.One (word_of kind))) bytes) (sym (plain_value v p)) alone in
+    subst (Spells (IsScalarOf (model.ScalarKind.One (word_of kind))) (spelling (model.ScalarKind.One (word_of kind))) bytes) (sym (plain_value v p)) alone in
     subst (λ k. SpellsKind k bytes v) (sym (word_kind kind h)) record { fit = valued.fit; same = valued.same }
 
 pub word_taken : (kind : ScalarKind) (f : Form) → IsWord kind → f ≡ form_of (word_of kind) → (bytes : List ℕ) (r : Result Scalar TakeFault)
@@ -74,6 +75,7 @@ as_struct words bytes (model.ScalarValue.One v) s = absurd s.fit
 as_struct words bytes (model.ScalarValue.Packed vs) s = (vs, record { fit = s.fit; same = s.same })
 
 pub struct_spelled : (words : List Word) (bytes : List ℕ) → IsSpelled (ArePlainsOf words) (packed_spelling words) bytes ↔ KindSpelled (model.ScalarKind.Packed words) bytes
-struct_spelled words bytes =
-    (λ s. with_scalar (model.ScalarKind.Packed words) bytes (model.ScalarValue.Packed s.0) record { fit = s.1.fit; same = s.1.same },
-     λ s. as_struct words bytes (value_of s.0) record { fit = s.1.fit; same = s.1.same })
+struct_spelled words bytes = (
+  λ s. with_scalar (model.ScalarKind.Packed words) bytes (model.ScalarValue.Packed s.0) record { fit = s.1.fit; same = s.1.same },
+  λ s. as_struct words bytes (value_of s.0) record { fit = s.1.fit; same = s.1.same },
+)

@@ -1,6 +1,5 @@
 -- The order of two lists, place by place.
-use Rattle.std.proofs.Common.{◌≡◌, ℕ, zero, suc, ◌+◌, ◌<◌, ◌≤◌, List, [], ◌∷◌, length, map, drop, get_or, Ordering, Less, Equal, Greater, nat_cmp, min, sym, refl, ap, ap₂, ◌∙◌, arith}
-use Rattle.std.specs.Ordering.{ordering_then}
+use Rattle.std.proofs.Common.{◌≡◌, ℕ, zero, suc, List, [], ◌∷◌, length, map, drop, Ordering, Less, Greater, nat_cmp, min, refl, ◌∙◌, arith}
 use Rattle.std.specs.Cmp.Lexicographic.{slice_cmp}
 use Rattle.bag_model.specs.Scalars.{plain_cmp}
 use Rattle.scalar_types.specs.declared.scalars.Scalar.{Scalar}

@@ -1,6 +1,6 @@
 -- The walks over the fields of a struct, in terms of the fields that are left.
 use Rattle.std.proofs.lemmas.Bool.Decides.{nat_tests}
-use Rattle.std.proofs.Common.{◌≡◌, ◌↔◌, ℕ, Bool, IsTrue, ◌==◌, ◌+◌, ◌<◌, ◌≤◌, List, [], ◌∷◌, ◌++◌, map, length, drop, sym, refl, ap, ◌∙◌, subst, arith}
+use Rattle.std.proofs.Common.{◌≡◌, ◌↔◌, ℕ, Bool, IsTrue, ◌==◌, List, [], ◌∷◌, ◌++◌, map, length, sym, refl, ap, ◌∙◌, subst, arith}
 use Rattle.bag_model.specs.Scalars.{Word, Form, Plain, form_of, IsOfForm, ArePlainsOf, field_spelling, packed_spelling}
 use Rattle.bag_model.proofs.Codes.{code_rest}
 use Rattle.bag_model.proofs.SpellingOrder.{field_code}
@@ -45,9 +45,9 @@ pub no_first_field : (kind : ScalarKind) (f : Form) → f ≡ form_of (word_of k
     → (BeginsWithSome (IsOfForm f) (field_spelling f) rest → ⊥) → FieldsSpelled (kind ∷ kinds) rest → ⊥
 no_first_field kind f e kinds rest none s = by s.0 s.1
   where
-  by : (vs : List Plain) → SpellsFields (kind ∷ kinds) rest vs → ⊥
-  by [] s = s.fit
-  by (v ∷ vs) s = none (subst (λ g. BeginsWithSome (IsOfForm g) (field_spelling g) rest) (sym e) (v, (fields kinds vs, record { fit = s.fit.0; same = s.same })))
+    by : (vs : List Plain) → SpellsFields (kind ∷ kinds) rest vs → ⊥
+    by [] s = s.fit
+    by (v ∷ vs) s = none (subst (λ g. BeginsWithSome (IsOfForm g) (field_spelling g) rest) (sym e) (v, (fields kinds vs, record { fit = s.fit.0; same = s.same })))
 
 -- a first field and the fields behind it
 pub fields_more : (kind : ScalarKind) (kinds : List ScalarKind) (rest after : List ℕ) (v : Plain) (vs : List Plain)
@@ -62,12 +62,15 @@ pub fields_less : (kind : ScalarKind) (kinds : List ScalarKind) (rest after : Li
     → FirstField kind rest v after → FieldsSpelled (kind ∷ kinds) rest → FieldsSpelled kinds after
 fields_less kind kinds rest after v b s = by s.0 s.1
   where
-  by : (vs : List Plain) → SpellsFields (kind ∷ kinds) rest vs → FieldsSpelled kinds after
-  by [] s = absurd s.fit
-  by (w ∷ ws) s = (ws, record {
-    fit = s.fit.1;
-    same = code_rest (field_code (form_of (word_of kind))) w v (fields kinds ws) after s.fit.0 b.fit (s.same ∙ sym b.same);
-  })
+    by : (vs : List Plain) → SpellsFields (kind ∷ kinds) rest vs → FieldsSpelled kinds after
+    by [] s = absurd s.fit
+    by (w ∷ ws) s = (
+      ws,
+      record {
+        fit = s.fit.1;
+        same = code_rest (field_code (form_of (word_of kind))) w v (fields kinds ws) after s.fit.0 b.fit (s.same ∙ sym b.same);
+      },
+    )
 
 -- no fields
 pub no_fields : (rest : List ℕ) → rest ≡ [] → SpellsFields [] rest []
@@ -76,9 +79,9 @@ no_fields rest e = record { fit = tt; same = sym e }
 pub only_no_fields : (rest : List ℕ) → FieldsSpelled [] rest → rest ≡ []
 only_no_fields rest s = by s.0 s.1
   where
-  by : (vs : List Plain) → SpellsFields [] rest vs → rest ≡ []
-  by [] s = sym s.same
-  by (v ∷ vs) s = absurd s.fit
+    by : (vs : List Plain) → SpellsFields [] rest vs → rest ≡ []
+    by [] s = sym s.same
+    by (v ∷ vs) s = absurd s.fit
 
 -- a test of the length says whether something is left
 pub is_nothing_left : (rest : List ℕ) (b : Bool) → b ≡ (length rest == 0) → IsTrue b ↔ (rest ≡ [])

@@ -1,5 +1,5 @@
 -- From the varint that is taken at the front of some bytes to what begins them.
-use Rattle.std.proofs.Common.{◌≡◌, ℕ, ℤ, ◌-◌, ◌^◌, ◌<◌, ◌≤◌, Bool, true, List, ◌++◌, length, take, drop, Result, Ok, Err, FitsSigned, w64, sym, refl, ap, ◌∙◌, subst, arith}
+use Rattle.std.proofs.Common.{◌≡◌, ℕ, ℤ, ◌-◌, ◌≤◌, Bool, true, List, ◌++◌, length, take, drop, Result, Ok, Err, sym, refl, ap, ◌∙◌, subst, arith}
 use Rattle.std.proofs.Math.Seq.{drop-append_seam}
 use Rattle.std.proofs.lemmas.List.{take_rest, length-append}
 use Rattle.context_model.specs.Varints.{unsigned_varint, signed_varint}
@@ -22,8 +22,8 @@ unsigned_begins wide bytes n count at fit = record {
   same = ap (λ l. unsigned_varint n ++ l) (take_rest bytes count ∙ behind) ∙ sym at.front.1;
 }
   where
-  behind : drop count bytes ≡ at.front.0
-  behind = ap (λ k. drop k bytes) at.whole ∙ ap (drop (length (unsigned_varint n))) at.front.1 ∙ drop-append_seam (unsigned_varint n) at.front.0
+    behind : drop count bytes ≡ at.front.0
+    behind = ap (λ k. drop k bytes) at.whole ∙ ap (drop (length (unsigned_varint n))) at.front.1 ∙ drop-append_seam (unsigned_varint n) at.front.0
 
 -- a varint that begins the bytes is the one that is taken
 pub unsigned_at : (wide : Bool) (bytes : List ℕ) (b : BeginsWithSome (IsUnsigned wide) unsigned_varint bytes) → IsUnsignedAt bytes b.0 (length (unsigned_varint b.0))
@@ -48,8 +48,8 @@ signed_begins wide bytes n count at fit = record {
   same = ap (λ l. signed_varint n ++ l) (take_rest bytes count ∙ behind) ∙ sym at.front.1;
 }
   where
-  behind : drop count bytes ≡ at.front.0
-  behind = ap (λ k. drop k bytes) at.whole ∙ ap (drop (length (signed_varint n))) at.front.1 ∙ drop-append_seam (signed_varint n) at.front.0
+    behind : drop count bytes ≡ at.front.0
+    behind = ap (λ k. drop k bytes) at.whole ∙ ap (drop (length (signed_varint n))) at.front.1 ∙ drop-append_seam (signed_varint n) at.front.0
 
 -- a varint that begins the bytes is the one that is taken
 pub signed_at : (wide : Bool) (bytes : List ℕ) (b : BeginsWithSome (IsSigned wide) signed_varint bytes) → IsSignedAt bytes b.0 (length (signed_varint b.0))

@@ -1,6 +1,6 @@
 -- A list of kinds that are words holds no list of kinds.
-use Rattle.std.specs.Prelude.{◌≡◌, ℕ, List, [], ◌∷◌, All, ◌≤◌}
-use Rattle.std.proofs.Common.{arith, refl, sym, ap}
+use Rattle.std.specs.Prelude.{◌≡◌, List, [], ◌∷◌, All, ◌≤◌}
+use Rattle.std.proofs.Common.{arith, refl}
 use Rattle.std.proofs.lemmas.List.Elements.{All-head, All-tail}
 use denote.Param.Weighed.{most}
 use Rattle.scalar_types.specs.declared.kinds.ScalarKind.{ScalarKind}

@@ -1,5 +1,4 @@
 -- The kinds of the code as plain kinds.
-use Rattle.std.specs.Prelude.{List, ◌∷◌}
 use Rattle.bag_model.specs.Scalars as model
 use Rattle.scalar_types.specs.declared.kinds.ScalarKind.{ScalarKind}
 use Rattle.scalar_types.specs.declared.kinds.ScalarKind.TheVariants.{Bool, Int32, Int64, Sint32, Sint64, Uint32, Uint64, Fixed32, Fixed64, Sfixed32, Sfixed64, Str, Bytes, Packed}

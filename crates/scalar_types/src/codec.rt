@@ -79,9 +79,7 @@ pub trait Codec: Drop {
     /// The value whose spelling is the whole slice.
     fn take(&self, alloc: Global, bytes: &[u8]) -> Result<Self::Value, TakeFault>
         ensures taken { IfOk result (Spells (fits self.now) (spelling self.now) bytes.now) }
-        ensures refused {
-            result ≡ Err TakeFault.NotSpelled → ¬ IsSpelled (fits self.now) (spelling self.now) bytes.now
-        };
+        ensures refused { result ≡ Err TakeFault.NotSpelled → ¬ IsSpelled (fits self.now) (spelling self.now) bytes.now };
 
     /// The order of the values, which is that of the bytes of their spellings. It takes no memory.
     fn compare(&self, a: &Self::Value, b: &Self::Value) -> Ordering
@@ -120,9 +118,7 @@ pub fn round_trip<C: Codec>(
 pub fn respelled<C: Codec>(alloc: Global, codec: &C, bytes: &[u8]) -> Result<Vec<u8>, TakeFault>
     ensures same { IfOk result (λ spelling. spelling.items ≡ bytes.now) }
     ensures spelled { IfOk result (λ _. IsSpelled (C.fits codec.now) (C.spelling codec.now) bytes.now) }
-    ensures refused {
-        result ≡ Err TakeFault.NotSpelled → ¬ IsSpelled (C.fits codec.now) (C.spelling codec.now) bytes.now
-    }
+    ensures refused { result ≡ Err TakeFault.NotSpelled → ¬ IsSpelled (C.fits codec.now) (C.spelling codec.now) bytes.now }
 {
     let value = codec.take(alloc, bytes)?;
     let mut spelling = Vec::new(alloc);

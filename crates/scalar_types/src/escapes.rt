@@ -27,9 +27,7 @@ struct Piece<'a> {
 
 /// The bytes before the first zero byte, and those behind it.
 fn split_at_zero<'a>(bytes: &'a [u8]) -> Option<(&'a [u8], &'a [u8])>
-    ensures found {
-        IfSome result (λ parts. All IsNonzero parts.0.now × (bytes.now ≡ parts.0.now ++ 0 ∷ parts.1.now))
-    }
+    ensures found { IfSome result (λ parts. All IsNonzero parts.0.now × (bytes.now ≡ parts.0.now ++ 0 ∷ parts.1.now)) }
     ensures none { IsNone result → All IsNonzero bytes.now }
 {
     let at = bytes.iter().position(|byte| *byte == 0)?;
@@ -44,8 +42,16 @@ fn first_piece<'a>(bytes: &'a [u8]) -> Option<Piece<'a>>
     let (run, tail) = split_at_zero(bytes)?;
     let (second, rest) = tail.split_first()?;
     match *second {
-        END => Some(Piece { run, last: true, rest }),
-        ESCAPED => Some(Piece { run, last: false, rest }),
+        END => Some(Piece {
+            run,
+            last: true,
+            rest,
+        }),
+        ESCAPED => Some(Piece {
+            run,
+            last: false,
+            rest,
+        }),
         _ => None,
     }
 }

@@ -20,9 +20,7 @@ pub struct Fixed {
 impl Fixed {
     /// The number that begins these bytes, and what follows it; `None` where they are too few.
     pub fn front<'a>(&self, bytes: &'a [u8]) -> Option<(u64, &'a [u8])>
-        ensures found {
-            IfSome result (λ read. Begins (IsUnsigned self.now.wide) (fixed_bytes self.now.wide) bytes.now read.0 read.1.now)
-        }
+        ensures found { IfSome result (λ read. Begins (IsUnsigned self.now.wide) (fixed_bytes self.now.wide) bytes.now read.0 read.1.now) }
         ensures none { IsNone result → ¬ BeginsWithSome (IsUnsigned self.now.wide) (fixed_bytes self.now.wide) bytes.now }
     {
         if self.wide {
@@ -112,9 +110,7 @@ pub struct SignedFixed {
 impl SignedFixed {
     /// The number that begins these bytes, and what follows it; `None` where they are too few.
     pub fn front<'a>(&self, bytes: &'a [u8]) -> Option<(i64, &'a [u8])>
-        ensures found {
-            IfSome result (λ read. Begins (IsSigned self.now.wide) (signed_fixed_bytes self.now.wide) bytes.now read.0 read.1.now)
-        }
+        ensures found { IfSome result (λ read. Begins (IsSigned self.now.wide) (signed_fixed_bytes self.now.wide) bytes.now read.0 read.1.now) }
         ensures none { IsNone result → ¬ BeginsWithSome (IsSigned self.now.wide) (signed_fixed_bytes self.now.wide) bytes.now }
     {
         let (bits, rest) = self.flipped().front(bytes)?;

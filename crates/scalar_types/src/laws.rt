@@ -6,5 +6,4 @@ ghost use Rattle.bag_model.specs.SpellingLaws.{SpellingsKeepOrder};
 /// to one value, and within a struct no field's spelling begins that of another value.
 pub fn spellings_keep_order()
     ensures { SpellingsKeepOrder }
-{
-}
+{}

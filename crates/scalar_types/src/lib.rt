@@ -10,11 +10,10 @@ mod laws;
 mod packed;
 mod plain_codecs;
 mod scalars;
-mod varint_codecs;
-mod word_codecs;
-
 #[cfg(test)]
 mod tests;
+mod varint_codecs;
+mod word_codecs;
 
 pub use codec::{Codec, TakeFault, respelled, round_trip};
 pub use fixed_codecs::{Fixed, SignedFixed};

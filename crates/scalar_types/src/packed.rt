@@ -34,9 +34,7 @@ pub fn put_fields(kinds: &[ScalarKind], values: &[Scalar], into: &mut Vec<u8>) -
     requires words { All IsWord kinds.now }
     requires plain { All IsPlain values.now }
     requires fits { ArePlainsOf (map word_of kinds.now) (map plain_of values.now) }
-    ensures {
-        OnOk result (into.new.items ≡ into.old.items ++ packed_spelling (map word_of kinds.now) (map plain_of values.now))
-    }
+    ensures { OnOk result (into.new.items ≡ into.old.items ++ packed_spelling (map word_of kinds.now) (map plain_of values.now)) }
 {
     for (at, kind) in kinds.iter().enumerate() {
         kind.word_codec().put_field(&values[at], into)?;
@@ -60,15 +58,15 @@ pub fn fields_spelled(kinds: &[ScalarKind], bytes: &[u8]) -> bool
 }
 
 /// The values whose fields the bytes are, with nothing left over.
-pub fn take_fields(alloc: Global, kinds: &[ScalarKind], bytes: &[u8]) -> Result<ScalarList, TakeFault>
+pub fn take_fields(
+    alloc: Global,
+    kinds: &[ScalarKind],
+    bytes: &[u8],
+) -> Result<ScalarList, TakeFault>
     requires { All IsWord kinds.now }
-    ensures taken {
-        IfOk result (Spells (ArePlainsOf (map word_of kinds.now)) (packed_spelling (map word_of kinds.now)) bytes.now)
-    }
-    ensures refused {
-        result ≡ Err TakeFault.NotSpelled
-            → ¬ IsSpelled (ArePlainsOf (map word_of kinds.now)) (packed_spelling (map word_of kinds.now)) bytes.now
-    }
+    ensures taken { IfOk result (Spells (ArePlainsOf (map word_of kinds.now)) (packed_spelling (map word_of kinds.now)) bytes.now) }
+    ensures refused { result ≡ Err TakeFault.NotSpelled
+        → ¬ IsSpelled (ArePlainsOf (map word_of kinds.now)) (packed_spelling (map word_of kinds.now)) bytes.now }
 {
     let mut values = ScalarList::new(alloc);
     let mut rest = bytes;

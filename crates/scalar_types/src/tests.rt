@@ -62,13 +62,24 @@ fn plain_values(rt: HostRuntime) -> Result<(), Fail> {
     for text in ["", "a", "a\0", "\u{e4}\u{20ac}\u{1f600}"] {
         spells(&rt, alloc, &Utf8, &Text::of(alloc, text)?, text.as_bytes())?;
     }
-    for bytes in [b"\xff".as_slice(), b"\xc0\x80", b"\xed\xa0\x80", b"\xe2\x82", b"a\x80"] {
+    for bytes in [
+        b"\xff".as_slice(),
+        b"\xc0\x80",
+        b"\xed\xa0\x80",
+        b"\xe2\x82",
+        b"a\x80",
+    ] {
         refuses(&rt, alloc, &Utf8, bytes);
         spells(&rt, alloc, &Raw, &Octets::of(alloc, bytes)?, bytes)?;
     }
     rises(&rt, &Utf8, &Text::of(alloc, "b")?, &Text::of(alloc, "ba")?);
     rises(&rt, &Utf8, &Text::of(alloc, "aa")?, &Text::of(alloc, "b")?);
-    rises(&rt, &Raw, &Octets::of(alloc, b"\x00")?, &Octets::of(alloc, b"\x00\x00")?);
+    rises(
+        &rt,
+        &Raw,
+        &Octets::of(alloc, b"\x00")?,
+        &Octets::of(alloc, b"\x00\x00")?,
+    );
     Ok(())
 }
 
@@ -93,9 +104,21 @@ fn varints(rt: HostRuntime) -> Result<(), Fail> {
         spells(&rt, alloc, &wide, &value, spelling)?;
     }
     spells(&rt, alloc, &wide, &4_294_967_296, b"\xf1\x00\x00\x00\x00")?;
-    spells(&rt, alloc, &wide, &u64::MAX, b"\xff\xff\xff\xff\xff\xff\xff\xff\xff")?;
+    spells(
+        &rt,
+        alloc,
+        &wide,
+        &u64::MAX,
+        b"\xff\xff\xff\xff\xff\xff\xff\xff\xff",
+    )?;
     assert!(rt; !narrow.fits(&4_294_967_296));
-    for bytes in [b"\x7f\x00".as_slice(), b"", b"\x80\x00", b"\x80\x7f", b"\xbf"] {
+    for bytes in [
+        b"\x7f\x00".as_slice(),
+        b"",
+        b"\x80\x00",
+        b"\x80\x7f",
+        b"\xbf",
+    ] {
         refuses(&rt, alloc, &narrow, bytes);
         refuses(&rt, alloc, &wide, bytes);
     }
@@ -119,11 +142,29 @@ fn varints(rt: HostRuntime) -> Result<(), Fail> {
         spells(&rt, alloc, &narrow, &value, spelling)?;
         spells(&rt, alloc, &wide, &value, spelling)?;
     }
-    spells(&rt, alloc, &wide, &i64::MIN, b"\x00\x80\x00\x00\x00\x00\x00\x00\x00")?;
-    spells(&rt, alloc, &wide, &i64::MAX, b"\xff\x7f\xff\xff\xff\xff\xff\xff\xff")?;
+    spells(
+        &rt,
+        alloc,
+        &wide,
+        &i64::MIN,
+        b"\x00\x80\x00\x00\x00\x00\x00\x00\x00",
+    )?;
+    spells(
+        &rt,
+        alloc,
+        &wide,
+        &i64::MAX,
+        b"\xff\x7f\xff\xff\xff\xff\xff\xff\xff",
+    )?;
     assert!(rt; !narrow.fits(&2_147_483_648));
     assert!(rt; !narrow.fits(&-2_147_483_649));
-    for bytes in [b"\xbf\x00".as_slice(), b"", b"\xc0\x3f", b"\x3f\xc0", b"\xc0"] {
+    for bytes in [
+        b"\xbf\x00".as_slice(),
+        b"",
+        b"\xc0\x3f",
+        b"\x3f\xc0",
+        b"\xc0",
+    ] {
         refuses(&rt, alloc, &narrow, bytes);
         refuses(&rt, alloc, &wide, bytes);
     }
@@ -141,8 +182,20 @@ fn fixed_numbers(rt: HostRuntime) -> Result<(), Fail> {
     spells(&rt, alloc, &narrow, &0, b"\x00\x00\x00\x00")?;
     spells(&rt, alloc, &narrow, &7, b"\x00\x00\x00\x07")?;
     spells(&rt, alloc, &narrow, &4_294_967_295, b"\xff\xff\xff\xff")?;
-    spells(&rt, alloc, &wide, &4_294_967_296, b"\x00\x00\x00\x01\x00\x00\x00\x00")?;
-    spells(&rt, alloc, &wide, &u64::MAX, b"\xff\xff\xff\xff\xff\xff\xff\xff")?;
+    spells(
+        &rt,
+        alloc,
+        &wide,
+        &4_294_967_296,
+        b"\x00\x00\x00\x01\x00\x00\x00\x00",
+    )?;
+    spells(
+        &rt,
+        alloc,
+        &wide,
+        &u64::MAX,
+        b"\xff\xff\xff\xff\xff\xff\xff\xff",
+    )?;
     assert!(rt; !narrow.fits(&4_294_967_296));
     refuses(&rt, alloc, &narrow, b"\x00\x00\x00");
     refuses(&rt, alloc, &narrow, b"\x00\x00\x00\x00\x00");
@@ -156,9 +209,21 @@ fn fixed_numbers(rt: HostRuntime) -> Result<(), Fail> {
     spells(&rt, alloc, &narrow, &0, b"\x80\x00\x00\x00")?;
     spells(&rt, alloc, &narrow, &1, b"\x80\x00\x00\x01")?;
     spells(&rt, alloc, &narrow, &2_147_483_647, b"\xff\xff\xff\xff")?;
-    spells(&rt, alloc, &wide, &i64::MIN, b"\x00\x00\x00\x00\x00\x00\x00\x00")?;
+    spells(
+        &rt,
+        alloc,
+        &wide,
+        &i64::MIN,
+        b"\x00\x00\x00\x00\x00\x00\x00\x00",
+    )?;
     spells(&rt, alloc, &wide, &-1, b"\x7f\xff\xff\xff\xff\xff\xff\xff")?;
-    spells(&rt, alloc, &wide, &i64::MAX, b"\xff\xff\xff\xff\xff\xff\xff\xff")?;
+    spells(
+        &rt,
+        alloc,
+        &wide,
+        &i64::MAX,
+        b"\xff\xff\xff\xff\xff\xff\xff\xff",
+    )?;
     assert!(rt; !narrow.fits(&2_147_483_648));
     assert!(rt; !narrow.fits(&-2_147_483_649));
     refuses(&rt, alloc, &wide, b"\x80\x00\x00\x00");
@@ -176,21 +241,79 @@ fn kinds_of_words(rt: HostRuntime) -> Result<(), Fail> {
         assert!(rt; !kind.fits(&Scalar::Unsigned(1)));
     }
     for kind in [ScalarKind::Int64, ScalarKind::Sint64] {
-        spells(&rt, alloc, &kind, &Scalar::Signed(i64::MIN), b"\x00\x80\x00\x00\x00\x00\x00\x00\x00")?;
+        spells(
+            &rt,
+            alloc,
+            &kind,
+            &Scalar::Signed(i64::MIN),
+            b"\x00\x80\x00\x00\x00\x00\x00\x00\x00",
+        )?;
     }
-    spells(&rt, alloc, &ScalarKind::Uint32, &Scalar::Unsigned(16_383), b"\xbf\xff")?;
-    spells(&rt, alloc, &ScalarKind::Uint64, &Scalar::Unsigned(4_294_967_296), b"\xf1\x00\x00\x00\x00")?;
-    spells(&rt, alloc, &ScalarKind::Fixed32, &Scalar::Unsigned(7), b"\x00\x00\x00\x07")?;
-    spells(&rt, alloc, &ScalarKind::Fixed64, &Scalar::Unsigned(7), b"\x00\x00\x00\x00\x00\x00\x00\x07")?;
-    spells(&rt, alloc, &ScalarKind::Sfixed32, &Scalar::Signed(-1), b"\x7f\xff\xff\xff")?;
-    spells(&rt, alloc, &ScalarKind::Sfixed64, &Scalar::Signed(0), b"\x80\x00\x00\x00\x00\x00\x00\x00")?;
+    spells(
+        &rt,
+        alloc,
+        &ScalarKind::Uint32,
+        &Scalar::Unsigned(16_383),
+        b"\xbf\xff",
+    )?;
+    spells(
+        &rt,
+        alloc,
+        &ScalarKind::Uint64,
+        &Scalar::Unsigned(4_294_967_296),
+        b"\xf1\x00\x00\x00\x00",
+    )?;
+    spells(
+        &rt,
+        alloc,
+        &ScalarKind::Fixed32,
+        &Scalar::Unsigned(7),
+        b"\x00\x00\x00\x07",
+    )?;
+    spells(
+        &rt,
+        alloc,
+        &ScalarKind::Fixed64,
+        &Scalar::Unsigned(7),
+        b"\x00\x00\x00\x00\x00\x00\x00\x07",
+    )?;
+    spells(
+        &rt,
+        alloc,
+        &ScalarKind::Sfixed32,
+        &Scalar::Signed(-1),
+        b"\x7f\xff\xff\xff",
+    )?;
+    spells(
+        &rt,
+        alloc,
+        &ScalarKind::Sfixed64,
+        &Scalar::Signed(0),
+        b"\x80\x00\x00\x00\x00\x00\x00\x00",
+    )?;
     spells(&rt, alloc, &ScalarKind::Str, &text(alloc, "a\0")?, b"a\x00")?;
-    spells(&rt, alloc, &ScalarKind::Bytes, &octets(alloc, b"\x00\xff")?, b"\x00\xff")?;
+    spells(
+        &rt,
+        alloc,
+        &ScalarKind::Bytes,
+        &octets(alloc, b"\x00\xff")?,
+        b"\x00\xff",
+    )?;
     refuses(&rt, alloc, &ScalarKind::Bool, b"\x02");
     refuses(&rt, alloc, &ScalarKind::Uint32, b"\xf1\x00\x00\x00\x00");
-    refuses(&rt, alloc, &ScalarKind::Fixed32, b"\x00\x00\x00\x00\x00\x00\x00\x07");
+    refuses(
+        &rt,
+        alloc,
+        &ScalarKind::Fixed32,
+        b"\x00\x00\x00\x00\x00\x00\x00\x07",
+    );
     refuses(&rt, alloc, &ScalarKind::Str, b"\xff");
-    rises(&rt, &ScalarKind::Sint64, &Scalar::Signed(-65), &Scalar::Signed(64));
+    rises(
+        &rt,
+        &ScalarKind::Sint64,
+        &Scalar::Signed(-65),
+        &Scalar::Signed(64),
+    );
     Ok(())
 }
 
@@ -209,7 +332,11 @@ fn structs(rt: HostRuntime) -> Result<(), Fail> {
         ("", 0, b"\x00\x01\x80"),
         ("\0\0", 63, b"\x00\xff\x00\xff\x00\x01\xbf"),
         ("\u{1}a", 64, b"\x01\x61\x00\x01\xc0\x40"),
-        ("\u{e4}", -2_147_483_648, b"\xc3\xa4\x00\x01\x07\x80\x00\x00\x00"),
+        (
+            "\u{e4}",
+            -2_147_483_648,
+            b"\xc3\xa4\x00\x01\x07\x80\x00\x00\x00",
+        ),
     ];
     for (text, number, spelling) in rows {
         spells(&rt, alloc, &kind, &pair(alloc, text, number)?, spelling)?;
@@ -229,7 +356,14 @@ fn structs(rt: HostRuntime) -> Result<(), Fail> {
     for bytes in unspelled {
         refuses(&rt, alloc, &kind, bytes);
     }
-    let rising = [("", 64), ("a", -1), ("a", 0), ("a\0", -1), ("aa", -1), ("b", -1)];
+    let rising = [
+        ("", 64),
+        ("a", -1),
+        ("a", 0),
+        ("a\0", -1),
+        ("aa", -1),
+        ("b", -1),
+    ];
     let mut less = pair(alloc, "", 63)?;
     for (text, number) in rising {
         let more = pair(alloc, text, number)?;
@@ -274,7 +408,13 @@ fn empty_fields(rt: HostRuntime) -> Result<(), Fail> {
     assert!(rt; Scalar::Signed(1).order(&Scalar::Unsigned(0)) == Ordering::Less);
     assert!(rt; value.copy()?.order(&value) == Ordering::Equal);
     let nothing = ScalarKind::Packed(KindList::new(alloc));
-    spells(&rt, alloc, &nothing, &Scalar::Packed(ScalarList::new(alloc)), b"")?;
+    spells(
+        &rt,
+        alloc,
+        &nothing,
+        &Scalar::Packed(ScalarList::new(alloc)),
+        b"",
+    )?;
     refuses(&rt, alloc, &nothing, b"\x00");
     spellings_keep_order();
     Ok(())

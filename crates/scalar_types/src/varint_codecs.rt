@@ -22,9 +22,7 @@ pub struct LexU {
 impl LexU {
     /// The number that begins these bytes, and what follows it.
     pub fn front<'a>(&self, bytes: &'a [u8]) -> Option<(u64, &'a [u8])>
-        ensures found {
-            IfSome result (λ read. Begins (IsUnsigned self.now.wide) unsigned_varint bytes.now read.0 read.1.now)
-        }
+        ensures found { IfSome result (λ read. Begins (IsUnsigned self.now.wide) unsigned_varint bytes.now read.0 read.1.now) }
         ensures none { IsNone result → ¬ BeginsWithSome (IsUnsigned self.now.wide) unsigned_varint bytes.now }
     {
         match take_u64(bytes) {
@@ -108,9 +106,7 @@ pub struct LexI {
 impl LexI {
     /// The number that begins these bytes, and what follows it.
     pub fn front<'a>(&self, bytes: &'a [u8]) -> Option<(i64, &'a [u8])>
-        ensures found {
-            IfSome result (λ read. Begins (IsSigned self.now.wide) signed_varint bytes.now read.0 read.1.now)
-        }
+        ensures found { IfSome result (λ read. Begins (IsSigned self.now.wide) signed_varint bytes.now read.0 read.1.now) }
         ensures none { IsNone result → ¬ BeginsWithSome (IsSigned self.now.wide) signed_varint bytes.now }
     {
         match take_i64(bytes) {

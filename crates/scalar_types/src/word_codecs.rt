@@ -109,12 +109,8 @@ impl WordCodec {
     /// The value whose spelling is the whole slice.
     pub fn take(&self, alloc: Global, bytes: &[u8]) -> Result<Scalar, TakeFault>
         ensures plain { IfOk result IsPlain }
-        ensures taken {
-            IfOk result (λ value. Spells (IsOfForm (form self.now)) (plain_spelling (form self.now)) bytes.now (plain_of value))
-        }
-        ensures refused {
-            result ≡ Err TakeFault.NotSpelled → ¬ IsSpelled (IsOfForm (form self.now)) (plain_spelling (form self.now)) bytes.now
-        }
+        ensures taken { IfOk result (λ value. Spells (IsOfForm (form self.now)) (plain_spelling (form self.now)) bytes.now (plain_of value)) }
+        ensures refused { result ≡ Err TakeFault.NotSpelled → ¬ IsSpelled (IsOfForm (form self.now)) (plain_spelling (form self.now)) bytes.now }
     {
         match self {
             WordCodec::Flag(codec) => Ok(Scalar::Bool(codec.take(alloc, bytes)?)),
@@ -141,15 +137,15 @@ impl WordCodec {
     }
 
     /// The value whose field begins these bytes, and what follows it.
-    pub fn take_field<'a>(&self, alloc: Global, bytes: &'a [u8]) -> Result<(Scalar, &'a [u8]), TakeFault>
+    pub fn take_field<'a>(
+        &self,
+        alloc: Global,
+        bytes: &'a [u8],
+    ) -> Result<(Scalar, &'a [u8]), TakeFault>
         ensures plain { IfOk result (λ read. IsPlain read.0) }
-        ensures taken {
-            IfOk result (λ read. Begins (IsOfForm (form self.now)) (field_spelling (form self.now)) bytes.now (plain_of read.0) read.1.now)
-        }
-        ensures refused {
-            result ≡ Err TakeFault.NotSpelled
-                → ¬ BeginsWithSome (IsOfForm (form self.now)) (field_spelling (form self.now)) bytes.now
-        }
+        ensures taken { IfOk result (λ read. Begins (IsOfForm (form self.now)) (field_spelling (form self.now)) bytes.now (plain_of read.0) read.1.now) }
+        ensures refused { result ≡ Err TakeFault.NotSpelled
+            → ¬ BeginsWithSome (IsOfForm (form self.now)) (field_spelling (form self.now)) bytes.now }
     {
         match self {
             WordCodec::Utf8(codec) => {
@@ -166,9 +162,7 @@ impl WordCodec {
 
     /// What follows the field of a value that begins these bytes. It takes no memory.
     pub fn skip_field<'a>(&self, bytes: &'a [u8]) -> Option<&'a [u8]>
-        ensures found {
-            IfSome result (λ rest. (value : Plain) × Begins (IsOfForm (form self.now)) (field_spelling (form self.now)) bytes.now value rest.now)
-        }
+        ensures found { IfSome result (λ rest. (value : Plain) × Begins (IsOfForm (form self.now)) (field_spelling (form self.now)) bytes.now value rest.now) }
         ensures none { IsNone result → ¬ BeginsWithSome (IsOfForm (form self.now)) (field_spelling (form self.now)) bytes.now }
     {
         match self {
@@ -185,9 +179,7 @@ impl WordCodec {
     fn number_front<'a>(&self, bytes: &'a [u8]) -> Option<(Scalar, &'a [u8])>
         requires { is_open (form self.now) ≡ false }
         ensures plain { IfSome result (λ read. IsPlain read.0) }
-        ensures found {
-            IfSome result (λ read. Begins (IsOfForm (form self.now)) (plain_spelling (form self.now)) bytes.now (plain_of read.0) read.1.now)
-        }
+        ensures found { IfSome result (λ read. Begins (IsOfForm (form self.now)) (plain_spelling (form self.now)) bytes.now (plain_of read.0) read.1.now) }
         ensures none { IsNone result → ¬ BeginsWithSome (IsOfForm (form self.now)) (plain_spelling (form self.now)) bytes.now }
     {
         match self {

@@ -47,8 +47,8 @@ shape_fault bytes list stop place code short stops fault =
     let more = stop_split bytes list stop stops in
     let rest = frame fault.atom ++ (bytes_of behind.0 ++ more.0) in
     let split : bytes ≡ bytes_of front ++ rest =
-      more.1 ∙ ap (λ l. bytes_of l ++ more.0) behind.1 ∙ ap (λ xs. xs ++ more.0) (bytes_of-append front (fault.atom ∷ behind.0))
-        ∙ append_assoc (bytes_of front) (bytes_of (fault.atom ∷ behind.0)) more.0 ∙ ap (λ xs. bytes_of front ++ xs) (append_assoc (frame fault.atom) (bytes_of behind.0) more.0) in
+    more.1 ∙ ap (λ l. bytes_of l ++ more.0) behind.1 ∙ ap (λ xs. xs ++ more.0) (bytes_of-append front (fault.atom ∷ behind.0))
+    ∙ append_assoc (bytes_of front) (bytes_of (fault.atom ∷ behind.0)) more.0 ∙ ap (λ xs. bytes_of front ++ xs) (append_assoc (frame fault.atom) (bytes_of behind.0) more.0) in
     first_context_fault bytes rest front code parts.0 fault.before split (frame_some fault.atom (bytes_of behind.0 ++ more.0)) (inr (fault.atom, bytes_of behind.0 ++ more.0, parts.1.0, refl, fault.wrong))
 
 -- Where the list that was read is a context, the input ceases to be one where it ceases to be a list.

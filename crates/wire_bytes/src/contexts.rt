@@ -136,5 +136,4 @@ pub fn read_context(alloc: Global, bytes: &[u8]) -> Result<Context, ContextFault
 /// Bytes are those of at most one context, have at most one first fault, and never both.
 pub fn reads_one_context()
     ensures { (bytes : List ℕ) → HasOneContext bytes }
-{
-}
+{}

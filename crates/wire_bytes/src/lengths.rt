@@ -36,7 +36,11 @@ pub(crate) fn put_length(bytes: &mut Vec<u8>, len: usize) -> Result<(), Memory>
     } else if len < 16_384 {
         bytes.extend_from_slice(&[low + 128, (len / 128) as u8])?;
     } else {
-        bytes.extend_from_slice(&[low + 128, (len / 128 % 128) as u8 + 128, (len / 16_384) as u8])?;
+        bytes.extend_from_slice(&[
+            low + 128,
+            (len / 128 % 128) as u8 + 128,
+            (len / 16_384) as u8,
+        ])?;
     }
     Ok(())
 }
@@ -53,7 +57,10 @@ pub(crate) fn front_length(bytes: &[u8]) -> Result<(usize, &[u8]), WireCode>
         [_, 0, ..] => Err(WireCode::LongForm),
         [a, b, rest @ ..] if *b < 128 => Ok((usize::from(*a - 128) + 128 * usize::from(*b), rest)),
         [_, _, 0, ..] => Err(WireCode::LongForm),
-        [a, b, c, rest @ ..] if *c < 4 => Ok((usize::from(*a - 128) + 128 * usize::from(*b - 128) + 16_384 * usize::from(*c), rest)),
+        [a, b, c, rest @ ..] if *c < 4 => Ok((
+            usize::from(*a - 128) + 128 * usize::from(*b - 128) + 16_384 * usize::from(*c),
+            rest,
+        )),
         [_, _, _, ..] => Err(WireCode::AtomTooLong),
         _ => Err(WireCode::CutLength),
     }

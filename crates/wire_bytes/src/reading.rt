@@ -127,5 +127,4 @@ pub fn read(alloc: Global, bytes: &[u8]) -> Result<AtomList, WireFault>
 /// Bytes are those of at most one list, have at most one first fault, and never both.
 pub fn reads_one_way()
     ensures { ReadsOneWay }
-{
-}
+{}

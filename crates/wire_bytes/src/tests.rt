@@ -7,7 +7,15 @@ use std::test::Fail;
 #[test]
 fn lists_at_the_limits(rt: HostRuntime) -> Result<(), Fail> {
     let alloc = rt.alloc();
-    for (len, framed) in [(0usize, 1u128), (1, 2), (127, 128), (128, 130), (16_383, 16_385), (16_384, 16_387), (65_535, 65_538)] {
+    for (len, framed) in [
+        (0usize, 1u128),
+        (1, 2),
+        (127, 128),
+        (128, 130),
+        (16_383, 16_385),
+        (16_384, 16_387),
+        (65_535, 65_538),
+    ] {
         let atom = vec![in alloc; 0u8; len]?;
         assert!(rt; atom.len() <= LENGTH_MAX);
         let mut list = AtomList::new(alloc);

@@ -15,7 +15,7 @@ loop-i-preserved-in-Less c =
       within_a = omega arith;
       within_b = omega arith;
       so_far = ap (λ done. done ++ greedy_merge atom_cmp (drop (c.loop-i.i + 1) a) (drop c.loop-i.j b)) c.in_ok-push-in-Less.ensures.ok
-        ∙ step-less a b c.loop-i.merged c.loop-i.i c.loop-i.j _ _ in_a in_b (sym c.compare.ensures ∙ c.in-Less.is) ∙ c.loop-i.invariant.so_far;
+          ∙ step-less a b c.loop-i.merged c.loop-i.i c.loop-i.j _ _ in_a in_b (sym c.compare.ensures ∙ c.in-Less.is) ∙ c.loop-i.invariant.so_far;
     }
 
 pub loop-i-preserved-in-Equal : goal.loop-i-preserved-in-Equal
@@ -28,7 +28,7 @@ loop-i-preserved-in-Equal c =
       within_a = omega arith;
       within_b = omega arith;
       so_far = ap (λ done. done ++ greedy_merge atom_cmp (drop (c.loop-i.i + 1) a) (drop (c.loop-i.j + 1) b)) c.in_ok-push-in-Equal.ensures.ok
-        ∙ step-equal a b c.loop-i.merged c.loop-i.i c.loop-i.j _ _ in_a in_b (sym c.compare.ensures ∙ c.in-Equal.is) ∙ c.loop-i.invariant.so_far;
+          ∙ step-equal a b c.loop-i.merged c.loop-i.i c.loop-i.j _ _ in_a in_b (sym c.compare.ensures ∙ c.in-Equal.is) ∙ c.loop-i.invariant.so_far;
     }
 
 pub loop-i-preserved : goal.loop-i-preserved
@@ -41,7 +41,7 @@ loop-i-preserved c =
       within_a = omega arith;
       within_b = omega arith;
       so_far = ap (λ done. done ++ greedy_merge atom_cmp (drop c.loop-i.i a) (drop (c.loop-i.j + 1) b)) c.in_ok-push-in-Greater.ensures.ok
-        ∙ step-greater a b c.loop-i.merged c.loop-i.i c.loop-i.j _ _ in_a in_b (sym c.compare.ensures ∙ c.in-Greater.is) ∙ c.loop-i.invariant.so_far;
+          ∙ step-greater a b c.loop-i.merged c.loop-i.i c.loop-i.j _ _ in_a in_b (sym c.compare.ensures ∙ c.in-Greater.is) ∙ c.loop-i.invariant.so_far;
     }
 
 pub returns : goal.returns
@@ -49,9 +49,9 @@ returns c =
     let a = c.args.a.now in
     let b = c.args.b.now in
     let rest : (c.loop-i.merged ++ drop c.loop-i.i a) ++ drop c.loop-i.j b ≡ c.loop-i.merged ++ greedy_merge atom_cmp (drop c.loop-i.i a) (drop c.loop-i.j b) =
-      elim c.loop-i-test.branch [
-          then-loop-i-test+else-j-len w ↦ ended a b c.loop-i.merged c.loop-i.i c.loop-i.j (inr (omega arith))
-        | else-loop-i-test w ↦ ended a b c.loop-i.merged c.loop-i.i c.loop-i.j (inl (omega arith))
-        ]
+    elim c.loop-i-test.branch [
+      | then-loop-i-test+else-j-len w ↦ ended a b c.loop-i.merged c.loop-i.i c.loop-i.j (inr (omega arith))
+      | else-loop-i-test w ↦ ended a b c.loop-i.merged c.loop-i.i c.loop-i.j (inl (omega arith))
+    ]
     in
     c.in_ok-append-2.ensures ∙ ap (λ done. done ++ drop c.loop-i.j b) c.in_ok-append.ensures ∙ rest ∙ c.loop-i.invariant.so_far

@@ -5,7 +5,7 @@ use Rattle.overflow_trim.proofs.kept.Given as goal
 
 abbrev pub invariant-loop-at : goal.invariant-loop-at
 invariant-loop-at l = record {
-    sum : l.total ≡ size_of (take l.at l.list);
-    fits : l.total ≤ l.budget;
-    bound : l.total ≤ 65538 * l.at;
-  }
+  sum : l.total ≡ size_of (take l.at l.list);
+  fits : l.total ≤ l.budget;
+  bound : l.total ≤ 65538 * l.at;
+}

@@ -1,4 +1,4 @@
-use Rattle.std.proofs.Common.{◌≡◌, ℕ, List, [], ◌∷◌, ◌++◌, All, length, sym, ◌∙◌, arith, rules}
+use Rattle.std.proofs.Common.{◌≡◌, ℕ, List, ◌∷◌, ◌++◌, All, length, sym, ◌∙◌, arith, rules}
 use Rattle.scalar_types.specs.Escapes.{IsNonzero}
 use Rattle.scalar_types.proofs.EscapeLaws.{no_zero, neither_byte, no_cons, heads}
 use Rattle.scalar_types.proofs.escapes.first_piece.Goals as goal

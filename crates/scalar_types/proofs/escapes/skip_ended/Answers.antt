@@ -1,5 +1,4 @@
-use Rattle.std.proofs.Common.{◌≡◌, ℕ, Bool, true, false, List, [], ◌∷◌, ◌++◌, IsTrue, sym, ap, ◌∙◌, subst, rules}
-use Rattle.bag_model.specs.Scalars.{ended}
+use Rattle.std.proofs.Common.{ℕ, true, false, List, ◌∷◌, ◌++◌, rules}
 use Rattle.scalar_types.specs.Escapes.{IsPiece, FitsOpen}
 use Rattle.scalar_types.proofs.EscapeLaws.{last_begins, open_piece, open_more, open_follows}
 use Rattle.scalar_types.proofs.escapes.skip_ended.Goals as goal

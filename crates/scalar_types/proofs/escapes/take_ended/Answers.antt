@@ -1,4 +1,4 @@
-use Rattle.std.proofs.Common.{◌≡◌, ℕ, Bool, true, false, List, [], ◌∷◌, ◌++◌, sym, ap, ◌∙◌, subst, rules}
+use Rattle.std.proofs.Common.{◌≡◌, ℕ, true, false, List, [], ◌∷◌, ◌++◌, ap, ◌∙◌, subst, rules}
 use Rattle.bag_model.specs.Scalars.{ended}
 use Rattle.scalar_types.specs.Escapes.{IsPiece}
 use Rattle.scalar_types.proofs.EscapeLaws.{IsFollowed, last_begins, followed_more, follows_more}

@@ -1,4 +1,4 @@
-use Rattle.std.proofs.Common.{◌≡◌, ◌↔◌, length, drop}
+use Rattle.std.proofs.Common.{◌↔◌, drop}
 use Rattle.scalar_types.proofs.PackedSteps.{Fit}
 use Rattle.scalar_types.proofs.packed.fields_fit.Given as goal
 

@@ -16,9 +16,10 @@ loop-kind-preserved c =
     let after : List ℕ = c.in-Some.after.now in
     let v : Plain = c.in-Some.ensures.found.0 in
     let next : drop index kinds ≡ kind ∷ behind = search (rules, drop_more) in
-    let first : FirstField kind rest v after = first_field kind (form c.word_codec.result) c.word_codec.ensures rest v after c.in-Some.ensures.found.1 in
-    (λ s. fields_less kind behind rest after v first (subst (λ l. FieldsSpelled l rest) next (c.loop-kind.invariant.0 s)),
-     λ s. c.loop-kind.invariant.1 (subst (λ l. FieldsSpelled l rest) (sym next) (v ∷ s.0, fields_more kind behind rest after v s.0 first s.1)))
+    let first : FirstField kind rest v after = first_field kind (form c.word_codec.result) c.word_codec.ensures rest v after c.in-Some.ensures.found.1 in (
+      λ s. fields_less kind behind rest after v first (subst (λ l. FieldsSpelled l rest) next (c.loop-kind.invariant.0 s)),
+      λ s. c.loop-kind.invariant.1 (subst (λ l. FieldsSpelled l rest) (sym next) (v ∷ s.0, fields_more kind behind rest after v s.0 first s.1)),
+    )
 
 pub returns : goal.returns
 returns c =
@@ -26,6 +27,7 @@ returns c =
     let index : ℕ = c.loop-kind.kind-index in
     let rest : List ℕ = c.loop-kind.rest.now in
     let done : drop index kinds ≡ [] = drop_all index kinds c.loop-kind-test.false in
-    let left : IsTrue c.is_empty.result ↔ (rest ≡ []) = is_nothing_left rest c.is_empty.result c.is_empty.ensures in
-    (λ t. c.loop-kind.invariant.1 (subst (λ l. FieldsSpelled l rest) (sym done) ([], no_fields rest (left.0 t))),
-     λ s. left.1 (only_no_fields rest (subst (λ l. FieldsSpelled l rest) done (c.loop-kind.invariant.0 s))))
+    let left : IsTrue c.is_empty.result ↔ (rest ≡ []) = is_nothing_left rest c.is_empty.result c.is_empty.ensures in (
+      λ t. c.loop-kind.invariant.1 (subst (λ l. FieldsSpelled l rest) (sym done) ([], no_fields rest (left.0 t))),
+      λ s. left.1 (only_no_fields rest (subst (λ l. FieldsSpelled l rest) done (c.loop-kind.invariant.0 s))),
+    )

@@ -15,4 +15,3 @@ none_left n none is holds = grind (arith, nat_tests)
 
 pub loop-rest-smaller : goal.loop-rest-smaller
 loop-rest-smaller c = front_shorter c.loop-rest.rest.now c.in-Ok.atom.now c.in-Ok.behind.now c.in-Ok.ensures.found
-

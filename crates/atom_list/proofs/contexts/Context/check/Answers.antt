@@ -19,17 +19,17 @@ more_well_formed list at within before may =
 
 pub loop-at-init : goal.loop-at-init
 loop-at-init c = record {
-    before = IsWellFormed-empty;
-    headers = c.new-open.ensures c.args.list;
-  }
+  before = IsWellFormed-empty;
+  headers = c.new-open.ensures c.args.list;
+}
 
 pub returns-in-Err-clause-fault : goal.returns-in-Err-clause-fault
 returns-in-Err-clause-fault c = record {
-    atom = atom_at c.args.list c.loop-at.at;
-    there = slice_get-get_or c.args.list c.loop-at.at [] (omega arith);
-    before = c.loop-at.invariant.before;
-    wrong = c.in-Err.ensures.err;
-  }
+  atom = atom_at c.args.list c.loop-at.at;
+  there = slice_get-get_or c.args.list c.loop-at.at [] (omega arith);
+  before = c.loop-at.invariant.before;
+  wrong = c.in-Err.ensures.err;
+}
 
 pub loop-at-preserved : goal.loop-at-preserved
 loop-at-preserved c =

@@ -8,4 +8,4 @@ returns c =
     let keep = c.args.keep in
     let front = take keep list in
     rw (c.truncate.ensures.items, c.self.view_is, c.empty.ensures)
-      (ap (λ xs. slice_set xs keep []) (take_more list keep [] c.requires) ∙ set_at front (get_or list keep []) [] [] keep (length-take-le keep list (omega arith)))
+    (ap (λ xs. slice_set xs keep []) (take_more list keep [] c.requires) ∙ set_at front (get_or list keep []) [] [] keep (length-take-le keep list (omega arith)))

@@ -15,9 +15,9 @@ pub returns-clause-ok : goal.returns-clause-ok
 returns-clause-ok c =
     let follows = header_follows c.args.list.now (path_before c.args.list.now c.args.at) _ _ _ (atom_at c.args.list.now c.args.at) c.args.level c.requires.«open» c.requires.header (omega arith) in
     elim c.else-level-self.branch [
-        else-level-self-via-then-level-self+else-not-rises w ↦ follows (λ below. w.if-not-rises.ensures.0 refl)
+      | else-level-self-via-then-level-self+else-not-rises w ↦ follows (λ below. w.if-not-rises.ensures.0 refl)
       | else-level-self-via-else-level-self w ↦ follows (λ below. absurd (omega arith))
-      ]
+    ]
 
 pub returns-clause-open : goal.returns-clause-open
 returns-clause-open c = header_taken c.args.list.now (path_before c.args.list.now c.args.at) _ _ _ c.args.at c.args.level c.requires.«open» c.requires.at c.requires.header (omega arith) (omega arith)

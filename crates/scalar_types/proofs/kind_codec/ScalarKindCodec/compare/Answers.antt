@@ -1,4 +1,4 @@
-use Rattle.std.proofs.Common.{◌≡◌, sym, ◌∙◌}
+use Rattle.std.proofs.Common.{sym, ◌∙◌}
 use Rattle.bag_model.proofs.SpellingOrder.{spelling-order}
 use Rattle.scalar_types.specs.KindViews.{kind_of}
 use Rattle.scalar_types.specs.ScalarViews.{value_of}

@@ -1,4 +1,4 @@
-use Rattle.std.proofs.Common.{◌≡◌, ◌↔◌, ℕ, List, map, IsTrue, rules, sym, ap, subst}
+use Rattle.std.proofs.Common.{◌↔◌, List, IsTrue, rules, sym, subst}
 use Rattle.bag_model.specs.Scalars.{Word, ArePlainsOf, packed_spelling}
 use Rattle.scalar_types.specs.declared.kinds.ScalarKind.{ScalarKind}
 use Rattle.scalar_types.specs.Spelling.{IsSpelled}
@@ -12,7 +12,7 @@ returns-in-Packed c =
     let words : List Word = c.in-Packed.kinds in
     let same = struct_spelled words c.args.bytes.now in
     let told : IsTrue c.fields_spelled.result ↔ IsSpelled (ArePlainsOf words) (packed_spelling words) c.args.bytes.now =
-        subst (λ ws. IsTrue c.fields_spelled.result ↔ IsSpelled (ArePlainsOf ws) (packed_spelling ws) c.args.bytes.now) c.as_slice.ensures.words c.fields_spelled.ensures in
+    subst (λ ws. IsTrue c.fields_spelled.result ↔ IsSpelled (ArePlainsOf ws) (packed_spelling ws) c.args.bytes.now) c.as_slice.ensures.words c.fields_spelled.ensures in
     subst (λ kind. IsTrue c.fields_spelled.result ↔ KindSpelled (kind_of kind) c.args.bytes.now) (sym c.in-Packed.is)
     (λ t. same.0 (told.0 t), λ s. told.1 (same.1 s))
 

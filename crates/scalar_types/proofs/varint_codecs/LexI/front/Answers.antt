@@ -1,4 +1,4 @@
-use Rattle.std.proofs.Common.{◌≡◌, ℕ, ◌-◌, List, length, take, drop, w64, sym, subst, rules}
+use Rattle.std.proofs.Common.{◌-◌, length, take, drop, w64, sym, subst, rules}
 use Rattle.std.proofs.lemmas.Int.{to_z-of_z}
 use Rattle.scalar_types.specs.Fronts.{Begins}
 use Rattle.context_model.specs.Varints.{signed_varint}

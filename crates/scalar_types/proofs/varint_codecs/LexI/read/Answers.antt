@@ -1,4 +1,4 @@
-use Rattle.std.proofs.Common.{◌≡◌, ℕ, List, [], rules}
+use Rattle.std.proofs.Common.{◌≡◌, [], rules}
 use Rattle.context_model.specs.Varints.{signed_varint}
 use Rattle.bag_model.specs.Scalars.{IsSigned}
 use Rattle.bag_model.proofs.NumberCodes.{signed_code}

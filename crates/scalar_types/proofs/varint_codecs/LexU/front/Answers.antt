@@ -1,4 +1,4 @@
-use Rattle.std.proofs.Common.{◌≡◌, ℕ, List, length, rules, arith}
+use Rattle.std.proofs.Common.{length, rules}
 use Rattle.context_model.specs.Varints.{unsigned_varint}
 use Rattle.lex_varint.specs.Fronts.{IsUnsignedAt}
 use Rattle.bag_model.specs.Scalars.{IsUnsigned}

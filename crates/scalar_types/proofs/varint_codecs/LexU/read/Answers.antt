@@ -1,4 +1,4 @@
-use Rattle.std.proofs.Common.{◌≡◌, ℕ, List, [], rules}
+use Rattle.std.proofs.Common.{◌≡◌, [], rules}
 use Rattle.context_model.specs.Varints.{unsigned_varint}
 use Rattle.bag_model.specs.Scalars.{IsUnsigned}
 use Rattle.bag_model.proofs.NumberCodes.{unsigned_code}

@@ -1,4 +1,4 @@
-use Rattle.std.proofs.Common.{◌≡◌, sym, ◌∙◌}
+use Rattle.std.proofs.Common.{sym, ◌∙◌}
 use Rattle.bag_model.proofs.Codes.{code_order}
 use Rattle.bag_model.proofs.NumberCodes.{unsigned_code}
 use Rattle.scalar_types.proofs.varint_codecs.LexUCodec.compare.Goals as goal

@@ -1,4 +1,4 @@
-use Rattle.std.proofs.Common.{◌≡◌, ℕ, List, IfSome, sym, subst}
+use Rattle.std.proofs.Common.{IfSome, sym, subst}
 use Rattle.bag_model.specs.Scalars.{Plain, IsOfForm, field_spelling}
 use Rattle.scalar_types.specs.Fronts.{Begins}
 use Rattle.scalar_types.specs.WordCodecs.{form}

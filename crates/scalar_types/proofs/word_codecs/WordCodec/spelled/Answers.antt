@@ -1,4 +1,4 @@
-use Rattle.std.proofs.Common.{◌≡◌, ◌↔◌, ℕ, Bool, List, IsTrue, sym, subst}
+use Rattle.std.proofs.Common.{◌↔◌, ℕ, Bool, List, IsTrue, sym, subst}
 use Rattle.bag_model.specs.Scalars.{IsOfForm, plain_spelling}
 use Rattle.scalar_types.specs.Spelling.{IsSpelled}
 use Rattle.scalar_types.specs.WordCodecs.{form}

@@ -1,4 +1,4 @@
-use Rattle.std.proofs.Common.{◌≡◌, ℕ, List, Err, rules, sym, subst}
+use Rattle.std.proofs.Common.{ℕ, List, rules, sym, subst}
 use Rattle.std.specs.Prelude.{IsUtf8}
 use Rattle.bag_model.specs.Scalars.{IsOfForm, field_spelling, ended}
 use Rattle.scalar_types.specs.Spelling.{AlwaysFits, IsSpelled}
