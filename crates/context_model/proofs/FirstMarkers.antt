@@ -1,6 +1,5 @@
 -- The first marker of a list, and the atoms before it: among the paths of a list, and in a merge.
 use Rattle.std.proofs.Common.{◌≡◌, ℕ, inl, inr, ◌↔◌, List, [], ◌∷◌, ◌++◌, take, Ordering, Less, Equal, Greater, sym, refl, ap, ◌∙◌, subst}
-use Rattle.std.specs.List.{AllByRecursion}
 use Rattle.std.specs.Cmp.{tied_itself}
 use Rattle.std.specs.Ordering.{ordering_then, ordering_reverse}
 use Rattle.context_model.specs.Atoms.{Atom}
@@ -127,13 +126,13 @@ keeps_first_marker lists a q each f = (there, back)
     back first = first-from_least a q f.well_formed (
       (merged_path lists a (q ++ [] ∷ []) f).1 (first.list, first.among, (first-least first.list q (All-at IsWellFormed lists first.list each first.among) first.first).0),
       λ p i l. (
-        let s = (merged_path lists a (p ++ [] ∷ []) f).0 i in
-        let m : HasMarkerBehind s.0 p = (HasMarkerBehind-path s.0 p).1 s.2 in
-        let r : Path = last_path_after [] (front_of s.0) in
-        let mark : HasFirstMarkerBehind s.0 r = record { marker = marker_at s.0 m.place m.there; behind = refl } in
-        let low : IsLeastMarker (paths s.0) r = first-least s.0 r (All-at IsWellFormed lists s.0 each s.1) mark in
-        first.least s.0 r s.1 mark (lesser p q r (low.1 p s.2) l)
-      ),
+          let s = (merged_path lists a (p ++ [] ∷ []) f).0 i in
+          let m : HasMarkerBehind s.0 p = (HasMarkerBehind-path s.0 p).1 s.2 in
+          let r : Path = last_path_after [] (front_of s.0) in
+          let mark : HasFirstMarkerBehind s.0 r = record { marker = marker_at s.0 m.place m.there; behind = refl } in
+          let low : IsLeastMarker (paths s.0) r = first-least s.0 r (All-at IsWellFormed lists s.0 each s.1) mark in
+          first.least s.0 r s.1 mark (lesser p q r (low.1 p s.2) l)
+          ),
     )
 
 -- ---- the atoms before the first marker

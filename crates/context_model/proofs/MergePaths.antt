@@ -1,5 +1,5 @@
 -- The greedy merge of two lists that follow one path: both rests may follow the path of the last atom taken.
-use Rattle.std.proofs.Common.{◌≡◌, ℕ, zero, suc, ◌+◌, ◌<◌, ◌≤◌, ◌⊎◌, inl, inr, Bool, true, false, cond, nat_le, List, [], ◌∷◌, ◌++◌, length, take, Ordering, Less, Equal, Greater, sym, refl, ap, ◌∙◌, subst, arith, le_refl, leb-true, leb-false}
+use Rattle.std.proofs.Common.{◌≡◌, ℕ, zero, suc, ◌<◌, ◌≤◌, inl, inr, Bool, true, false, cond, nat_le, List, [], ◌∷◌, ◌++◌, length, take, Ordering, Less, Equal, Greater, sym, refl, ap, ◌∙◌, subst, arith, le_refl, leb-true, leb-false}
 use Rattle.std.proofs.lemmas.List.{take_all, append-nil, take_at, length-take-le}
 use Rattle.std.proofs.lemmas.Bool.{cases_lt}
 use Rattle.std.specs.Cmp.{nat_cmp_is, tied_itself}
@@ -24,7 +24,7 @@ first_byte b c bytes more l = elim (cases_lt c b) [
       let greater : atom_cmp (b ∷ bytes) (c ∷ more) ≡ Greater = ap (λ r. ordering_then r (atom_cmp bytes more)) (sym (nat_cmp_is b c Greater (omega arith))) in
       let clash : Less ≡ Greater = sym l ∙ greater in
       absurd (cc)
-    )
+      )
   | inr upto ↦ upto
 ]
 
@@ -177,22 +177,22 @@ merge_step x y xs ys less both more q f g = by (atom_cmp x y) refl
         let there : Goes (path_after q x) (y ∷ ys) (paths_after q (y ∷ ys)) = Follows-later q (path_after q x) y ys f.0.later lesser g in
         let m : Merges (path_after q x) xs (y ∷ ys) = less (path_after q x) f.1 there.follows in
         take_head q x (greedy_merge atom_cmp xs (y ∷ ys)) _ _ _ f.0 m (greedy-less atom_cmp x y xs ys e)
-            (ap (λ v. path_after q x ∷ greedy_merge path_cmp (paths_after (path_after q x) xs) v) there.are
-            ∙ sym (greedy-less path_cmp (path_after q x) (path_after q y) (paths_after (path_after q x) xs) (paths_after (path_after q y) ys) lesser))
+        (ap (λ v. path_after q x ∷ greedy_merge path_cmp (paths_after (path_after q x) xs) v) there.are
+        ∙ sym (greedy-less path_cmp (path_after q x) (path_after q y) (paths_after (path_after q x) xs) (paths_after (path_after q y) ys) lesser))
     by Equal e =
         let same : y ≡ x = sym (atoms_anti x y e) in
         let m : Merges (path_after q x) xs ys = both (path_after q x) f.1 (subst (λ v. Follows (path_after q v) ys) same g.1) in
         let tie : path_cmp (path_after q x) (path_after q y) ≡ Equal = ap (λ v. path_cmp (path_after q x) (path_after q v)) same ∙ tied_itself paths_total (path_after q x) in
         take_head q x (greedy_merge atom_cmp xs ys) _ _ _ f.0 m (greedy-equal atom_cmp x y xs ys e)
-            (ap (λ v. path_after q x ∷ greedy_merge path_cmp (paths_after (path_after q x) xs) (paths_after (path_after q v) ys)) (sym same)
-            ∙ sym (greedy-equal path_cmp (path_after q x) (path_after q y) (paths_after (path_after q x) xs) (paths_after (path_after q y) ys) tie))
+        (ap (λ v. path_after q x ∷ greedy_merge path_cmp (paths_after (path_after q x) xs) (paths_after (path_after q v) ys)) (sym same)
+        ∙ sym (greedy-equal path_cmp (path_after q x) (path_after q y) (paths_after (path_after q x) xs) (paths_after (path_after q y) ys) tie))
     by Greater e =
         let lesser : path_cmp (path_after q y) (path_after q x) ≡ Less = path_after-lesser q y x (lesser_back x y e) g.0 f.0 in
         let there : Goes (path_after q y) (x ∷ xs) (paths_after q (x ∷ xs)) = Follows-later q (path_after q y) x xs g.0.later lesser f in
         let m : Merges (path_after q y) (x ∷ xs) ys = more (path_after q y) there.follows g.1 in
         take_head q y (greedy_merge atom_cmp (x ∷ xs) ys) _ _ _ g.0 m (greedy-greater atom_cmp x y xs ys e)
-            (ap (λ v. path_after q y ∷ greedy_merge path_cmp v (paths_after (path_after q y) ys)) there.are
-            ∙ sym (greedy-greater path_cmp (path_after q x) (path_after q y) (paths_after (path_after q x) xs) (paths_after (path_after q y) ys) (greater_back (path_after q x) (path_after q y) lesser)))
+        (ap (λ v. path_after q y ∷ greedy_merge path_cmp v (paths_after (path_after q y) ys)) there.are
+        ∙ sym (greedy-greater path_cmp (path_after q x) (path_after q y) (paths_after (path_after q x) xs) (paths_after (path_after q y) ys) (greater_back (path_after q x) (path_after q y) lesser)))
 
 -- The greedy merge of two lists that may follow a path may follow it, and its paths are the merge of theirs.
 pub merges : (xs ys : List Atom) → MergeAfter xs ys

@@ -1,17 +1,16 @@
 -- The greedy merge of two well-formed lists is their merge, and so for any number of lists.
-use Rattle.std.proofs.Common.{◌≡◌, ℕ, ◌⊎◌, inl, inr, ◌↔◌, List, [], ◌∷◌, ◌++◌, map, take, length, ◌≤◌, Some, sym, refl, ap, ◌∙◌, subst}
-use Rattle.std.specs.List.{AllByRecursion}
+use Rattle.std.proofs.Common.{◌≡◌, ◌⊎◌, inl, inr, ◌↔◌, List, [], ◌∷◌, ◌++◌, map, take, length, ◌≤◌, sym, refl, ap, ◌∙◌, subst}
 use Rattle.outside.specs.declared.TheConstants.{ATOM_MAX}
 use Rattle.context_model.specs.Atoms.{Atom, AreAtoms}
 use Rattle.context_model.specs.Kinds.{HasKind}
 use Rattle.context_model.specs.Orders.{Path, atom_cmp, path_cmp, IsIn}
-use Rattle.context_model.specs.Paths.{depth_after, path_after, paths_after, paths, last_path_after}
+use Rattle.context_model.specs.Paths.{depth_after, path_after, paths_after, paths}
 use Rattle.context_model.specs.WellFormed.{IsWellFormed}
 use Rattle.context_model.specs.Merge.{greedy_merge}
 use Rattle.context_model.specs.Merged.{HasPaths, SomeHasPath, IsMerged, merge_of, last_atom, PathsTellLists, HasOneMerge, HasLastAtoms, MergesGreedily, MergesFew, MergesOneByOne, MergesInGroups, MergesOfMerges, MergesMembers, KeepsElements, KeepsAtoms, StaysWithinLimit}
 use Rattle.context_model.proofs.OrderLaws.{atoms_total, atoms_anti, paths_total, paths_anti}
 use Rattle.context_model.proofs.GreedyElements.{All-at, All-from, IsIn-greedy, All-greedy, Rises-unique}
-use Rattle.context_model.proofs.Following.{IsWellFormed-follows, IsWellFormed-from, IsWellFormed-empty, path_after-marker}
+use Rattle.context_model.proofs.Following.{IsWellFormed-follows, IsWellFormed-from, IsWellFormed-empty}
 use Rattle.context_model.proofs.MergePaths.{Goes, merges}
 
 -- ---- the last atom of a path, and what stands before it
@@ -114,7 +113,7 @@ HasPaths-own a v = record { well_formed = v; exact = λ q. ((λ i. i), λ i. i) 
 pub merges_greedily : MergesGreedily
 merges_greedily a b v w =
     HasPaths-alike (λ q. IsIn q (paths a) ⊎ IsIn q (paths b)) (SomeHasPath (a ∷ b ∷ [])) (greedy_merge atom_cmp a b) (λ q. (there q, back q))
-        (HasPaths-greedy (λ q. IsIn q (paths a)) (λ q. IsIn q (paths b)) a b (HasPaths-own a v) (HasPaths-own b w))
+    (HasPaths-greedy (λ q. IsIn q (paths a)) (λ q. IsIn q (paths b)) a b (HasPaths-own a v) (HasPaths-own b w))
   where
     there : (q : Path) → IsIn q (paths a) ⊎ IsIn q (paths b) → SomeHasPath (a ∷ b ∷ []) q
     there q (inl i) = inl i
@@ -154,7 +153,7 @@ has_last_atoms lists a ps f rises same =
 pub merges_in_groups : MergesInGroups
 merges_in_groups some others a b f g =
     HasPaths-alike (λ q. SomeHasPath some q ⊎ SomeHasPath others q) (SomeHasPath (some ++ others)) (greedy_merge atom_cmp a b)
-        (λ q. let s = SomeHasPath-append some others q in (s.1, s.0)) (HasPaths-greedy (SomeHasPath some) (SomeHasPath others) a b f g)
+    (λ q. let s = SomeHasPath-append some others q in (s.1, s.0)) (HasPaths-greedy (SomeHasPath some) (SomeHasPath others) a b f g)
 
 pub merges_one_by_one : MergesOneByOne
 merges_one_by_one [] each = merges_few.none
