@@ -24,4 +24,11 @@ pub mod ContextFronts
 pub mod Meets
 pub mod EndedSteps
 pub mod Places
+pub mod Lexicographic
+pub mod MergePaths
+pub mod GreedyElements
+pub mod MergedLaws
+pub mod MergedMarkers
+pub mod FirstMarkers
+pub mod MergeRows
 pub mod HeadersAfter
