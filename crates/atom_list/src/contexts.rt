@@ -52,6 +52,14 @@ impl Context {
         }
     }
 
+    /// The context of a list that is known to be well formed. The list isn't looked at.
+    pub fn of(list: AtomList) -> Context
+        requires { IsWellFormed list }
+        ensures { result ≡ list }
+    {
+        Context { list }
+    }
+
     /// The context of a well-formed list, or what is first wrong with the list, at which place, and the list. It takes no
     /// memory.
     pub fn check(list: AtomList) -> Result<Context, (ShapeFault, usize, AtomList)>

@@ -3,6 +3,22 @@
 ghost use Rattle.context_model.specs.Merged.{PathsTellLists, HasOneMerge, HasLastAtoms, MergesGreedily, MergesFew, MergesOneByOne, MergesInGroups, MergesOfMerges, MergesMembers, KeepsElements, KeepsAtoms, StaysWithinLimit};
 ghost use Rattle.context_model.specs.MergedMarkers.{KeepsMarkers, KeepsMarkersBehind, KeepsFirstMarker, KeepsFronts, EndsWithEach};
 ghost use Rattle.context_model.specs.Behind.{EndsAtFirstMarker};
+ghost use Rattle.lex_merge.specs.Laws.{MergesInAnyOrder, MergesInAnyGrouping, MergesOnce};
+
+/// The merge of two lists doesn't know which came first.
+pub fn merges_in_any_order()
+    ensures { MergesInAnyOrder }
+{}
+
+/// Three lists can be merged in either grouping.
+pub fn merges_in_any_grouping()
+    ensures { MergesInAnyGrouping }
+{}
+
+/// A list merged with itself is the list.
+pub fn merges_once()
+    ensures { MergesOnce }
+{}
 
 /// Two well-formed lists with the same paths are equal.
 pub fn lists_are_known_by_their_paths()
@@ -15,7 +31,7 @@ pub fn has_one_merge()
 {}
 
 /// A merge is the list of the last atoms of all paths of the lists, in the order of paths.
-pub fn is_the_last_atoms()
+pub fn merges_are_last_atoms()
     ensures { HasLastAtoms }
 {}
 

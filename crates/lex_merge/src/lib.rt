@@ -1,13 +1,13 @@
 //! The merge of lists of atoms, by comparing bytes alone.
 #![tactic(auto)]
 
-ghost use Rattle.std.specs.Prelude.{◌≡◌, ◌≤◌, ◌++◌, length, drop, IfOk, OnOk};
+ghost use Rattle.std.specs.Prelude.{◌≡◌, ◌≤◌, [], ◌∷◌, ◌++◌, length, drop, IfOk, OnOk};
 ghost use Rattle.context_model.specs.Orders.{atom_cmp};
 ghost use Rattle.context_model.specs.Merge.{greedy_merge};
-ghost use Rattle.lex_merge.specs.Laws.{MergesInAnyOrder, MergesInAnyGrouping, MergesOnce};
+ghost use Rattle.context_model.specs.Merged.{IsMerged};
 
 use atom_kinds::compare;
-use atom_list::AtomList;
+use atom_list::{AtomList, Context};
 use outside::Memory;
 use std::alloc::Global;
 use std::cmp::Ordering;
@@ -57,17 +57,12 @@ pub fn merge_lists(alloc: Global, a: &AtomList, b: &AtomList) -> Result<AtomList
     Ok(merged)
 }
 
-/// The merge of two lists doesn't know which came first.
-pub fn merges_in_any_order()
-    ensures { MergesInAnyOrder }
-{}
-
-/// Three lists can be merged in either grouping.
-pub fn merges_in_any_grouping()
-    ensures { MergesInAnyGrouping }
-{}
-
-/// A list merged with itself is the list.
-pub fn merges_once()
-    ensures { MergesOnce }
-{}
+/// The merge of two contexts: the context that has exactly the paths of both. It is their greedy merge, so it takes no look at
+/// a path.
+pub fn merge(alloc: Global, a: &Context, b: &Context) -> Result<Context, Memory>
+    ensures merged { IfOk result (λ merged. IsMerged (a.now ∷ b.now ∷ []) merged) }
+    ensures greedy { IfOk result (λ merged. merged ≡ greedy_merge atom_cmp a.now b.now) }
+{
+    let merged = merge_lists(alloc, a.list(), b.list())?;
+    Ok(Context::of(merged))
+}

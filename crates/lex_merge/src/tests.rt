@@ -1,7 +1,7 @@
-//! The greedy merge on lists that aren't contexts.
+//! The greedy merge of lists that aren't contexts, and the merge of contexts.
 
-use crate::merge_lists;
-use atom_list::AtomList;
+use crate::{merge, merge_lists};
+use atom_list::{AtomList, Context};
 use std::alloc::Global;
 use std::process::Abort;
 use std::test::Fail;
@@ -28,5 +28,70 @@ fn takes_the_lesser_of_the_first_atoms(rt: HostRuntime) -> Result<(), Fail> {
         assert!(rt; matches!(merged.get(2), Some(b"a")));
     }
     assert_eq!(rt; merge_lists(alloc, &a, &a)?.len(), 2);
+    Ok(())
+}
+
+/// Whether the list has exactly these atoms.
+fn has_atoms(list: &AtomList, atoms: &[&[u8]]) -> bool {
+    if list.len() != atoms.len() {
+        return false;
+    }
+    for at in 0..atoms.len() {
+        match list.get(at) {
+            Some(atom) if atom == atoms[at] => {}
+            _ => return false,
+        }
+    }
+    true
+}
+
+/// The merge of the contexts of these atoms, in either order, has exactly the other atoms.
+fn merges_to<R: Abort>(
+    rt: &R,
+    alloc: Global,
+    one: &[&[u8]],
+    other: &[&[u8]],
+    both: &[&[u8]],
+) -> Result<(), Fail> {
+    for (first, second) in [(one, other), (other, one)] {
+        match (
+            Context::check(list_of(rt, alloc, first)?),
+            Context::check(list_of(rt, alloc, second)?),
+        ) {
+            (Ok(a), Ok(b)) => {
+                let merged = merge(alloc, &a, &b)?;
+                assert!(rt; has_atoms(merged.list(), both));
+            }
+            _ => assert!(rt; false),
+        }
+    }
+    Ok(())
+}
+
+#[test]
+fn merges_contexts(rt: HostRuntime) -> Result<(), Fail> {
+    let alloc = rt.alloc();
+    merges_to(&rt, alloc, &[], &[b"\xf8\x00"], &[b"\xf8\x00"])?;
+    merges_to(
+        &rt,
+        alloc,
+        &[b"\xf8\x00", b"\0a"],
+        &[b"\xf8\x01", b"\0a"],
+        &[b"\xf8\x00", b"\0a", b"\xf8\x01", b"\0a"],
+    )?;
+    merges_to(
+        &rt,
+        alloc,
+        &[b"\xf8\x00", b"\0a", b"\0c"],
+        &[b"\xf8\x00", b"\0b", b"\0c"],
+        &[b"\xf8\x00", b"\0a", b"\0b", b"\0c"],
+    )?;
+    merges_to(
+        &rt,
+        alloc,
+        &[b"\xf8\x00", b""],
+        &[b"\xf8\x00", b"\0\0\0\0\x07", b"\xf8\x01"],
+        &[b"\xf8\x00", b"", b"\0\0\0\0\x07", b"\xf8\x01"],
+    )?;
     Ok(())
 }
