@@ -12,6 +12,7 @@ use outside::Memory;
 use std::alloc::Global;
 use std::cmp::Ordering;
 
+pub mod laws;
 #[cfg(test)]
 mod tests;
 
