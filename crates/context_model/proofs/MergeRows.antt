@@ -1,11 +1,15 @@
 -- Merges computed.
-use Rattle.std.proofs.Common.{◌≡◌, List, [], ◌∷◌, refl}
+use Rattle.std.proofs.Common.{◌≡◌, List, [], ◌∷◌, refl, arith}
 use Rattle.context_model.specs.Atoms.{Atom}
 use Rattle.context_model.specs.Orders.{atom_cmp}
 use Rattle.context_model.specs.Merge.{greedy_merge}
 use Rattle.context_model.specs.Framing.{length_code, bytes_of}
-use Rattle.context_model.specs.Merged.{merge_of}
+use Rattle.context_model.specs.Kinds.Kind.{Datum, Indexed, Keyed}
+use Rattle.context_model.specs.Varints.{unsigned_varint, unsigned_form, unsigned_tail}
+use Rattle.context_model.specs.WellFormed.{IsWellFormed}
+use Rattle.context_model.specs.Merged.{IsMerged, merge_of}
 use Rattle.context_model.specs.Behind.{HasMarkerBehind}
+use Rattle.context_model.proofs.MergedLaws.{merges_greedily}
 
 -- a key with one datum, below the field 4 and below the field 5
 abbrev at_four : List Atom
@@ -35,6 +39,32 @@ five_bytes = refl
 both_bytes : bytes_of (merge_of (at_four ∷ at_five ∷ [])) ≡ 2 ∷ 0xf8 ∷ 4 ∷ 2 ∷ 0xf1 ∷ 0x78 ∷ 2 ∷ 0 ∷ 1 ∷ 2 ∷ 0xf8 ∷ 5 ∷ 2 ∷ 0xf1 ∷ 0x78 ∷ 2 ∷ 0 ∷ 1 ∷ []
 unfolding length_code
 both_bytes = refl
+
+-- both lists are well formed, and this is their merge
+four_well_formed : IsWellFormed at_four
+unfolding unsigned_varint unsigned_form unsigned_tail
+four_well_formed = record {
+  kinds = (
+    record { kind = Indexed 0 4; fits = (omega arith, omega arith); spelled = refl },
+    (record { kind = Keyed 1 (0x78 ∷ []); fits = omega arith; spelled = refl }, (record { kind = Datum (1 ∷ []); fits = tt; spelled = refl }, tt)),
+  );
+  levels = (omega arith, (omega arith, tt));
+  order = (refl, (refl, tt));
+}
+
+five_well_formed : IsWellFormed at_five
+unfolding unsigned_varint unsigned_form unsigned_tail
+five_well_formed = record {
+  kinds = (
+    record { kind = Indexed 0 5; fits = (omega arith, omega arith); spelled = refl },
+    (record { kind = Keyed 1 (0x78 ∷ []); fits = omega arith; spelled = refl }, (record { kind = Datum (1 ∷ []); fits = tt; spelled = refl }, tt)),
+  );
+  levels = (omega arith, (omega arith, tt));
+  order = (refl, (refl, tt));
+}
+
+four_five_merged : IsMerged (at_four ∷ at_five ∷ []) at_both
+four_five_merged = merges_greedily at_four at_five four_well_formed five_well_formed
 
 -- equal atoms below one header stay once
 four_four : greedy_merge atom_cmp at_four at_four ≡ at_four
