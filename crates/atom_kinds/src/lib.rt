@@ -14,7 +14,7 @@ ghost use Rattle.atom_kinds.specs.Told.{TellsKind};
 ghost use Rattle.atom_kinds.specs.declared.Kind.{Kind as AnyKind};
 
 use lex_varint::{put_u64, take_u64};
-use outside::{Memory, Octets};
+use outside::{ATOM_MAX, Memory, Octets};
 use std::alloc::Global;
 use std::cmp::Ordering;
 
@@ -94,7 +94,7 @@ pub fn compare(a: &[u8], b: &[u8]) -> Ordering
 
 /// The atom with this first byte and these bytes behind it.
 fn atom_from(alloc: Global, first: u8, rest: &[u8]) -> Result<Octets, Memory>
-    requires { length rest.now ≤ 65534 }
+    requires { length rest.now < ATOM_MAX }
     ensures { IfOk result (λ made. made ≡ first ∷ rest.now) }
 {
     let mut bytes = Vec::with_capacity(alloc, rest.len() + 1)?;
@@ -111,18 +111,18 @@ pub fn indexed(alloc: Global, level: u8, number: u64) -> Result<Octets, Memory>
     atom_from(alloc, 0xf8 - 8 * level, put_u64(number).as_slice())
 }
 
-/// The keyed header of a level and a key of at most 65,534 bytes.
+/// The keyed header of a level and a key of fewer than [`ATOM_MAX`] bytes.
 pub fn keyed(alloc: Global, level: u8, key: &[u8]) -> Result<Octets, Memory>
     requires level { level ≤ 15 }
-    requires key { length key.now ≤ 65534 }
+    requires key { length key.now < ATOM_MAX }
     ensures { IfOk result (λ made. made ≡ atom_of (PlainKeyed level key.now)) }
 {
     atom_from(alloc, 0xf9 - 8 * level, key)
 }
 
-/// The datum of a payload of at most 65,534 bytes.
+/// The datum of a payload of fewer than [`ATOM_MAX`] bytes.
 pub fn datum(alloc: Global, payload: &[u8]) -> Result<Octets, Memory>
-    requires { length payload.now ≤ 65534 }
+    requires { length payload.now < ATOM_MAX }
     ensures { IfOk result (λ made. made ≡ atom_of (PlainDatum payload.now)) }
 {
     atom_from(alloc, 0, payload)
