@@ -1,6 +1,8 @@
-//! That lists are written and read again, at the limits of a length's bytes.
+//! That lists are written and read again, at the limits of a length's bytes; which bytes are those of a context.
 
-use crate::{LENGTH_MAX, frame_len, offset, read, size, write};
+use crate::{
+    ByteCode, ContextFault, LENGTH_MAX, frame_len, offset, read, read_context, size, write,
+};
 use atom_list::AtomList;
 use std::test::Fail;
 
@@ -32,6 +34,63 @@ fn lists_at_the_limits(rt: HostRuntime) -> Result<(), Fail> {
         let again = read(alloc, bytes.as_slice())?;
         assert_eq!(rt; again.len(), 2, "{len}");
         assert!(rt; again.get(0).is_some_and(|atom| atom.len() == len), "{len}");
+    }
+    Ok(())
+}
+
+#[test]
+fn refused_contexts(rt: HostRuntime) -> Result<(), Fail> {
+    let alloc = rt.alloc();
+    let table: [(&[u8], usize, ByteCode); 18] = [
+        (b"\x03\xf8\x00", 0, ByteCode::CutBody),
+        (b"\x80", 0, ByteCode::CutLength),
+        (b"\x80\x00", 0, ByteCode::LongForm),
+        (b"\x80\x80\x04", 0, ByteCode::AtomTooLong),
+        (b"\xff\xff\xff\x02", 0, ByteCode::AtomTooLong),
+        (b"\x01\x01", 0, ByteCode::BadPrefix),
+        (b"\x03\xf8\x80\x00", 0, ByteCode::BadIndex),
+        (b"\x01\xf8", 0, ByteCode::BadIndex),
+        (b"\x03\xf8\x00\x00", 0, ByteCode::BadIndex),
+        (b"\x02\x78\x00", 0, ByteCode::BadPrefix),
+        (b"\x02\xf1w", 0, ByteCode::LevelJump),
+        (b"\x02\xf8\x00\x02\xe8\x00", 3, ByteCode::LevelJump),
+        (b"\x02\xf8\x01\x02\xf8\x00", 3, ByteCode::OutOfOrder),
+        (b"\x02\xf8\x01\x02\xf8\x00\x03", 3, ByteCode::OutOfOrder),
+        (b"\x02\xf8\x00\x02\xf8\x00", 3, ByteCode::OutOfOrder),
+        (b"\x02\0b\x02\0a", 3, ByteCode::OutOfOrder),
+        (b"\x02\xf8\x00\x05\0\0\0\0\x07\x80", 9, ByteCode::CutLength),
+        (
+            b"\x02\xf8\x00\x05\0\0\0\0\x07\x02\xf8\x00",
+            9,
+            ByteCode::OutOfOrder,
+        ),
+    ];
+    for (bytes, offset, code) in table {
+        match read_context(alloc, bytes) {
+            Err(fault) => assert_eq!(rt; fault, ContextFault::At { offset, code }),
+            Ok(_) => assert!(rt; false),
+        }
+    }
+    Ok(())
+}
+
+#[test]
+fn contexts(rt: HostRuntime) -> Result<(), Fail> {
+    let alloc = rt.alloc();
+    let table: [(&[u8], usize); 7] = [
+        (b"", 0),
+        (b"\x01\0", 1),
+        (b"\0", 1),
+        (b"\0\0", 2),
+        (b"\x02\xf8\x00\x05\0\0\0\0\x07", 2),
+        (b"\x01\xf9\x01\xf1\0\x01\xe9", 4),
+        (b"\x02\xf8\x00\x02\0a\x02\xf8\x01\x02\0a", 4),
+    ];
+    for (bytes, len) in table {
+        match read_context(alloc, bytes) {
+            Ok(context) => assert_eq!(rt; context.list().len(), len),
+            Err(_) => assert!(rt; false),
+        }
     }
     Ok(())
 }
