@@ -1,1 +1,4 @@
-mod Opening
+pub mod Ending
+pub mod Opening
+pub mod TakingOut
+pub mod Walking

@@ -1,7 +1,10 @@
 //! Contexts: lists of atoms that are well formed.
 
 ghost use Rattle.std.specs.Prelude.{◌≡◌, ◌<◌, [], ◌∷◌, ◌++◌, length, take, IfOk, IfErr};
+ghost use Rattle.std.specs.Ordering.{nat_cmp};
+ghost use Rattle.context_model.specs.Orders.{Rises};
 ghost use Rattle.context_model.specs.WellFormed.{IsWellFormed};
+ghost use Rattle.context_model.specs.WithoutData.{AreDataPlaces, without};
 ghost use Rattle.context_model.specs.ShapeFault.{IsFirstShapeFault};
 ghost use Rattle.atom_list.specs.Codes.{code_of};
 
@@ -99,6 +102,15 @@ impl Context {
         ensures { self.new ≡ take keep self.old ++ [] ∷ [] }
     {
         self.list.cut_to_marker(keep);
+    }
+
+    /// Takes out the data at these places, which rise; all other atoms stay, in order. It takes no memory.
+    pub fn drop_data(&mut self, gone: &[usize])
+        requires rises { Rises nat_cmp gone.now }
+        requires data { AreDataPlaces gone.now self.old }
+        ensures { self.new ≡ without gone.now self.old }
+    {
+        self.list.take_out(gone);
     }
 
     /// The same context again.

@@ -2,12 +2,16 @@
 #![tactic(auto)]
 
 mod contexts;
+mod ended;
 mod fronts;
 pub mod laws;
 mod lists;
 mod open_headers;
+mod open_places;
+mod places;
 #[cfg(test)]
 mod tests;
 
 pub use contexts::{Context, ShapeFault};
 pub use lists::AtomList;
+pub use places::{Place, Walk};

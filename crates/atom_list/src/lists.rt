@@ -1,8 +1,11 @@
 //! Lists of atoms, whatever they hold.
 
-ghost use Rattle.std.specs.Prelude.{◌≡◌, ◌+◌, ◌<◌, ◌≤◌, ◌↔◌, [], ◌∷◌, ◌++◌, length, take, IsTrue, IsSome, IfOk, IfSome, OnOk, OnErr, slice_get};
+ghost use Rattle.std.specs.Prelude.{◌≡◌, ◌+◌, ◌<◌, ◌≤◌, ◌↔◌, [], ◌∷◌, ◌++◌, length, take, IsTrue, IsSome, IfOk, IfSome, OnOk, OnErr, slice_get, slice_index, ℕ};
+ghost use Rattle.std.specs.Ordering.{nat_cmp};
 ghost use Rattle.std.specs.Option.{option_copied};
 ghost use Rattle.context_model.specs.Atoms.{AreAtoms};
+ghost use Rattle.context_model.specs.Orders.{Rises};
+ghost use Rattle.context_model.specs.WithoutData.{without};
 
 use outside::{ATOM_MAX, Memory, Octets};
 use std::alloc::Global;
@@ -84,6 +87,26 @@ impl AtomList {
     {
         self.atoms.truncate(keep + 1);
         self.atoms[keep] = Octets::empty(self.alloc);
+    }
+
+    /// Takes out the atoms at these places, which rise; all others stay, in order. It takes no memory, and goes over the
+    /// list once.
+    pub(crate) fn take_out(&mut self, gone: &[usize])
+        requires rises { Rises nat_cmp gone.now }
+        requires within { (k : ℕ) → k < length gone.now → slice_index gone.now k < length self.old }
+        ensures { self.new ≡ without gone.now self.old }
+    {
+        let mut kept = 0;
+        let mut taken = 0;
+        for at in 0..self.atoms.len() {
+            if taken < gone.len() && gone[taken] == at {
+                taken += 1;
+            } else {
+                self.atoms.swap(kept, at);
+                kept += 1;
+            }
+        }
+        self.atoms.truncate(kept);
     }
 
     /// The same list again.

@@ -1,0 +1,70 @@
+//! Which fields of a context can't have lost anything to a cut.
+
+ghost use Rattle.std.specs.Prelude.{◌≡◌, ◌↔◌, ℕ, ◌<◌, ◌≤◌, IsTrue, length, map, slice_index};
+ghost use Rattle.context_model.specs.Ended.{field_path, IsBeyond, IsEnded};
+ghost use Rattle.context_model.specs.Kinds.{atom_of};
+ghost use Rattle.context_model.specs.Kinds.Kind.{Indexed};
+ghost use Rattle.context_model.specs.Orders.{atom_cmp};
+ghost use Rattle.atom_list.specs.Open.{atom_at};
+
+use crate::contexts::Context;
+use crate::lists::AtomList;
+use crate::open_places::{OpenPlaces, header_level};
+use atom_kinds::compare;
+use lex_varint::put_u64;
+use std::cmp::Ordering;
+
+/// How the indexed header of a level and a number compares with an atom.
+fn compare_field(level: u8, number: u64, atom: &[u8]) -> Ordering
+    requires { level < 16 }
+    ensures { result ≡ atom_cmp (atom_of (Indexed level number)) atom.now }
+{
+    let Some((first, rest)) = atom.split_first() else {
+        return Ordering::Greater;
+    };
+    match (0xf8 - 8 * level).cmp(first) {
+        Ordering::Equal => compare(put_u64(number).as_slice(), rest),
+        other => other,
+    }
+}
+
+/// Whether the headers at these places are beyond the field with these numbers.
+fn are_beyond(list: &AtomList, headers: &OpenPlaces, numbers: &[u64]) -> bool
+    requires few { length numbers.now ≤ 16 }
+    requires within { (level : ℕ) → level < length headers.now → slice_index headers.now level < length list.now }
+    ensures { IsTrue result ↔ IsBeyond (field_path numbers.now) (map (atom_at list.now) headers.now) }
+{
+    for level in 0..numbers.len().min(headers.len()) {
+        let header = list.get(headers.get(level)).unwrap();
+        match compare_field(level as u8, numbers[level], header) {
+            Ordering::Less => return true,
+            Ordering::Equal => {}
+            Ordering::Greater => return false,
+        }
+    }
+    false
+}
+
+impl Context {
+    /// Whether nothing below the field with these numbers, which leads down from level 0 through nested bags, can have been
+    /// cut off: no marker stands in the context, or an atom beyond the field stands before the first one. The numbers are
+    /// at most 16. It takes no memory.
+    pub fn ended(&self, numbers: &[u64]) -> bool
+        requires { length numbers.now ≤ 16 }
+        ensures { IsTrue result ↔ IsEnded self.now (field_path numbers.now) }
+    {
+        let list = self.list();
+        let mut headers = OpenPlaces::new();
+        for at in 0..list.len() {
+            let atom = list.get(at).unwrap();
+            if atom.is_empty() {
+                return are_beyond(list, &headers, numbers);
+            }
+            if let Some(level) = header_level(atom) {
+                headers.truncate(level);
+                headers.push(at);
+            }
+        }
+        true
+    }
+}
