@@ -1,4 +1,5 @@
 pub mod Ending
 pub mod Opening
 pub mod TakingOut
+pub mod WalkLaws
 pub mod Walking

@@ -1,4 +1,4 @@
--- What a step of a walk leaves, and that walks find the nearest headers.
+-- What a step of a walk leaves.
 use Rattle.std.proofs.Common.{◌≡◌, ℕ, zero, suc, ◌+◌, ◌-◌, ◌<◌, ◌≤◌, ◌==◌, ◌&&◌, Bool, true, false, cond, List, [], ◌∷◌, ◌++◌, length, map, take, drop, get_or, set, replicate, slice_get, Some, refl, sym, ◌∙◌, ap, subst, arith, inl, inr, eqb, eq-eqb, ne_eqb, eqb-true}
 use Rattle.std.specs.List.{range_with_len}
 use Rattle.std.proofs.lemmas.List.{take_more, drop_more, length-take-le, drop-set-lt, drop-drop, drop-replicate}

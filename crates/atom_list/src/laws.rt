@@ -5,6 +5,7 @@ ghost use Rattle.context_model.specs.ShapeFault.{FaultsOnce};
 ghost use Rattle.context_model.specs.WellFormed.{TrimsWellFormed};
 ghost use Rattle.context_model.specs.Ended.{EndsAtMarkers};
 ghost use Rattle.context_model.specs.WithoutData.{DataMayGo};
+ghost use Rattle.atom_list.specs.Walk.{WalksFindNearest};
 
 /// In a path the header of each level is the nearest header of that level before.
 pub fn headers_are_nearest()
@@ -29,4 +30,9 @@ pub fn ends_at_markers()
 /// Data may be taken from a context: it stays one, and its fields stay ended where they were.
 pub fn data_may_go()
     ensures { DataMayGo }
+{}
+
+/// A walk over a context has one place for each atom, and finds the nearest header of each level around it.
+pub fn walks_find_nearest()
+    ensures { WalksFindNearest }
 {}

@@ -6,11 +6,8 @@ use Rattle.context_model.specs.Paths.{path_after, last_path_after}
 use Rattle.context_model.specs.WellFormed.{IsWellFormed}
 use Rattle.context_model.proofs.Following.{Fits, IsWellFormed-empty, IsWellFormed-more, last_path_after-append}
 use Rattle.atom_list.specs.Open.{IsOpen, MayFollow, atom_at, path_before}
+use Rattle.atom_list.proofs.Walking.{path_next}
 use Rattle.atom_list.proofs.contexts.Context.check.Goals as goal
-
--- The path of the atom at a place is the one behind the atoms up to it.
-path_next : (list : List Atom) (at : ℕ) → at < length list → path_before list (at + 1) ≡ path_after (path_before list at) (atom_at list at)
-path_next list at within = ap (last_path_after []) (take_more list at [] within) ∙ last_path_after-append [] (take at list) (atom_at list at ∷ [])
 
 more_well_formed : (list : List Atom) (at : ℕ) → at < length list → IsWellFormed (take at list) → MayFollow (path_before list at) (atom_at list at) → IsWellFormed (take (at + 1) list)
 more_well_formed list at within before may =
