@@ -159,9 +159,9 @@ module _ (gone : List ℕ) (start now : List Atom) (at kept taken : ℕ) where
         whole = length-swap now kept at ∙ done.whole;
         upto = omega (arith, done.upto);
         front = take-swap now kept at done.upto (omega (arith, done.whole))
-          ∙ ap (λ v. v ++ get_or now at [] ∷ []) done.front
-          ∙ ap (λ v. without gone (take at start) ++ v ∷ []) same.0
-          ∙ sym (without-kept gone start at within none);
+            ∙ ap (λ v. v ++ get_or now at [] ∷ []) done.front
+            ∙ ap (λ v. without gone (take at start) ++ v ∷ []) same.0
+            ∙ sym (without-kept gone start at within none);
         back = drop-swap now kept at done.upto (omega (arith, done.whole)) ∙ same.1;
         some = done.some;
         before = λ k less. omega (arith, done.before k less);

@@ -113,5 +113,5 @@ walks_find_nearest list w = record {
   each = λ at place e. (
       let found = places_at [] list at place e in
       subst (IsPlaceAt list at) (sym found.1) (place_found list w at found.0)
-  );
+      );
 }

@@ -24,7 +24,7 @@ nearest_place_from-more last n i [] a = by (is_header a && (level a == n))
 nearest_place_from-more last n i (x ∷ list) a =
     nearest_place_from-more (cond (is_header x && (level x == n)) i last) n (i + 1) list a
     ∙ (let e : i + 1 + length list ≡ i + suc (length list) = omega arith in
-       ap (λ v. cond (is_header a && (level a == n)) v (nearest_place_from (cond (is_header x && (level x == n)) i last) n (i + 1) list)) e)
+    ap (λ v. cond (is_header a && (level a == n)) v (nearest_place_from (cond (is_header x && (level x == n)) i last) n (i + 1) list)) e)
 
 pub nearest_place-more : (list : List Atom) (a : Atom) (n : ℕ) → nearest_place (list ++ a ∷ []) n ≡ cond (is_header a && (level a == n)) (length list) (nearest_place list n)
 nearest_place-more list a n =
@@ -78,9 +78,9 @@ walk_other list at headers walk within other = record {
   well_formed = walk.well_formed;
   within = omega arith;
   open_places = walk.open_places
-    ∙ sym (nearest_places-other (header_count (path_before list at)) (take at list) (atom_at list at) other)
-    ∙ ap (λ v. nearest_places (header_count (path_before list at)) v) (sym (take_more list at [] within))
-    ∙ ap (λ n. nearest_places n (take (at + 1) list)) (sym (header_count-next list at walk.well_formed within ∙ ap (λ b. cond b (level (atom_at list at) + 1) (header_count (path_before list at))) other));
+      ∙ sym (nearest_places-other (header_count (path_before list at)) (take at list) (atom_at list at) other)
+      ∙ ap (λ v. nearest_places (header_count (path_before list at)) v) (sym (take_more list at [] within))
+      ∙ ap (λ n. nearest_places n (take (at + 1) list)) (sym (header_count-next list at walk.well_formed within ∙ ap (λ b. cond b (level (atom_at list at) + 1) (header_count (path_before list at))) other));
 }
 
 pub walk_level : (list : List Atom) (at : ℕ) (headers : List ℕ) → IsWalk list at headers → at < length list → is_header (atom_at list at) ≡ true → level (atom_at list at) ≤ length headers
@@ -100,10 +100,10 @@ walk_header list at headers walk within header = record {
   well_formed = walk.well_formed;
   within = omega arith;
   open_places = ap (λ v. v ++ at ∷ []) (walk_cut list at headers walk within header)
-    ∙ ap (λ v. nearest_places (level (atom_at list at)) (take at list) ++ v ∷ []) (sym (length-take-le at list (omega arith)))
-    ∙ sym (nearest_places-header (take at list) (atom_at list at) header)
-    ∙ ap (nearest_places (level (atom_at list at) + 1)) (sym (take_more list at [] within))
-    ∙ ap (λ n. nearest_places n (take (at + 1) list)) (sym (header_count-next list at walk.well_formed within ∙ ap (λ b. cond b (level (atom_at list at) + 1) (header_count (path_before list at))) header));
+      ∙ ap (λ v. nearest_places (level (atom_at list at)) (take at list) ++ v ∷ []) (sym (length-take-le at list (omega arith)))
+      ∙ sym (nearest_places-header (take at list) (atom_at list at) header)
+      ∙ ap (nearest_places (level (atom_at list at) + 1)) (sym (take_more list at [] within))
+      ∙ ap (λ n. nearest_places n (take (at + 1) list)) (sym (header_count-next list at walk.well_formed within ∙ ap (λ b. cond b (level (atom_at list at) + 1) (header_count (path_before list at))) header));
 }
 
 -- ---- the place of an atom
@@ -119,10 +119,10 @@ pub place_other : (list : List Atom) (at : ℕ) (headers : List ℕ) (made : Pla
 place_other list at headers made walk within other e =
     let count : header_count (path_before list at) ≡ headers_around (path_before list at) (atom_at list at) = ap (λ b. cond b (level (atom_at list at)) (header_count (path_before list at))) (sym other) in
     same_place at (length (take at list)) (length headers) (headers_around (path_before list at) (atom_at list at)) (padded headers)
-        (padded (nearest_places (headers_around (path_before list at) (atom_at list at)) (take at list))) made e
-        (sym (length-take-le at list (omega arith)))
-        (walk_length list at headers walk ∙ count)
-        (ap padded (walk.open_places ∙ ap (λ n. nearest_places n (take at list)) count))
+    (padded (nearest_places (headers_around (path_before list at) (atom_at list at)) (take at list))) made e
+    (sym (length-take-le at list (omega arith)))
+    (walk_length list at headers walk ∙ count)
+    (ap padded (walk.open_places ∙ ap (λ n. nearest_places n (take at list)) count))
 
 pub place_header : (list : List Atom) (at : ℕ) (headers : List ℕ) (made : Place) → IsWalk list at headers → at < length list → is_header (atom_at list at) ≡ true
     → made ≡ record { at = at; level = length (take (level (atom_at list at)) headers); above = padded (take (level (atom_at list at)) headers) } → made ≡ place_of (take at list) (atom_at list at)
@@ -130,10 +130,10 @@ place_header list at headers made walk within header e =
     let count : level (atom_at list at) ≡ headers_around (path_before list at) (atom_at list at) = ap (λ b. cond b (level (atom_at list at)) (header_count (path_before list at))) (sym header) in
     let kept = take (level (atom_at list at)) headers in
     same_place at (length (take at list)) (length kept) (headers_around (path_before list at) (atom_at list at)) (padded kept)
-        (padded (nearest_places (headers_around (path_before list at) (atom_at list at)) (take at list))) made e
-        (sym (length-take-le at list (omega arith)))
-        (length-take-le (level (atom_at list at)) headers (walk_level list at headers walk within header) ∙ count)
-        (ap padded (walk_cut list at headers walk within header ∙ ap (λ n. nearest_places n (take at list)) count))
+    (padded (nearest_places (headers_around (path_before list at) (atom_at list at)) (take at list))) made e
+    (sym (length-take-le at list (omega arith)))
+    (length-take-le (level (atom_at list at)) headers (walk_level list at headers walk within header) ∙ count)
+    (ap padded (walk_cut list at headers walk within header ∙ ap (λ n. nearest_places n (take at list)) count))
 
 pub view_next : (list : List Atom) (at : ℕ) → at < length list
     → places_behind (take at list) (drop at list) ≡ place_of (take at list) (atom_at list at) ∷ places_behind (take (at + 1) list) (drop (at + 1) list)

@@ -26,26 +26,3 @@ impl Context {
         self.front_len() < self.list().len()
     }
 }
-
-#[cfg(test)]
-mod tests {
-    use crate::{AtomList, Context};
-    use std::test::Fail;
-
-    #[test]
-    fn fronts(rt: HostRuntime) -> Result<(), Fail> {
-        let mut list = AtomList::new(rt.alloc());
-        for atom in [[0xf8u8, 0].as_slice(), &[0, 7], &[]] {
-            if atom.len() <= 2 {
-                list.push(atom)?;
-            }
-        }
-        if let Ok(context) = Context::check(list) {
-            assert_eq!(rt; context.front_len(), 2);
-            assert!(rt; context.has_marker());
-            return Ok(());
-        }
-        assert!(rt; false);
-        Ok(())
-    }
-}

@@ -24,19 +24,19 @@ at_level list headers numbers n place header in_numbers in_headers is there = re
 pub returns-in-Less : goal.returns-in-Less
 returns-in-Less c =
     let stand = at_level c.args.list.now c.args.headers.now c.args.numbers.now c.loop-level.level c.get.result c.unwrap-header.result.now (omega arith) (omega arith) c.get.ensures
-        (sym c.get-in-loop-level.ensures.value ∙ ap option_copied c.unwrap-header.ensures) in
+    (sym c.get-in-loop-level.ensures.value ∙ ap option_copied c.unwrap-header.ensures) in
     (λ t. c.loop-level.invariant.0 (beyond_by_less _ _ _ _ _ stand c.in-Less.ensures), λ b. refl)
 
 pub returns-in-Greater : goal.returns-in-Greater
 returns-in-Greater c =
     let stand = at_level c.args.list.now c.args.headers.now c.args.numbers.now c.loop-level.level c.get.result c.unwrap-header.result.now (omega arith) (omega arith) c.get.ensures
-        (sym c.get-in-loop-level.ensures.value ∙ ap option_copied c.unwrap-header.ensures) in
+    (sym c.get-in-loop-level.ensures.value ∙ ap option_copied c.unwrap-header.ensures) in
     (λ t. cc, λ b. absurd (not_by_greater _ _ _ _ _ stand c.in-Greater.ensures (c.loop-level.invariant.1 b)))
 
 pub loop-level-preserved : goal.loop-level-preserved
 loop-level-preserved c =
     let stand = at_level c.args.list.now c.args.headers.now c.args.numbers.now c.loop-level.level c.get.result c.unwrap-header.result.now (omega arith) (omega arith) c.get.ensures
-        (sym c.get-in-loop-level.ensures.value ∙ ap option_copied c.unwrap-header.ensures) in
+    (sym c.get-in-loop-level.ensures.value ∙ ap option_copied c.unwrap-header.ensures) in
     let step = beyond_by_equal _ _ _ _ _ stand c.in-Equal.ensures in
     (λ b. c.loop-level.invariant.0 (step.0 b), λ b. step.1 (c.loop-level.invariant.1 b))
 

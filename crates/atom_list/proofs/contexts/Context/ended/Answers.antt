@@ -19,8 +19,7 @@ by_headers : (list : List (List ℕ)) (numbers headers : List ℕ) (at : ℕ) �
 by_headers list numbers headers at w few within unmarked marked same =
     let path : Path = path_before list at in
     let field = field_path-headers 0 numbers (omega arith) in
-    let ended = ended_at_marker list (field_path numbers) at w within unmarked marked in
-    (
+    let ended = ended_at_marker list (field_path numbers) at w within unmarked marked in (
       λ beyond. ended.1 (beyond_from_headers (field_path numbers) path field (subst (IsBeyond (field_path numbers)) same beyond)),
       λ ends. subst (IsBeyond (field_path numbers)) (sym same) (beyond_headers (field_path numbers) path field (ended.0 ends)),
     )
@@ -34,8 +33,7 @@ returns-then-is_empty c =
     let there : slice_get list c.loop-at.at ≡ Some c.unwrap-atom.result.now = sym c.get.ensures.value ∙ ap option_copied c.unwrap-atom.ensures in
     let none : c.unwrap-atom.result.now ≡ [] = nil_from_length c.unwrap-atom.result.now (eqb-true (length c.unwrap-atom.result.now) 0 (sym c.if-is_empty.ensures)) in
     let ends = by_headers list c.args.numbers.now c.loop-at.headers c.loop-at.at (subst IsWellFormed (sym c.list-list.ensures.list) c.list-list.ensures.well_formed) c.requires
-        (omega (arith, c.len-at-end.ensures.len, c.loop-at-test.true)) c.loop-at.invariant.unmarked (there ∙ ap Some none) c.loop-at.invariant.open_headers in
-    (
+    (omega (arith, c.len-at-end.ensures.len, c.loop-at-test.true)) c.loop-at.invariant.unmarked (there ∙ ap Some none) c.loop-at.invariant.open_headers in (
       λ t. subst (λ v. IsEnded v (field_path c.args.numbers.now)) c.list-list.ensures.list (ends.0 (c.are_beyond.ensures.0 t)),
       λ e. c.are_beyond.ensures.1 (ends.1 (subst (λ v. IsEnded v (field_path c.args.numbers.now)) (sym c.list-list.ensures.list) e)),
     )
@@ -46,7 +44,7 @@ truncate-requires c =
     let there : slice_get list c.loop-at.at ≡ Some c.unwrap-atom.result.now = sym c.get.ensures.value ∙ ap option_copied c.unwrap-atom.ensures in
     let same : c.unwrap-atom.result.now ≡ atom_at list c.loop-at.at = sym (get_or_from_slice_get list c.loop-at.at c.unwrap-atom.result.now [] there) in
     let few : level (atom_at list c.loop-at.at) ≤ _ = (fits_at list c.loop-at.at (subst IsWellFormed (sym c.list-list.ensures.list) c.list-list.ensures.well_formed)
-        (omega (arith, c.len-at-end.ensures.len, c.loop-at-test.true))).level (ap is_header (sym same) ∙ c.in-Some.ensures.0) in
+    (omega (arith, c.len-at-end.ensures.len, c.loop-at-test.true))).level (ap is_header (sym same) ∙ c.in-Some.ensures.0) in
     let found : c.in-Some.level ≡ level (atom_at list c.loop-at.at) = c.in-Some.ensures.1 ∙ ap level same in
     omega (arith, few, found, headers_length list c.loop-at.headers (path_before list c.loop-at.at) c.loop-at.invariant.open_headers)
 
@@ -68,7 +66,7 @@ loop-at-preserved c =
     elim c.match-header_level.branch [
       | in-Some w ↦
           let headers : c.match-header_level.headers ≡ take (level (atom_at list at)) c.loop-at.headers ++ at ∷ [] =
-              w.headers-is ∙ w.push.ensures ∙ ap (λ v. v ++ at ∷ []) (w.truncate.ensures ∙ ap (λ n. take n c.loop-at.headers) (w.in-Some.ensures.1 ∙ ap level same)) in
+          w.headers-is ∙ w.push.ensures ∙ ap (λ v. v ++ at ∷ []) (w.truncate.ensures ∙ ap (λ n. take n c.loop-at.headers) (w.in-Some.ensures.1 ∙ ap level same)) in
           record {
             unmarked = unmarked;
             open_headers = ap (map (atom_at list)) headers ∙ open_header list c.loop-at.headers at (subst IsWellFormed (sym c.list-list.ensures.list) c.list-list.ensures.well_formed) within
@@ -76,8 +74,8 @@ loop-at-preserved c =
             within = subst (λ v. (k : ℕ) → k < length v → get_or v k 0 < length list) (sym headers) (within_push (level (atom_at list at)) c.loop-at.headers at (length list) c.loop-at.invariant.within within);
           }
       | in_default w ↦ record {
-          unmarked = unmarked;
-          open_headers = ap (map (atom_at list)) w.headers-is ∙ open_other list c.loop-at.headers at within (ap is_header (sym same) ∙ w.in_default.ensures) c.loop-at.invariant.open_headers;
-          within = subst (λ v. (k : ℕ) → k < length v → get_or v k 0 < length list) (sym w.headers-is) c.loop-at.invariant.within;
-        }
+        unmarked = unmarked;
+        open_headers = ap (map (atom_at list)) w.headers-is ∙ open_other list c.loop-at.headers at within (ap is_header (sym same) ∙ w.in_default.ensures) c.loop-at.invariant.open_headers;
+        within = subst (λ v. (k : ℕ) → k < length v → get_or v k 0 < length list) (sym w.headers-is) c.loop-at.invariant.within;
+      }
     ]

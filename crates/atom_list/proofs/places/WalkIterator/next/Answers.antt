@@ -34,7 +34,7 @@ pub returns-in_default-clause-steps : goal.returns-in_default-clause-steps
 returns-in_default-clause-steps c =
     let same = is_there c.self.inside.list.now c.self.inside.at c.unwrap.result.now (sym c.get.ensures.value ∙ ap option_copied c.unwrap.ensures) in
     step_other c.self.inside.list.now c.self.inside.at c.self.inside.headers c.place_within.result c.args.self.now c.self.invariant
-        (omega (arith, c.self.invariant.within, c.len.ensures.len)) (ap is_header (sym same) ∙ c.in_default.ensures) c.place_within.ensures c.self.view_is
+    (omega (arith, c.self.invariant.within, c.len.ensures.len)) (ap is_header (sym same) ∙ c.in_default.ensures) c.place_within.ensures c.self.view_is
 
 pub returns-in_default-clause-goes : goal.returns-in_default-clause-goes
 returns-in_default-clause-goes c = record {
@@ -57,7 +57,7 @@ invariant_of-self-2 c =
     let same = is_there list at c.unwrap.result.now (sym c.get.ensures.value ∙ ap option_copied c.unwrap.ensures) in
     let found : c.in-Some.level ≡ level (atom_at list at) = c.in-Some.ensures.1 ∙ ap level same in
     let headers : c.push.new.self ≡ take (level (atom_at list at)) c.self.inside.headers ++ at ∷ [] =
-        c.push.ensures ∙ ap (λ v. v ++ at ∷ []) (c.truncate.ensures ∙ ap (λ n. take n c.self.inside.headers) found) in
+    c.push.ensures ∙ ap (λ v. v ++ at ∷ []) (c.truncate.ensures ∙ ap (λ n. take n c.self.inside.headers) found) in
     subst (IsWalk list (at + 1)) (sym headers) (walk_header list at c.self.inside.headers c.self.invariant (omega (arith, c.self.invariant.within, c.len.ensures.len)) (ap is_header (sym same) ∙ c.in-Some.ensures.0))
 
 pub returns-clause-steps : goal.returns-clause-steps
@@ -67,9 +67,9 @@ returns-clause-steps c =
     let same = is_there list at c.unwrap.result.now (sym c.get.ensures.value ∙ ap option_copied c.unwrap.ensures) in
     let found : c.in-Some.level ≡ level (atom_at list at) = c.in-Some.ensures.1 ∙ ap level same in
     let made : c.place_within-place.result ≡ record { at = at; level = length (take (level (atom_at list at)) c.self.inside.headers); above = padded (take (level (atom_at list at)) c.self.inside.headers) } =
-        subst (λ kept. c.place_within-place.result ≡ record { at = at; level = length kept; above = padded kept }) (c.truncate.ensures ∙ ap (λ n. take n c.self.inside.headers) found) c.place_within-place.ensures in
+    subst (λ kept. c.place_within-place.result ≡ record { at = at; level = length kept; above = padded kept }) (c.truncate.ensures ∙ ap (λ n. take n c.self.inside.headers) found) c.place_within-place.ensures in
     step_header list at c.self.inside.headers c.place_within-place.result c.args.self.now c.self.invariant
-        (omega (arith, c.self.invariant.within, c.len.ensures.len)) (ap is_header (sym same) ∙ c.in-Some.ensures.0) made c.self.view_is
+    (omega (arith, c.self.invariant.within, c.len.ensures.len)) (ap is_header (sym same) ∙ c.in-Some.ensures.0) made c.self.view_is
 
 pub returns-clause-goes : goal.returns-clause-goes
 returns-clause-goes c = record {
