@@ -1,5 +1,5 @@
 -- Walks find the nearest headers.
-use Rattle.std.proofs.Common.{◌≡◌, ℕ, zero, suc, ◌+◌, ◌-◌, ◌<◌, ◌≤◌, ◌⊎◌, ◌==◌, ◌&&◌, Bool, true, false, cond, List, [], ◌∷◌, ◌++◌, length, map, take, get_or, replicate, slice_get, Some, refl, sym, ◌∙◌, ap, subst, arith, inl, inr, add-one, append_assoc, eq-eqb, ne_eqb}
+use Rattle.std.proofs.Common.{◌≡◌, ℕ, zero, suc, ◌+◌, ◌-◌, ◌<◌, ◌≤◌, ◌⊎◌, ◌==◌, ◌&&◌, Bool, true, false, cond, List, [], ◌∷◌, ◌++◌, length, map, take, get_or, replicate, slice_get, Some, refl, sym, ◌∙◌, ap, subst, arith, inl, inr, add-one, append_assoc, eq-eqb, ne_eqb, leb-true}
 use Rattle.std.specs.List.{range_with_len}
 use Rattle.std.proofs.lemmas.Bool.{cases_eq}
 use Rattle.std.proofs.lemmas.List.{take_more, length-take-le, append-nil, get_or_append_left, get_or-append_right}
@@ -61,6 +61,19 @@ open_nearest list w (suc at) n within below =
     subst (λ i. IsNearestPlace list i n (nearest_place (take i list) n)) (add-one at)
     (nearest_step list w at n (omega arith) (subst (λ i. n < header_count (path_before list i)) (sym (add-one at)) below) (open_nearest list w at n (omega arith)))
 
+level_few : (a : Atom) → is_header a ≡ true → level a < 16
+level_few [] e = cc
+level_few (b ∷ bytes) e = let high : 128 ≤ b = leb-true 128 b e in omega arith
+
+open_few : (list : List Atom) → IsWellFormed list → (at : ℕ) → at ≤ length list → header_count (path_before list at) ≤ 16
+open_few list w zero within = omega arith
+open_few list w (suc at) within =
+    subst (λ i. header_count (path_before list i) ≤ 16) (add-one at) (subst (λ n. n ≤ 16) (sym (header_count-next list at w (omega arith))) (by (is_header (atom_at list at)) refl (open_few list w at (omega arith))))
+  where
+    by : (b : Bool) → is_header (atom_at list at) ≡ b → header_count (path_before list at) ≤ 16 → cond b (level (atom_at list at) + 1) (header_count (path_before list at)) ≤ 16
+    by true e rest = let few : level (atom_at list at) < 16 = level_few (atom_at list at) e in omega arith
+    by false e rest = rest
+
 -- ---- the places of a list, one by one
 
 places_length : (before list : List Atom) → length (places_behind before list) ≡ length list
@@ -103,6 +116,7 @@ module _ (list : List Atom) (w : IsWellFormed list) (at : ℕ) (within : at < le
   pub place_found : IsPlaceAt list at (place_of (take at list) (atom_at list at))
   place_found = record {
     number = length-take-le at list (omega arith);
+    few = omega (arith, few_around, open_few list w at (omega arith));
     nearest = λ n below. subst (IsNearestPlace list at n) (sym (padded_below (headers_around (path_before list at) (atom_at list at)) n below)) (open_nearest list w at n (omega arith) (omega (arith, few_around)));
     others = λ n upto. padded_above (headers_around (path_before list at) (atom_at list at)) n upto;
   }

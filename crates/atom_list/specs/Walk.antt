@@ -53,6 +53,7 @@ pub record IsWalk (list : List Atom) (at : ℕ) (headers : List ℕ) : Type 0 wh
 -- At each level below its own a place has that of the nearest header of that level before the atom, and 0 at the others.
 pub record IsPlaceAt (list : List Atom) (at : ℕ) (place : Place) : Type 0 where
   pub number : place.at ≡ at
+  pub few : place.level ≤ 16
   pub nearest : (n : ℕ) → n < place.level → IsNearestPlace list at n (slice_index place.above n)
   pub others : (n : ℕ) → place.level ≤ n → slice_index place.above n ≡ 0
 
