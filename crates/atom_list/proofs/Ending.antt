@@ -9,7 +9,7 @@ use Rattle.context_model.specs.Kinds.Kind.{Indexed}
 use Rattle.context_model.specs.Orders.{Path, atom_cmp}
 use Rattle.context_model.specs.Paths.{is_header, level, header_count, path_after, last_path_after}
 use Rattle.context_model.specs.WellFormed.{IsWellFormed}
-use Rattle.context_model.specs.Ended.{HasMarker, IsBeyond, IsEnded, field_path_from}
+use Rattle.context_model.specs.Ended.{IsBeyond, IsEnded, field_path_from}
 use Rattle.context_model.proofs.Following.{header_count-length}
 use Rattle.context_model.proofs.OrderLaws.{atoms_total, atoms_anti}
 use Rattle.context_model.proofs.Beyond.{beyond_none, beyond_all, beyond_less, beyond_same, beyond_cases, headers_of}

@@ -1,5 +1,5 @@
 -- What the next atom does to the headers that are open, and whether it may stand there.
-use Rattle.std.proofs.Common.{◌≡◌, ◌≢◌, ℕ, ◌+◌, ◌-◌, ◌*◌, ◌/◌, ◌<◌, ◌≤◌, ◌⊎◌, ◌↔◌, inl, inr, Bool, true, false, cond, nat_le, List, [], ◌∷◌, ◌++◌, length, take, get_or, set, slice_get, Option, Some, None, Less, refl, sym, ◌∙◌, ap, subst, le_refl, leb-true, le-leb, arith}
+use Rattle.std.proofs.Common.{◌≡◌, ℕ, ◌+◌, ◌-◌, ◌*◌, ◌/◌, ◌<◌, ◌≤◌, ◌↔◌, inl, inr, true, cond, List, [], ◌∷◌, ◌++◌, length, take, get_or, set, slice_get, Option, Some, None, Less, refl, sym, ◌∙◌, ap, subst, le_refl, leb-true, le-leb, arith}
 use Rattle.std.proofs.lemmas.Option.{slice_get_within, slice_get-get_or, get_or_from_slice_get}
 use Rattle.std.proofs.lemmas.List.{get_or-set_same, get_or-set_other}
 use Rattle.std.proofs.lemmas.Bool.{cases_lt}
@@ -9,14 +9,14 @@ use Rattle.context_model.specs.Kinds.{atom_of, IsKind, HasKind}
 use Rattle.context_model.specs.Kinds.{Kind as PlainKind}
 use Rattle.context_model.specs.Kinds.Kind.{Marker as PlainMarker, Datum as PlainDatum, Indexed as PlainIndexed, Keyed as PlainKeyed}
 use Rattle.context_model.specs.Orders.{Path, atom_cmp, path_cmp}
-use Rattle.context_model.specs.Paths.{is_header, level, header_count, depth_after, path_after}
+use Rattle.context_model.specs.Paths.{is_header, level, header_count, path_after}
 use Rattle.context_model.specs.ByteCodes.ByteCode.{LevelJump, OutOfOrder}
 use Rattle.context_model.specs.ShapeFault.{IsWrong}
-use Rattle.context_model.proofs.Following.{Fits-marker, header_count-length, header_count-take, next_bound, marker_kind}
+use Rattle.context_model.proofs.Following.{Fits-marker, header_count-length, next_bound, marker_kind}
 use Rattle.context_model.proofs.PathPlaces.{place_below, place_at, length_at, later_end, later_place}
 use Rattle.atom_kinds.specs.declared.Kind.TheVariants.{Marker, Datum, Indexed, Keyed}
 use Rattle.atom_kinds.specs.Told.{told, TellsKind}
-use Rattle.atom_list.specs.Open.{atom_at, StandsAt, EndsWith, IsOpen, IsHeaderOf, MayFollow}
+use Rattle.atom_list.specs.Open.{atom_at, EndsWith, IsOpen, IsHeaderOf, MayFollow}
 
 -- A header's path has as many headers before it as its level.
 header_path : (q : Path) (a : Atom) → is_header a ≡ true → path_after q a ≡ take (level a) q ++ a ∷ []

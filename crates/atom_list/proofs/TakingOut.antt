@@ -1,6 +1,6 @@
 -- What a step of taking atoms out of a list leaves.
-use Rattle.std.proofs.Common.{◌≡◌, ℕ, zero, suc, ◌+◌, ◌<◌, ◌≤◌, ◌==◌, ◌||◌, Bool, true, false, cond, List, [], ◌∷◌, ◌++◌, length, take, drop, get_or, set, Less, Some, slice_get, refl, sym, ◌∙◌, ap, subst, arith, eqb-true, eq-eqb, ne_eqb, ◌⊎◌, inl, inr}
-use Rattle.std.specs.List.{AllByRecursion, list_any, swap}
+use Rattle.std.proofs.Common.{◌≡◌, ℕ, zero, suc, ◌+◌, ◌<◌, ◌≤◌, ◌==◌, ◌||◌, Bool, true, false, cond, List, [], ◌∷◌, ◌++◌, length, take, drop, get_or, set, Less, refl, sym, ◌∙◌, ap, subst, arith, eq-eqb, ne_eqb, ◌⊎◌, inl, inr}
+use Rattle.std.specs.List.{list_any, swap}
 use Rattle.std.specs.Ordering.{nat_cmp}
 use Rattle.std.proofs.lemmas.Bool.{cases_eq, cases_order}
 use Rattle.std.proofs.lemmas.Cmp.{ranked}

@@ -1,6 +1,5 @@
 -- Walks find the nearest headers.
-use Rattle.std.proofs.Common.{◌≡◌, ℕ, zero, suc, ◌+◌, ◌-◌, ◌<◌, ◌≤◌, ◌⊎◌, ◌==◌, ◌&&◌, Bool, true, false, cond, List, [], ◌∷◌, ◌++◌, length, map, take, get_or, replicate, slice_get, Some, refl, sym, ◌∙◌, ap, subst, arith, inl, inr, add-one, append_assoc, eq-eqb, ne_eqb, leb-true}
-use Rattle.std.specs.List.{range_with_len}
+use Rattle.std.proofs.Common.{◌≡◌, ℕ, zero, suc, ◌+◌, ◌-◌, ◌<◌, ◌≤◌, ◌==◌, ◌&&◌, Bool, true, false, cond, List, [], ◌∷◌, ◌++◌, length, take, get_or, replicate, slice_get, Some, refl, sym, ◌∙◌, ap, subst, arith, inl, inr, add-one, append_assoc, eq-eqb, ne_eqb, leb-true}
 use Rattle.std.proofs.lemmas.Bool.{cases_eq}
 use Rattle.std.proofs.lemmas.List.{take_more, length-take-le, append-nil, get_or_append_left, get_or-append_right}
 use Rattle.std.proofs.lemmas.List.FromFn.{length-map-range_with_len, get_or-map-range_with_len}
@@ -12,7 +11,7 @@ use Rattle.context_model.specs.Nearest.{IsNearestPlace}
 use Rattle.context_model.proofs.PathPlaces.{IsNearestPlace-here, IsNearestPlace-later}
 use Rattle.atom_list.specs.declared.places.Place.{Place}
 use Rattle.atom_list.specs.Open.{atom_at, path_before}
-use Rattle.atom_list.specs.Walk.{nearest_place, nearest_places, headers_around, padded, place_of, places_behind, places, IsPlaceAt, HasNearestPlaces, WalksFindNearest}
+use Rattle.atom_list.specs.Walk.{nearest_place, nearest_places, headers_around, padded, place_of, places_behind, IsPlaceAt, WalksFindNearest}
 use Rattle.atom_list.proofs.Walking.{nearest_place-more, fits_at, header_count-next}
 
 -- ---- the open headers are the nearest ones

@@ -1,16 +1,15 @@
 -- What a step of a walk leaves.
-use Rattle.std.proofs.Common.{◌≡◌, ℕ, zero, suc, ◌+◌, ◌-◌, ◌<◌, ◌≤◌, ◌==◌, ◌&&◌, Bool, true, false, cond, List, [], ◌∷◌, ◌++◌, length, map, take, drop, get_or, set, replicate, slice_get, Some, refl, sym, ◌∙◌, ap, subst, arith, inl, inr, eqb, eq-eqb, ne_eqb, eqb-true}
+use Rattle.std.proofs.Common.{◌≡◌, ℕ, zero, suc, ◌+◌, ◌<◌, ◌≤◌, ◌==◌, ◌&&◌, Bool, true, false, cond, List, [], ◌∷◌, ◌++◌, length, map, take, drop, refl, sym, ◌∙◌, ap, subst, arith, eq-eqb, ne_eqb}
 use Rattle.std.specs.List.{range_with_len}
-use Rattle.std.proofs.lemmas.List.{take_more, drop_more, length-take-le, drop-set-lt, drop-drop, drop-replicate}
+use Rattle.std.proofs.lemmas.List.{take_more, drop_more, length-take-le}
 use Rattle.std.proofs.lemmas.List.FromFn.{length-map-range_with_len, take-map-range_with_len, map-range_with_len_more}
 use Rattle.context_model.specs.Atoms.{Atom}
-use Rattle.context_model.specs.Orders.{Path}
 use Rattle.context_model.specs.Paths.{is_header, level, header_count, path_after, last_path_after}
 use Rattle.context_model.specs.WellFormed.{IsWellFormed}
 use Rattle.context_model.proofs.Following.{Fits, Follows-back, IsWellFormed-follows, IsWellFormed-take, last_path_after-append, next_bound}
 use Rattle.atom_list.specs.declared.places.Place.{Place}
 use Rattle.atom_list.specs.Open.{atom_at, path_before}
-use Rattle.atom_list.specs.Walk.{nearest_place_from, nearest_place, nearest_places, headers_around, padded, place_of, places_behind, places, IsWalk}
+use Rattle.atom_list.specs.Walk.{nearest_place_from, nearest_place, nearest_places, headers_around, padded, place_of, places_behind, IsWalk}
 
 -- ---- one atom more
 

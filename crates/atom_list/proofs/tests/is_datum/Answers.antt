@@ -1,4 +1,4 @@
-use Rattle.std.proofs.Common.{◌≡◌, ℕ, ◌∷◌, Some, slice_get, sym, ◌∙◌, ap, eqb-true}
+use Rattle.std.proofs.Common.{◌∷◌, Some, slice_get, sym, ◌∙◌, ap, eqb-true}
 use Rattle.atom_list.proofs.tests.is_datum.Goals as goal
 
 pub returns-in-Some-split_first : goal.returns-in-Some-split_first

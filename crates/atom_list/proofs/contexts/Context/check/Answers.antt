@@ -1,10 +1,9 @@
-use Rattle.std.proofs.Common.{◌≡◌, ℕ, ◌+◌, ◌<◌, [], ◌∷◌, ◌++◌, List, length, take, sym, ◌∙◌, ap, subst, arith}
+use Rattle.std.proofs.Common.{ℕ, ◌+◌, ◌<◌, [], List, length, take, sym, subst, arith}
 use Rattle.std.proofs.lemmas.List.{take_more}
 use Rattle.std.proofs.lemmas.Option.{slice_get-get_or}
 use Rattle.context_model.specs.Atoms.{Atom}
-use Rattle.context_model.specs.Paths.{path_after, last_path_after}
 use Rattle.context_model.specs.WellFormed.{IsWellFormed}
-use Rattle.context_model.proofs.Following.{Fits, IsWellFormed-empty, IsWellFormed-more, last_path_after-append}
+use Rattle.context_model.proofs.Following.{Fits, IsWellFormed-empty, IsWellFormed-more}
 use Rattle.atom_list.specs.Open.{IsOpen, MayFollow, atom_at, path_before}
 use Rattle.atom_list.proofs.Walking.{path_next}
 use Rattle.atom_list.proofs.contexts.Context.check.Goals as goal

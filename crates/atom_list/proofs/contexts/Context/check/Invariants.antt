@@ -1,4 +1,4 @@
-use Rattle.std.proofs.Common.{◌≡◌, take}
+use Rattle.std.proofs.Common.{take}
 use Rattle.context_model.specs.WellFormed.{IsWellFormed}
 use Rattle.atom_list.specs.Open.{IsOpen, path_before}
 use Rattle.atom_list.proofs.contexts.Context.check.Given as goal

@@ -1,4 +1,4 @@
-use Rattle.std.proofs.Common.{sym, subst, ◌≡◌, ◌∙◌}
+use Rattle.std.proofs.Common.{sym, subst}
 use Rattle.context_model.specs.WellFormed.{IsWellFormed}
 use Rattle.context_model.proofs.Following.{IsWellFormed-cut}
 use Rattle.atom_list.proofs.contexts.Context.cut_to_marker.Goals as goal

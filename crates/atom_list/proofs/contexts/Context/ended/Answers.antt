@@ -1,4 +1,4 @@
-use Rattle.std.proofs.Common.{◌≡◌, ◌↔◌, ℕ, ◌+◌, ◌<◌, ◌≤◌, ◌==◌, true, false, List, [], ◌∷◌, ◌++◌, length, map, take, get_or, slice_get, option_copied, Some, refl, sym, ◌∙◌, ap, subst, arith, inl, inr, eqb-true, eq-eqb, below_more}
+use Rattle.std.proofs.Common.{◌≡◌, ◌↔◌, ℕ, ◌<◌, ◌≤◌, ◌==◌, true, false, List, [], ◌∷◌, ◌++◌, length, map, take, get_or, slice_get, option_copied, Some, refl, sym, ◌∙◌, ap, subst, arith, eqb-true, eq-eqb, below_more}
 use Rattle.std.proofs.lemmas.List.{nil_from_length}
 use Rattle.std.proofs.lemmas.Option.{get_or_from_slice_get}
 use Rattle.context_model.specs.Orders.{Path}

@@ -1,4 +1,4 @@
-use Rattle.std.proofs.Common.{◌≡◌, ℕ, ◌+◌, ◌<◌, ◌≤◌, ◌==◌, List, [], length, slice_get, option_copied, Some, true, false, sym, refl, ap, ◌∙◌, subst, arith, inl, inr, eqb-true, eq-eqb, below_more}
+use Rattle.std.proofs.Common.{◌≡◌, ℕ, ◌==◌, List, [], length, slice_get, option_copied, Some, true, false, sym, ap, ◌∙◌, arith, inl, inr, eqb-true, eq-eqb, below_more}
 use Rattle.std.proofs.lemmas.List.{nil_from_length}
 use Rattle.context_model.specs.Ended.{front_of}
 use Rattle.context_model.proofs.Places.{length-front_of}

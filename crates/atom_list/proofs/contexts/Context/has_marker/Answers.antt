@@ -1,5 +1,5 @@
-use Rattle.std.proofs.Common.{◌≡◌, ◌<◌, ltb-true, lt-ltb, length, ap, arith}
-use Rattle.context_model.specs.Ended.{front_of, HasMarker}
+use Rattle.std.proofs.Common.{◌<◌, ltb-true, lt-ltb, length, ap, arith}
+use Rattle.context_model.specs.Ended.{front_of}
 use Rattle.context_model.proofs.Places.{front_of-marker}
 use Rattle.atom_list.proofs.contexts.Context.has_marker.Goals as goal
 

@@ -1,4 +1,4 @@
-use Rattle.std.proofs.Common.{◌≡◌, ◌+◌, ◌<◌, ◌≤◌, [], ◌∷◌, ◌++◌, length, take, slice_set, get_or, ◌∙◌, ap, arith}
+use Rattle.std.proofs.Common.{[], take, slice_set, get_or, ◌∙◌, ap, arith}
 use Rattle.std.proofs.lemmas.List.{take_more, set_at, length-take-le}
 use Rattle.atom_list.proofs.lists.AtomList.cut_to_marker.Goals as goal
 

@@ -1,4 +1,4 @@
-use Rattle.std.proofs.Common.{◌≡◌, ℕ, refl}
+use Rattle.std.proofs.Common.{refl}
 use Rattle.atom_list.specs.Open.{atom_at, path_before}
 use Rattle.atom_list.proofs.Opening.{datum_wrong, datum_follows, datum_taken, datum_within}
 use Rattle.atom_list.proofs.open_headers.OpenHeaders.take_datum.Goals as goal

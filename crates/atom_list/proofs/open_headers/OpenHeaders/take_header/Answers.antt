@@ -1,4 +1,4 @@
-use Rattle.std.proofs.Common.{◌≡◌, ℕ, ◌<◌, ◌≤◌, refl, arith}
+use Rattle.std.proofs.Common.{refl, arith}
 use Rattle.atom_list.specs.Open.{atom_at, path_before}
 use Rattle.atom_list.proofs.Opening.{header_within, header_wrong, header_follows, header_taken}
 use Rattle.atom_list.proofs.open_headers.OpenHeaders.take_header.Goals as goal

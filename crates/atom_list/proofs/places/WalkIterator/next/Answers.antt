@@ -1,8 +1,8 @@
-use Rattle.std.proofs.Common.{◌≡◌, ◌≢◌, ℕ, ◌+◌, ◌<◌, ◌≤◌, true, false, List, [], ◌∷◌, ◌++◌, length, take, drop, Some, option_copied, slice_get, sym, ◌∙◌, ap, subst, arith}
+use Rattle.std.proofs.Common.{◌≡◌, ℕ, ◌+◌, ◌<◌, true, false, List, [], ◌∷◌, ◌++◌, length, take, drop, Some, option_copied, slice_get, sym, ◌∙◌, ap, subst, arith}
 use Rattle.std.proofs.lemmas.Option.{get_or_from_slice_get}
 use Rattle.context_model.specs.Paths.{is_header, level}
 use Rattle.atom_list.specs.Open.{atom_at}
-use Rattle.atom_list.specs.Walk.{padded, place_of, places_behind, IsWalk}
+use Rattle.atom_list.specs.Walk.{padded, places_behind, IsWalk}
 use Rattle.atom_list.specs.declared.places.Place.{Place}
 use Rattle.atom_list.proofs.Walking.{walk_other, walk_header, walk_level, place_other, place_header, view_next}
 use Rattle.atom_list.proofs.places.WalkIterator.next.Goals as goal
