@@ -1,3 +1,5 @@
+mod priorities;
+
 use crate::{Least, MapOf, SetOf, map_join_is_union, set_join_is_union};
 use counter_type::{Counts, Lattice, join_repeats, joins_commute, joins_regroup, keeps_join_laws};
 use outside::{Memory, Text};
