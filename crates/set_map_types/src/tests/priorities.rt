@@ -1,5 +1,7 @@
 //! A codec of one's own, and the sets and least values that come with it.
 
+ghost use Rattle.std.specs.Prelude.{IsTrue, ◌↔◌, ◌≤◌};
+
 use crate::{Least, SetOf};
 use counter_type::{Lattice, joins_commute};
 use outside::Memory;
@@ -13,12 +15,15 @@ use std::test::Fail;
 struct Priority;
 
 /// Whether the number is a priority.
-fn is_priority(number: u8) -> bool {
+fn is_priority(number: u8) -> bool
+    ensures { IsTrue result ↔ ((1 ≤ number) × (number ≤ 5)) }
+{
     1 <= number && number <= 5
 }
 
 impl Codec for Priority {
-    ghost use Rattle.std.specs.Prelude.{◌≤◌, [], ◌∷◌, ap, slice_index};
+    ghost use Rattle.std.specs.Prelude.{◌≤◌, [], ◌∷◌, slice_index};
+    ghost use Rattle.std.proofs.Common.{ap};
 
     type Value = u8;
 
