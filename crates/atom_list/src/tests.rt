@@ -248,6 +248,9 @@ fn data_that_go(rt: HostRuntime) -> Result<(), Fail> {
     )?;
     drop_both(&rt, &mut context, 0, 3);
     list_row(&rt, context.list(), &[b"\x00\x02", b"\xf8\x00", b""]);
+    let mut data = context_of(&rt, alloc, &[b"\x00\x01", b"\x00\x02"])?;
+    drop_both(&rt, &mut data, 0, 1);
+    list_row(&rt, data.list(), &[]);
     Ok(())
 }
 
