@@ -33,6 +33,10 @@ pub enum ReadFault {
 }
 
 impl fmt::Display for Memory {
+    ghost use Rattle.std.specs.Prelude.{Some, codes};
+
+    ghost output = { λ _. Some (codes "out of memory") };
+
     fn fmt<W: fmt::Write>(&self, f: &mut fmt::Formatter<W>) -> fmt::Result {
         write!(f, "out of memory")
     }
@@ -53,6 +57,10 @@ impl<T: Drop> From<AllocFailed<T>> for Memory {
 }
 
 impl fmt::Display for Failed {
+    ghost use Rattle.std.specs.Prelude.{Some, codes};
+
+    ghost output = { λ _. Some (codes "failed outside") };
+
     fn fmt<W: fmt::Write>(&self, f: &mut fmt::Formatter<W>) -> fmt::Result {
         write!(f, "failed outside")
     }
