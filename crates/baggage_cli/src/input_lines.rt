@@ -1,0 +1,89 @@
+//! The lines of an input, with their numbers.
+
+ghost use Rattle.std.specs.Prelude.{◌≡◌, ◌<◌, [], ◌∷◌, length, IfSome, MatchOption};
+ghost use Rattle.std.specs.Str.Lines.{lines, strip_carriage_return};
+ghost use Rattle.baggage_cli.specs.InputLines.{is_kept, lines_of};
+
+use std::marker::Model;
+
+/// A line of an input, without what ends it.
+#[derive(Clone, Copy, Debug)]
+pub struct Line<'a> {
+    /// The number of the line among all lines of the input, from 1.
+    pub number: u64,
+    pub text: &'a [u8],
+}
+
+/// The lines of an input that are left to read. Empty lines and those that begin with `#` are skipped, but counted.
+#[derive(Drop)]
+pub struct Lines<'a> {
+    rest: &'a [u8],
+    /// The number of the first line of the rest.
+    number: u64,
+}
+
+impl<'a> Model for Lines<'a> {
+    ghost use Rattle.std.specs.Prelude.{ℕ, ◌+◌, ◌<◌, ◌^◌, List, length};
+    ghost use Rattle.std.specs.Str.Lines.{lines};
+    ghost use Rattle.baggage_cli.specs.InputLines.{Line, numbered, kept};
+
+    ghost Value = { List Line };
+    ghost view = { λ left. kept (numbered left.number (lines left.rest.now)) };
+    ghost invariant = { λ left. left.number + length left.rest.now < 2 ^ 64 };
+}
+
+/// A line without the carriage return at its end, where there is one.
+fn without_return(text: &[u8]) -> &[u8]
+    ensures { result.now ≡ strip_carriage_return text.now }
+{
+    match text {
+        [front @ .., b'\r'] => front,
+        _ => text,
+    }
+}
+
+/// The first line of some bytes and the bytes behind it; `None` where there is none.
+fn cut_line(bytes: &[u8]) -> Option<(&[u8], &[u8])>
+    ensures lines { MatchOption result (lines bytes.now ≡ []) (λ cut. lines bytes.now ≡ cut.0.now ∷ lines cut.1.now) }
+    ensures shorter { IfSome result (λ cut. length cut.1.now < length bytes.now) }
+{
+    match bytes.iter().position(|byte| *byte == b'\n') {
+        Some(at) => Some((without_return(&bytes[..at]), &bytes[at + 1..])),
+        None if bytes.is_empty() => None,
+        None => Some((bytes, &[])),
+    }
+}
+
+/// The line isn't skipped.
+fn counts(text: &[u8]) -> bool
+    ensures { result ≡ is_kept text.now }
+{
+    !matches!(text, [] | [b'#', ..])
+}
+
+impl<'a> Lines<'a> {
+    /// The lines of an input.
+    pub fn of(input: &'a [u8]) -> Lines<'a>
+        ensures { result ≡ lines_of input.now }
+    {
+        Lines {
+            rest: input,
+            number: 1,
+        }
+    }
+
+    /// Takes the next line that isn't skipped.
+    pub fn next_line(&mut self) -> Option<Line<'a>>
+        ensures { MatchOption result ((self.old ≡ []) × (self.new ≡ [])) (λ line. self.old ≡ (line.number, line.text.now) ∷ self.new) }
+    {
+        while let Some((text, rest)) = cut_line(self.rest) {
+            let number = self.number;
+            self.rest = rest;
+            self.number += 1;
+            if counts(text) {
+                return Some(Line { number, text });
+            }
+        }
+        None
+    }
+}
