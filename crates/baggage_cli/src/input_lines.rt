@@ -1,6 +1,6 @@
 //! The lines of an input, with their numbers.
 
-ghost use Rattle.std.specs.Prelude.{◌≡◌, ◌<◌, [], ◌∷◌, length, IfSome, MatchOption};
+ghost use Rattle.std.specs.Prelude.{◌≡◌, ◌≢◌, ◌<◌, ℕ, [], ◌∷◌, length, slice_index, None, IfSome, MatchOption};
 ghost use Rattle.std.specs.Str.Lines.{lines, strip_carriage_return};
 ghost use Rattle.baggage_cli.specs.InputLines.{is_kept, lines_of};
 
@@ -42,12 +42,22 @@ fn without_return(text: &[u8]) -> &[u8]
     }
 }
 
+/// Where the first line feed stands.
+fn feed_at(bytes: &[u8]) -> Option<usize>
+    ensures none { result ≡ None → (k : ℕ) → k < length bytes.now → slice_index bytes.now k ≢ 10 }
+    ensures within { IfSome result (λ at. at < length bytes.now) }
+    ensures first { IfSome result (λ at. (k : ℕ) → k < at → slice_index bytes.now k ≢ 10) }
+    ensures feed { IfSome result (λ at. slice_index bytes.now at ≡ 10) }
+{
+    bytes.iter().position(|byte| *byte == b'\n')
+}
+
 /// The first line of some bytes and the bytes behind it; `None` where there is none.
 fn cut_line(bytes: &[u8]) -> Option<(&[u8], &[u8])>
     ensures lines { MatchOption result (lines bytes.now ≡ []) (λ cut. lines bytes.now ≡ cut.0.now ∷ lines cut.1.now) }
     ensures shorter { IfSome result (λ cut. length cut.1.now < length bytes.now) }
 {
-    match bytes.iter().position(|byte| *byte == b'\n') {
+    match feed_at(bytes) {
         Some(at) => Some((without_return(&bytes[..at]), &bytes[at + 1..])),
         None if bytes.is_empty() => None,
         None => Some((bytes, &[])),
@@ -63,6 +73,7 @@ fn counts(text: &[u8]) -> bool
 
 impl<'a> Lines<'a> {
     /// The lines of an input.
+    #[tactic(auto, unfolding(crate::specs::InputLines::lines_of))]
     pub fn of(input: &'a [u8]) -> Lines<'a>
         ensures { result ≡ lines_of input.now }
     {

@@ -1,7 +1,7 @@
 //! The command that merges the contexts of all lines.
 
-ghost use Rattle.std.specs.Prelude.{◌≡◌, ◌⊎◌, ◌≤◌, Ok, Err, IfOk, IfErr, length, string_bytes};
-ghost use Rattle.context_model.specs.Merged.{IsMerged, merge_of};
+ghost use Rattle.std.specs.Prelude.{◌≡◌, ◌⊎◌, ◌+◌, ◌*◌, ◌≤◌, Ok, Err, IfOk, IfErr, length, string_bytes};
+ghost use Rattle.context_model.specs.Merged.{merge_of};
 ghost use Rattle.baggage_cli.specs.Scene.{change};
 ghost use Rattle.baggage_cli.specs.InputLines.{lines_of};
 ghost use Rattle.baggage_cli.specs.ReadLines.{AllSay};
@@ -60,7 +60,7 @@ fn merge_pairs(alloc: Global, contexts: Vec<Context>) -> Result<Vec<Context>, Me
 
 /// The merge of some contexts. Each atom is taken once for each halving of their number.
 fn merge_all(alloc: Global, contexts: Vec<Context>) -> Result<Context, Memory>
-    ensures { IfOk result (λ merged. IsMerged contexts.items merged) }
+    ensures { IfOk result (λ merged. merged ≡ merge_of contexts.items) }
 {
     let mut contexts = contexts;
     while 1 < contexts.len() {
