@@ -1,5 +1,5 @@
 -- Lines say lists in one way, or have one first bad line.
-use Rattle.std.proofs.Common.{◌≡◌, ◌⊎◌, inl, inr, ℕ, ◌+◌, ◌<◌, ◌≤◌, List, [], ◌∷◌, ◌++◌, length, Option, Some, None, refl, sym, ◌∙◌, ap, subst, length-append, arith}
+use Rattle.std.proofs.Common.{◌≡◌, ◌⊎◌, inl, inr, ℕ, ◌+◌, ◌<◌, ◌≤◌, List, [], ◌∷◌, ◌++◌, length, refl, sym, ◌∙◌, ap, subst, length-append, arith}
 use Rattle.context_model.specs.Atoms.{Atom}
 use Rattle.context_model.specs.ByteCodes.{ByteCode as PlainCode}
 use Rattle.context_model.specs.ByteCodes as plain
@@ -12,7 +12,7 @@ use Rattle.baggage_cli.specs.declared.refusals.InputCode.{InputCode}
 use Rattle.baggage_cli.specs.declared.refusals.InputCode.TheVariants.{TooLong, NoLine, Form, TooManyLines, HexTooLong, BadHex}
 use Rattle.baggage_cli.specs.declared.refusals.Refusal.{Refusal}
 use Rattle.baggage_cli.specs.declared.refusals.Refusal.TheVariants.{Input, Context, SourceFailed, Memory}
-use Rattle.baggage_cli.specs.HexLine.{hex_bytes, IsHexOf}
+use Rattle.baggage_cli.specs.HexLine.{IsHexOf}
 use Rattle.baggage_cli.specs.InputLines.{Line}
 use Rattle.baggage_cli.specs.ReadLines.{Wanted, IsListOf, IsFirstFault, Says, IsNoHex, IsBad, AllSay, IsFirstBad}
 use Rattle.baggage_cli.specs.ReadLines.Wanted.{AnyList, OnlyContext}

@@ -1,21 +1,20 @@
 -- What follows from what a command may come to, and from how that is delivered.
-use Rattle.std.proofs.Common.{◌≡◌, ◌⊎◌, inl, inr, ℕ, ◌<◌, ◌≤◌, List, [], ◌∷◌, ◌++◌, length, Option, Some, None, Result, Ok, Err, OnOk, refl, sym, ◌∙◌, ap, subst, length-append, arith}
-use Rattle.std.specs.Io.KnownBytes.{Appends, IsAtEnd}
+use Rattle.std.proofs.Common.{◌≡◌, ◌⊎◌, inl, inr, ℕ, List, [], ◌∷◌, ◌++◌, length, Option, Some, Ok, Err, refl, sym, ◌∙◌, ap, subst, length-append, arith}
 use Rattle.std.specs.List.{AllByRecursion}
 use Rattle.context_model.specs.Atoms.{Atom}
 use Rattle.context_model.specs.Framing.{bytes_of}
 use Rattle.context_model.specs.Trimmed.{trimmed}
-use Rattle.context_model.specs.Merged.{IsMerged, merge_of}
+use Rattle.context_model.specs.Merged.{IsMerged}
 use Rattle.context_model.specs.WellFormed.{IsWellFormed}
-use Rattle.context_model.proofs.MergedLaws.{has_one_merge, merges_one_by_one}
+use Rattle.context_model.proofs.MergedLaws.{has_one_merge}
 use Rattle.baggage_cli.specs.declared.commands.Command.{Command}
 use Rattle.baggage_cli.specs.declared.commands.Command.TheVariants.{Trim, Merge}
-use Rattle.baggage_cli.specs.declared.refusals.InputCode.TheVariants.{TooLong, NoLine, Form, TooManyLines}
+use Rattle.baggage_cli.specs.declared.refusals.InputCode.TheVariants.{Form, TooManyLines}
 use Rattle.baggage_cli.specs.declared.refusals.Refusal.{Refusal}
 use Rattle.baggage_cli.specs.declared.refusals.Refusal.TheVariants.{Input, Context, SourceFailed, Memory}
 use Rattle.baggage_cli.specs.HexLine.{hex_line}
 use Rattle.baggage_cli.specs.InputLines.{Line, lines_of}
-use Rattle.baggage_cli.specs.ReadLines.{AllSay, IsFirstBad, SaysLists}
+use Rattle.baggage_cli.specs.ReadLines.{AllSay, SaysLists}
 use Rattle.baggage_cli.specs.ReadLines.Wanted.{AnyList, OnlyContext}
 use Rattle.baggage_cli.specs.Scene.{Change, Scene, HasFailed, Takes}
 use Rattle.baggage_cli.specs.Refused.{status_of}

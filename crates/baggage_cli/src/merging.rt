@@ -1,6 +1,7 @@
 //! The command that merges the contexts of all lines.
 
-ghost use Rattle.std.specs.Prelude.{◌≡◌, ◌⊎◌, ◌+◌, ◌*◌, ◌≤◌, Ok, Err, IfOk, IfErr, length, string_bytes};
+ghost use Rattle.std.specs.Prelude.{◌≡◌, ◌⊎◌, ◌+◌, ◌*◌, ◌≤◌, ◌∷◌, Ok, Err, IfOk, IfErr, length, string_bytes};
+ghost use Rattle.std.specs.Option.{option_to_list};
 ghost use Rattle.context_model.specs.Merged.{merge_of};
 ghost use Rattle.baggage_cli.specs.Scene.{change};
 ghost use Rattle.baggage_cli.specs.InputLines.{lines_of};
@@ -42,6 +43,16 @@ fn read_contexts(alloc: Global, input: &[u8]) -> Result<Vec<Context>, Refusal>
     Ok(contexts)
 }
 
+/// The merge of a context and its neighbor, where there is one.
+fn merge_next(alloc: Global, first: Context, second: Option<Context>) -> Result<Context, Memory>
+    ensures { IfOk result (λ merged. merged ≡ merge_of (first ∷ option_to_list second)) }
+{
+    match second {
+        Some(second) => merge(alloc, &first, &second),
+        None => Ok(first),
+    }
+}
+
 /// Merges neighbors: half as many contexts, with the same merge.
 fn merge_pairs(alloc: Global, contexts: Vec<Context>) -> Result<Vec<Context>, Memory>
     ensures merged { IfOk result (λ fewer. merge_of fewer.items ≡ merge_of contexts.items) }
@@ -50,10 +61,8 @@ fn merge_pairs(alloc: Global, contexts: Vec<Context>) -> Result<Vec<Context>, Me
     let mut fewer = Vec::with_capacity(alloc, contexts.len().div_ceil(2))?;
     let mut left = contexts.into_iter();
     while let Some(first) = left.next() {
-        match left.next() {
-            Some(second) => fewer.push(merge(alloc, &first, &second)?)?,
-            None => fewer.push(first)?,
-        }
+        let merged = merge_next(alloc, first, left.next())?;
+        fewer.push(merged)?;
     }
     Ok(fewer)
 }

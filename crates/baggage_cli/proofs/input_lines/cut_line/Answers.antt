@@ -1,4 +1,4 @@
-use Rattle.std.proofs.Common.{◌≡◌, refl, ℕ, ◌<◌, Bool, false, ◌==◌, arith, ◌∙◌, ap, sym, ◌∷◌, [], length, take, drop, ◌-◌, ◌+◌}
+use Rattle.std.proofs.Common.{◌≡◌, refl, ℕ, ◌<◌, Bool, false, ◌==◌, arith, ◌∙◌, ap, sym, ◌∷◌, length, take, drop, ◌-◌, ◌+◌}
 use Rattle.std.specs.Str.Lines.{lines}
 use Rattle.std.proofs.lemmas.Bool.Decides.{nat_tests}
 use Rattle.baggage_cli.proofs.Lines.{first_line, only_line}

@@ -1,4 +1,4 @@
-use Rattle.std.proofs.Common.{◌≡◌, ◌≤◌, length, subst, sym, ◌∙◌, ap, arith}
+use Rattle.std.proofs.Common.{◌≤◌, length, subst, sym, ◌∙◌, ap, arith}
 use Rattle.context_model.specs.Framing.{bytes_of}
 use Rattle.context_model.specs.Merged.{IsMerged}
 use Rattle.context_model.proofs.MergedLaws.{merges_one_by_one}
@@ -17,5 +17,5 @@ returns-clause-ok c =
     let few : length lists ≤ 4096 = c.in_ok-contexts.ensures.fits in
     let count = all_say-length OnlyContext lines lists says in
     let merged : IsMerged lists c.in_ok-merged.merged = subst (IsMerged lists) (sym c.in_ok-merged.ensures) (merges_one_by_one lists (contexts lines lists says)) in
-    let h1 = c.in_ok-hex_line.ensures in let h2 = c.as_slice.ensures.value in let h3 = c.in_ok-bytes.ensures in let h4 = c.list.ensures.list in
-    (lists, c.in_ok-merged.merged, omega arith, says, merged, ?)
+    let written = c.in_ok-hex_line.ensures ∙ ap hex_line (c.as_slice.ensures.value ∙ c.in_ok-bytes.ensures ∙ ap bytes_of c.list.ensures.list) in
+    (lists, c.in_ok-merged.merged, omega arith, says, merged, written)

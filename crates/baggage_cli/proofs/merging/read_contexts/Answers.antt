@@ -1,4 +1,4 @@
-use Rattle.std.proofs.Common.{◌≡◌, ◌⊎◌, ◌<◌, ◌≤◌, inl, inr, refl, sym, ◌∙◌, [], ◌∷◌, ◌++◌, length, ap, subst, append_assoc, arith}
+use Rattle.std.proofs.Common.{◌≡◌, ◌<◌, inl, inr, sym, ◌∙◌, [], ◌∷◌, ◌++◌, length, ap, subst, append_assoc, arith}
 use Rattle.std.proofs.lemmas.Result.{err_from_is_err_and}
 use Rattle.baggage_cli.specs.declared.refusals.InputCode.TheVariants.{TooManyLines}
 use Rattle.baggage_cli.specs.InputLines.{Line, lines_of}

@@ -1,4 +1,4 @@
-use Rattle.std.proofs.Common.{◌≡◌, ℕ, ◌≤◌, List, ◌++◌, length}
+use Rattle.std.proofs.Common.{◌≡◌, ◌≤◌, List, ◌++◌, length}
 use Rattle.baggage_cli.specs.InputLines.{Line, lines_of}
 use Rattle.baggage_cli.specs.ReadLines.{AllSay}
 use Rattle.baggage_cli.specs.ReadLines.Wanted.{OnlyContext}

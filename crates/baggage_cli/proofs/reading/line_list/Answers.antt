@@ -1,4 +1,4 @@
-use Rattle.std.proofs.Common.{◌≡◌, ◌⊎◌, inl, inr}
+use Rattle.std.proofs.Common.{inl, inr}
 use Rattle.std.proofs.lemmas.Result.{err_from_is_err_and}
 use Rattle.baggage_cli.specs.ReadLines.Wanted.{AnyList}
 use Rattle.baggage_cli.proofs.reading.line_list.Goals as goal

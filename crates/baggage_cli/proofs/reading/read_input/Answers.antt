@@ -1,4 +1,4 @@
-use Rattle.std.proofs.Common.{◌≡◌, ◌⊎◌, inl, inr, refl, Err, ap}
+use Rattle.std.proofs.Common.{inr, refl, Err, ap}
 use Rattle.baggage_cli.proofs.Lines.{too_long}
 use Rattle.baggage_cli.proofs.reading.read_input.Goals as goal
 

@@ -1,4 +1,3 @@
-use Rattle.std.proofs.Common.{◌≡◌, ℕ, Some, subst}
 use Rattle.baggage_cli.proofs.Outcomes.{trim_appends, merge_appends, completes}
 use Rattle.baggage_cli.proofs.top.baggage_top.Goals as goal
 
