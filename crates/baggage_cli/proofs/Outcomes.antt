@@ -110,7 +110,7 @@ trim_appends words budget input list scene answer (outcome, comes, delivers) hel
     let out = delivered outcome scene.out scene.errs answer delivers zero_is in
     let gave : TrimGives budget input (Ok out.0) = given (TrimGives budget) scene.source input out.0 held (subst (Reads (TrimGives budget) scene.source) out.1 comes.1) in
     let same : ◌≡◌ {A = Outcome} (Ok out.0) (Ok (hex_line (bytes_of (trimmed list budget)))) =
-        trim_gives_one budget input (Ok out.0) (Ok (hex_line (bytes_of (trimmed list budget)))) gave (inr (says.0, (list, says.1, refl))) in
+    trim_gives_one budget input (Ok out.0) (Ok (hex_line (bytes_of (trimmed list budget)))) gave (inr (says.0, (list, says.1, refl))) in
     subst (Takes scene.out) (cc same) out.2
 
 -- Where the call merges the contexts of some lines and answers 0, the line of their merge was appended to its output.

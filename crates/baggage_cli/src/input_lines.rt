@@ -28,7 +28,9 @@ impl<'a> Model for Lines<'a> {
     ghost use Rattle.baggage_cli.specs.InputLines.{Line, numbered, kept};
 
     ghost Value = { List Line };
+
     ghost view = { λ left. kept (numbered left.number (lines left.rest.now)) };
+
     ghost invariant = { λ left. left.number + length left.rest.now < 2 ^ 64 };
 }
 

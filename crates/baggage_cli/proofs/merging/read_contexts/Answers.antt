@@ -31,7 +31,7 @@ loop-line-preserved c =
       read = (
         read.0 ++ line ∷ [],
         read.1 ∙ ap (λ ls. read.0 ++ ls) c.in-Some.ensures ∙ sym (append_assoc read.0 (line ∷ []) c.next_line.new.self),
-        subst (AllSay OnlyContext (read.0 ++ line ∷ [])) (sym c.in_ok-push.ensures.items) (all_say_more OnlyContext read.0 c.loop-line.contexts.items line c.in_ok-context.context read.2 c.in_ok-context.ensures.ok)
+        subst (AllSay OnlyContext (read.0 ++ line ∷ [])) (sym c.in_ok-push.ensures.items) (all_say_more OnlyContext read.0 c.loop-line.contexts.items line c.in_ok-context.context read.2 c.in_ok-context.ensures.ok),
       );
       fits = omega arith;
     }
