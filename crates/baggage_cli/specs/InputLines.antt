@@ -12,12 +12,12 @@ numbered number [] = []
 numbered number (text ∷ texts) = (number, text) ∷ numbered (number + 1) texts
 
 -- An empty line and one that begins with # are skipped.
-abbrev pub is_kept : List ℕ → Bool
-is_kept text = not ((length text == 0) || (slice_index text 0 == 35))
+abbrev pub is_skipped : List ℕ → Bool
+is_skipped text = (length text == 0) || (slice_index text 0 == 35)
 
 -- The lines that aren't skipped.
 abbrev pub kept : List Line → List Line
-kept numbered_lines = filter (λ line. is_kept line.1) numbered_lines
+kept every = filter (λ line. not (is_skipped line.1)) every
 
 -- The lines that a command reads. The input is cut at line feeds; a carriage return just before one is dropped, and an empty last
 -- piece is no line. All lines are counted, from 1, and some are skipped.

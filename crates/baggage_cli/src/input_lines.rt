@@ -2,7 +2,7 @@
 
 ghost use Rattle.std.specs.Prelude.{◌≡◌, ◌≢◌, ◌<◌, ℕ, [], ◌∷◌, length, slice_index, None, IfSome, MatchOption};
 ghost use Rattle.std.specs.Str.Lines.{lines, strip_carriage_return};
-ghost use Rattle.baggage_cli.specs.InputLines.{is_kept, lines_of};
+ghost use Rattle.baggage_cli.specs.InputLines as spec;
 
 use std::marker::Model;
 
@@ -66,18 +66,18 @@ fn cut_line(bytes: &[u8]) -> Option<(&[u8], &[u8])>
     }
 }
 
-/// The line isn't skipped.
-fn counts(text: &[u8]) -> bool
-    ensures { result ≡ is_kept text.now }
+/// The line is empty, or begins with `#`.
+fn is_skipped(text: &[u8]) -> bool
+    ensures { result ≡ spec.is_skipped text.now }
 {
-    !matches!(text, [] | [b'#', ..])
+    matches!(text, [] | [b'#', ..])
 }
 
 impl<'a> Lines<'a> {
     /// The lines of an input.
     #[tactic(auto, unfolding(crate::specs::InputLines::lines_of))]
     pub fn of(input: &'a [u8]) -> Lines<'a>
-        ensures { result ≡ lines_of input.now }
+        ensures { result ≡ spec.lines_of input.now }
     {
         Lines {
             rest: input,
@@ -93,7 +93,7 @@ impl<'a> Lines<'a> {
             let number = self.number;
             self.rest = rest;
             self.number += 1;
-            if counts(text) {
+            if !is_skipped(text) {
                 return Some(Line { number, text });
             }
         }

@@ -355,10 +355,10 @@ fn reads_the_longest_input(rt: HostRuntime) -> Result<(), Fail> {
     Ok(())
 }
 
-/// The lines of this many contexts of one datum each, in no order, with a comment before each.
-fn data_lines(alloc: Global, count: usize) -> Result<Vec<u8>, Fail> {
+/// The lines of 4,096 contexts of one datum each, in no order, with a comment before each.
+fn data_lines(alloc: Global) -> Result<Vec<u8>, Fail> {
     let mut lines = Vec::new(alloc);
-    for at in 0..count {
+    for at in 0..4096 {
         let number = at * 1021 % 4096;
         lines.extend_from_slice(format!(in alloc; "#\n0300{number:04x}\n")?.as_bytes())?;
     }
@@ -373,7 +373,7 @@ fn merges_as_many_lines_as_may_be(rt: HostRuntime) -> Result<(), Fail> {
         merged.extend_from_slice(format!(in alloc; "0300{number:04x}")?.as_bytes())?;
     }
     merged.push(b'\n')?;
-    let lines = data_lines(alloc, 4096)?;
+    let lines = data_lines(alloc)?;
     answers(&rt, alloc, "merge", lines.clone()?, 0, merged.as_slice())?;
     let mut more = lines.clone()?;
     more.extend_from_slice(b"#\n\n")?;
