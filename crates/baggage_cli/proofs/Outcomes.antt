@@ -14,7 +14,7 @@ use Rattle.baggage_cli.specs.declared.refusals.Refusal.{Refusal}
 use Rattle.baggage_cli.specs.declared.refusals.Refusal.TheVariants.{Input, Context, SourceFailed, Memory}
 use Rattle.baggage_cli.specs.HexLine.{hex_line}
 use Rattle.baggage_cli.specs.InputLines.{Line, lines_of}
-use Rattle.baggage_cli.specs.ReadLines.{AllSay, SaysLists}
+use Rattle.baggage_cli.specs.ReadLines.{Wanted, AllSay, SaysLists}
 use Rattle.baggage_cli.specs.ReadLines.Wanted.{AnyList, OnlyContext}
 use Rattle.baggage_cli.specs.Scene.{Change, Scene, HasFailed, Takes}
 use Rattle.baggage_cli.specs.Refused.{status_of}
@@ -26,24 +26,24 @@ use Rattle.baggage_cli.proofs.FirstBad.{all_say-length, all_say_one, first_bad_o
 empty_splits : (before : List Line) (line : Line) (after : List Line) → [] ≡ before ++ line ∷ after → ⊥
 empty_splits before line after e = let count = ap length e in let parts = length-append before (line ∷ after) in omega arith
 
-refuses_one : (lines : List Line) (r s : Refusal) → RefusesOne lines r → RefusesOne lines s → r ≡ s
-refuses_one lines r s (inl f) (inl g) = f.1 ∙ sym g.1
-refuses_one lines r s (inl f) (inr g) = absurd (empty_splits g.before g.line g.after (sym f.0 ∙ g.split))
-refuses_one lines r s (inr f) (inl g) = absurd (empty_splits f.before f.line f.after (sym g.0 ∙ f.split))
-refuses_one lines r s (inr f) (inr g) = first_bad_one AnyList 1 Form lines r s f g
+refuses_one : (wanted : Wanted) (lines : List Line) (r s : Refusal) → RefusesOne wanted lines r → RefusesOne wanted lines s → r ≡ s
+refuses_one wanted lines r s (inl f) (inl g) = f.1 ∙ sym g.1
+refuses_one wanted lines r s (inl f) (inr g) = absurd (empty_splits g.before g.line g.after (sym f.0 ∙ g.split))
+refuses_one wanted lines r s (inr f) (inl g) = absurd (empty_splits f.before f.line f.after (sym g.0 ∙ f.split))
+refuses_one wanted lines r s (inr f) (inr g) = first_bad_one wanted 1 Form lines r s f g
 
-only_good : (lines : List Line) (list : List Atom) (r : Refusal) → AllSay AnyList lines (list ∷ []) → RefusesOne lines r → ⊥
-only_good lines list r says (inl f) = absurd (subst (λ ls. AllSay AnyList ls (list ∷ [])) f.0 says)
-only_good lines list r says (inr f) = all_good AnyList 1 Form lines (list ∷ []) r says (let count = all_say-length AnyList lines (list ∷ []) says in omega arith) f
+only_good : (wanted : Wanted) (lines : List Line) (list : List Atom) (r : Refusal) → AllSay wanted lines (list ∷ []) → RefusesOne wanted lines r → ⊥
+only_good wanted lines list r says (inl f) = absurd (subst (λ ls. AllSay wanted ls (list ∷ [])) f.0 says)
+only_good wanted lines list r says (inr f) = all_good wanted 1 Form lines (list ∷ []) r says (let count = all_say-length wanted lines (list ∷ []) says in omega arith) f
 
 trims_one : (budget : ℕ) (lines : List Line) (a b : Outcome) → TrimsLines budget lines a → TrimsLines budget lines b → a ≡ b
 trims_one budget lines (Ok x) (Ok y) (a, says, x_is) (b, says', y_is) =
     let lists : ◌≡◌ {A = List (List Atom)} (a ∷ []) (b ∷ []) = all_say_one AnyList lines (a ∷ []) (b ∷ []) says says' in
     let same : a ≡ b = cc lists in
     ap Ok (x_is ∙ ap (λ list. hex_line (bytes_of (trimmed list budget))) same ∙ sym y_is)
-trims_one budget lines (Ok x) (Err s) (a, says, x_is) g = absurd (only_good lines a s says g)
-trims_one budget lines (Err r) (Ok y) f (b, says, y_is) = absurd (only_good lines b r says f)
-trims_one budget lines (Err r) (Err s) f g = ap Err (refuses_one lines r s f g)
+trims_one budget lines (Ok x) (Err s) (a, says, x_is) g = absurd (only_good AnyList lines a s says g)
+trims_one budget lines (Err r) (Ok y) f (b, says, y_is) = absurd (only_good AnyList lines b r says f)
+trims_one budget lines (Err r) (Err s) f g = ap Err (refuses_one AnyList lines r s f g)
 
 merges_one : (lines : List Line) (a b : Outcome) → MergesLines lines a → MergesLines lines b → a ≡ b
 merges_one lines (Ok x) (Ok y) (lists, a, few, says, is, x_is) (others, b, few', says', is', y_is) =
@@ -140,7 +140,7 @@ contexts (line ∷ lines) (list ∷ lists) ((bytes, hex, is), says) = (is.1, con
 -- What a command accepts it doesn't refuse.
 trim_accepts : (budget : ℕ) (input : List ℕ) (refusal : Refusal) → Accepts (Trim budget) input → TrimGives budget input (Err refusal) → ⊥
 trim_accepts budget input refusal (list, (short, says)) (inl long) = let l = long.0 in omega arith
-trim_accepts budget input refusal (list, (short, says)) (inr (short', refused)) = only_good (lines_of input) list refusal says refused
+trim_accepts budget input refusal (list, (short, says)) (inr (short', refused)) = only_good AnyList (lines_of input) list refusal says refused
 
 merge_accepts : (input : List ℕ) (refusal : Refusal) → Accepts Merge input → MergeGives input (Err refusal) → ⊥
 merge_accepts input refusal (lists, (short, says), few) (inl long) = let l = long.0 in omega arith

@@ -12,7 +12,7 @@ use Rattle.baggage_cli.specs.declared.refusals.Refusal.{Refusal}
 use Rattle.baggage_cli.specs.declared.refusals.Refusal.TheVariants.{Input, SourceFailed, Memory}
 use Rattle.baggage_cli.specs.HexLine.{hex_line}
 use Rattle.baggage_cli.specs.InputLines.{Line, lines_of}
-use Rattle.baggage_cli.specs.ReadLines.{AllSay, IsFirstBad, SaysLists}
+use Rattle.baggage_cli.specs.ReadLines.{Wanted, AllSay, IsFirstBad, SaysLists}
 use Rattle.baggage_cli.specs.ReadLines.Wanted.{AnyList, OnlyContext}
 use Rattle.baggage_cli.specs.Refused.{status_of, line_of, sink_failed_line, words_refused_line}
 use Rattle.baggage_cli.specs.Scene.{Change, Scene, IsSame, HasFailed, Held, Takes, TakesPart}
@@ -29,14 +29,14 @@ IsTooLong input outcome = (16777216 < length input) × (outcome ≡ Err (Input 0
 abbrev pub Within : (List Line → Outcome → Type 0) → List ℕ → Outcome → Type 0
 Within gives input outcome = IsTooLong input outcome ⊎ ((length input ≤ 16777216) × gives (lines_of input) outcome)
 
--- Why lines aren't the one line of a list: there is none, a second one follows, or the first is bad.
-abbrev pub RefusesOne : List Line → Refusal → Type 0
-RefusesOne lines refusal = ((lines ≡ []) × (refusal ≡ Input 0 NoLine)) ⊎ IsFirstBad AnyList 1 Form lines refusal
+-- Why lines aren't one line that says a list as wanted: there is none, the first is bad, or a second one follows.
+abbrev pub RefusesOne : Wanted → List Line → Refusal → Type 0
+RefusesOne wanted lines refusal = ((lines ≡ []) × (refusal ≡ Input 0 NoLine)) ⊎ IsFirstBad wanted 1 Form lines refusal
 
 -- What lines come to, trimmed to a budget: one line of a list gives the line of the trimmed list.
 abbrev pub TrimsLines : ℕ → List Line → Outcome → Type 0
 TrimsLines budget lines (Ok output) = (list : List Atom) × AllSay AnyList lines (list ∷ []) × (output ≡ hex_line (bytes_of (trimmed list budget)))
-TrimsLines budget lines (Err refusal) = RefusesOne lines refusal
+TrimsLines budget lines (Err refusal) = RefusesOne AnyList lines refusal
 
 -- What lines come to, merged: at most 4,096 lines of contexts give the line of their merge.
 abbrev pub MergesLines : List Line → Outcome → Type 0

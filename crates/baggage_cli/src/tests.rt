@@ -358,7 +358,7 @@ fn reads_the_longest_input(rt: HostRuntime) -> Result<(), Fail> {
 /// The lines of 4,096 contexts of one datum each, in no order, with a comment before each.
 fn data_lines(alloc: Global) -> Result<Vec<u8>, Fail> {
     let mut lines = Vec::new(alloc);
-    for at in 0..4096 {
+    for at in 0..4096_u32 {
         let number = at * 1021 % 4096;
         lines.extend_from_slice(format!(in alloc; "#\n0300{number:04x}\n")?.as_bytes())?;
     }
@@ -369,7 +369,7 @@ fn data_lines(alloc: Global) -> Result<Vec<u8>, Fail> {
 fn merges_as_many_lines_as_may_be(rt: HostRuntime) -> Result<(), Fail> {
     let alloc = rt.alloc();
     let mut merged = Vec::new(alloc);
-    for number in 0..4096 {
+    for number in 0..4096_u32 {
         merged.extend_from_slice(format!(in alloc; "0300{number:04x}")?.as_bytes())?;
     }
     merged.push(b'\n')?;

@@ -20,7 +20,7 @@ use wire_bytes::write;
 /// The list of the one line of an input.
 fn only_list(alloc: Global, input: &[u8]) -> Result<AtomList, Refusal>
     ensures ok { IfOk result (λ list. AllSay AnyList (lines_of input.now) (list ∷ [])) }
-    ensures err { IfErr result (λ refusal. (refusal ≡ Refusal.Memory) ⊎ RefusesOne (lines_of input.now) refusal) }
+    ensures err { IfErr result (λ refusal. (refusal ≡ Refusal.Memory) ⊎ RefusesOne AnyList (lines_of input.now) refusal) }
 {
     let mut lines = Lines::of(input);
     let Some(line) = lines.next_line() else {
