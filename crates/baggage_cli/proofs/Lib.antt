@@ -1,3 +1,5 @@
 pub mod Outcomes
+pub mod FirstBad
 pub mod Lines
+pub mod Pairs
 pub mod Numbers

@@ -1,17 +1,19 @@
 -- What a call of the program may come to, and how it is delivered.
-use Rattle.std.specs.Prelude.{◌≡◌, ◌⊎◌, ℕ, ◌<◌, List, [], ◌∷◌, Option, Some, None, Result, Ok, Err, OnOk}
+use Rattle.std.specs.Prelude.{◌≡◌, ◌⊎◌, ℕ, ◌<◌, ◌≤◌, List, [], ◌∷◌, length, Option, Some, None, Result, Ok, Err, OnOk}
 use Rattle.std.specs.Io.KnownBytes.{IsAtEnd}
-use Rattle.context_model.specs.Atoms.{Atom, AreAtoms}
+use Rattle.context_model.specs.Atoms.{Atom}
 use Rattle.context_model.specs.Framing.{bytes_of}
 use Rattle.context_model.specs.Trimmed.{trimmed}
-use Rattle.context_model.specs.WireFault.{IsFirstWireFault}
-use Rattle.wire_bytes.specs.Codes.{code_of}
+use Rattle.context_model.specs.Merged.{IsMerged}
 use Rattle.baggage_cli.specs.declared.commands.Command.{Command}
-use Rattle.baggage_cli.specs.declared.commands.Command.TheVariants.{Trim}
-use Rattle.baggage_cli.specs.declared.refusals.InputCode.TheVariants.{Unread}
+use Rattle.baggage_cli.specs.declared.commands.Command.TheVariants.{Trim, Merge}
+use Rattle.baggage_cli.specs.declared.refusals.InputCode.TheVariants.{TooLong, NoLine, Form, TooManyLines}
 use Rattle.baggage_cli.specs.declared.refusals.Refusal.{Refusal}
-use Rattle.baggage_cli.specs.declared.refusals.Refusal.TheVariants.{Input, Wire, SourceFailed, Memory}
-use Rattle.baggage_cli.specs.HexLine.{hex_line, line_bytes}
+use Rattle.baggage_cli.specs.declared.refusals.Refusal.TheVariants.{Input, SourceFailed, Memory}
+use Rattle.baggage_cli.specs.HexLine.{hex_line}
+use Rattle.baggage_cli.specs.InputLines.{Line, lines_of}
+use Rattle.baggage_cli.specs.ReadLines.{Wanted, AllSay, IsFirstBad, SaysLists}
+use Rattle.baggage_cli.specs.ReadLines.Wanted.{AnyList, OnlyContext}
 use Rattle.baggage_cli.specs.Refused.{status_of, line_of, sink_failed_line, words_refused_line}
 use Rattle.baggage_cli.specs.Scene.{Change, Scene, IsSame, HasFailed, Held, Takes, TakesPart}
 
@@ -19,13 +21,41 @@ use Rattle.baggage_cli.specs.Scene.{Change, Scene, IsSame, HasFailed, Held, Take
 abbrev pub Outcome : Type 0
 Outcome = Result (List ℕ) Refusal
 
--- What trimming to a budget gives for an input: the line of the trimmed list, or the first reason why there is none.
+-- The input has more than 16,777,216 bytes, and is refused as a whole.
+abbrev pub IsTooLong : List ℕ → Outcome → Type 0
+IsTooLong input outcome = (16777216 < length input) × (outcome ≡ Err (Input 0 TooLong))
+
+-- An input that is too long is refused, and the lines of any other come to the outcome.
+abbrev pub Within : (List Line → Outcome → Type 0) → List ℕ → Outcome → Type 0
+Within gives input outcome = IsTooLong input outcome ⊎ ((length input ≤ 16777216) × gives (lines_of input) outcome)
+
+-- Why lines aren't one line that says a list as wanted: there is none, the first is bad, or a second one follows.
+abbrev pub RefusesOne : Wanted → List Line → Refusal → Type 0
+RefusesOne wanted lines refusal = ((lines ≡ []) × (refusal ≡ Input 0 NoLine)) ⊎ IsFirstBad wanted 1 Form lines refusal
+
+-- What lines come to, trimmed to a budget: one line of a list gives the line of the trimmed list.
+abbrev pub TrimsLines : ℕ → List Line → Outcome → Type 0
+TrimsLines budget lines (Ok output) = (list : List Atom) × AllSay AnyList lines (list ∷ []) × (output ≡ hex_line (bytes_of (trimmed list budget)))
+TrimsLines budget lines (Err refusal) = RefusesOne AnyList lines refusal
+
+-- What lines come to, merged: at most 4,096 lines of contexts give the line of their merge.
+abbrev pub MergesLines : List Line → Outcome → Type 0
+MergesLines lines (Ok output) =
+    (lists : List (List Atom)) × (merged : List Atom) × (length lines ≤ 4096) × AllSay OnlyContext lines lists × IsMerged lists merged × (output ≡ hex_line (bytes_of merged))
+MergesLines lines (Err refusal) = IsFirstBad OnlyContext 4096 TooManyLines lines refusal
+
+-- What an input gives, trimmed to a budget.
 abbrev pub TrimGives : ℕ → List ℕ → Outcome → Type 0
-TrimGives budget input (Ok output) = (list : List Atom) × AreAtoms list × (line_bytes input ≡ Some (bytes_of list)) × (output ≡ hex_line (bytes_of (trimmed list budget)))
-TrimGives budget input (Err (Input line code)) = (line ≡ 0) × (code ≡ Unread) × (line_bytes input ≡ None)
-TrimGives budget input (Err (Wire line offset code)) = (line ≡ 1) × ((bytes : List ℕ) × (line_bytes input ≡ Some bytes) × IsFirstWireFault bytes offset (code_of code))
-TrimGives budget input (Err SourceFailed) = ⊥
-TrimGives budget input (Err Memory) = ⊥
+TrimGives budget = Within (TrimsLines budget)
+
+-- What an input gives, merged.
+abbrev pub MergeGives : List ℕ → Outcome → Type 0
+MergeGives = Within MergesLines
+
+-- The command has nothing to refuse in the input.
+abbrev pub Accepts : Command → List ℕ → Type 0
+Accepts (Trim budget) input = (list : List Atom) × SaysLists AnyList input (list ∷ [])
+Accepts Merge input = (lists : List (List Atom)) × SaysLists OnlyContext input lists × (length lists ≤ 4096)
 
 -- The source is read to its end. Memory may be wanting, and a source that failed has its cause; otherwise it is what is given for
 -- the input, and after an output nothing is left. A source that doesn't tell had some input for which it is so.
@@ -38,6 +68,7 @@ Reads gives source outcome =
 -- What each command may come to, with its words and with the library and the source before and after it.
 abbrev pub Comes : List (List ℕ) → Command → Change (List ℕ → Option (List ℕ)) → Change (List ℕ) → Outcome → Type 0
 Comes words (Trim budget) library source outcome = IsSame library × Reads (TrimGives budget) source outcome
+Comes words Merge library source outcome = IsSame library × Reads MergeGives source outcome
 
 -- A line with its status: it was written to the sink of errors, or that failed and the status is 5.
 abbrev pub Tells : ℕ → List ℕ → Change (List ℕ) → ℕ → Type 0
@@ -63,5 +94,5 @@ Answers words (Some command) scene answer =
     (outcome : Outcome) × Comes words command scene.library scene.source outcome × Delivers outcome scene.out scene.errs answer
 
 -- A command gives one outcome for an input.
-abbrev pub TrimGivesOne : Type 0
-TrimGivesOne = (budget : ℕ) (input : List ℕ) (a b : Outcome) → TrimGives budget input a → TrimGives budget input b → a ≡ b
+abbrev pub GivesOne : (List ℕ → Outcome → Type 0) → Type 0
+GivesOne gives = (input : List ℕ) (a b : Outcome) → gives input a → gives input b → a ≡ b

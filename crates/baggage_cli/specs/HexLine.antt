@@ -1,5 +1,5 @@
 -- Bytes as a line of hexadecimal digits.
-use Rattle.std.specs.Prelude.{◌≡◌, ℕ, ◌-◌, ◌==◌, ◌&&◌, List, [], ◌∷◌, ◌++◌, length, take, nat_lt, slice_index, if◌then◌else◌, codes, Option, Some, None}
+use Rattle.std.specs.Prelude.{◌≡◌, ℕ, ◌≤◌, ◌==◌, ◌&&◌, List, [], ◌∷◌, ◌++◌, length, slice_index, if◌then◌else◌, codes, Option, Some, None}
 use Rattle.std.specs.Result.{result_ok}
 use Rattle.hex.specs.Hex.{encode_lower, decode_of}
 
@@ -14,10 +14,6 @@ hex_bytes text =
     else if (length text == 1) && (slice_index text 0 == 45) then Some []
     else result_ok (decode_of text)
 
--- The input without the line feed at its end, where there is one.
-abbrev pub without_feed : List ℕ → List ℕ
-without_feed input = if nat_lt 0 (length input) && (slice_index input (length input - 1) == 10) then take (length input - 1) input else input
-
--- The bytes of an input of one line with at most 2,097,152 digits.
-unfoldable pub line_bytes : List ℕ → Option (List ℕ)
-line_bytes input = if nat_lt 2097152 (length (without_feed input)) then None else hex_bytes (without_feed input)
+-- The line says these bytes: it has at most 2,097,152 of its own.
+abbrev pub IsHexOf : List ℕ → List ℕ → Type 0
+IsHexOf bytes text = (length text ≤ 2097152) × (hex_bytes text ≡ Some bytes)

@@ -2,27 +2,32 @@
 use Rattle.std.specs.Prelude.{ℕ, List, [], ◌∷◌, ◌++◌, codes}
 use Rattle.std.specs.Fmt.{decimal}
 use Rattle.context_model.specs.ByteCodes.{code_name}
-use Rattle.wire_bytes.specs.Codes.{code_of}
+use Rattle.wire_bytes.specs.Codes.{byte_code_of}
 use Rattle.baggage_cli.specs.declared.refusals.InputCode.{InputCode}
-use Rattle.baggage_cli.specs.declared.refusals.InputCode.TheVariants.{Unread}
+use Rattle.baggage_cli.specs.declared.refusals.InputCode.TheVariants.{TooLong, NoLine, Form, TooManyLines, HexTooLong, BadHex}
 use Rattle.baggage_cli.specs.declared.refusals.Refusal.{Refusal}
-use Rattle.baggage_cli.specs.declared.refusals.Refusal.TheVariants.{Input, Wire, SourceFailed, Memory}
+use Rattle.baggage_cli.specs.declared.refusals.Refusal.TheVariants.{Input, Context, SourceFailed, Memory}
 
 -- The name of a code, as it is printed.
 abbrev pub input_name : InputCode → List ℕ
-input_name Unread = codes "Unread"
+input_name TooLong = codes "TooLong"
+input_name NoLine = codes "NoLine"
+input_name Form = codes "Form"
+input_name TooManyLines = codes "TooManyLines"
+input_name HexTooLong = codes "HexTooLong"
+input_name BadHex = codes "BadHex"
 
 -- The status that the program ends with.
 abbrev pub status_of : Refusal → ℕ
 status_of (Input line code) = 2
-status_of (Wire line offset code) = 3
+status_of (Context line offset code) = 3
 status_of SourceFailed = 4
 status_of Memory = 6
 
 -- The line that is written to the sink of errors.
 abbrev pub line_of : Refusal → List ℕ
 line_of (Input line code) = codes "input line " ++ (decimal line ++ (codes " " ++ (input_name code ++ 10 ∷ [])))
-line_of (Wire line offset code) = codes "context line " ++ (decimal line ++ (codes " offset " ++ (decimal offset ++ (codes " " ++ (code_name (code_of code) ++ 10 ∷ [])))))
+line_of (Context line offset code) = codes "context line " ++ (decimal line ++ (codes " offset " ++ (decimal offset ++ (codes " " ++ (code_name (byte_code_of code) ++ 10 ∷ [])))))
 line_of SourceFailed = codes "source failed" ++ 10 ∷ []
 line_of Memory = codes "memory" ++ 10 ∷ []
 

@@ -1,5 +1,5 @@
 -- The objects of a call, before it and after it.
-use Rattle.std.specs.Prelude.{◌≡◌, ℕ, List, Option, Some, None, IfSome}
+use Rattle.std.specs.Prelude.{◌≡◌, ℕ, List, Option, IfSome}
 use Rattle.std.specs.Io.KnownBytes.{Appends}
 use Rattle.outside.specs.Causes.{Rose}
 use Rattle.outside.specs.Told.{AppendsPart}

@@ -1,6 +1,6 @@
 //! What the words of a command line ask for.
 
-ghost use Rattle.std.specs.Prelude.{◌≡◌, ◌<◌, IfSome};
+ghost use Rattle.std.specs.Prelude.{◌≡◌, ◌<◌, [], ◌∷◌, IfSome};
 ghost use Rattle.baggage_cli.specs.Asked.{asked, number_of, IsSound};
 
 use outside::Words;
@@ -10,6 +10,8 @@ use outside::Words;
 pub enum Command {
     /// Cut one line of atoms to a budget of bytes.
     Trim { budget: u32 },
+    /// Merge the contexts of all lines.
+    Merge,
 }
 
 /// A number from 1 to 4,294,967,295, without sign or leading zero.
@@ -24,19 +26,41 @@ fn read_number(word: &str) -> Option<u32>
     word.parse::<u32>().ok()
 }
 
-/// The command that the words ask for; `None` where they have no form.
+/// The command that one word asks for.
+#[tactic(auto, unfolding(crate::specs::Asked::asked))]
+fn bare_command(name: &str) -> Option<Command>
+    ensures command { result ≡ asked (name.now ∷ []) }
+    ensures sound { IfSome result IsSound }
+{
+    match name {
+        "merge" => Some(Command::Merge),
+        _ => None,
+    }
+}
+
+/// The command that a word asks for with a number.
 #[tactic(auto, unfolding(crate::specs::Asked::asked, crate::specs::Asked::number_of))]
+fn numbered_command(name: &str, word: &str) -> Option<Command>
+    ensures command { result ≡ asked (name.now ∷ word.now ∷ []) }
+    ensures sound { IfSome result IsSound }
+{
+    if name != "trim" {
+        return None;
+    }
+    let budget = read_number(word)?;
+    Some(Command::Trim { budget })
+}
+
+/// The command that the words ask for; `None` where they have no form.
+#[tactic(auto, unfolding(crate::specs::Asked::asked))]
 pub fn command_of(words: &Words) -> Option<Command>
     ensures command { result ≡ asked words.now }
     ensures sound { IfSome result IsSound }
 {
-    if words.len() != 2 {
-        return None;
+    let name = words.get(0)?.as_str();
+    match words.len() {
+        1 => bare_command(name),
+        2 => numbered_command(name, words.get(1)?.as_str()),
+        _ => None,
     }
-    let (name, word) = (words.get(0)?, words.get(1)?);
-    if name.as_str() != "trim" {
-        return None;
-    }
-    let budget = read_number(word.as_str())?;
-    Some(Command::Trim { budget })
 }

@@ -1,14 +1,17 @@
 //! Bytes as lines of hexadecimal digits.
 
-ghost use Rattle.std.specs.Prelude.{◌≡◌, IfOk, string_bytes};
+ghost use Rattle.std.specs.Prelude.{◌≡◌, ◌⊎◌, IfOk, IfErr, string_bytes};
 ghost use Rattle.std.specs.Option.{option_map};
 ghost use Rattle.baggage_cli.specs.HexLine as spec;
+ghost use Rattle.baggage_cli.specs.ReadLines.{Wanted, IsBad};
 
+use crate::input_lines::Line;
+use crate::refusals::{InputCode, Refusal};
 use hex::FromHexError;
 use outside::Memory;
 use std::alloc::Global;
 
-/// The most digits of a line.
+/// The most bytes of a line.
 pub const DIGITS_MAX: usize = 2_097_152;
 
 /// The line of these bytes: two digits a byte in lower case, or a dash for none, and a line feed.
@@ -41,24 +44,23 @@ fn hex_bytes(alloc: Global, text: &[u8]) -> Result<Option<Vec<u8>>, Memory>
     }
 }
 
-/// The input without the line feed at its end, where there is one.
-fn without_feed(input: &[u8]) -> &[u8]
-    ensures { result.now ≡ spec.without_feed input.now }
+/// The bytes that a line says.
+pub fn line_bytes(alloc: Global, line: &Line<'_>) -> Result<Vec<u8>, Refusal>
+    ensures ok { IfOk result (λ bytes. spec.IsHexOf bytes.items line.now.text.now) }
+    ensures err { IfErr result (λ refusal. (refusal ≡ Refusal.Memory) ⊎ ((wanted : Wanted) → IsBad wanted (line.now.number, line.now.text.now) refusal)) }
 {
-    match input {
-        [text @ .., b'\n'] => text,
-        _ => input,
+    let number = line.number;
+    if DIGITS_MAX < line.text.len() {
+        return Err(Refusal::Input {
+            line: number,
+            code: InputCode::HexTooLong,
+        });
     }
-}
-
-/// The bytes of an input of one line with at most [`DIGITS_MAX`] digits; `None` where it is no such line.
-#[tactic(auto, unfolding(crate::specs::HexLine::line_bytes))]
-pub fn line_bytes(alloc: Global, input: &[u8]) -> Result<Option<Vec<u8>>, Memory>
-    ensures { IfOk result (λ found. option_map (λ bytes. bytes.items) found ≡ spec.line_bytes input.now) }
-{
-    let text = without_feed(input);
-    if DIGITS_MAX < text.len() {
-        return Ok(None);
+    match hex_bytes(alloc, line.text)? {
+        Some(bytes) => Ok(bytes),
+        None => Err(Refusal::Input {
+            line: number,
+            code: InputCode::BadHex,
+        }),
     }
-    hex_bytes(alloc, text)
 }

@@ -5,6 +5,9 @@ mod adapters;
 mod commands;
 mod delivery;
 mod hex_lines;
+mod input_lines;
+mod merging;
+mod reading;
 mod refusals;
 #[cfg(test)]
 mod tests;

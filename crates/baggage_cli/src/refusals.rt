@@ -4,15 +4,25 @@ ghost use Rattle.std.specs.Prelude.{◌≡◌, IfOk, string_bytes};
 ghost use Rattle.baggage_cli.specs.Refused.{status_of, line_of};
 
 use outside::Memory;
-use std::alloc::Global;
+use std::alloc::{AllocFailed, Global};
 use std::fmt;
-use wire_bytes::WireCode;
+use wire_bytes::ByteCode;
 
-/// What is wrong with an input.
+/// What is wrong with an input or a line of it.
 #[derive(Clone, Copy, Debug, PartialEq, Eq)]
 pub enum InputCode {
-    /// The input isn't one line of hexadecimal digits within the limit.
-    Unread,
+    /// The input is longer than a command reads.
+    TooLong,
+    /// A command for one line has none.
+    NoLine,
+    /// A command for one line has a second one, which is this line.
+    Form,
+    /// The line is one more than a command reads.
+    TooManyLines,
+    /// The line has more bytes than a line of digits may have.
+    HexTooLong,
+    /// The line isn't one of hexadecimal digits.
+    BadHex,
 }
 
 /// Why a command gives no output.
@@ -23,11 +33,11 @@ pub enum Refusal {
         line: u64,
         code: InputCode,
     },
-    /// The bytes of a line aren't those of a list.
-    Wire {
+    /// The bytes of a line aren't those of a list or a context.
+    Context {
         line: u64,
         offset: usize,
-        code: WireCode,
+        code: ByteCode,
     },
     /// The source counted a fault.
     SourceFailed,
@@ -43,7 +53,12 @@ impl fmt::Display for InputCode {
 
     fn fmt<W: fmt::Write>(&self, f: &mut fmt::Formatter<W>) -> fmt::Result {
         match self {
-            InputCode::Unread => write!(f, "Unread"),
+            InputCode::TooLong => write!(f, "TooLong"),
+            InputCode::NoLine => write!(f, "NoLine"),
+            InputCode::Form => write!(f, "Form"),
+            InputCode::TooManyLines => write!(f, "TooManyLines"),
+            InputCode::HexTooLong => write!(f, "HexTooLong"),
+            InputCode::BadHex => write!(f, "BadHex"),
         }
     }
 }
@@ -59,6 +74,17 @@ impl From<Memory> for Refusal {
     }
 }
 
+impl<T: Drop> From<AllocFailed<T>> for Refusal {
+    ghost use Rattle.std.specs.Prelude.{◌≡◌};
+    ghost use Rattle.baggage_cli.specs.declared.refusals.Refusal.TheVariants.{Memory};
+
+    ghost from_gives = { λ _ refusal. refusal ≡ Memory };
+
+    fn from(_refused: AllocFailed<T>) -> Refusal {
+        Refusal::Memory
+    }
+}
+
 impl Refusal {
     /// The status that the program ends with.
     pub fn status(&self) -> u8
@@ -66,7 +92,7 @@ impl Refusal {
     {
         match self {
             Refusal::Input { .. } => 2,
-            Refusal::Wire { .. } => 3,
+            Refusal::Context { .. } => 3,
             Refusal::SourceFailed => 4,
             Refusal::Memory => 6,
         }
@@ -78,7 +104,7 @@ impl Refusal {
     {
         match self {
             Refusal::Input { line, code } => Ok(format!(in alloc; "input line {line} {code}\n")?),
-            Refusal::Wire { line, offset, code } => Ok(format!(in alloc;
+            Refusal::Context { line, offset, code } => Ok(format!(in alloc;
                 "context line {line} offset {offset} {code}\n"
             )?),
             Refusal::SourceFailed => Ok(String::from_str(alloc, "source failed\n")?),

@@ -1,18 +1,21 @@
 //! The one call that does all that the program does.
 
-ghost use Rattle.std.specs.Prelude.{◌≡◌, ◌≢◌, ◌⊎◌, ℕ, ◌<◌, List, Some, None, Ok, Err, IfOk, IfErr, string_bytes};
+ghost use Rattle.std.specs.Prelude.{◌≡◌, ◌≢◌, ◌⊎◌, ℕ, ◌<◌, List, [], ◌∷◌, Some, None, Ok, Err, IfOk, IfErr, string_bytes};
 ghost use Rattle.std.specs.Io.KnownBytes.{Appends, IsAtEnd};
 ghost use Rattle.outside.specs.Causes.{Rose};
-ghost use Rattle.context_model.specs.Atoms.{AreAtoms};
 ghost use Rattle.context_model.specs.Framing.{bytes_of};
+ghost use Rattle.context_model.specs.Merged.{IsMerged};
 ghost use Rattle.context_model.specs.Trimmed.{trimmed};
 ghost use Rattle.baggage_cli.specs.Asked.{asked, IsSound, ReadsSource};
-ghost use Rattle.baggage_cli.specs.HexLine.{hex_line, line_bytes};
+ghost use Rattle.baggage_cli.specs.HexLine.{hex_line};
+ghost use Rattle.baggage_cli.specs.ReadLines.{SaysLists};
+ghost use Rattle.baggage_cli.specs.ReadLines.Wanted.{AnyList, OnlyContext};
 ghost use Rattle.baggage_cli.specs.Scene.{change};
-ghost use Rattle.baggage_cli.specs.Answer.{Comes, Answers};
+ghost use Rattle.baggage_cli.specs.Answer.{Accepts, Comes, Answers};
 
 use crate::commands::{Command, command_of};
 use crate::delivery::{deliver, refuse, tell};
+use crate::merging::merge_source;
 use crate::refusals::Refusal;
 use crate::trimming::trim_source;
 use outside::{Gate, Library, Sink, Source, Words};
@@ -33,6 +36,7 @@ fn carry_out<L: Library, S: Source>(
 {
     match command {
         Command::Trim { budget } => trim_source(alloc, source, budget),
+        Command::Merge => merge_source(alloc, source),
     }
 }
 
@@ -86,7 +90,8 @@ fn answer_words<L: Library, S: Source, K: Sink, E: Sink>(
 /// refusal to `errs`. The answer is the status that the program ends with.
 ///
 /// `trim N` reads one line of hexadecimal digits from the source, which frames a list of atoms, and writes the line of the
-/// list trimmed to `N` bytes.
+/// list trimmed to `N` bytes. `merge` reads any number of lines up to 4,096, each of which frames a context, and writes the
+/// line of their merge.
 pub fn baggage_top<R: Threads + Sync, G: Gate, L: Library, S: Source, K: Sink, E: Sink>(
     _rt: &R,
     alloc: Global,
@@ -106,8 +111,10 @@ pub fn baggage_top<R: Threads + Sync, G: Gate, L: Library, S: Source, K: Sink, E
     }) result }
 
     // What follows from it, command by command.
-    ensures trim { (budget : ℕ) (input : List ℕ) (list : List (List ℕ)) → asked words.now ≡ Some (Command.Trim budget) → S.left source.old ≡ Some input → AreAtoms list → line_bytes input ≡ Some (bytes_of list)
+    ensures trim { (budget : ℕ) (input : List ℕ) (list : List (List ℕ)) → asked words.now ≡ Some (Command.Trim budget) → S.left source.old ≡ Some input → SaysLists AnyList input (list ∷ [])
         → result ≡ 0 → Appends (K.written out.old) (K.written out.new) (hex_line (bytes_of (trimmed list budget))) }
+    ensures merge { (input : List ℕ) (lists : List (List (List ℕ))) (merged : List (List ℕ)) → asked words.now ≡ Some Command.Merge → S.left source.old ≡ Some input → SaysLists OnlyContext input lists → IsMerged lists merged
+        → result ≡ 0 → Appends (K.written out.old) (K.written out.new) (hex_line (bytes_of merged)) }
 
     // What each status says of the objects.
     ensures errs { result ≡ 0 → E.written errs.new ≡ E.written errs.old }
@@ -118,7 +125,7 @@ pub fn baggage_top<R: Threads + Sync, G: Gate, L: Library, S: Source, K: Sink, E
     ensures sink_failed { result ≡ 5 → Rose (K.faults out.old) (K.faults out.new) ⊎ Rose (E.faults errs.old) (E.faults errs.new) }
 
     // A good input and no count that rose leave only success and want of memory.
-    ensures complete { (budget : ℕ) (input : List ℕ) (list : List (List ℕ)) → asked words.now ≡ Some (Command.Trim budget) → S.left source.old ≡ Some input → AreAtoms list → line_bytes input ≡ Some (bytes_of list)
+    ensures complete { (command : Command) (input : List ℕ) → asked words.now ≡ Some command → S.left source.old ≡ Some input → Accepts command input
         → ¬ (Rose (S.faults source.old) (S.faults source.new)) → ¬ (Rose (K.faults out.old) (K.faults out.new)) → ¬ (Rose (E.faults errs.old) (E.faults errs.new)) → (result ≡ 0) ⊎ (result ≡ 6) }
 {
     answer_words(alloc, words, library, source, out, errs)

@@ -1,4 +1,4 @@
-use Rattle.std.proofs.Common.{◌≡◌, ◌⊎◌, inl, inr, refl, Err}
+use Rattle.std.proofs.Common.{inl, inr, refl, Err}
 use Rattle.baggage_cli.specs.declared.refusals.Refusal.TheVariants.{Memory}
 use Rattle.baggage_cli.proofs.Outcomes.{memory_instead}
 use Rattle.baggage_cli.proofs.top.answer_command.Goals as goal

@@ -1,5 +1,0 @@
-use Rattle.baggage_cli.proofs.Numbers.{positive_at}
-use Rattle.baggage_cli.proofs.commands.command_of.Goals as goal
-
-pub returns-clause-sound : goal.returns-clause-sound
-returns-clause-sound c = positive_at c.as_str-2.result.now c.in_ok-budget.budget c.in_ok-budget.ensures
