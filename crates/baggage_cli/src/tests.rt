@@ -373,6 +373,20 @@ fn merges_as_many_lines_as_may_be(rt: HostRuntime) -> Result<(), Fail> {
         merged.extend_from_slice(format!(in alloc; "0300{number:04x}")?.as_bytes())?;
     }
     merged.push(b'\n')?;
+    let mut same = Vec::new(alloc);
+    for _ in 0..4096 {
+        same.extend_from_slice(b"02f800\n")?;
+    }
+    answers(&rt, alloc, "merge", same.clone()?, 0, b"02f800\n")?;
+    same.extend_from_slice(b"02f800")?;
+    answers(
+        &rt,
+        alloc,
+        "merge",
+        same,
+        2,
+        b"input line 4097 TooManyLines\n",
+    )?;
     let lines = data_lines(alloc)?;
     answers(&rt, alloc, "merge", lines.clone()?, 0, merged.as_slice())?;
     let mut more = lines.clone()?;
