@@ -12,7 +12,7 @@ use outside::Memory;
 use std::alloc::Global;
 
 /// The most bytes of a line.
-pub const DIGITS_MAX: usize = 2_097_152;
+const DIGITS_MAX: usize = 2_097_152;
 
 /// The line of these bytes: two digits a byte in lower case, or a dash for none, and a line feed.
 #[tactic(auto, unfolding(crate::specs::HexLine::hex_line))]

@@ -407,34 +407,44 @@ fn merges_as_many_lines_as_may_be(rt: HostRuntime) -> Result<(), Fail> {
     Ok(())
 }
 
+/// Reads the one line byte by byte, with one of the reads failing, and compares the answer.
+fn fails_at_a_read<R: Abort + Threads + Sync>(
+    rt: &R,
+    alloc: Global,
+    words: &Words,
+    read: u64,
+) -> Result<(), Fail> {
+    let mut content = Vec::from_slice(alloc, LINE)?;
+    content.push(b'\n')?;
+    let mut library = SureLibrary::new(alloc);
+    let mut source = MemorySource::new(content, 1, vec![in alloc; read]?);
+    let mut out = MemorySink::new(alloc, 64, 64, Vec::new(alloc))?;
+    let mut errs = MemorySink::new(alloc, 64, 64, Vec::new(alloc))?;
+    let status = baggage_top(
+        rt,
+        alloc,
+        &Open,
+        words,
+        &mut library,
+        &mut source,
+        &mut out,
+        &mut errs,
+    );
+    assert_eq!(rt; status, 4, "read {read}");
+    assert!(rt; out.taken().is_empty(), "read {read}");
+    assert_eq!(rt; errs.taken(), b"source failed\n".as_slice(), "read {read}");
+    Ok(())
+}
+
 #[test]
 fn a_failed_read_is_the_answer(rt: HostRuntime) -> Result<(), Fail> {
     let alloc = rt.alloc();
-    let words = words_of(alloc, "trim 9")?;
-    // One byte a read: thirty digits, the line feed, and the read that finds the end.
-    for read in 0..32 {
-        let mut content = Vec::from_slice(alloc, LINE)?;
-        content.push(b'\n')?;
-        let mut library = SureLibrary::new(alloc);
-        let mut source = MemorySource::new(content, 1, vec![in alloc; read]?);
-        let mut out = MemorySink::new(alloc, 64, 64, Vec::new(alloc))?;
-        let mut errs = MemorySink::new(alloc, 64, 64, Vec::new(alloc))?;
-        assert_eq!(rt;
-            baggage_top(
-                &rt,
-                alloc,
-                &Open,
-                &words,
-                &mut library,
-                &mut source,
-                &mut out,
-                &mut errs
-            ),
-            4,
-            "read {read}"
-        );
-        assert!(rt; out.taken().is_empty(), "read {read}");
-        assert_eq!(rt; errs.taken(), b"source failed\n".as_slice(), "read {read}");
+    for line in ["trim 9", "merge"] {
+        let words = words_of(alloc, line)?;
+        // Thirty digits, the line feed, and the read that finds the end.
+        for read in 0..32 {
+            fails_at_a_read(&rt, alloc, &words, read)?;
+        }
     }
     Ok(())
 }

@@ -91,7 +91,7 @@ fn answer_words<L: Library, S: Source, K: Sink, E: Sink>(
 ///
 /// `trim N` reads one line of hexadecimal digits from the source, which frames a list of atoms, and writes the line of the
 /// list trimmed to `N` bytes. `merge` reads any number of lines up to 4,096, each of which frames a context, and writes the
-/// line of their merge.
+/// line of their merge, a dash where there is no line. Empty lines and lines that begin with `#` are skipped.
 pub fn baggage_top<R: Threads + Sync, G: Gate, L: Library, S: Source, K: Sink, E: Sink>(
     _rt: &R,
     alloc: Global,
