@@ -1,6 +1,6 @@
 -- The slots of a table: the fields that are reached through bags and are no bags.
-use Rattle.std.specs.Prelude.{◌≡◌, ◌≢◌, ◌⊎◌, ℕ, zero, suc, ◌+◌, List, [], ◌∷◌, ◌++◌, map, length, Option, Some, None}
-use Rattle.std.specs.List.{slice_get}
+use Rattle.std.specs.Prelude.{◌≡◌, ◌≢◌, ◌⊎◌, ℕ, zero, suc, ◌+◌, ◌==◌, false, List, [], ◌∷◌, ◌++◌, map, length, Option, Some, None}
+use Rattle.std.specs.List.{slice_get, list_any}
 use Rattle.std.specs.Option.{option_map}
 use Rattle.bag_model.specs.Shapes.{Shape, Nodes, Field, Taint, Scalar, Set, Counter, Map, Bag, no_node, node}
 
@@ -44,6 +44,15 @@ abbrev pub dotted : List (List ℕ) → List ℕ
 dotted [] = []
 dotted (name ∷ []) = name
 dotted (name ∷ other ∷ names) = name ++ 46 ∷ dotted (other ∷ names)
+
+-- No byte is a dot.
+abbrev pub HasNoDot : List ℕ → Type 0
+HasNoDot bytes = list_any (λ byte. byte == 46) bytes ≡ false
+
+-- A path is a name alone, or a name, a dot and the rest.
+abbrev pub IsSplit : List ℕ → List ℕ → Option (List ℕ) → Type 0
+IsSplit path name None = path ≡ name
+IsSplit path name (Some rest) = path ≡ name ++ 46 ∷ rest
 
 -- The name path of a slot.
 abbrev pub name_path : Slot → List ℕ

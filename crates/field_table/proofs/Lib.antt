@@ -2,3 +2,5 @@ pub mod Opened
 pub mod Ranks
 pub mod Ends
 pub mod Held
+pub mod Dots
+pub mod Found

@@ -7,7 +7,7 @@ ghost use Rattle.std.specs.Cmp.Lexicographic.{slice_cmp};
 ghost use Rattle.std.specs.Ordering.{nat_cmp};
 ghost use Rattle.std.specs.declared.cmp.Ordering.TheVariants.{Less};
 ghost use Rattle.bag_model.specs.Shapes.{fields, no_node};
-ghost use Rattle.bag_model.specs.Slots.{slots_of, slot_count, name_path, FindsField};
+ghost use Rattle.bag_model.specs.Slots.{slots_of, slot_count, name_path, FindsField, IsSplit, HasNoDot};
 ghost use Rattle.bag_model.specs.Tables.{levels};
 ghost use Rattle.field_table.specs.Kept.{capped, ends_of, IsKept, IsNameOrder, IsPlaceOf, IsRank, IsReady, Holds, start_at};
 ghost use Rattle.field_table.specs.Plain.{shape_of, kept_shape, name_of, field_of, nodes_of, kept_bag, IsIndexed, IsIndexedField};
@@ -127,24 +127,21 @@ impl Slots {
     /// The field with this name path, and how many slots there are before it. Fields of bags are looked for in the bags.
     #[cycle(find)]
     pub(crate) fn find(&self, path: &str) -> Option<(usize, &Shape)>
-        requires { IsReady (kept_bag self.now) }
+        requires ready { IsReady (kept_bag self.now) }
         ensures { FindsField (nodes_of self.now) path.now (option_map (λ found. (found.0, shape_of found.1.now)) result) }
     {
-        match path.split_once('.') {
-            None => {
-                let place = place_of(&self.items, &self.by_name, path.as_bytes())?;
-                Some((self.slots_before(place), &self.items[place].shape))
-            }
-            Some((name, rest)) => {
-                let place = place_of(&self.items, &self.by_name, name.as_bytes())?;
-                let before = self.slots_before(place);
-                if let Shape::Bag(inner) = &self.items[place].shape {
-                    let (behind, shape) = inner.find(rest)?;
-                    Some((before + behind, shape))
-                } else {
-                    None
-                }
-            }
+        let (name, rest) = split_name(path);
+        let place = place_of(&self.items, &self.by_name, name.as_bytes())?;
+        let before = self.slots_before(place);
+        let shape = &self.items[place].shape;
+        let Some(rest) = rest else {
+            return Some((before, shape));
+        };
+        if let Shape::Bag(inner) = shape {
+            let (behind, shape) = inner.find(rest)?;
+            Some((before + behind, shape))
+        } else {
+            None
         }
     }
 
@@ -273,4 +270,15 @@ fn is_named(items: &[Slot], place: usize, name: &[u8]) -> bool
     ensures { place < length items.now → IsTrue result ↔ (get_or (map name_of items.now) place [] ≡ name.now) }
 {
     place < items.len() && items[place].name.as_str().as_bytes() == name
+}
+
+/// The first name of a path, and the rest behind a dot.
+fn split_name(path: &str) -> (&str, Option<&str>)
+    ensures split { IsSplit path.now result.0.now (option_map (λ rest. rest.now) result.1) }
+    ensures name { HasNoDot result.0.now }
+{
+    match path.split_once('.') {
+        Some((name, rest)) => (name, Some(rest)),
+        None => (path, None),
+    }
 }
