@@ -7,13 +7,15 @@ use Rattle.std.proofs.lemmas.List.{length-map}
 use Rattle.std.proofs.lemmas.Option.{slice_get-map, slice_get_within}
 use Rattle.bag_model.specs.Shapes as model
 use Rattle.bag_model.specs.Slots.{slots_of, starts, IsSplit, HasNoDot, FindsField}
+use Rattle.bag_model.specs.Tables.{IsTable}
+use Rattle.bag_model.proofs.SlotLaws.{slots_few}
 use Rattle.bag_model.proofs.PathLaws.{AreRest, finds_none, finds_only, finds_own, finds_inside, nothing_inside, nothing_in_bag, reached_bound}
 use Rattle.field_table.specs.declared.shapes.Shape.TheVariants as variants
 use Rattle.field_table.specs.declared.shapes.Slot.{Slot}
 use Rattle.field_table.specs.declared.shapes.Slots.{Slots}
 use Rattle.field_table.specs.declared.shapes.Shape.TheViews.{out-Slots}
-use Rattle.field_table.specs.Kept.{KeptField, plain, ends_of, start_at, IsPlaceOf, IsReady, name}
-use Rattle.field_table.specs.Plain.{kept_bag, shape_of, nodes_of, name_of}
+use Rattle.field_table.specs.Kept.{KeptField, plain, ends_of, start_at, IsPlaceOf, IsReady, capped, name}
+use Rattle.field_table.specs.Plain.{kept_bag, shape_of, nodes_of, name_of, IsIndexed}
 use Rattle.field_table.proofs.Opened.{length_fields, names_of-items}
 use Rattle.field_table.proofs.Held.{field_open, shape_bag, item_at, item_field, start_is, ends_are, inner_fewer, inner_ready}
 
@@ -56,3 +58,11 @@ whole_path path own f (Some x) none split = absurd (none x refl)
 
 pub fits_sum : (m n : ℕ) → m + n ≤ 32768 → Fits w64 (m + n)
 fits_sum m n h = record { fits = omega (arith, h) }
+
+-- The fields of a table are ready for look-ups.
+pub ready : (s : Slots) → IsTable (nodes_of s) → IsIndexed s → IsReady (kept_bag s)
+ready s table indexed = record { fields = table.well_formed; indexed = indexed; small = omega (arith, slots_few (nodes_of s), table.small) }
+
+-- The count of slots of a table.
+pub count_of : (s : Slots) → IsTable (nodes_of s) → capped (length (slots_of (nodes_of s))) ≡ length (slots_of (nodes_of s))
+count_of s table = omega (arith, slots_few (nodes_of s), table.small)

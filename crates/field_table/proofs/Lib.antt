@@ -4,3 +4,4 @@ pub mod Ends
 pub mod Held
 pub mod Dots
 pub mod Found
+pub mod Sets
