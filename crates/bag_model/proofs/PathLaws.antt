@@ -168,16 +168,20 @@ module _ (nodes : Nodes) (h : AreFields nodes) (path name : List ℕ) (rest : Op
       none r.place r.field r.at (r.named ∙ (first_name path own names name rest clear no_dot is split).0)
 
   module _ (i : ℕ) (f : Field) (at : slice_get (fields nodes) i ≡ Some f) (named : f.name ≡ name) where
-    -- Nothing else than that field has the path.
-    pub finds_only : ((names : List (List ℕ)) (b : ℕ) (shape : Shape) → AreRest names rest → IsWithin f.shape names b shape → ⊥) → FindsField nodes path None
-    finds_only nothing own names before shape reached is =
+    -- Whatever has the path is in that field.
+    pub only_there : (own : List ℕ) (names : List (List ℕ)) (before : ℕ) (shape : Shape) → IsReached nodes own names before shape → dotted (own ∷ names) ≡ path → AreRest names rest × ((b : ℕ) × IsWithin f.shape names b shape)
+    only_there own names before shape reached is =
         let r = reached_from nodes own names before shape reached in
         let clear : HasNoDot own = subst HasNoDot r.named (name_no_dot r.field.name (is_field nodes r.place r.field h r.at).0) in
         let first = first_name path own names name rest clear no_dot is split in
         let place : r.place ≡ i = one_place nodes r.place i r.field f h r.at at (r.named ∙ first.0 ∙ sym named) in
         let also : slice_get (fields nodes) i ≡ Some r.field = subst (λ (n : ℕ). slice_get (fields nodes) n ≡ Some r.field) place r.at in
         let same : r.field ≡ f = (let e : Some r.field ≡ Some f = sym also ∙ at in cc e) in
-        nothing names r.inside shape first.1 (subst (λ (g : Field). IsWithin g.shape names r.inside shape) same r.within)
+        (first.1, (r.inside, subst (λ (g : Field). IsWithin g.shape names r.inside shape) same r.within))
+
+    -- Nothing else than that field has the path.
+    pub finds_only : ((names : List (List ℕ)) (b : ℕ) (shape : Shape) → AreRest names rest → IsWithin f.shape names b shape → ⊥) → FindsField nodes path None
+    finds_only nothing own names before shape reached is = let r = only_there own names before shape reached is in nothing names r.1.0 shape r.0 r.1.1
 
 pub finds_own : (nodes : Nodes) (i : ℕ) (f : Field) (path name : List ℕ) → slice_get (fields nodes) i ≡ Some f → f.name ≡ name → path ≡ name → FindsField nodes path (Some (starts (fields nodes) i, f.shape))
 finds_own nodes i f path name at named is =
@@ -225,3 +229,15 @@ mutual
   within_bound (Set kind) (name ∷ names) before shape h = absurd h
   within_bound Counter (name ∷ names) before shape h = absurd h
   within_bound (Map key value) (name ∷ names) before shape h = absurd h
+
+-- Without a rest it is that field.
+pub own_alone : (own : Shape) (names : List (List ℕ)) (b : ℕ) (shape : Shape) → AreRest names None → IsWithin own names b shape → shape ≡ own
+own_alone own [] b shape are within = within.1
+own_alone own (m ∷ ms) b shape are within = absurd are
+
+-- With a rest it is what the bag has alone.
+pub inside_alone : (inner : Nodes) (own : Shape) → own ≡ Bag inner → (rest : List ℕ) (found : Shape)
+    → ((name : List ℕ) (names : List (List ℕ)) (before : ℕ) (shape : Shape) → IsReached inner name names before shape → dotted (name ∷ names) ≡ rest → shape ≡ found)
+    → (names : List (List ℕ)) (b : ℕ) (shape : Shape) → AreRest names (Some rest) → IsWithin own names b shape → shape ≡ found
+inside_alone inner own bag rest found only [] b shape are within = absurd are
+inside_alone inner own bag rest found only (m ∷ ms) b shape are within = only m ms b shape (subst (λ (s : Shape). IsWithin s (m ∷ ms) b shape) bag within) are

@@ -7,7 +7,7 @@ use Rattle.std.proofs.lemmas.Bool.{cases_lt}
 use Rattle.std.proofs.lemmas.List.{length-map}
 use Rattle.std.proofs.lemmas.Option.{slice_get-map, slice_get_within}
 use Rattle.bag_model.specs.Shapes.{Shape, Nodes, Taint, Scalar, Set, Counter, Map, Bag, no_node, node}
-use Rattle.bag_model.specs.Slots.{Slot, slots_of, slots_in, slot_count, within, IsWithin, IsReached, FindsField, FindsSlot, dotted}
+use Rattle.bag_model.specs.Slots.{Slot, slots_of, slots_in, slot_count, within, IsWithin, IsReached, IsOnly, FindsField, FindsSlot, dotted}
 use Rattle.bag_model.proofs.SlotLaws.{get_front, get_back}
 
 -- The shape is no bag.
@@ -126,10 +126,6 @@ pub finds_no_slot : (nodes : Nodes) (path : List ℕ) → FindsField nodes path 
 finds_no_slot nodes path none place slot at is =
     let r = slot_leads nodes place slot at in
     none r.name r.names place slot.shape r.reached (ap dotted (sym r.is) ∙ is)
-
--- A path has nothing else than what it finds.
-abbrev pub IsOnly : Nodes → List ℕ → ℕ × Shape → Type 0
-IsOnly nodes path found = (name : List ℕ) (names : List (List ℕ)) (before : ℕ) (shape : Shape) → IsReached nodes name names before shape → dotted (name ∷ names) ≡ path → shape ≡ found.1
 
 -- Where a path finds a bag alone, no slot has it.
 pub bag_no_slot : (nodes : Nodes) (path : List ℕ) (before : ℕ) (own : Shape) (inner : Nodes) → own ≡ Bag inner → IsOnly nodes path (before, own) → FindsSlot nodes path None

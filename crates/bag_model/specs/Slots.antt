@@ -88,6 +88,10 @@ FindsField nodes path (Some found) = (name : List ℕ) × (names : List (List �
 FindsField nodes path None =
     (name : List ℕ) (names : List (List ℕ)) (before : ℕ) (shape : Shape) → IsReached nodes name names before shape → dotted (name ∷ names) ≢ path
 
+-- All fields with this name path have the shape of the one that was found.
+abbrev pub IsOnly : Nodes → List ℕ → ℕ × Shape → Type 0
+IsOnly nodes path found = (name : List ℕ) (names : List (List ℕ)) (before : ℕ) (shape : Shape) → IsReached nodes name names before shape → dotted (name ∷ names) ≡ path → shape ≡ found.1
+
 -- The slots of a field: from the number before it on, and up to that and its own.
 abbrev pub range_of : ℕ × Shape → ℕ × ℕ
 range_of found = (found.0, found.0 + slot_count found.1)

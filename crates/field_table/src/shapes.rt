@@ -1,13 +1,13 @@
 //! Fields, their shapes, and the fields of a bag with indexes over them.
 
-ghost use Rattle.std.specs.Prelude.{◌≡◌, ◌≢◌, ◌<◌, ◌≤◌, ◌+◌, ◌-◌, ◌↔◌, ◌++◌, [], ◌∷◌, length, map, get_or, IsTrue, OnOk, OnErr, Some, string_bytes};
+ghost use Rattle.std.specs.Prelude.{◌≡◌, ◌≢◌, ◌<◌, ◌≤◌, ◌+◌, ◌-◌, ◌↔◌, ◌++◌, [], ◌∷◌, length, map, get_or, IsTrue, OnOk, OnErr, Some, IfSome, string_bytes};
 ghost use Rattle.std.specs.List.{slice_get};
 ghost use Rattle.std.specs.Option.{option_map};
 ghost use Rattle.std.specs.Cmp.Lexicographic.{slice_cmp};
 ghost use Rattle.std.specs.Ordering.{nat_cmp};
 ghost use Rattle.std.specs.declared.cmp.Ordering.TheVariants.{Less};
 ghost use Rattle.bag_model.specs.Shapes.{fields, no_node};
-ghost use Rattle.bag_model.specs.Slots.{slots_of, slot_count, name_path, FindsField, IsSplit, HasNoDot};
+ghost use Rattle.bag_model.specs.Slots.{slots_of, slot_count, name_path, FindsField, IsOnly, IsSplit, HasNoDot};
 ghost use Rattle.bag_model.specs.Tables.{levels};
 ghost use Rattle.field_table.specs.Kept.{capped, ends_of, IsKept, IsNameOrder, IsPlaceOf, IsRank, IsReady, Holds, start_at};
 ghost use Rattle.field_table.specs.Plain.{shape_of, kept_shape, name_of, field_of, nodes_of, kept_bag, IsIndexed, IsIndexedField};
@@ -128,7 +128,9 @@ impl Slots {
     #[cycle(find)]
     pub(crate) fn find(&self, path: &str) -> Option<(usize, &Shape)>
         requires ready { IsReady (kept_bag self.now) }
-        ensures { FindsField (nodes_of self.now) path.now (option_map (λ found. (found.0, shape_of found.1.now)) result) }
+        ensures found { FindsField (nodes_of self.now) path.now (option_map (λ found. (found.0, shape_of found.1.now)) result) }
+        ensures only { IfSome result (λ found. IsOnly (nodes_of self.now) path.now (found.0, shape_of found.1.now)) }
+        ensures kept { IfSome result (λ found. IsKept (kept_shape found.1.now)) }
     {
         let (name, rest) = split_name(path);
         let place = place_of(&self.items, &self.by_name, name.as_bytes())?;
