@@ -5,3 +5,4 @@ pub mod Held
 pub mod Dots
 pub mod Found
 pub mod Sets
+pub mod Inserted

@@ -1,7 +1,7 @@
 //! Fields, their shapes, and the fields of a bag with indexes over them.
 
 ghost use Rattle.std.specs.Prelude.{◌≡◌, ◌≢◌, ◌<◌, ◌≤◌, ◌+◌, ◌-◌, ◌↔◌, ◌++◌, [], ◌∷◌, length, map, get_or, IsTrue, OnOk, OnErr, Some, IfSome, string_bytes};
-ghost use Rattle.std.specs.List.{slice_get};
+ghost use Rattle.std.specs.List.{slice_get, insert};
 ghost use Rattle.std.specs.Option.{option_map};
 ghost use Rattle.std.specs.Cmp.Lexicographic.{slice_cmp};
 ghost use Rattle.std.specs.Ordering.{nat_cmp};
@@ -97,16 +97,9 @@ impl Slots {
         ensures err { OnErr result (nodes_of self.new ≡ nodes_of self.old) }
         ensures indexed { IsIndexed self.old → IsIndexedField item → IsIndexed self.new }
     {
-        self.items.reserve(1)?;
-        self.ends.reserve(1)?;
-        self.by_name.reserve(1)?;
-        let place = self.items.len();
         let rank = rank_of(&self.items, &self.by_name, item.name.as_str().as_bytes());
         let end = self.slot_count().saturating_add(item.shape.slot_count());
-        self.by_name.insert(rank, place).unwrap();
-        self.ends.push(end).unwrap();
-        self.items.push(item).unwrap();
-        Ok(())
+        add_field(&mut self.items, &mut self.ends, &mut self.by_name, item, end, rank)
     }
 
     /// How many slots there are.
@@ -223,6 +216,30 @@ impl Shape {
             Shape::Map(_, _) => 1,
         }
     }
+}
+
+/// Adds a field, its end, and its place at this rank. All room is taken first, so want of memory leaves all as it was.
+fn add_field(
+    items: &mut Vec<Slot>,
+    ends: &mut Vec<usize>,
+    by_name: &mut Vec<usize>,
+    item: Slot,
+    end: usize,
+    rank: usize,
+) -> Result<(), Memory>
+    requires rank { rank ≤ length by_name.old.items }
+    ensures items { OnOk result (items.new.items ≡ items.old.items ++ item ∷ []) }
+    ensures ends { OnOk result (ends.new.items ≡ ends.old.items ++ end ∷ []) }
+    ensures places { OnOk result (by_name.new.items ≡ insert by_name.old.items rank (length items.old.items)) }
+    ensures err { OnErr result ((items.new.items ≡ items.old.items) × (ends.new.items ≡ ends.old.items) × (by_name.new.items ≡ by_name.old.items)) }
+{
+    items.reserve(1)?;
+    ends.reserve(1)?;
+    by_name.reserve(1)?;
+    by_name.insert(rank, items.len()).unwrap();
+    ends.push(end).unwrap();
+    items.push(item).unwrap();
+    Ok(())
 }
 
 /// How many of the places, in the order of the names there, have a lesser name.

@@ -1,0 +1,80 @@
+-- A field more at the end, and its place among the names in order.
+use Rattle.std.proofs.Common.{◌≡◌, ◌⊎◌, inl, inr, ℕ, ◌+◌, ◌-◌, ◌^◌, ◌<◌, ◌≤◌, min, zero, suc, List, [], ◌∷◌, ◌++◌, length, map, take, drop, get_or, Some, refl, sym, ◌∙◌, ap, subst, arith}
+use Rattle.std.specs.Prelude.{◌≢◌}
+use Rattle.std.specs.Cmp.{IsTotalOrder}
+use Rattle.std.specs.Cmp.Lexicographic.{slice_cmp}
+use Rattle.std.specs.List.{slice_get, slice_index, insert}
+use Rattle.std.specs.Ordering.{nat_cmp, ordering_reverse}
+use Rattle.std.specs.declared.cmp.Ordering.{Ordering}
+use Rattle.std.specs.declared.cmp.Ordering.TheVariants.{Less, Equal, Greater}
+use Rattle.std.proofs.lemmas.Bool.{cases_lt}
+use Rattle.std.proofs.lemmas.Cmp.{nat_list_cmp_total}
+use Rattle.std.proofs.lemmas.List.{length-append}
+use Rattle.std.proofs.lemmas.List.Edits.{length-insert, get_or-insert_below, get_or-insert_at, get_or-insert_above}
+use Rattle.context_model.specs.Orders.{IsIn}
+use Rattle.bag_model.specs.Shapes as model
+use Rattle.bag_model.specs.Slots.{slot_count}
+use Rattle.bag_model.proofs.SlotLaws.{slots_list, length-slots}
+use Rattle.field_table.specs.Kept.{capped, ends_after, IsNameOrder, IsRank}
+use Rattle.field_table.proofs.Ranks.{ranked}
+
+-- The ends with one field more.
+pub ends_push : (b : ℕ) (fs : List model.Field) (f : model.Field) → ends_after b (fs ++ f ∷ []) ≡ ends_after b fs ++ capped (b + length (slots_list fs) + slot_count f.shape) ∷ []
+ends_push b [] f = ap (λ n. capped n ∷ []) (omega arith)
+ends_push b (g ∷ gs) f =
+    ap (λ l. capped (b + slot_count g.shape) ∷ l) (
+      ends_push (b + slot_count g.shape) gs f ∙ ap (λ n. ends_after (b + slot_count g.shape) gs ++ capped n ∷ []) (omega (arith, length-slots g gs))
+    )
+
+-- Sums of counts that stop at the greatest number.
+pub capped_sum : (m n : ℕ) → min (capped m + capped n) (2 ^ 64 - 1) ≡ capped (m + n)
+capped_sum m n = omega arith
+
+in_front : {A : Type 0} (x : A) (xs ys : List A) → IsIn x xs → IsIn x (xs ++ ys)
+in_front x [] ys h = absurd h
+in_front x (y ∷ xs) ys (inl same) = inl same
+in_front x (y ∷ xs) ys (inr later) = inr (in_front x xs ys later)
+
+in_back : {A : Type 0} (x : A) (xs ys : List A) → IsIn x ys → IsIn x (xs ++ ys)
+in_back x [] ys h = h
+in_back x (y ∷ xs) ys h = inr (in_back x xs ys h)
+
+-- What is there stays, and the new one is there.
+in_insert : (x : ℕ) (xs : List ℕ) (i y : ℕ) → IsIn x xs → IsIn x (insert xs i y)
+in_insert x [] i y h = absurd h
+in_insert x (z ∷ xs) zero y h = inr h
+in_insert x (z ∷ xs) (suc i) y (inl same) = inl same
+in_insert x (z ∷ xs) (suc i) y (inr later) = inr (in_insert x xs i y later)
+
+at_insert : (xs : List ℕ) (i y : ℕ) → IsIn y (insert xs i y)
+at_insert xs i y = in_back y (take i xs) (y ∷ drop i xs) (inl refl)
+
+get_front_name : (names : List (List ℕ)) (name : List ℕ) (p : ℕ) → p < length names → get_or (names ++ name ∷ []) p [] ≡ get_or names p []
+get_front_name [] name p h = absurd (omega (arith, h))
+get_front_name (n ∷ names) name zero h = refl
+get_front_name (n ∷ names) name (suc p) h = get_front_name names name p (omega (arith, h))
+
+get_last_name : (names : List (List ℕ)) (name : List ℕ) → get_or (names ++ name ∷ []) (length names) [] ≡ name
+get_last_name [] name = refl
+get_last_name (n ∷ names) name = get_last_name names name
+
+module _ (names : List (List ℕ)) (places : List ℕ) (name : List ℕ) (rank : ℕ) (order : IsNameOrder names places) (found : IsRank names places name rank) where
+  more : List (List ℕ)
+  more = names ++ name ∷ []
+
+  new : List ℕ
+  new = insert places rank (length names)
+
+  long : length more ≡ length names + 1
+  long = length-append names (name ∷ [])
+
+  ranked_before : (k : ℕ) → k < rank → ranked more new k ≡ ranked names places k
+  ranked_before k h =
+      ap (λ p. get_or more p []) (get_or-insert_below places rank (length names) 0 k h found.within) ∙ get_front_name names name (slice_index places k) (order.below k (omega (arith, h, found.within)))
+
+  ranked_at : ranked more new rank ≡ name
+  ranked_at = ap (λ p. get_or more p []) (get_or-insert_at places rank (length names) 0 found.within) ∙ get_last_name names name
+
+  ranked_after : (k : ℕ) → rank ≤ k → k < length places → ranked more new (k + 1) ≡ ranked names places k
+  ranked_after k h less =
+      ap (λ p. get_or more p []) (get_or-insert_above places rank (length names) 0 k h found.within) ∙ get_front_name names name (slice_index places k) (order.below k less)
