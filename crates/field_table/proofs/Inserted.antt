@@ -59,10 +59,10 @@ get_last_name [] name = refl
 get_last_name (n ∷ names) name = get_last_name names name
 
 module _ (names : List (List ℕ)) (places : List ℕ) (name : List ℕ) (rank : ℕ) (order : IsNameOrder names places) (found : IsRank names places name rank) where
-  more : List (List ℕ)
+  abbrev more : List (List ℕ)
   more = names ++ name ∷ []
 
-  new : List ℕ
+  abbrev new : List ℕ
   new = insert places rank (length names)
 
   long : length more ≡ length names + 1
@@ -78,3 +78,65 @@ module _ (names : List (List ℕ)) (places : List ℕ) (name : List ℕ) (rank :
   ranked_after : (k : ℕ) → rank ≤ k → k < length places → ranked more new (k + 1) ≡ ranked names places k
   ranked_after k h less =
       ap (λ p. get_or more p []) (get_or-insert_above places rank (length names) 0 k h found.within) ∙ get_front_name names name (slice_index places k) (order.below k less)
+
+  size : length new ≡ length places + 1
+  size = length-insert places rank (length names) found.within
+
+  -- A rank is before the new one's, that, or behind it.
+  sides : (k : ℕ) → (k < rank) ⊎ ((k ≡ rank) ⊎ ((m : ℕ) × (rank ≤ m) × (k ≡ m + 1)))
+  sides k = by (cases_lt k rank) (cases_lt rank k)
+    where
+      by : (k < rank) ⊎ (rank ≤ k) → (rank < k) ⊎ (k ≤ rank) → (k < rank) ⊎ ((k ≡ rank) ⊎ ((m : ℕ) × (rank ≤ m) × (k ≡ m + 1)))
+      by (inl less) other = inl less
+      by (inr more) (inl beyond) = inr (inr (k - 1, omega (arith, beyond), omega (arith, beyond)))
+      by (inr more) (inr least) = inr (inl (omega (arith, more, least)))
+
+  all_new : (place : ℕ) → place < length more → IsIn place new
+  all_new place h = by (cases_lt place (length names))
+    where
+      by : (place < length names) ⊎ (length names ≤ place) → IsIn place new
+      by (inl less) = in_insert place places rank (length names) (order.all place less)
+      by (inr last) = let same : length names ≡ place = omega (arith, h, last, long) in subst (λ (p : ℕ). IsIn p new) same (at_insert places rank (length names))
+
+  below_new : (k : ℕ) → k < length new → slice_index new k < length more
+  below_new k h = by (sides k)
+    where
+      by : (k < rank) ⊎ ((k ≡ rank) ⊎ ((m : ℕ) × (rank ≤ m) × (k ≡ m + 1))) → slice_index new k < length more
+      by (inl less) = omega (arith, long, get_or-insert_below places rank (length names) 0 k less found.within, order.below k (omega (arith, less, found.within)))
+      by (inr (inl same)) = subst (λ (n : ℕ). slice_index new n < length more) (sym same) (omega (arith, long, get_or-insert_at places rank (length names) 0 found.within))
+      by (inr (inr above)) =
+          subst (λ (n : ℕ). slice_index new n < length more) (sym above.2)
+          (omega (arith, long, get_or-insert_above places rank (length names) 0 above.0 above.1 found.within, order.below above.0 (omega (arith, h, above.2, size))))
+
+  moved : (a b x y : List ℕ) → a ≡ x → b ≡ y → slice_cmp nat_cmp x y ≢ Greater → slice_cmp nat_cmp a b ≢ Greater
+  moved a b x y p q h greater = h (sym (ap (λ l. slice_cmp nat_cmp l b) p ∙ ap (λ l. slice_cmp nat_cmp x l) q) ∙ greater)
+
+  not_over : (x : List ℕ) → slice_cmp nat_cmp x name ≢ Less → slice_cmp nat_cmp name x ≢ Greater
+  not_over x h greater = h (nat_list_cmp_total.antisymm x name ∙ ap ordering_reverse greater)
+
+  sorted_new : (i j : ℕ) → i < j → j < length new → slice_cmp nat_cmp (ranked more new i) (ranked more new j) ≢ Greater
+  sorted_new i j less h = by (sides i) (sides j)
+    where
+      by : (i < rank) ⊎ ((i ≡ rank) ⊎ ((m : ℕ) × (rank ≤ m) × (i ≡ m + 1))) → (j < rank) ⊎ ((j ≡ rank) ⊎ ((m : ℕ) × (rank ≤ m) × (j ≡ m + 1)))
+          → slice_cmp nat_cmp (ranked more new i) (ranked more new j) ≢ Greater
+      by (inl a) (inl b) = moved _ _ (ranked names places i) (ranked names places j) (ranked_before i a) (ranked_before j b) (order.sorted i j less (omega (arith, b, found.within)))
+      by (inl a) (inr (inl b)) =
+          moved _ _ (ranked names places i) name (ranked_before i a) (ap (ranked more new) b ∙ ranked_at) (λ greater. let under : slice_cmp nat_cmp (ranked names places i) name ≡ Less = found.before i a in cc (under, greater))
+      by (inl a) (inr (inr b)) =
+          let within : b.0 < length places = omega (arith, h, b.2, size) in
+          moved _ _ (ranked names places i) (ranked names places b.0) (ranked_before i a) (ap (ranked more new) b.2 ∙ ranked_after b.0 b.1 within) (order.sorted i b.0 (omega (arith, a, b.1)) within)
+      by (inr (inl a)) (inl b) = absurd (omega (arith, less, a, b))
+      by (inr (inl a)) (inr (inl b)) = absurd (omega (arith, less, a, b))
+      by (inr (inl a)) (inr (inr b)) =
+          let within : b.0 < length places = omega (arith, h, b.2, size) in
+          moved _ _ name (ranked names places b.0) (ap (ranked more new) a ∙ ranked_at) (ap (ranked more new) b.2 ∙ ranked_after b.0 b.1 within) (not_over (ranked names places b.0) (found.behind b.0 b.1 within))
+      by (inr (inr a)) (inl b) = absurd (omega (arith, less, a.1, a.2, b))
+      by (inr (inr a)) (inr (inl b)) = absurd (omega (arith, less, a.1, a.2, b))
+      by (inr (inr a)) (inr (inr b)) =
+          let within : b.0 < length places = omega (arith, h, b.2, size) in
+          moved _ _ (ranked names places a.0) (ranked names places b.0) (ap (ranked more new) a.2 ∙ ranked_after a.0 a.1 (omega (arith, less, a.2, b.2, within))) (ap (ranked more new) b.2 ∙ ranked_after b.0 b.1 within)
+          (order.sorted a.0 b.0 (omega (arith, less, a.2, b.2)) within)
+
+  -- The places of the names with one more, put in at its rank.
+  pub order_push : IsNameOrder (names ++ name ∷ []) (insert places rank (length names))
+  order_push = record { all = all_new; below = below_new; sorted = sorted_new }

@@ -6,3 +6,4 @@ pub mod Dots
 pub mod Found
 pub mod Sets
 pub mod Inserted
+pub mod Pushed
