@@ -7,3 +7,4 @@ pub mod Found
 pub mod Sets
 pub mod Inserted
 pub mod Pushed
+pub mod Shown

@@ -49,6 +49,10 @@ nodes_of slots = plain_bag (kept_bag slots)
 abbrev pub IsIndexed : Slots → Type 0
 IsIndexed slots = IsKeptBag (kept_bag slots)
 
+-- The indexes of all bags in the shape are right.
+abbrev pub IsIndexedShape : Shape → Type 0
+IsIndexedShape shape = IsKept (kept_shape shape)
+
 -- The indexes of all bags in the field's shape are right.
 abbrev pub IsIndexedField : Slot → Type 0
 IsIndexedField slot = IsKept (kept_field slot).shape

@@ -5,6 +5,8 @@ mod shapes;
 mod sharing;
 mod slot_paths;
 mod tables;
+#[cfg(test)]
+mod tests;
 mod views;
 
 pub use shapes::{Shape, Slot, Slots};
