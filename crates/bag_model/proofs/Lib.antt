@@ -3,3 +3,6 @@ pub mod NumberCodes
 pub mod ScalarOrder
 pub mod SpellingOrder
 pub mod SpellingRows
+pub mod SlotLaws
+pub mod PathLaws
+pub mod SlotPaths

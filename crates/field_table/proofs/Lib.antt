@@ -1,0 +1,10 @@
+pub mod Opened
+pub mod Ranks
+pub mod Ends
+pub mod Held
+pub mod Dots
+pub mod Found
+pub mod Sets
+pub mod Inserted
+pub mod Pushed
+pub mod Shown
