@@ -1,0 +1,5 @@
+pub mod Faults
+pub mod Sources
+pub mod Later
+pub mod Checks
+pub mod Seen
