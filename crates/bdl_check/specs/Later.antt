@@ -1,5 +1,5 @@
 -- Imports, structs and types by their names, which aren't read yet.
-use Rattle.std.specs.Prelude.{ℕ, Bool, ◌||◌, ◌&&◌, ◌==◌, Option, None, Some, List, [], ◌∷◌, ◌++◌, codes, if◌then◌else◌}
+use Rattle.std.specs.Prelude.{Bool, ◌||◌, ◌&&◌, ◌==◌, Option, None, Some, List, [], ◌∷◌, ◌++◌, codes, if◌then◌else◌}
 use Rattle.std.specs.List.{flat_map, fold}
 use Rattle.std.specs.Bool.{nat_lt}
 use Rattle.bdl_parser.specs.declared.trees.Decl.{Decl}
@@ -8,7 +8,7 @@ use Rattle.bdl_parser.specs.declared.trees.Module.{Module}
 use Rattle.bdl_parser.specs.declared.trees.Spot.{Spot}
 use Rattle.bdl_parser.specs.Grammar.{is_word}
 use Rattle.bdl_parser.specs.Lexemes.{Lexeme}
-use Rattle.bdl_parser.specs.Trees.{TypeTree, BagFieldTree, StructFieldTree, name, leaf, set, map}
+use Rattle.bdl_parser.specs.Trees.{TypeTree, name, leaf, set, map}
 
 -- an earlier line, or an earlier column of the same line
 abbrev pub is_before : Spot → Spot → Bool

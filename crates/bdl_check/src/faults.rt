@@ -1,6 +1,5 @@
 //! Why a definition is refused.
 
-
 use bdl_parser::Spot;
 use outside::{Memory, Text};
 use std::alloc::AllocFailed;

@@ -9,7 +9,7 @@ ghost use Rattle.bdl_parser.specs.Views.{tree_of};
 ghost use Rattle.bdl_check.specs.Later.{is_before, sooner, earliest, word_spots, type_spots, decl_spots, later_spots};
 
 use bdl_lexer::{Token, TokenClass};
-use bdl_parser::{Decl, Decls, Spot, TypeForm, TypeNode};
+use bdl_parser::{Decl, Decls, Module, Spot, TypeForm, TypeNode};
 
 fn is_before(one: Spot, other: Spot) -> bool
     ensures { result ≡ is_before one other }
@@ -40,4 +40,60 @@ fn in_type(node: &TypeNode, found: Option<Spot>) -> Option<Spot>
         }
         _ => found,
     }
+}
+
+/// The same over the types of a bag's fields.
+fn in_decl(decl: &Decl, found: Option<Spot>) -> Option<Spot>
+    ensures { result ≡ fold sooner found (decl_spots decl.now) }
+{
+    let Decl::Bag { fields, .. } = decl else {
+        return found;
+    };
+    let mut found = found;
+    'fields: for at in 0..fields.len() {
+        found = in_type(&fields.get(at).unwrap().kind, found);
+    }
+    found
+}
+
+/// The same over all declarations.
+fn in_decls(decls: &Decls, found: Option<Spot>) -> Option<Spot>
+    ensures { result ≡ fold sooner found (flat_map decl_spots decls.now) }
+{
+    let mut found = found;
+    'decls: for at in 0..decls.len() {
+        found = in_decl(decls.get(at).unwrap(), found);
+    }
+    found
+}
+
+/// The place of a token that is the word `import` or `struct`, or the one that was found before.
+fn in_token(source: &[u8], token: &Token, found: Option<Spot>) -> Option<Spot>
+    requires { LiesIn source.now token.now }
+    ensures { result ≡ fold sooner found (word_spots (lexeme_of source.now token.now)) }
+{
+    let text = &source[token.at..token.at + token.len];
+    let is_later = text == "import".as_bytes() || text == "struct".as_bytes();
+    match token.class {
+        TokenClass::Word if is_later => sooner(
+            found,
+            Spot {
+                line: token.line,
+                column: token.column,
+            },
+        ),
+        _ => found,
+    }
+}
+
+/// The first place of what isn't read yet, if there is any.
+pub(crate) fn first_later(source: &[u8], tokens: &[Token], module: &Module) -> Option<Spot>
+    requires { All (LiesIn source.now) tokens.now }
+    ensures { result ≡ earliest (later_spots (lexemes_of source.now tokens.now) «module».now) }
+{
+    let mut found = None;
+    for token in tokens {
+        found = in_token(source, token, found);
+    }
+    in_decls(&module.decls, found)
 }
