@@ -1,3 +1,6 @@
 mod Exits
 mod Walks
 mod CheckLaws
+mod Given
+mod Words
+mod Names

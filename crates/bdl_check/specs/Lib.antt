@@ -3,3 +3,5 @@ pub mod Sources
 pub mod Later
 pub mod Checks
 pub mod Seen
+pub mod Layouts
+pub mod Tables
