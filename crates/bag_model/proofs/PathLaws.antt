@@ -5,9 +5,8 @@ use Rattle.std.specs.Char.{is_ascii_alphabetic, is_ascii_digit}
 use Rattle.std.specs.List.{AllByRecursion, slice_get, list_any, list_all}
 use Rattle.std.proofs.lemmas.Bool.{eqb-true}
 use Rattle.bag_model.specs.Shapes.{Shape, Nodes, Field, fields, Taint, Scalar, Set, Counter, Map, Bag, no_node, node}
-use Rattle.bag_model.specs.Slots.{slot_count, dotted, IsWithin, IsReached}
+use Rattle.bag_model.specs.Slots.{slot_count, starts, dotted, IsWithin, IsReached}
 use Rattle.bag_model.specs.Tables.{is_letter, is_word, is_name, IsShape, AreFields}
-use Rattle.bag_model.proofs.SlotLaws.{starts}
 
 -- ---- the field at a place
 

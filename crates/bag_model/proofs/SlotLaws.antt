@@ -5,7 +5,7 @@ use Rattle.std.specs.Option.{option_map}
 use Rattle.std.proofs.lemmas.Option.{slice_get-map}
 use Rattle.std.proofs.lemmas.List.{length-append, length-map}
 use Rattle.bag_model.specs.Shapes.{Shape, Nodes, Field, fields, nodes_from, no_node, node}
-use Rattle.bag_model.specs.Slots.{Slot, slots_of, slots_in, slot_count, within}
+use Rattle.bag_model.specs.Slots.{Slot, slots_of, slots_in, slot_count, starts, within}
 
 -- The slots of a list of fields.
 abbrev pub slots_list : List Field → List Slot
@@ -24,12 +24,6 @@ fields-from (f ∷ fs) = ap (λ l. f ∷ l) (fields-from fs)
 pub from-fields : (nodes : Nodes) → nodes_from (fields nodes) ≡ nodes
 from-fields no_node = refl
 from-fields (node name number shape nodes) = ap (node name number shape) (from-fields nodes)
-
--- How many slots stand before a place.
-abbrev pub starts : List Field → ℕ → ℕ
-starts [] i = 0
-starts (f ∷ fs) zero = 0
-starts (f ∷ fs) (suc i) = slot_count f.shape + starts fs i
 
 pub starts-zero : (fs : List Field) → starts fs 0 ≡ 0
 starts-zero [] = refl

@@ -1,8 +1,8 @@
 -- The slots of a table: the fields that are reached through bags and are no bags.
-use Rattle.std.specs.Prelude.{◌≡◌, ◌≢◌, ◌⊎◌, ℕ, ◌+◌, List, [], ◌∷◌, ◌++◌, map, length, Option, Some, None}
+use Rattle.std.specs.Prelude.{◌≡◌, ◌≢◌, ◌⊎◌, ℕ, zero, suc, ◌+◌, List, [], ◌∷◌, ◌++◌, map, length, Option, Some, None}
 use Rattle.std.specs.List.{slice_get}
 use Rattle.std.specs.Option.{option_map}
-use Rattle.bag_model.specs.Shapes.{Shape, Nodes, Taint, Scalar, Set, Counter, Map, Bag, no_node, node}
+use Rattle.bag_model.specs.Shapes.{Shape, Nodes, Field, Taint, Scalar, Set, Counter, Map, Bag, no_node, node}
 
 -- The names and the numbers of the fields from the outermost bag on, and the shape of the last.
 pub record Slot : Type 0 where
@@ -32,6 +32,12 @@ abbrev mutual
 -- How many slots a field has.
 abbrev pub slot_count : Shape → ℕ
 slot_count shape = length (slots_in shape)
+
+-- How many slots the fields before a place have.
+abbrev pub starts : List Field → ℕ → ℕ
+starts [] place = 0
+starts (field ∷ list) zero = 0
+starts (field ∷ list) (suc place) = slot_count field.shape + starts list place
 
 -- Names joined by dots.
 abbrev pub dotted : List (List ℕ) → List ℕ

@@ -1,5 +1,5 @@
 -- The fields of a bag as they are kept: in order, with the two indexes over them.
-use Rattle.std.specs.Prelude.{◌≡◌, ◌≢◌, ℕ, ◌-◌, ◌^◌, ◌+◌, ◌<◌, ◌≤◌, ◌==◌, if◌then◌else◌, min, List, [], ◌∷◌, map, length, get_or, Option, Some, None}
+use Rattle.std.specs.Prelude.{◌≡◌, ◌≢◌, ℕ, ◌-◌, ◌^◌, ◌+◌, ◌<◌, ◌≤◌, zero, suc, min, List, [], ◌∷◌, map, length, get_or, Option, Some, None}
 use Rattle.std.specs.List.{slice_get, slice_index}
 use Rattle.std.specs.Cmp.Lexicographic.{slice_cmp}
 use Rattle.std.specs.Ordering.{nat_cmp}
@@ -7,7 +7,7 @@ use Rattle.std.specs.declared.cmp.Ordering.TheVariants.{Less, Greater}
 use Rattle.context_model.specs.Orders.{IsIn}
 use Rattle.bag_model.specs.Scalars as scalars
 use Rattle.bag_model.specs.Shapes as model
-use Rattle.bag_model.specs.Slots.{slot_count, slots_of}
+use Rattle.bag_model.specs.Slots.{slot_count, slots_of, starts}
 use Rattle.bag_model.specs.Tables.{AreFields}
 
 mutual
@@ -117,12 +117,13 @@ pub record IsReady (bag : KeptBag) : Type 0 where
   pub indexed : IsKeptBag bag
   pub small : length (slots_of (plain_bag bag)) ≤ 16384
 
--- The slots of the field at this place stand before this number of a slot, or hold it.
-abbrev pub before : KeptBag → ℕ → ℕ
-before bag place = if place == 0 then 0 else slice_index (ends_of bag) (place - 1)
+-- How many slots there are before the field at this place, as the ends say.
+abbrev pub start_at : List ℕ → ℕ → ℕ
+start_at ends zero = 0
+start_at ends (suc place) = slice_index ends place
 
 -- The field at this place holds the slot with this number.
-pub record Holds (bag : KeptBag) (slot place : ℕ) : Type 0 where
-  pub within : place < length (kept_fields bag)
-  pub from : before bag place ≤ slot
-  pub upto : slot < slice_index (ends_of bag) place
+pub record Holds (nodes : model.Nodes) (slot place : ℕ) : Type 0 where
+  pub within : place < length (model.fields nodes)
+  pub from : starts (model.fields nodes) place ≤ slot
+  pub upto : slot < starts (model.fields nodes) (suc place)

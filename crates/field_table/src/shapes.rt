@@ -1,7 +1,7 @@
 //! Fields, their shapes, and the fields of a bag with indexes over them.
 
-ghost use Rattle.std.specs.Prelude.{◌≡◌, ◌≢◌, ◌<◌, ◌≤◌, ◌+◌, ◌-◌, ◌↔◌, ◌++◌, ◌==◌, if◌then◌else◌, [], ◌∷◌, length, map, get_or, IsTrue, OnOk, OnErr, Some, string_bytes};
-ghost use Rattle.std.specs.List.{slice_get, slice_index};
+ghost use Rattle.std.specs.Prelude.{◌≡◌, ◌≢◌, ◌<◌, ◌≤◌, ◌+◌, ◌-◌, ◌↔◌, ◌++◌, [], ◌∷◌, length, map, get_or, IsTrue, OnOk, OnErr, Some, string_bytes};
+ghost use Rattle.std.specs.List.{slice_get};
 ghost use Rattle.std.specs.Option.{option_map};
 ghost use Rattle.std.specs.Cmp.Lexicographic.{slice_cmp};
 ghost use Rattle.std.specs.Ordering.{nat_cmp};
@@ -9,7 +9,7 @@ ghost use Rattle.std.specs.declared.cmp.Ordering.TheVariants.{Less};
 ghost use Rattle.bag_model.specs.Shapes.{fields, no_node};
 ghost use Rattle.bag_model.specs.Slots.{slots_of, slot_count, name_path, FindsField};
 ghost use Rattle.bag_model.specs.Tables.{levels};
-ghost use Rattle.field_table.specs.Kept.{capped, ends_of, IsKept, IsNameOrder, IsPlaceOf, IsRank, IsReady, Holds};
+ghost use Rattle.field_table.specs.Kept.{capped, ends_of, IsKept, IsNameOrder, IsPlaceOf, IsRank, IsReady, Holds, start_at};
 ghost use Rattle.field_table.specs.Plain.{shape_of, kept_shape, name_of, field_of, nodes_of, kept_bag, IsIndexed, IsIndexedField};
 
 use crate::slot_paths::SlotPath;
@@ -65,6 +65,7 @@ impl Slots {
     }
 
     /// How many fields there are.
+    #[tactic(auto, using(crate::proofs::Opened::length_fields))]
     pub fn len(&self) -> usize
         ensures { result ≡ length (fields (nodes_of self.now)) }
     {
@@ -79,6 +80,7 @@ impl Slots {
     }
 
     /// The field at this place, from 0 on.
+    #[tactic(auto, using(crate::proofs::Opened::get_field))]
     pub fn get(&self, at: usize) -> Option<&Slot>
         ensures { option_map (λ found. field_of found.now) result ≡ slice_get (fields (nodes_of self.now)) at }
     {
@@ -111,16 +113,13 @@ impl Slots {
     pub(crate) fn slot_count(&self) -> usize
         ensures { IsIndexed self.now → result ≡ capped (length (slots_of (nodes_of self.now))) }
     {
-        match self.ends.last() {
-            Some(end) => *end,
-            None => 0,
-        }
+        self.slots_before(self.ends.len())
     }
 
     /// How many slots there are before the field at this place.
     fn slots_before(&self, place: usize) -> usize
         requires { place ≤ length (ends_of (kept_bag self.now)) }
-        ensures { result ≡ (if place == 0 then 0 else slice_index (ends_of (kept_bag self.now)) (place - 1)) }
+        ensures { result ≡ start_at (ends_of (kept_bag self.now)) place }
     {
         if place == 0 { 0 } else { self.ends[place - 1] }
     }
@@ -158,7 +157,7 @@ impl Slots {
     fn place_holding(&self, slot: usize) -> usize
         requires ready { IsReady (kept_bag self.now) }
         requires slot { slot < length (slots_of (nodes_of self.now)) }
-        ensures { Holds (kept_bag self.now) slot result }
+        ensures { Holds (nodes_of self.now) slot result }
     {
         self.ends.partition_point(|end| *end <= slot)
     }
@@ -270,9 +269,16 @@ fn place_of(items: &[Slot], by_name: &[usize], name: &[u8]) -> Option<usize>
         return None;
     }
     let place = by_name[rank];
-    if items[place].name.as_str().as_bytes() == name {
+    if is_named(items, place, name) {
         Some(place)
     } else {
         None
     }
+}
+
+/// Whether the field at this place has this name.
+fn is_named(items: &[Slot], place: usize, name: &[u8]) -> bool
+    ensures { place < length items.now → IsTrue result ↔ (get_or (map name_of items.now) place [] ≡ name.now) }
+{
+    place < items.len() && items[place].name.as_str().as_bytes() == name
 }
