@@ -138,16 +138,11 @@ impl Slots {
             Some((name, rest)) => {
                 let place = place_of(&self.items, &self.by_name, name.as_bytes())?;
                 let before = self.slots_before(place);
-                match &self.items[place].shape {
-                    Shape::Bag(inner) => {
-                        let (behind, shape) = inner.find(rest)?;
-                        Some((before + behind, shape))
-                    }
-                    Shape::Taint => None,
-                    Shape::Scalar(_) => None,
-                    Shape::Set(_) => None,
-                    Shape::Counter => None,
-                    Shape::Map(_, _) => None,
+                if let Shape::Bag(inner) = &self.items[place].shape {
+                    let (behind, shape) = inner.find(rest)?;
+                    Some((before + behind, shape))
+                } else {
+                    None
                 }
             }
         }
@@ -172,13 +167,10 @@ impl Slots {
         let place = self.place_holding(slot);
         let inside = slot - self.slots_before(place);
         let shape = &self.items[place].shape;
-        match shape {
-            Shape::Bag(inner) => inner.shape_at(inside),
-            Shape::Taint => shape,
-            Shape::Scalar(_) => shape,
-            Shape::Set(_) => shape,
-            Shape::Counter => shape,
-            Shape::Map(_, _) => shape,
+        if let Shape::Bag(inner) = shape {
+            inner.shape_at(inside)
+        } else {
+            shape
         }
     }
 
