@@ -4,3 +4,4 @@ mod CheckLaws
 mod Given
 mod Words
 mod Names
+mod Layouts

@@ -11,6 +11,7 @@ use Rattle.bdl_parser.specs.declared.trees.ScalarWord.{ScalarWord}
 use Rattle.bdl_parser.specs.declared.trees.ScalarWord.TheVariants.{Bool, Int32, Int64, Sint32, Sint64, Uint32, Uint64, Fixed32, Fixed64, Sfixed32, Sfixed64, Str, Bytes}
 use Rattle.bdl_parser.specs.declared.trees.Spot.{Spot}
 use Rattle.bdl_parser.specs.Trees as trees
+use Rattle.bdl_parser.specs.Words.{or_else}
 
 -- the word as the model of scalars has it
 abbrev pub word_in : ScalarWord → scalars.Word
@@ -66,8 +67,12 @@ pub record BagTree : Type 0 where
   pub spot : Spot
   pub list : List trees.BagFieldTree
 
+-- the bag that a declaration with this name is
+abbrev pub bag_in : List ℕ → Decl → Option BagTree
+bag_in name (Bag own spot list) = if bytes_eq own name then Some (record { spot = spot; list = list }) else None
+bag_in name (Struct own spot list) = None
+
 -- the bag of this name, if there is one
 abbrev pub bag_named : List ℕ → List Decl → Option BagTree
 bag_named name [] = None
-bag_named name (Bag own spot list ∷ decls) = if bytes_eq own name then Some (record { spot = spot; list = list }) else bag_named name decls
-bag_named name (Struct own spot list ∷ decls) = bag_named name decls
+bag_named name (decl ∷ decls) = or_else (bag_in name decl) (bag_named name decls)

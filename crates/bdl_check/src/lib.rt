@@ -1,6 +1,7 @@
 //! The table of a bag, from its definition, or the first fault of the definition.
 #![tactic(auto)]
 
+mod bags;
 mod checks;
 mod faults;
 mod later;
