@@ -3,10 +3,14 @@
 
 mod bags;
 mod checks;
+mod compiler;
 mod faults;
 mod later;
+mod layouts;
 mod source;
+mod tables;
 #[cfg(test)]
 mod tests;
 
+pub use compiler::compile;
 pub use faults::{DefCode, DefFault, Fault};

@@ -1,10 +1,11 @@
-use crate::DefCode;
 use crate::bags::{find_bag, sorted};
 use crate::checks::check_decls;
 use crate::faults::Refusal;
 use crate::later::first_later;
 use crate::source::{Parsed, read_source};
+use crate::{DefCode, DefFault, compile};
 use bdl_parser::Spot;
+use outside::MemoryLibrary;
 use std::alloc::Global;
 use std::test::Fail;
 
@@ -201,5 +202,176 @@ fn fields_in_order_of_number(rt: HostRuntime) -> Result<(), Fail> {
     for (field, name) in fields.iter().zip(&names) {
         assert_eq!(rt; field.name.as_str(), *name);
     }
+    Ok(())
+}
+
+type FileRow = (&'static str, &'static str, &'static str, u32, u32, DefCode);
+
+// The name of a file, what it holds, the bag that is asked for, and the first fault.
+static REFUSED: [FileRow; 10] = [
+    (
+        "d.bdl",
+        "bag B { double x = 1; }",
+        "B",
+        1,
+        9,
+        DefCode::FloatingType,
+    ),
+    (
+        "f.bdl",
+        "bag B { bool a = 65536; }",
+        "B",
+        1,
+        18,
+        DefCode::NumberRange,
+    ),
+    ("f.bdl", "bag B {", "B", 1, 7, DefCode::Expected),
+    ("f.bdl", "", "B", 1, 1, DefCode::NoSuchBag),
+    (
+        "q.bdl",
+        "bag Req { fixed32 id = 0; }",
+        "Nix",
+        1,
+        1,
+        DefCode::NoSuchBag,
+    ),
+    (
+        "q.bdl",
+        "bag Req { fixed32 id = 0; }",
+        "no bag",
+        1,
+        1,
+        DefCode::NoSuchBag,
+    ),
+    ("", "import \"q.bdl\";", "B", 1, 1, DefCode::NotYet),
+    (
+        "f.bdl",
+        "bag A { } bag A { }",
+        "B",
+        1,
+        15,
+        DefCode::DuplicateName,
+    ),
+    (
+        "f.bdl",
+        "bag A { }\nbag B { map<bool,map<bool,map<bool,map<bool,map<bool,map<bool,map<bool,map<bool,map<bool,map<bool,map<bool,map<bool,map<bool,map<bool,map<bool,map<bool,bool>>>>>>>>>>>>>>>> a = 0; }",
+        "B",
+        2,
+        5,
+        DefCode::TooDeep,
+    ),
+    (
+        "f.bdl",
+        "bag A { }\nbag B { map<bool,map<bool,map<bool,map<bool,map<bool,map<bool,map<bool,map<bool,map<bool,map<bool,map<bool,map<bool,map<bool,map<bool,map<bool,counter>>>>>>>>>>>>>>> a = 0; }",
+        "B",
+        2,
+        5,
+        DefCode::TooDeep,
+    ),
+];
+
+type TableRow = (&'static str, &'static str, usize);
+
+// What a file holds, the bag that is asked for, and how many slots its table has.
+static TABLES: [TableRow; 5] = [
+    (
+        "bag Req { fixed32 id = 0; set<string> tags = 1; counter hops = 2; taint debug = 3; map<string, uint32> load = 4; }",
+        "Req",
+        5,
+    ),
+    ("bag B { }", "B", 0),
+    (
+        "bag A { bool a = 0; } bag B { bool b = 65535; bool a = 0; } bag C { }",
+        "B",
+        2,
+    ),
+    (
+        "bag B { map<bool,map<bool,map<bool,map<bool,map<bool,map<bool,map<bool,map<bool,map<bool,map<bool,map<bool,map<bool,map<bool,map<bool,map<bool,bool>>>>>>>>>>>>>>> a = 0; }",
+        "B",
+        1,
+    ),
+    (
+        "bag B { map<bool,map<bool,map<bool,map<bool,map<bool,map<bool,map<bool,map<bool,map<bool,map<bool,map<bool,map<bool,map<bool,map<bool,counter>>>>>>>>>>>>>> a = 0; }",
+        "B",
+        1,
+    ),
+];
+
+#[test]
+fn files(rt: HostRuntime) -> Result<(), Fail> {
+    let alloc = rt.alloc();
+    let mut library = MemoryLibrary::new(alloc, vec![in alloc; 1]?);
+    assert!(rt;
+        matches!(
+        compile(&mut library, alloc, "z.bdl", "Z"),
+        Err(DefFault::At { file, line: 1, column: 1, code: DefCode::NoFile }) if file.as_str() == "z.bdl"
+    )
+    );
+    assert!(rt;
+        matches!(
+            compile(&mut library, alloc, "z.bdl", "Z"),
+            Err(DefFault::Failed)
+        )
+    );
+    for (file, content, bag, line, column, code) in &REFUSED {
+        assert!(rt; library.add(file, content.as_bytes()).is_ok());
+        let Err(
+            DefFault::At {
+                file: name,
+                line: row,
+                column: place,
+                code: found,
+            },
+        ) = compile(&mut library, alloc, file, bag)
+        else {
+            return Err(Fail::from(*content));
+        };
+        assert_eq!(rt; name.as_str(), *file);
+        assert_eq!(rt; (row, place), (*line, *column));
+        assert_eq!(rt; found, *code);
+    }
+    for (content, bag, slots) in &TABLES {
+        assert!(rt; library.add("f.bdl", content.as_bytes()).is_ok());
+        let Ok(table) = compile(&mut library, alloc, "f.bdl", bag) else {
+            return Err(Fail::from(*content));
+        };
+        assert_eq!(rt; table.slots(), *slots);
+    }
+    Ok(())
+}
+
+/// A bag with so many fields.
+fn wide_bag(alloc: Global, count: u32) -> Result<String, Fail> {
+    let mut text = String::from_str(alloc, "bag B { ")?;
+    for number in 0..count {
+        text.push_str(format!(in alloc; "bool f{number} = {number}; ")?.as_str())?;
+    }
+    text.push('}')?;
+    Ok(text)
+}
+
+#[test]
+fn wide_bags(rt: HostRuntime) -> Result<(), Fail> {
+    let alloc = rt.alloc();
+    let mut library = MemoryLibrary::new(alloc, Vec::new(alloc));
+    let text = wide_bag(alloc, 16_384)?;
+    assert!(rt; library.add("f", text.as_str().as_bytes()).is_ok());
+    let Ok(table) = compile(&mut library, alloc, "f", "B") else {
+        return Err(Fail::from("16,384 fields"));
+    };
+    assert_eq!(rt; table.slots(), 16_384);
+    let text = wide_bag(alloc, 16_385)?;
+    assert!(rt; library.add("f", text.as_str().as_bytes()).is_ok());
+    assert!(rt;
+        matches!(
+            compile(&mut library, alloc, "f", "B"),
+            Err(DefFault::At {
+                code: DefCode::TooManySlots,
+                line: 1,
+                column: 5,
+                ..
+            })
+        )
+    );
     Ok(())
 }
