@@ -1,7 +1,7 @@
 -- Name paths: where a field stands that is reached through bags, and how a path tells its names.
-use Rattle.std.proofs.Common.{◌≡◌, ◌⊎◌, inl, inr, ℕ, ◌+◌, ◌<◌, ◌≤◌, ◌^◌, zero, suc, Bool, true, false, ◌||◌, ◌&&◌, not, ◌==◌, List, [], ◌∷◌, ◌++◌, length, map, Option, Some, None, refl, sym, ◌∙◌, ap, subst, arith}
+use Rattle.std.proofs.Common.{◌≡◌, inl, inr, ℕ, ◌+◌, ◌<◌, ◌≤◌, zero, suc, Bool, true, false, ◌||◌, ◌&&◌, ◌==◌, List, [], ◌∷◌, ◌++◌, length, map, Option, Some, None, refl, sym, ◌∙◌, ap, subst, arith}
 use Rattle.std.specs.Prelude.{◌≢◌}
-use Rattle.std.specs.Char.{is_ascii_alphabetic, is_ascii_digit}
+use Rattle.std.specs.Char.{is_ascii_digit}
 use Rattle.std.specs.List.{AllByRecursion, slice_get, list_any, list_all}
 use Rattle.std.proofs.lemmas.Bool.{eqb-true}
 use Rattle.bag_model.specs.Shapes.{Shape, Nodes, Field, fields, Taint, Scalar, Set, Counter, Map, Bag, no_node, node}
@@ -191,9 +191,10 @@ pub finds_inside : (nodes inner : Nodes) (i : ℕ) (f : Field) (path name rest :
     → FindsField inner rest (Some (b, shape)) → FindsField nodes path (Some (starts (fields nodes) i + b, shape))
 finds_inside nodes inner i f path name rest b shape at named bag is found =
     let m = found.0 in
-    let ms = found.1 in
-    (
-      f.name, m ∷ ms, ap (λ l. l ++ 46 ∷ dotted (m ∷ ms)) named ∙ ap (λ l. name ++ 46 ∷ l) found.2 ∙ sym is,
+    let ms = found.1 in (
+      f.name,
+      m ∷ ms,
+      ap (λ l. l ++ 46 ∷ dotted (m ∷ ms)) named ∙ ap (λ l. name ++ 46 ∷ l) found.2 ∙ sym is,
       reached_at nodes i f (m ∷ ms) b shape at (subst (λ (s : Shape). IsWithin s (m ∷ ms) b shape) (sym bag) found.3),
     )
 

@@ -1,5 +1,5 @@
 -- The slots of a bag, field by field.
-use Rattle.std.proofs.Common.{◌≡◌, ℕ, ◌+◌, ◌-◌, ◌<◌, ◌≤◌, zero, suc, List, [], ◌∷◌, ◌++◌, length, map, Option, Some, None, refl, sym, ◌∙◌, ap, subst, arith}
+use Rattle.std.proofs.Common.{◌≡◌, ℕ, ◌+◌, ◌<◌, ◌≤◌, zero, suc, List, [], ◌∷◌, ◌++◌, length, map, Some, refl, sym, ◌∙◌, ap, subst, arith}
 use Rattle.std.specs.List.{slice_get}
 use Rattle.std.specs.Option.{option_map}
 use Rattle.std.proofs.lemmas.Option.{slice_get-map}
@@ -69,8 +69,8 @@ slot_there (g ∷ gs) zero f slot inside at is within_it =
     let P : Field → Type 0 = λ h. slice_get (slots_list (g ∷ gs)) slot ≡ option_map (within h.name h.number) (slice_get (slots_in h.shape) inside) in
     let Q : Field → Type 0 = λ h. inside < slot_count h.shape in
     subst P (sym same) (
-      get_front (map (within g.name g.number) (slots_in g.shape)) (slots_list gs) slot (omega (arith, is, subst Q same within_it, length-map (slots_in g.shape) (within g.name g.number)))
-      ∙ slice_get-map (within g.name g.number) (slots_in g.shape) slot ∙ ap (λ n. option_map (within g.name g.number) (slice_get (slots_in g.shape) n)) here
+    get_front (map (within g.name g.number) (slots_in g.shape)) (slots_list gs) slot (omega (arith, is, subst Q same within_it, length-map (slots_in g.shape) (within g.name g.number)))
+    ∙ slice_get-map (within g.name g.number) (slots_in g.shape) slot ∙ ap (λ n. option_map (within g.name g.number) (slice_get (slots_in g.shape) n)) here
     )
 slot_there (g ∷ gs) (suc i) f slot inside at is within_it =
     get_back (map (within g.name g.number) (slots_in g.shape)) (slots_list gs) slot (starts gs i + inside) (omega (arith, is, length-map (slots_in g.shape) (within g.name g.number)))

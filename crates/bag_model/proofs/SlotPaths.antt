@@ -1,5 +1,5 @@
 -- A slot's name path is where it is reached.
-use Rattle.std.proofs.Common.{◌≡◌, ◌⊎◌, inl, inr, ℕ, ◌+◌, ◌-◌, ◌<◌, ◌≤◌, zero, suc, List, [], ◌∷◌, ◌++◌, length, map, Option, Some, None, refl, sym, ◌∙◌, ap, subst, arith}
+use Rattle.std.proofs.Common.{◌≡◌, ◌⊎◌, inl, inr, ℕ, ◌-◌, ◌<◌, ◌≤◌, zero, suc, List, [], ◌∷◌, length, map, Option, Some, None, refl, sym, ◌∙◌, ap, subst, arith}
 use Rattle.std.specs.Prelude.{◌≢◌}
 use Rattle.std.specs.List.{slice_get}
 use Rattle.std.specs.Option.{option_map}
@@ -44,8 +44,10 @@ first_or_later name number own nodes place slot at inside behind = by (cases_lt 
   where
     front : List Slot
     front = map (within name number) (slots_in own)
+
     long : length front ≡ slot_count own
     long = length-map (slots_in own) (within name number)
+
     by : (place < slot_count own) ⊎ (slot_count own ≤ place) → LeadsFrom (node name number own nodes) place slot
     by (inl less) =
         let found = from_inside name number (slice_get (slots_in own) place) slot (sym (slice_get-map (within name number) (slots_in own) place) ∙ (sym (get_front front (slots_of nodes) place (omega (arith, less, long))) ∙ at)) in

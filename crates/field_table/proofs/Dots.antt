@@ -1,6 +1,6 @@
 -- Where the first dot of a path stands.
-use Rattle.std.proofs.Common.{◌≡◌, ℕ, ◌+◌, ◌<◌, ◌≤◌, ◌==◌, ◌||◌, zero, suc, Bool, true, false, List, [], ◌∷◌, ◌++◌, length, take, drop, get_or, refl, sym, ◌∙◌, ap, subst, arith}
-use Rattle.std.specs.List.{list_any, position_or_len, before_first, after_first}
+use Rattle.std.proofs.Common.{◌≡◌, ℕ, ◌<◌, ◌==◌, ◌||◌, suc, Bool, false, List, [], ◌∷◌, length, take, get_or, refl, ◌∙◌, ap, arith}
+use Rattle.std.specs.List.{list_any, position_or_len, before_first}
 use Rattle.std.proofs.lemmas.List.Sums.{fails_before_first}
 use Rattle.std.proofs.lemmas.List.{get_or-take, length-take}
 use Rattle.bag_model.specs.Slots.{HasNoDot}
@@ -14,7 +14,7 @@ pub before_no_dot : (path : List ℕ) → HasNoDot (before_first (λ b. b == 46)
 before_no_dot path =
     let n = position_or_len (λ b. b == 46) path in
     no_any (λ b. b == 46) (take n path) (λ k less.
-        ap (λ b. b == 46) (get_or-take n path k 0 (omega (arith, less, length-take n path))) ∙ fails_before_first (λ b. b == 46) path k 0 (omega (arith, less, length-take n path)))
+    ap (λ b. b == 46) (get_or-take n path k 0 (omega (arith, less, length-take n path))) ∙ fails_before_first (λ b. b == 46) path k 0 (omega (arith, less, length-take n path)))
 
 -- Where none is found, there is none.
 pub all_no_dot : (path : List ℕ) → position_or_len (λ b. b == 46) path ≡ length path → HasNoDot path

@@ -1,23 +1,22 @@
 -- The field with a name, and what a path finds in it.
-use Rattle.std.proofs.Common.{◌≡◌, ℕ, ◌+◌, ◌<◌, ◌≤◌, List, [], ◌∷◌, ◌++◌, length, map, get_or, Option, Some, None, refl, sym, ◌∙◌, ap, subst, arith, Fits, w64}
+use Rattle.std.proofs.Common.{◌≡◌, ℕ, ◌+◌, ◌<◌, ◌≤◌, List, length, map, get_or, Option, Some, None, refl, sym, ◌∙◌, ap, subst, arith, Fits, w64}
 use Rattle.std.specs.Prelude.{◌≢◌}
 use Rattle.std.specs.List.{slice_get}
 use Rattle.std.specs.Option.{option_map}
 use Rattle.std.proofs.lemmas.List.{length-map}
 use Rattle.std.proofs.lemmas.Option.{slice_get-map, slice_get_within}
 use Rattle.bag_model.specs.Shapes as model
-use Rattle.bag_model.specs.Slots.{slots_of, slot_count, starts, IsSplit, HasNoDot, FindsField}
+use Rattle.bag_model.specs.Slots.{slots_of, slot_count, starts, IsSplit, FindsField}
 use Rattle.bag_model.specs.Tables.{IsTable}
 use Rattle.bag_model.proofs.SlotLaws.{slots_few}
-use Rattle.bag_model.proofs.PathLaws.{AreRest, finds_none, finds_only, finds_own, finds_inside, nothing_inside, nothing_in_bag, reached_bound}
-use Rattle.field_table.specs.declared.shapes.Shape.TheVariants as variants
+use Rattle.bag_model.proofs.PathLaws.{reached_bound}
 use Rattle.field_table.specs.declared.shapes.Slot.{Slot}
 use Rattle.field_table.specs.declared.shapes.Slots.{Slots}
 use Rattle.field_table.specs.declared.shapes.Shape.TheViews.{out-Slots}
-use Rattle.field_table.specs.Kept.{KeptField, plain, ends_of, start_at, IsPlaceOf, IsReady, capped, name}
+use Rattle.field_table.specs.Kept.{KeptField, ends_of, start_at, IsPlaceOf, IsReady, capped, name}
 use Rattle.field_table.specs.Plain.{kept_bag, shape_of, nodes_of, name_of, IsIndexed}
 use Rattle.field_table.proofs.Opened.{length_fields, names_of-items}
-use Rattle.field_table.proofs.Held.{field_open, shape_bag, item_at, item_field, start_is, ends_are, inner_fewer, inner_ready}
+use Rattle.field_table.proofs.Held.{field_open, item_at, item_field, start_is}
 
 -- No field has a name that isn't found.
 pub other_name : (s : Slots) (own : List ℕ) → IsPlaceOf (map name_of (out-Slots s).items.items) own None → (place : ℕ) (f : model.Field) → slice_get (model.fields (nodes_of s)) place ≡ Some f → f.name ≢ own

@@ -1,5 +1,5 @@
 -- The field that holds a slot, and what is inside it.
-use Rattle.std.proofs.Common.{◌≡◌, ◌⊎◌, inl, inr, ℕ, ◌+◌, ◌-◌, ◌<◌, ◌≤◌, zero, suc, List, [], ◌∷◌, length, map, get_or, max, Option, Some, None, refl, sym, ◌∙◌, ap, subst, arith, ◌++◌, append_assoc}
+use Rattle.std.proofs.Common.{◌≡◌, ◌⊎◌, inl, inr, ℕ, ◌+◌, ◌-◌, ◌<◌, ◌≤◌, zero, suc, List, [], ◌∷◌, length, map, get_or, Option, Some, None, refl, sym, ◌∙◌, ap, subst, arith, ◌++◌, append_assoc}
 use Rattle.std.specs.Prelude.{◌≢◌}
 use Rattle.std.specs.List.{slice_get}
 use Rattle.std.specs.Option.{option_map}
@@ -8,7 +8,7 @@ use Rattle.std.proofs.lemmas.Bool.{cases_lt}
 use Rattle.std.proofs.lemmas.List.{length-map}
 use Rattle.bag_model.specs.Shapes as model
 use Rattle.bag_model.specs.Slots.{Slot as SlotAt, slots_of, slots_in, slot_count, starts, within, dotted, name_path}
-use Rattle.bag_model.specs.Tables.{is_name, IsShape, AreFields, levels, levels_under, nodes_under, node_count}
+use Rattle.bag_model.specs.Tables.{IsShape, levels, levels_under, nodes_under, node_count}
 use Rattle.bag_model.proofs.SlotLaws.{slots_list, slots_of-list, slot_there, starts-zero, length-slots, get_front, get_back}
 use Rattle.bag_model.proofs.PathLaws.{is_field}
 use Rattle.scalar_types.specs.KindViews.{kind_of}
@@ -18,9 +18,9 @@ use Rattle.field_table.specs.declared.shapes.Slot.{Slot}
 use Rattle.field_table.specs.declared.shapes.Slots.{Slots}
 use Rattle.field_table.specs.declared.shapes.Shape.TheFolds.{fold-roll-Shape, fold_out-Slot, fold_out-Shape, map-Shape}
 use Rattle.field_table.specs.declared.shapes.Shape.TheOpen.{Shape-F}
-use Rattle.field_table.specs.declared.shapes.Shape.TheViews.{out-Slots, out-Slot, out-Shape, roll-Shape, roll-out-Shape}
-use Rattle.field_table.specs.Kept.{Kept, KeptField, KeptBag, Bag, plain, ends_of, ends_after, start_at, Holds, IsReady, IsKept, IsKeptBag}
-use Rattle.field_table.specs.Plain.{shape_step, slot_step, slots_step, kept_shape, kept_field, kept_bag, field_of, shape_of, nodes_of, IsIndexed, IsIndexedField}
+use Rattle.field_table.specs.declared.shapes.Shape.TheViews.{out-Slots, out-Shape, roll-Shape, roll-out-Shape}
+use Rattle.field_table.specs.Kept.{Kept, KeptField, KeptBag, Bag, plain, ends_of, start_at, Holds, IsReady, IsKept}
+use Rattle.field_table.specs.Plain.{shape_step, slot_step, slots_step, kept_shape, kept_field, kept_bag, field_of, shape_of, nodes_of}
 use Rattle.field_table.proofs.Ends.{before_is, length-ends}
 use Rattle.field_table.proofs.Opened.{get_field, length_fields, has_indexes, open_ends}
 
@@ -128,8 +128,10 @@ no_bag shape h nodes is = by (out-Shape shape) refl
   where
     seen : kept_shape shape ≡ shape_step (map-Shape Shape Slot Slots Kept KeptField KeptBag kept_shape kept_field kept_bag (out-Shape shape))
     seen = fold_out-Shape Kept KeptField KeptBag shape_step slot_step slots_step shape
+
     plainly : (o : Shape-F Shape Slot Slots) → out-Shape shape ≡ o → plain (shape_step (map-Shape Shape Slot Slots Kept KeptField KeptBag kept_shape kept_field kept_bag o)) ≡ model.Shape.Bag nodes
     plainly o e = subst (λ (p : Shape-F Shape Slot Slots). plain (shape_step (map-Shape Shape Slot Slots Kept KeptField KeptBag kept_shape kept_field kept_bag p)) ≡ model.Shape.Bag nodes) e (ap plain (sym seen) ∙ is)
+
     by : (o : Shape-F Shape Slot Slots) → out-Shape shape ≡ o → ⊥
     by (Shape-F.Bag inner) e = h inner (sym (roll-out-Shape shape) ∙ (ap roll-Shape e ∙ variants.rolls-Bag inner))
     by Shape-F.Taint e = let bad : model.Shape.Taint ≡ model.Shape.Bag nodes = plainly Shape-F.Taint e in cc bad
@@ -200,11 +202,14 @@ named (f ∷ fs) i slot at = by (cases_lt i (slot_count f.shape)) (λ k. named f
   where
     inside : List SlotAt
     inside = map (within f.name f.number) (slots_in f.shape)
+
     long : length inside ≡ slot_count f.shape
     long = length-map (slots_in f.shape) (within f.name f.number)
+
     of_within : (o : Option SlotAt) → option_map (within f.name f.number) o ≡ Some slot → (name : List ℕ) × (names : List (List ℕ)) × (slot.names ≡ name ∷ names)
     of_within None e = absurd (cc e)
     of_within (Some own) e = let same : within f.name f.number own ≡ slot = cc e in (f.name, own.names, sym (ap (λ (t : SlotAt). t.names) same))
+
     by : (i < slot_count f.shape) ⊎ (slot_count f.shape ≤ i) → ((k : ℕ) → slice_get (slots_list fs) k ≡ Some slot → (name : List ℕ) × (names : List (List ℕ)) × (slot.names ≡ name ∷ names))
         → (name : List ℕ) × (names : List (List ℕ)) × (slot.names ≡ name ∷ names)
     by (inl less) later = of_within (slice_get (slots_in f.shape) i) (sym (slice_get-map (within f.name f.number) (slots_in f.shape) i) ∙ (sym (get_front inside (slots_list fs) i (omega (arith, less, long))) ∙ at))
@@ -213,7 +218,7 @@ named (f ∷ fs) i slot at = by (cases_lt i (slot_count f.shape)) (λ k. named f
 -- The path of a slot in a bag inside is that of the bag, a dot, and the slot's own.
 pub path_within : (nodes : model.Nodes) (i : ℕ) (front name : List ℕ) (number : ℕ)
     → option_map (λ (found : SlotAt). ((front ++ name) ++ 46 ∷ []) ++ name_path found) (slice_get (slots_of nodes) i)
-      ≡ option_map (λ (found : SlotAt). front ++ name_path found) (option_map (within name number) (slice_get (slots_of nodes) i))
+    ≡ option_map (λ (found : SlotAt). front ++ name_path found) (option_map (within name number) (slice_get (slots_of nodes) i))
 path_within nodes i front name number = by (slice_get (slots_of nodes) i) refl
   where
     by : (o : Option SlotAt) → slice_get (slots_of nodes) i ≡ o

@@ -1,12 +1,10 @@
 -- A field more at the end, and its place among the names in order.
-use Rattle.std.proofs.Common.{◌≡◌, ◌⊎◌, inl, inr, ℕ, ◌+◌, ◌-◌, ◌^◌, ◌<◌, ◌≤◌, min, zero, suc, List, [], ◌∷◌, ◌++◌, length, map, take, drop, get_or, Some, refl, sym, ◌∙◌, ap, subst, arith}
+use Rattle.std.proofs.Common.{◌≡◌, ◌⊎◌, inl, inr, ℕ, ◌+◌, ◌-◌, ◌^◌, ◌<◌, ◌≤◌, min, zero, suc, List, [], ◌∷◌, ◌++◌, length, take, drop, get_or, refl, sym, ◌∙◌, ap, subst, arith}
 use Rattle.std.specs.Prelude.{◌≢◌}
-use Rattle.std.specs.Cmp.{IsTotalOrder}
 use Rattle.std.specs.Cmp.Lexicographic.{slice_cmp}
-use Rattle.std.specs.List.{slice_get, slice_index, insert}
+use Rattle.std.specs.List.{slice_index, insert}
 use Rattle.std.specs.Ordering.{nat_cmp, ordering_reverse}
-use Rattle.std.specs.declared.cmp.Ordering.{Ordering}
-use Rattle.std.specs.declared.cmp.Ordering.TheVariants.{Less, Equal, Greater}
+use Rattle.std.specs.declared.cmp.Ordering.TheVariants.{Less, Greater}
 use Rattle.std.proofs.lemmas.Bool.{cases_lt}
 use Rattle.std.proofs.lemmas.Cmp.{nat_list_cmp_total}
 use Rattle.std.proofs.lemmas.List.{length-append}
@@ -23,7 +21,7 @@ pub ends_push : (b : ℕ) (fs : List model.Field) (f : model.Field) → ends_aft
 ends_push b [] f = ap (λ n. capped n ∷ []) (omega arith)
 ends_push b (g ∷ gs) f =
     ap (λ l. capped (b + slot_count g.shape) ∷ l) (
-      ends_push (b + slot_count g.shape) gs f ∙ ap (λ n. ends_after (b + slot_count g.shape) gs ++ capped n ∷ []) (omega (arith, length-slots g gs))
+    ends_push (b + slot_count g.shape) gs f ∙ ap (λ n. ends_after (b + slot_count g.shape) gs ++ capped n ∷ []) (omega (arith, length-slots g gs))
     )
 
 -- Sums of counts that stop at the greatest number.

@@ -1,20 +1,19 @@
 -- The indexes with a field more.
-use Rattle.std.proofs.Common.{◌≡◌, ◌⊎◌, inl, inr, ℕ, ◌+◌, ◌-◌, ◌<◌, ◌≤◌, zero, suc, List, [], ◌∷◌, ◌++◌, length, map, Some, Ok, Err, refl, sym, ◌∙◌, ap, subst, arith}
+use Rattle.std.proofs.Common.{◌≡◌, ℕ, ◌+◌, zero, suc, List, [], ◌∷◌, ◌++◌, length, map, Some, Ok, Err, sym, ◌∙◌, ap, subst, arith}
 use Rattle.std.specs.Prelude.{Result, OnOk, OnErr}
 use Rattle.std.specs.List.{slice_get, insert}
-use Rattle.std.proofs.lemmas.Bool.{cases_lt}
 use Rattle.std.proofs.lemmas.List.{length-map}
 use Rattle.bag_model.specs.Shapes as model
 use Rattle.bag_model.specs.Slots.{slots_of, slot_count}
-use Rattle.bag_model.proofs.SlotLaws.{slots_list, slots_of-list, get_front, get_back}
+use Rattle.bag_model.proofs.SlotLaws.{slots_list, slots_of-list}
 use Rattle.field_table.specs.declared.shapes.Shape.{Shape}
 use Rattle.field_table.specs.declared.shapes.Slot.{Slot}
 use Rattle.field_table.specs.declared.shapes.Slots.{Slots}
 use Rattle.field_table.specs.declared.shapes.Shape.TheOpen.{Slots-F}
 use Rattle.field_table.specs.declared.shapes.Shape.TheViews.{out-Slots, roll-Slots, out-roll-Slots}
-use Rattle.field_table.specs.Kept.{KeptField, KeptBag, kept, kept_nodes, plain, capped, ends_after, IsNameOrder, IsRank, IsKeptBag, IsKept}
-use Rattle.field_table.specs.Plain.{kept_shape, kept_field, kept_bag, field_of, shape_of, nodes_of, name_of, IsIndexed, IsIndexedField}
-use Rattle.field_table.proofs.Opened.{HasIndexes, open_bag, has_indexes, are_indexed, fields_of-items, fields_of-rolled, map_push}
+use Rattle.field_table.specs.Kept.{KeptField, kept, kept_nodes, plain, capped, ends_after, IsNameOrder, IsRank, IsKeptBag}
+use Rattle.field_table.specs.Plain.{kept_field, kept_bag, field_of, shape_of, nodes_of, name_of, IsIndexed, IsIndexedField}
+use Rattle.field_table.proofs.Opened.{open_bag, has_indexes, are_indexed, fields_of-items, fields_of-rolled, map_push}
 use Rattle.field_table.proofs.Held.{field_open}
 use Rattle.field_table.proofs.Inserted.{ends_push, order_push}
 
@@ -30,9 +29,9 @@ rolled_bag r = open_bag (roll-Slots r) ∙ ap (λ (o : Slots-F Shape Slot Slots)
 pub same_indexes : (s : Slots) (r : Slots-F Shape Slot Slots) → IsIndexed s → r.items.items ≡ (out-Slots s).items.items → r.ends.items ≡ (out-Slots s).ends.items → r.by_name.items ≡ (out-Slots s).by_name.items → IsIndexed (roll-Slots r)
 same_indexes s r h items ends places =
     subst IsKeptBag (
-      open_bag s ∙ ap (λ l. kept (kept_nodes (map kept_field l)) (out-Slots s).ends.items (out-Slots s).by_name.items) (sym items)
-      ∙ ap (λ l. kept (kept_nodes (map kept_field r.items.items)) l (out-Slots s).by_name.items) (sym ends)
-      ∙ ap (λ l. kept (kept_nodes (map kept_field r.items.items)) r.ends.items l) (sym places) ∙ sym (rolled_bag r)
+    open_bag s ∙ ap (λ l. kept (kept_nodes (map kept_field l)) (out-Slots s).ends.items (out-Slots s).by_name.items) (sym items)
+    ∙ ap (λ l. kept (kept_nodes (map kept_field r.items.items)) l (out-Slots s).by_name.items) (sym ends)
+    ∙ ap (λ l. kept (kept_nodes (map kept_field r.items.items)) r.ends.items l) (sym places) ∙ sym (rolled_bag r)
     ) h
 
 each_indexed : (xs : List Slot) (x : Slot) → ((i : ℕ) (slot : Slot) → slice_get xs i ≡ Some slot → IsIndexedField slot) → IsIndexedField x → (i : ℕ) (slot : Slot) → slice_get (xs ++ x ∷ []) i ≡ Some slot → IsIndexedField slot
@@ -49,11 +48,11 @@ pushed_indexes s x r end rank h own items ends places counted ranked =
     let fs = model.fields (nodes_of s) in
     let before = (out-Slots s).items.items in
     let new_fields : model.fields (nodes_of (roll-Slots r)) ≡ fs ++ field_of x ∷ [] =
-        fields_of-rolled r ∙ (ap (map field_of) items ∙ (map_push field_of before x ∙ ap (λ l. l ++ field_of x ∷ []) (sym (fields_of-items s))))
+    fields_of-rolled r ∙ (ap (map field_of) items ∙ (map_push field_of before x ∙ ap (λ l. l ++ field_of x ∷ []) (sym (fields_of-items s))))
     in
     let shape_is : slot_count (shape_of x.shape) ≡ slot_count (field_of x).shape = ap (λ (k : KeptField). slot_count (plain k.shape)) (sym (field_open x)) in
     let end_is : end ≡ capped (0 + length (slots_list fs) + slot_count (field_of x).shape) =
-        counted ∙ ap capped (omega (arith, shape_is, ap length (slots_of-list (nodes_of s))))
+    counted ∙ ap capped (omega (arith, shape_is, ap length (slots_of-list (nodes_of s))))
     in
     let new_names : map name_of before ++ name_of x ∷ [] ≡ map name_of r.items.items = sym (map_push name_of before x) ∙ ap (map name_of) (sym items) in
     let new_places : insert (out-Slots s).by_name.items rank (length (map name_of before)) ≡ r.by_name.items = ap (insert (out-Slots s).by_name.items rank) (length-map before name_of) ∙ sym places in

@@ -74,7 +74,7 @@ impl Slots {
 
     /// Whether there is no field.
     pub fn is_empty(&self) -> bool
-        ensures { IsTrue result ↔ (nodes_of self.now ≡ no_node) }
+        ensures { IsTrue result ↔ (length (fields (nodes_of self.now)) ≡ 0) }
     {
         self.items.is_empty()
     }
@@ -99,7 +99,14 @@ impl Slots {
     {
         let rank = rank_of(&self.items, &self.by_name, item.name.as_str().as_bytes());
         let end = self.slot_count().saturating_add(item.shape.slot_count());
-        add_field(&mut self.items, &mut self.ends, &mut self.by_name, item, end, rank)
+        add_field(
+            &mut self.items,
+            &mut self.ends,
+            &mut self.by_name,
+            item,
+            end,
+            rank,
+        )
     }
 
     /// How many slots there are.

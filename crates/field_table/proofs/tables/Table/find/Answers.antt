@@ -1,4 +1,4 @@
-use Rattle.std.proofs.Common.{◌≡◌, ℕ, List, Option, Some, None, sym, ◌∙◌, ap, subst}
+use Rattle.std.proofs.Common.{◌≡◌, ℕ, Option, Some, None, sym, ◌∙◌, ap, subst}
 use Rattle.bag_model.specs.Shapes as model
 use Rattle.bag_model.specs.Slots.{FindsSlot}
 use Rattle.bag_model.proofs.SlotPaths.{finds_slot, finds_no_slot, bag_no_slot}

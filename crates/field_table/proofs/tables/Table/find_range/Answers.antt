@@ -1,5 +1,5 @@
-use Rattle.std.proofs.Common.{◌≡◌, ℕ, ◌+◌, ◌≤◌, List, Option, Some, None, length, refl, sym, ◌∙◌, ap, subst, arith}
-use Rattle.bag_model.specs.Slots.{slots_of, slot_count, FindsField, FindsRange}
+use Rattle.std.proofs.Common.{◌+◌, Some, ◌∙◌, ap, subst, arith}
+use Rattle.bag_model.specs.Slots.{FindsField}
 use Rattle.bag_model.proofs.PathLaws.{reached_bound}
 use Rattle.field_table.specs.Plain.{nodes_of, shape_of}
 use Rattle.field_table.proofs.Found.{ready, fits_sum, counted}

@@ -1,4 +1,4 @@
-use Rattle.std.proofs.Common.{◌≡◌, length, ◌∙◌, ap}
+use Rattle.std.proofs.Common.{length, ◌∙◌, ap}
 use Rattle.bag_model.specs.Slots.{slots_of}
 use Rattle.field_table.proofs.Found.{count_of}
 use Rattle.field_table.proofs.tables.Table.slots.Goals as goal

@@ -1,4 +1,4 @@
-use Rattle.std.proofs.Common.{◌≡◌, ℕ, ◌<◌, List, All, sym, ◌∙◌, ap, subst}
+use Rattle.std.proofs.Common.{◌<◌, All, sym, subst}
 use Rattle.std.specs.Ordering.{nat_cmp}
 use Rattle.context_model.specs.Orders.{Rises}
 use Rattle.field_table.proofs.Sets.{rises_push}
