@@ -1,0 +1,16 @@
+//! The table of a bag, from its definition, or the first fault of the definition.
+#![tactic(auto)]
+
+mod bags;
+mod checks;
+mod compiler;
+mod faults;
+mod later;
+mod layouts;
+mod source;
+mod tables;
+#[cfg(test)]
+mod tests;
+
+pub use compiler::compile;
+pub use faults::{DefCode, DefFault, Fault};
