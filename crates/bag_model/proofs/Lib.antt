@@ -3,3 +3,5 @@ pub mod NumberCodes
 pub mod ScalarOrder
 pub mod SpellingOrder
 pub mod SpellingRows
+pub mod SlotLaws
+pub mod PathLaws

@@ -1,6 +1,6 @@
 -- What the loops and the objects in memory need of the front of a list and of the rest behind it.
-use Rattle.std.proofs.Common.{◌≡◌, ℕ, ◌+◌, ◌-◌, ◌<◌, ◌≤◌, [], List, ◌++◌, length, take, drop, refl, sym, ◌∙◌, ap, append_assoc, length-append, length-drop, arith}
-use Rattle.std.proofs.lemmas.List.{take_at, take_rest, take-append-drop, drop-drop, drop_all, length-take-le}
+use Rattle.std.proofs.Common.{◌≡◌, ℕ, ◌+◌, ◌-◌, ◌≤◌, List, ◌++◌, length, take, drop, refl, sym, ◌∙◌, ap, append_assoc, length-append, length-drop, arith}
+use Rattle.std.proofs.lemmas.List.{take_at, take_rest, take-append-drop, drop-drop, length-take-le}
 
 -- The bytes that a read puts at the front of a buffer are those that its source loses.
 pub front_read : (content into new : List ℕ) (at count len : ℕ) → at + count ≤ length content → len ≡ at + count - at → new ≡ take len (drop at content)

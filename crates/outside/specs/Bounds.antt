@@ -1,5 +1,5 @@
 -- Bounds that ghost members cite.
-use Rattle.std.specs.Prelude.{ℕ, ◌-◌, ◌^◌, ◌≤◌}
+use Rattle.std.specs.Prelude.{◌-◌, ◌^◌, ◌≤◌}
 use Rattle.std.proofs.Common.{arith}
 
 -- The count 0 is within a u64.

@@ -1,5 +1,5 @@
 -- Counts of faults: an answer that blames the world outside has its cause in a count that rose.
-use Rattle.std.specs.Prelude.{◌≡◌, ℕ, ◌+◌, ◌-◌, ◌^◌, ◌≤◌, min, OnErr, IsErrOf, Result}
+use Rattle.std.specs.Prelude.{ℕ, ◌+◌, ◌-◌, ◌^◌, ◌≤◌, min, OnErr, IsErrOf, Result}
 
 -- A count that rose: it is greater than before, or it stands at its last value, which it never leaves.
 abbrev pub Rose : ℕ → ℕ → Type 0

@@ -1,3 +1,4 @@
 pub mod Causes
 pub mod Told
 pub mod Bounds
+pub mod Contents

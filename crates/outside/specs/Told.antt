@@ -1,6 +1,7 @@
 -- What an object outside tells of its content: a known content is `Some`, and `None` claims nothing.
-use Rattle.std.specs.Prelude.{◌≡◌, ℕ, List, take, Option, Some, None}
+use Rattle.std.specs.Prelude.{◌≡◌, ℕ, List, take, Option, Some, None, if◌then◌else◌}
 use Rattle.std.specs.Option.{option_map}
+use Rattle.std.specs.Str.{bytes_eq}
 use Rattle.std.specs.Io.KnownBytes.{Appends}
 
 -- A front of the piece was appended.
@@ -10,6 +11,10 @@ AppendsPart old new piece = (n : ℕ) × Appends old new (take n piece)
 -- The files that a library holds, by name, where it tells.
 abbrev pub Files : Type 0
 Files = Option (List ℕ → Option (List ℕ))
+
+-- The same files, with this content under this name and no other.
+abbrev pub with_file : List ℕ → List ℕ → Files → Files
+with_file name content files = option_map (λ held other. if bytes_eq name other then Some content else held other) files
 
 -- What is fetched of a file: all of it, or the first 1,048,577 bytes of a longer one.
 unfoldable pub fetched : List ℕ → List ℕ

@@ -16,7 +16,7 @@ mod transfers;
 pub use answers::{Failed, LibraryFault, Memory, ReadFault};
 pub use gates::{Gate, Open};
 pub use in_memory::{MemorySink, MemorySource, SureSink, SureSource};
-pub use libraries::{Library, SureLibrary};
+pub use libraries::{Library, MemoryLibrary, SureLibrary};
 pub use streams::{Sink, Source};
 pub use texts::{Octets, Text, Words};
 pub use transfers::{read_all, write_all};

@@ -3,8 +3,8 @@
 ghost use Rattle.std.specs.Prelude.{◌+◌, ◌^◌, ◌<◌};
 
 use crate::{
-    Gate, Library, MemorySink, MemorySource, Octets, Open, ReadFault, Sink, Source, SureLibrary,
-    SureSink, SureSource, Text, Words, read_all, write_all,
+    Gate, Library, LibraryFault, MemoryLibrary, MemorySink, MemorySource, Octets, Open, ReadFault,
+    Sink, Source, SureLibrary, SureSink, SureSource, Text, Words, read_all, write_all,
 };
 use std::alloc::Global;
 use std::test::Fail;
@@ -69,6 +69,45 @@ fn whole_transfers(rt: HostRuntime) -> Result<(), Fail> {
     assert_eq!(rt; sink.taken(), b"012345678901".as_slice());
     assert!(rt; sink.write(content).is_err());
     assert_eq!(rt; SureSink::new().write(content).unwrap_or(9), 10);
-    assert!(rt; matches!(SureLibrary::new(alloc).fetch(alloc, "f"), Ok(None)));
+    Ok(())
+}
+
+/// Fetches a file, through the bound.
+fn fetches<L: Library>(
+    alloc: Global,
+    library: &mut L,
+    name: &str,
+) -> Result<Option<Vec<u8>>, LibraryFault> {
+    library.fetch(alloc, name)
+}
+
+#[test]
+fn files(rt: HostRuntime) -> Result<(), Fail> {
+    let alloc = rt.alloc();
+    let mut sure = SureLibrary::new(alloc);
+    assert!(rt; matches!(fetches(alloc, &mut sure, "f"), Ok(None)));
+    assert!(rt; sure.add("f", b"a").is_ok());
+    assert!(rt;
+        matches!(fetches(alloc, &mut sure, "f"), Ok(Some(file)) if file.as_slice() == b"a".as_slice())
+    );
+    let mut library = MemoryLibrary::new(alloc, vec![in alloc; 1, 3]?);
+    assert!(rt; library.add("f", b"a").is_ok());
+    assert!(rt;
+        matches!(fetches(alloc, &mut library, "f"), Ok(Some(file)) if file.as_slice() == b"a".as_slice())
+    );
+    assert!(rt; matches!(fetches(alloc, &mut library, "f"), Err(LibraryFault::Failed)));
+    assert!(rt; matches!(fetches(alloc, &mut library, "g"), Ok(None)));
+    assert!(rt; matches!(fetches(alloc, &mut library, "g"), Err(LibraryFault::Failed)));
+    assert!(rt; library.add("g", b"").is_ok());
+    assert!(rt; library.add("f", b"bc").is_ok());
+    assert!(rt;
+        matches!(fetches(alloc, &mut library, "f"), Ok(Some(file)) if file.as_slice() == b"bc".as_slice())
+    );
+    assert!(rt; matches!(fetches(alloc, &mut library, "g"), Ok(Some(file)) if file.is_empty()));
+    let long = vec![in alloc; b'a'; 1_048_578]?;
+    assert!(rt; library.add("f", &long).is_ok());
+    assert!(rt;
+        matches!(fetches(alloc, &mut library, "f"), Ok(Some(file)) if file.len() == 1_048_577)
+    );
     Ok(())
 }

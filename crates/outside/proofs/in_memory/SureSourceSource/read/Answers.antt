@@ -1,4 +1,4 @@
-use Rattle.std.proofs.Common.{◌≡◌, ℕ, ◌+◌, ◌-◌, ◌<◌, ◌≤◌, [], List, ◌++◌, length, take, drop, refl, length-append, length-drop, arith}
+use Rattle.std.proofs.Common.{◌≡◌, ◌+◌, ◌-◌, take, drop, refl, length-append, length-drop, arith}
 use Rattle.std.proofs.lemmas.List.{drop_all}
 use Rattle.outside.proofs.Pieces.{front_read}
 use Rattle.outside.proofs.in_memory.SureSourceSource.read.Goals as goal

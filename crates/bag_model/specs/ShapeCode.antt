@@ -1,0 +1,146 @@
+-- Codes of shapes, by which a proof tells values of a list of fields apart. They say nothing of a table.
+use Rattle.std.specs.Prelude.{◌≡◌, ℕ, List, ◌⊎◌, ◌==◌, if◌then◌else◌}
+use Rattle.std.specs.Coded.{Coded, code_by, coded⊎, coded_ℕ, coded_list}
+use Rattle.std.proofs.Common.{refl, inl, inr, ap, subst, sym}
+use Rattle.bag_model.specs.Scalars.{Word, ScalarKind, Boolean, Int32, Int64, Sint32, Sint64, Uint32, Uint64, Fixed32, Fixed64, Sfixed32, Sfixed64, Str, Bytes, One, Packed}
+use Rattle.bag_model.specs.Shapes.{Shape, Nodes, Taint, Scalar, Set, Counter, Map, Bag, no_node, node}
+use base.Stored.{Gv, gnil, gnum, gcons}
+
+abbrev pub word_number : Word → ℕ
+word_number Boolean = 0
+word_number Int32 = 1
+word_number Int64 = 2
+word_number Sint32 = 3
+word_number Sint64 = 4
+word_number Uint32 = 5
+word_number Uint64 = 6
+word_number Fixed32 = 7
+word_number Fixed64 = 8
+word_number Sfixed32 = 9
+word_number Sfixed64 = 10
+word_number Str = 11
+word_number Bytes = 12
+
+abbrev pub word_back : ℕ → Word
+word_back n =
+    if n == 0 then Boolean else (if n == 1 then Int32 else (if n == 2 then Int64 else (if n == 3 then Sint32 else (if n == 4 then Sint64
+    else (if n == 5 then Uint32 else (if n == 6 then Uint64 else (if n == 7 then Fixed32 else (if n == 8 then Fixed64
+    else (if n == 9 then Sfixed32 else (if n == 10 then Sfixed64 else (if n == 11 then Str else Bytes)))))))))))
+
+pub word_undone : (word : Word) → word_back (word_number word) ≡ word
+word_undone Boolean = refl
+word_undone Int32 = refl
+word_undone Int64 = refl
+word_undone Sint32 = refl
+word_undone Sint64 = refl
+word_undone Uint32 = refl
+word_undone Uint64 = refl
+word_undone Fixed32 = refl
+word_undone Fixed64 = refl
+word_undone Sfixed32 = refl
+word_undone Sfixed64 = refl
+word_undone Str = refl
+word_undone Bytes = refl
+
+abbrev pub word_code : Coded Word
+word_code = code_by ℕ coded_ℕ word_number word_back word_undone
+
+abbrev pub kind_parts : ScalarKind → Word ⊎ List Word
+kind_parts (One word) = inl word
+kind_parts (Packed words) = inr words
+
+abbrev pub kind_back : Word ⊎ List Word → ScalarKind
+kind_back (inl word) = One word
+kind_back (inr words) = Packed words
+
+pub kind_undone : (kind : ScalarKind) → kind_back (kind_parts kind) ≡ kind
+kind_undone (One word) = refl
+kind_undone (Packed words) = refl
+
+abbrev pub kind_code : Coded ScalarKind
+kind_code = code_by (Word ⊎ List Word) (coded⊎ word_code (coded_list word_code)) kind_parts kind_back kind_undone
+
+abbrev pub name_code : Coded (List ℕ)
+name_code = coded_list coded_ℕ
+
+abbrev mutual
+  pub shape_gv : Shape → Gv
+  shape_gv Taint = gcons (gnum 0) gnil
+  shape_gv (Scalar kind) = gcons (gnum 1) (kind_code.code kind)
+  shape_gv (Set kind) = gcons (gnum 2) (kind_code.code kind)
+  shape_gv Counter = gcons (gnum 3) gnil
+  shape_gv (Map key value) = gcons (gnum 4) (gcons (kind_code.code key) (shape_gv value))
+  shape_gv (Bag nodes) = gcons (gnum 5) (nodes_gv nodes)
+
+  pub nodes_gv : Nodes → Gv
+  nodes_gv no_node = gnil
+  nodes_gv (node name number shape nodes) = gcons (gcons (name_code.code name) (gnum number)) (gcons (shape_gv shape) (nodes_gv nodes))
+
+abbrev pub left : Gv → Gv
+left gnil = gnil
+left (gnum n) = gnil
+left (gcons a b) = a
+
+abbrev pub right : Gv → Gv
+right gnil = gnil
+right (gnum n) = gnil
+right (gcons a b) = b
+
+abbrev pub number_in : Gv → ℕ
+number_in gnil = 0
+number_in (gnum n) = n
+number_in (gcons a b) = 0
+
+abbrev IsCons : Gv → Type 0
+IsCons gnil = ⊥
+IsCons (gnum n) = ⊥
+IsCons (gcons a b) = Unit {0}
+
+mutual
+  pub shape_inj : (x y : Shape) → shape_gv x ≡ shape_gv y → x ≡ y
+  shape_inj Taint Taint p = refl
+  shape_inj Taint (Scalar j) p = absurd (cc (ap (λ g. number_in (left g)) p))
+  shape_inj Taint (Set j) p = absurd (cc (ap (λ g. number_in (left g)) p))
+  shape_inj Taint Counter p = absurd (cc (ap (λ g. number_in (left g)) p))
+  shape_inj Taint (Map j t) p = absurd (cc (ap (λ g. number_in (left g)) p))
+  shape_inj Taint (Bag j) p = absurd (cc (ap (λ g. number_in (left g)) p))
+  shape_inj (Scalar k) Taint p = absurd (cc (ap (λ g. number_in (left g)) p))
+  shape_inj (Scalar k) (Scalar j) p = ap Scalar (kind_code.inj k j (ap right p))
+  shape_inj (Scalar k) (Set j) p = absurd (cc (ap (λ g. number_in (left g)) p))
+  shape_inj (Scalar k) Counter p = absurd (cc (ap (λ g. number_in (left g)) p))
+  shape_inj (Scalar k) (Map j t) p = absurd (cc (ap (λ g. number_in (left g)) p))
+  shape_inj (Scalar k) (Bag j) p = absurd (cc (ap (λ g. number_in (left g)) p))
+  shape_inj (Set k) Taint p = absurd (cc (ap (λ g. number_in (left g)) p))
+  shape_inj (Set k) (Scalar j) p = absurd (cc (ap (λ g. number_in (left g)) p))
+  shape_inj (Set k) (Set j) p = ap Set (kind_code.inj k j (ap right p))
+  shape_inj (Set k) Counter p = absurd (cc (ap (λ g. number_in (left g)) p))
+  shape_inj (Set k) (Map j t) p = absurd (cc (ap (λ g. number_in (left g)) p))
+  shape_inj (Set k) (Bag j) p = absurd (cc (ap (λ g. number_in (left g)) p))
+  shape_inj Counter Taint p = absurd (cc (ap (λ g. number_in (left g)) p))
+  shape_inj Counter (Scalar j) p = absurd (cc (ap (λ g. number_in (left g)) p))
+  shape_inj Counter (Set j) p = absurd (cc (ap (λ g. number_in (left g)) p))
+  shape_inj Counter Counter p = refl
+  shape_inj Counter (Map j t) p = absurd (cc (ap (λ g. number_in (left g)) p))
+  shape_inj Counter (Bag j) p = absurd (cc (ap (λ g. number_in (left g)) p))
+  shape_inj (Map k s) Taint p = absurd (cc (ap (λ g. number_in (left g)) p))
+  shape_inj (Map k s) (Scalar j) p = absurd (cc (ap (λ g. number_in (left g)) p))
+  shape_inj (Map k s) (Set j) p = absurd (cc (ap (λ g. number_in (left g)) p))
+  shape_inj (Map k s) Counter p = absurd (cc (ap (λ g. number_in (left g)) p))
+  shape_inj (Map k s) (Map j t) p = λ i. Map (kind_code.inj k j (ap (λ g. left (right g)) p) i) (shape_inj s t (ap (λ g. right (right g)) p) i)
+  shape_inj (Map k s) (Bag j) p = absurd (cc (ap (λ g. number_in (left g)) p))
+  shape_inj (Bag k) Taint p = absurd (cc (ap (λ g. number_in (left g)) p))
+  shape_inj (Bag k) (Scalar j) p = absurd (cc (ap (λ g. number_in (left g)) p))
+  shape_inj (Bag k) (Set j) p = absurd (cc (ap (λ g. number_in (left g)) p))
+  shape_inj (Bag k) Counter p = absurd (cc (ap (λ g. number_in (left g)) p))
+  shape_inj (Bag k) (Map j t) p = absurd (cc (ap (λ g. number_in (left g)) p))
+  shape_inj (Bag k) (Bag j) p = ap Bag (nodes_inj k j (ap right p))
+
+  pub nodes_inj : (x y : Nodes) → nodes_gv x ≡ nodes_gv y → x ≡ y
+  nodes_inj no_node no_node p = refl
+  nodes_inj (node a m s xs) (node b n t ys) p = λ i.
+      node (name_code.inj a b (ap (λ g. left (left g)) p) i) (ap (λ g. number_in (right (left g))) p i) (shape_inj s t (ap (λ g. left (right g)) p) i) (nodes_inj xs ys (ap (λ g. right (right g)) p) i)
+  nodes_inj no_node (node b n t ys) p = absurd (subst IsCons (sym p) tt)
+  nodes_inj (node a m s xs) no_node p = absurd (subst IsCons p tt)
+
+abbrev pub nodes_code : Coded Nodes
+nodes_code = record { code = nodes_gv; inj = nodes_inj }

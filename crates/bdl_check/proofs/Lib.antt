@@ -1,0 +1,7 @@
+mod Exits
+mod Walks
+mod CheckLaws
+mod Given
+mod Words
+mod Names
+mod Layouts

@@ -1,0 +1,12 @@
+//! The table of a bag, from its definition, or the first fault of the definition.
+#![tactic(auto)]
+
+mod bags;
+mod checks;
+mod faults;
+mod later;
+mod source;
+#[cfg(test)]
+mod tests;
+
+pub use faults::{DefCode, DefFault, Fault};

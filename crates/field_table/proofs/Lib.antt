@@ -1,0 +1,4 @@
+pub mod Opened
+pub mod Ranks
+pub mod Ends
+pub mod Held

@@ -1,0 +1,93 @@
+-- What a value of the code is made of, as it is kept.
+use Rattle.std.proofs.Common.{◌≡◌, ℕ, zero, suc, List, [], ◌∷◌, length, map, Some, refl, sym, ◌∙◌, ap, subst}
+use Rattle.std.specs.List.{slice_get, slice_index}
+use Rattle.std.specs.Option.{option_map}
+use Rattle.std.proofs.lemmas.List.{length-map}
+use Rattle.std.proofs.lemmas.Option.{slice_get-map}
+use Rattle.bag_model.specs.Shapes as model
+use Rattle.bag_model.specs.Slots.{slots_of}
+use Rattle.bag_model.proofs.SlotLaws.{slots_of-list}
+use Rattle.scalar_types.specs.KindViews.{kind_of}
+use Rattle.field_table.specs.declared.shapes.Shape.{Shape}
+use Rattle.field_table.specs.declared.shapes.Slot.{Slot}
+use Rattle.field_table.specs.declared.shapes.Slots.{Slots}
+use Rattle.field_table.specs.declared.shapes.Shape.TheFolds.{fold-Shape, fold-Slot, fold-Slots, fold_out-Slots, fold_out-Slot, fold_out-Shape}
+use Rattle.field_table.specs.declared.shapes.Shape.TheViews.{out-Slots, out-Slot, out-Shape}
+use Rattle.field_table.specs.Kept.{Kept, KeptField, KeptBag, KeptNodes, kept, kept_nodes, kept_list, kept_fields, ends_of, plain, plain_bag, plain_nodes, capped, start_at, name, ends_after, IsNameOrder, IsKeptBag, AreKept}
+use Rattle.field_table.proofs.Ends.{length-ends, last_end}
+use Rattle.field_table.specs.Plain.{shape_step, slot_step, slots_step, kept_shape, kept_field, kept_bag, field_of, nodes_of, name_of, IsIndexed, IsIndexedField}
+
+pub open_bag : (s : Slots) → kept_bag s ≡ kept (kept_nodes (map kept_field (out-Slots s).items.items)) (out-Slots s).ends.items (out-Slots s).by_name.items
+open_bag s = fold_out-Slots Kept KeptField KeptBag shape_step slot_step slots_step s
+
+pub open_field : (s : Slot) → kept_field s ≡ record { name = (out-Slot s).name; number = (out-Slot s).number; shape = kept_shape (out-Slot s).shape }
+open_field s = fold_out-Slot Kept KeptField KeptBag shape_step slot_step slots_step s
+
+abbrev pub plain_field : KeptField → model.Field
+plain_field field = record { name = field.name; number = field.number; shape = plain field.shape }
+
+pub plain_fields : (ks : List KeptField) → model.fields (plain_nodes (kept_nodes ks)) ≡ map plain_field ks
+plain_fields [] = refl
+plain_fields (k ∷ ks) = ap (λ l. plain_field k ∷ l) (plain_fields ks)
+
+pub list_kept : (ks : List KeptField) → kept_list (kept_nodes ks) ≡ ks
+list_kept [] = refl
+list_kept (k ∷ ks) = ap (λ l. k ∷ l) (list_kept ks)
+
+mapped : (items : List Slot) → map plain_field (map kept_field items) ≡ map field_of items
+mapped [] = refl
+mapped (x ∷ xs) = ap (λ l. field_of x ∷ l) (mapped xs)
+
+-- The plain fields of a bag are those of its items.
+pub fields_of-items : (s : Slots) → model.fields (nodes_of s) ≡ map field_of (out-Slots s).items.items
+fields_of-items s = ap (λ b. model.fields (plain_bag b)) (open_bag s) ∙ plain_fields (map kept_field (out-Slots s).items.items) ∙ mapped (out-Slots s).items.items
+
+pub length_fields : (s : Slots) → length (model.fields (nodes_of s)) ≡ length (out-Slots s).items.items
+length_fields s = ap length (fields_of-items s) ∙ length-map (out-Slots s).items.items field_of
+
+pub get_field : (s : Slots) (i : ℕ) → slice_get (model.fields (nodes_of s)) i ≡ option_map field_of (slice_get (out-Slots s).items.items i)
+get_field s i = ap (λ l. slice_get l i) (fields_of-items s) ∙ slice_get-map field_of (out-Slots s).items.items i
+
+pub open_ends : (s : Slots) → ends_of (kept_bag s) ≡ (out-Slots s).ends.items
+open_ends s = ap ends_of (open_bag s)
+
+names_mapped : (items : List Slot) → map name (map field_of items) ≡ map name_of items
+names_mapped [] = refl
+names_mapped (x ∷ xs) = ap (λ l. name_of x ∷ l) (names_mapped xs)
+
+-- The names of the items.
+pub names_of-items : (s : Slots) → map name (model.fields (nodes_of s)) ≡ map name_of (out-Slots s).items.items
+names_of-items s = ap (map name) (fields_of-items s) ∙ names_mapped (out-Slots s).items.items
+
+are_kept : (items : List Slot) (i : ℕ) (slot : Slot) → AreKept (kept_nodes (map kept_field items)) → slice_get items i ≡ Some slot → IsIndexedField slot
+are_kept [] i slot h at = absurd (cc at)
+are_kept (x ∷ xs) zero slot h at = let same : x ≡ slot = cc at in subst IsIndexedField same h.0
+are_kept (x ∷ xs) (suc i) slot h at = are_kept xs i slot h.1 at
+
+-- What it says that the indexes are right.
+pub record HasIndexes (s : Slots) : Type 0 where
+  pub ends : (out-Slots s).ends.items ≡ ends_after 0 (model.fields (nodes_of s))
+  pub order : IsNameOrder (map name_of (out-Slots s).items.items) (out-Slots s).by_name.items
+  pub inside : (i : ℕ) (slot : Slot) → slice_get (out-Slots s).items.items i ≡ Some slot → IsIndexedField slot
+
+plain_again : (s : Slots) → model.fields (plain_nodes (kept_nodes (map kept_field (out-Slots s).items.items))) ≡ model.fields (nodes_of s)
+plain_again s = ap (λ b. model.fields (plain_bag b)) (sym (open_bag s))
+
+pub has_indexes : (s : Slots) → IsIndexed s → HasIndexes s
+has_indexes s h =
+    let o = subst IsKeptBag (open_bag s) h in
+    record {
+      ends = o.0 ∙ ap (ends_after 0) (plain_again s);
+      order = subst (λ (names : List (List ℕ)). IsNameOrder names (out-Slots s).by_name.items) (ap (map name) (plain_again s) ∙ names_of-items s) o.1;
+      inside = λ i slot at. are_kept (out-Slots s).items.items i slot o.2 at;
+    }
+
+-- The last end is the count of slots.
+pub count_is : (s : Slots) → IsIndexed s → start_at (ends_of (kept_bag s)) (length (out-Slots s).ends.items) ≡ capped (length (slots_of (nodes_of s)))
+count_is s h =
+    let fs = model.fields (nodes_of s) in
+    let counted : start_at (ends_after 0 fs) (length (ends_after 0 fs)) ≡ capped (length (slots_of (nodes_of s))) =
+        ap (start_at (ends_after 0 fs)) (length-ends 0 fs) ∙ (last_end fs ∙ ap capped (ap length (sym (slots_of-list (nodes_of s)))))
+    in
+    ap (λ ends. start_at ends (length (out-Slots s).ends.items)) (open_ends s)
+    ∙ subst (λ (ends : List ℕ). start_at ends (length ends) ≡ capped (length (slots_of (nodes_of s)))) (sym (has_indexes s h).ends) counted

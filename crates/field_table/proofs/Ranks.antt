@@ -1,0 +1,93 @@
+-- Names in order: what one comparison says of all places on its one side.
+use Rattle.std.proofs.Common.{◌≡◌, ◌⊎◌, inl, inr, ℕ, ◌+◌, ◌<◌, ◌≤◌, zero, suc, List, [], ◌∷◌, length, get_or, Option, Some, None, refl, sym, ◌∙◌, ap, subst, arith}
+use Rattle.std.specs.Prelude.{◌≢◌}
+use Rattle.std.specs.Cmp.{IsTotalOrder, tied_itself, alike_right}
+use Rattle.std.specs.Cmp.Lexicographic.{slice_cmp}
+use Rattle.std.specs.List.{slice_get, slice_index}
+use Rattle.std.specs.Ordering.{nat_cmp, ordering_reverse}
+use Rattle.std.specs.declared.cmp.Ordering.{Ordering}
+use Rattle.std.specs.declared.cmp.Ordering.TheVariants.{Less, Equal, Greater}
+use Rattle.std.proofs.lemmas.Bool.{cases_lt}
+use Rattle.std.proofs.lemmas.Cmp.{nat_list_cmp_total}
+use Rattle.std.proofs.lemmas.Map.Lookups.{exact_bytes}
+use Rattle.std.proofs.lemmas.Option.{slice_get_within, slice_get-get_or, get_or_from_slice_get}
+use Rattle.context_model.specs.Orders.{IsIn}
+use Rattle.field_table.specs.Kept.{IsNameOrder, IsRank, IsPlaceOf}
+
+abbrev name_cmp : List ℕ → List ℕ → Ordering
+name_cmp = slice_cmp nat_cmp
+
+-- What isn't behind something less is less.
+not_behind : (a b c : List ℕ) → name_cmp a b ≢ Greater → name_cmp b c ≡ Less → name_cmp a c ≡ Less
+not_behind a b c h less = by (name_cmp a b) refl
+  where
+    by : (o : Ordering) → name_cmp a b ≡ o → name_cmp a c ≡ Less
+    by Less e = nat_list_cmp_total.trans a b c e less
+    by Equal e = nat_list_cmp_total.congr a b c e ∙ less
+    by Greater e = absurd (h e)
+
+-- The name at this place in the order of names.
+abbrev pub ranked : List (List ℕ) → List ℕ → ℕ → List ℕ
+ranked names places k = get_or names (slice_index places k) []
+
+sorted_upto : (names : List (List ℕ)) (places : List ℕ) → IsNameOrder names places → (i j : ℕ) → i ≤ j → j < length places → name_cmp (ranked names places i) (ranked names places j) ≢ Greater
+sorted_upto names places order i j h k = by (cases_lt i j)
+  where
+    by : (i < j) ⊎ (j ≤ i) → name_cmp (ranked names places i) (ranked names places j) ≢ Greater
+    by (inl less) = order.sorted i j less k
+    by (inr more) = λ greater.
+        let same : i ≡ j = omega (arith, h, more) in
+        let tie : name_cmp (ranked names places i) (ranked names places i) ≡ Equal = tied_itself nat_list_cmp_total (ranked names places i) in
+        let back : name_cmp (ranked names places i) (ranked names places i) ≡ Greater = subst (λ (n : ℕ). name_cmp (ranked names places i) (ranked names places n) ≡ Greater) (sym same) greater in
+        cc (tie, back)
+
+pub less_before : (names : List (List ℕ)) (places : List ℕ) (name : List ℕ) (m : ℕ) → IsNameOrder names places → m < length places → name_cmp (ranked names places m) name ≡ Less
+    → (k : ℕ) → k < m + 1 → name_cmp (ranked names places k) name ≡ Less
+less_before names places name m order h less k below = not_behind (ranked names places k) (ranked names places m) name (sorted_upto names places order k m (omega (arith, below)) h) less
+
+pub not_less_behind : (names : List (List ℕ)) (places : List ℕ) (name : List ℕ) (m : ℕ) → IsNameOrder names places → m < length places → name_cmp (ranked names places m) name ≢ Less
+    → (k : ℕ) → m ≤ k → k < length places → name_cmp (ranked names places k) name ≢ Less
+not_less_behind names places name m order h more k above within less = more (not_behind (ranked names places m) (ranked names places k) name (sorted_upto names places order m k above within) less)
+
+-- Where a place stands in a list.
+pub record StandsAt (place : ℕ) (places : List ℕ) : Type 0 where
+  pub rank : ℕ
+  pub within : rank < length places
+  pub is : slice_index places rank ≡ place
+
+pub stands : (place : ℕ) (places : List ℕ) → IsIn place places → StandsAt place places
+stands place [] h = absurd h
+stands place (p ∷ places) (inl same) = record { rank = 0; within = omega arith; is = sym same }
+stands place (p ∷ places) (inr later) = let r = stands place places later in record { rank = suc r.rank; within = omega (arith, r.within); is = r.is }
+
+named_there : (names : List (List ℕ)) (places : List ℕ) (name : List ℕ) → IsNameOrder names places → (place : ℕ) → slice_get names place ≡ Some name
+    → (rank : ℕ) × (rank < length places) × (ranked names places rank ≡ name)
+named_there names places name order place at =
+    let r = stands place places (order.all place (slice_get_within names place name at)) in
+    (r.rank, r.within, ap (λ n. get_or names n []) r.is ∙ get_or_from_slice_get names place name [] at)
+
+-- Behind all ranks no name is left.
+pub none_left : (names : List (List ℕ)) (places : List ℕ) (name : List ℕ) (rank : ℕ) → IsNameOrder names places → IsRank names places name rank → rank ≡ length places → IsPlaceOf names name None
+none_left names places name rank order found is place at =
+    let r = named_there names places name order place at in
+    let less : name_cmp (ranked names places r.0) name ≡ Less = found.before r.0 (omega (arith, r.1, is)) in
+    let tie : name_cmp name name ≡ Equal = tied_itself nat_list_cmp_total name in
+    let less' : name_cmp name name ≡ Less = subst (λ (n : List ℕ). name_cmp n name ≡ Less) r.2 less in
+    cc (tie, less')
+
+-- Where the name at its rank is another, there is no such name.
+pub none_there : (names : List (List ℕ)) (places : List ℕ) (name : List ℕ) (rank : ℕ) → IsNameOrder names places → IsRank names places name rank → rank < length places
+    → ranked names places rank ≢ name → IsPlaceOf names name None
+none_there names places name rank order found within other place at =
+    let r = named_there names places name order place at in by r (cases_lt r.0 rank)
+  where
+    tie : name_cmp name name ≡ Equal
+    tie = tied_itself nat_list_cmp_total name
+    by : (r : (k : ℕ) × (k < length places) × (ranked names places k ≡ name)) → (r.0 < rank) ⊎ (rank ≤ r.0) → ⊥
+    by r (inl less) = let l : name_cmp name name ≡ Less = subst (λ (n : List ℕ). name_cmp n name ≡ Less) r.2 (found.before r.0 less) in cc (tie, l)
+    by r (inr more) = at_rank (name_cmp (ranked names places rank) name) refl
+      where
+        at_rank : (o : Ordering) → name_cmp (ranked names places rank) name ≡ o → ⊥
+        at_rank Less e = found.behind rank (omega arith) within e
+        at_rank Equal e = other (exact_bytes (ranked names places rank) name e)
+        at_rank Greater e = sorted_upto names places order rank r.0 more r.1 (subst (λ (n : List ℕ). name_cmp (ranked names places rank) n ≡ Greater) (sym r.2) e)

@@ -1,0 +1,129 @@
+-- The fields of a bag as they are kept: in order, with the two indexes over them.
+use Rattle.std.specs.Prelude.{◌≡◌, ◌≢◌, ℕ, ◌-◌, ◌^◌, ◌+◌, ◌<◌, ◌≤◌, zero, suc, min, List, [], ◌∷◌, map, length, get_or, Option, Some, None}
+use Rattle.std.specs.List.{slice_get, slice_index}
+use Rattle.std.specs.Cmp.Lexicographic.{slice_cmp}
+use Rattle.std.specs.Ordering.{nat_cmp}
+use Rattle.std.specs.declared.cmp.Ordering.TheVariants.{Less, Greater}
+use Rattle.context_model.specs.Orders.{IsIn}
+use Rattle.bag_model.specs.Scalars as scalars
+use Rattle.bag_model.specs.Shapes as model
+use Rattle.bag_model.specs.Slots.{slot_count, slots_of, starts}
+use Rattle.bag_model.specs.Tables.{AreFields}
+
+mutual
+  pub data Kept : Type 0 where
+    Taint : Kept
+    Scalar : scalars.ScalarKind → Kept
+    Set : scalars.ScalarKind → Kept
+    Counter : Kept
+    Map : scalars.ScalarKind → Kept → Kept
+    Bag : KeptBag → Kept
+
+  -- The fields, how many slots there are up to the end of each, and the places of the fields by name.
+  pub data KeptBag : Type 0 where
+    kept : KeptNodes → List ℕ → List ℕ → KeptBag
+
+  pub data KeptNodes : Type 0 where
+    no_node : KeptNodes
+    node : List ℕ → ℕ → Kept → KeptNodes → KeptNodes
+
+-- A field by itself.
+pub record KeptField : Type 0 where
+  pub name : List ℕ
+  pub number : ℕ
+  pub shape : Kept
+
+abbrev pub kept_nodes : List KeptField → KeptNodes
+kept_nodes [] = no_node
+kept_nodes (field ∷ list) = node field.name field.number field.shape (kept_nodes list)
+
+-- Without the indexes.
+abbrev mutual
+  pub plain : Kept → model.Shape
+  plain Taint = model.Shape.Taint
+  plain (Scalar kind) = model.Shape.Scalar kind
+  plain (Set kind) = model.Shape.Set kind
+  plain Counter = model.Shape.Counter
+  plain (Map key value) = model.Shape.Map key (plain value)
+  plain (Bag bag) = model.Shape.Bag (plain_bag bag)
+
+  pub plain_bag : KeptBag → model.Nodes
+  plain_bag (kept nodes ends by_name) = plain_nodes nodes
+
+  pub plain_nodes : KeptNodes → model.Nodes
+  plain_nodes no_node = model.Nodes.no_node
+  plain_nodes (node name number shape nodes) = model.Nodes.node name number (plain shape) (plain_nodes nodes)
+
+-- The greatest number that is kept; counts stop there.
+abbrev pub capped : ℕ → ℕ
+capped n = min n (2 ^ 64 - 1)
+
+-- How many slots there are up to the end of each field, where so many stand before the first.
+abbrev pub ends_after : ℕ → List model.Field → List ℕ
+ends_after before [] = []
+ends_after before (field ∷ list) = capped (before + slot_count field.shape) ∷ ends_after (before + slot_count field.shape) list
+
+abbrev pub name : model.Field → List ℕ
+name field = field.name
+
+-- The places of all names, in the order of the names.
+pub record IsNameOrder (names : List (List ℕ)) (places : List ℕ) : Type 0 where
+  pub all : (place : ℕ) → place < length names → IsIn place places
+  pub below : (k : ℕ) → k < length places → slice_index places k < length names
+  pub sorted : (i j : ℕ) → i < j → j < length places → slice_cmp nat_cmp (get_or names (slice_index places i) []) (get_or names (slice_index places j) []) ≢ Greater
+
+-- The indexes of the bag, and of all bags inside it, are those of their fields.
+abbrev mutual
+  pub IsKept : Kept → Type 0
+  IsKept Taint = Unit {0}
+  IsKept (Scalar kind) = Unit {0}
+  IsKept (Set kind) = Unit {0}
+  IsKept Counter = Unit {0}
+  IsKept (Map key value) = IsKept value
+  IsKept (Bag bag) = IsKeptBag bag
+
+  pub IsKeptBag : KeptBag → Type 0
+  IsKeptBag (kept nodes ends by_name) = (ends ≡ ends_after 0 (model.fields (plain_nodes nodes))) × IsNameOrder (map name (model.fields (plain_nodes nodes))) by_name × AreKept nodes
+
+  pub AreKept : KeptNodes → Type 0
+  AreKept no_node = Unit {0}
+  AreKept (node name number shape nodes) = IsKept shape × AreKept nodes
+
+-- The fields as a list, with their indexes.
+abbrev pub kept_list : KeptNodes → List KeptField
+kept_list no_node = []
+kept_list (node name number shape nodes) = record { name = name; number = number; shape = shape } ∷ kept_list nodes
+
+abbrev pub kept_fields : KeptBag → List KeptField
+kept_fields (kept nodes ends by_name) = kept_list nodes
+
+abbrev pub ends_of : KeptBag → List ℕ
+ends_of (kept nodes ends by_name) = ends
+
+-- So many of the names, in their order, are less than this one.
+pub record IsRank (names : List (List ℕ)) (places : List ℕ) (name : List ℕ) (rank : ℕ) : Type 0 where
+  pub within : rank ≤ length places
+  pub before : (k : ℕ) → k < rank → slice_cmp nat_cmp (get_or names (slice_index places k) []) name ≡ Less
+  pub behind : (k : ℕ) → rank ≤ k → k < length places → slice_cmp nat_cmp (get_or names (slice_index places k) []) name ≢ Less
+
+-- The place of a name, or none where it isn't among them.
+abbrev pub IsPlaceOf : List (List ℕ) → List ℕ → Option ℕ → Type 0
+IsPlaceOf names name (Some place) = slice_get names place ≡ Some name
+IsPlaceOf names name None = (place : ℕ) → slice_get names place ≢ Some name
+
+-- What look-ups rest on: the fields are a bag's, the indexes are right, and all numbers of slots are kept.
+pub record IsReady (bag : KeptBag) : Type 0 where
+  pub fields : AreFields (plain_bag bag)
+  pub indexed : IsKeptBag bag
+  pub small : length (slots_of (plain_bag bag)) ≤ 16384
+
+-- How many slots there are before the field at this place, as the ends say.
+abbrev pub start_at : List ℕ → ℕ → ℕ
+start_at ends zero = 0
+start_at ends (suc place) = slice_index ends place
+
+-- The field at this place holds the slot with this number.
+pub record Holds (nodes : model.Nodes) (slot place : ℕ) : Type 0 where
+  pub within : place < length (model.fields nodes)
+  pub from : starts (model.fields nodes) place ≤ slot
+  pub upto : slot < starts (model.fields nodes) (suc place)

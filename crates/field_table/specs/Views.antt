@@ -1,0 +1,9 @@
+-- The views of the code as plain ones.
+use Rattle.bag_model.specs.Views as model
+use Rattle.field_table.specs.declared.views.View.{View}
+use Rattle.field_table.specs.declared.views.View.TheVariants.{All, Nothing, Only}
+
+abbrev pub view_of : View → model.View
+view_of All = model.View.All
+view_of Nothing = model.View.Nothing
+view_of (Only slots) = model.View.Only slots

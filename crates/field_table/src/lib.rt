@@ -1,0 +1,12 @@
+//! Tables: the fields of a bag with all nested bags in place, their slots, and the views of services.
+#![tactic(auto)]
+
+mod shapes;
+mod slot_paths;
+mod tables;
+mod views;
+
+pub use shapes::{Shape, Slot, Slots};
+pub use slot_paths::SlotPath;
+pub use tables::Table;
+pub use views::{SlotSet, View};

@@ -1,0 +1,276 @@
+//! Fields, their shapes, and the fields of a bag with indexes over them.
+
+ghost use Rattle.std.specs.Prelude.{◌≡◌, ◌≢◌, ◌<◌, ◌≤◌, ◌+◌, ◌-◌, ◌↔◌, ◌++◌, [], ◌∷◌, length, map, get_or, IsTrue, OnOk, OnErr, Some, string_bytes};
+ghost use Rattle.std.specs.List.{slice_get};
+ghost use Rattle.std.specs.Option.{option_map};
+ghost use Rattle.std.specs.Cmp.Lexicographic.{slice_cmp};
+ghost use Rattle.std.specs.Ordering.{nat_cmp};
+ghost use Rattle.std.specs.declared.cmp.Ordering.TheVariants.{Less};
+ghost use Rattle.bag_model.specs.Shapes.{fields, no_node};
+ghost use Rattle.bag_model.specs.Slots.{slots_of, slot_count, name_path, FindsField};
+ghost use Rattle.bag_model.specs.Tables.{levels};
+ghost use Rattle.field_table.specs.Kept.{capped, ends_of, IsKept, IsNameOrder, IsPlaceOf, IsRank, IsReady, Holds, start_at};
+ghost use Rattle.field_table.specs.Plain.{shape_of, kept_shape, name_of, field_of, nodes_of, kept_bag, IsIndexed, IsIndexedField};
+
+use crate::slot_paths::SlotPath;
+use outside::{Memory, Text};
+use scalar_types::ScalarKind;
+use std::alloc::Global;
+use std::cmp::Ordering;
+
+/// A field of a bag.
+#[cycle(shape)]
+#[derive(Drop)]
+pub struct Slot {
+    pub name: Text,
+    pub number: u16,
+    pub shape: Shape,
+}
+
+/// What a field holds.
+#[cycle(shape)]
+#[derive(Drop)]
+pub enum Shape {
+    Taint,
+    Scalar(ScalarKind),
+    Set(ScalarKind),
+    Counter,
+    /// The kind of the keys, and the shape of each value.
+    Map(ScalarKind, Box<Shape>),
+    Bag(Slots),
+}
+
+/// The fields of a bag, in order. Indexes find a field by its name and by the number of a slot.
+#[cycle(shape)]
+#[derive(Drop)]
+pub struct Slots {
+    items: Vec<Slot>,
+    /// For each field, how many slots there are up to its end.
+    ends: Vec<usize>,
+    /// The places of the fields in the order of their names.
+    by_name: Vec<usize>,
+}
+
+impl Slots {
+    /// No fields. It takes no memory.
+    pub fn new(alloc: Global) -> Slots
+        ensures empty { nodes_of result ≡ no_node }
+        ensures indexed { IsIndexed result }
+    {
+        Slots {
+            items: Vec::new(alloc),
+            ends: Vec::new(alloc),
+            by_name: Vec::new(alloc),
+        }
+    }
+
+    /// How many fields there are.
+    #[tactic(auto, using(crate::proofs::Opened::length_fields))]
+    pub fn len(&self) -> usize
+        ensures { result ≡ length (fields (nodes_of self.now)) }
+    {
+        self.items.len()
+    }
+
+    /// Whether there is no field.
+    pub fn is_empty(&self) -> bool
+        ensures { IsTrue result ↔ (nodes_of self.now ≡ no_node) }
+    {
+        self.items.is_empty()
+    }
+
+    /// The field at this place, from 0 on.
+    #[tactic(auto, using(crate::proofs::Opened::get_field))]
+    pub fn get(&self, at: usize) -> Option<&Slot>
+        ensures { option_map (λ found. field_of found.now) result ≡ slice_get (fields (nodes_of self.now)) at }
+    {
+        if at < self.items.len() {
+            Some(&self.items[at])
+        } else {
+            None
+        }
+    }
+
+    /// Adds a field at the end. Want of memory leaves the fields as they were.
+    pub fn push(&mut self, item: Slot) -> Result<(), Memory>
+        ensures ok { OnOk result (fields (nodes_of self.new) ≡ fields (nodes_of self.old) ++ field_of item ∷ []) }
+        ensures err { OnErr result (nodes_of self.new ≡ nodes_of self.old) }
+        ensures indexed { IsIndexed self.old → IsIndexedField item → IsIndexed self.new }
+    {
+        self.items.reserve(1)?;
+        self.ends.reserve(1)?;
+        self.by_name.reserve(1)?;
+        let place = self.items.len();
+        let rank = rank_of(&self.items, &self.by_name, item.name.as_str().as_bytes());
+        let end = self.slot_count().saturating_add(item.shape.slot_count());
+        self.by_name.insert(rank, place).unwrap();
+        self.ends.push(end).unwrap();
+        self.items.push(item).unwrap();
+        Ok(())
+    }
+
+    /// How many slots there are.
+    pub(crate) fn slot_count(&self) -> usize
+        ensures { IsIndexed self.now → result ≡ capped (length (slots_of (nodes_of self.now))) }
+    {
+        self.slots_before(self.ends.len())
+    }
+
+    /// How many slots there are before the field at this place.
+    fn slots_before(&self, place: usize) -> usize
+        requires { place ≤ length (ends_of (kept_bag self.now)) }
+        ensures { result ≡ start_at (ends_of (kept_bag self.now)) place }
+    {
+        if place == 0 { 0 } else { self.ends[place - 1] }
+    }
+
+    /// The field with this name path, and how many slots there are before it. Fields of bags are looked for in the bags.
+    #[cycle(find)]
+    pub(crate) fn find(&self, path: &str) -> Option<(usize, &Shape)>
+        requires { IsReady (kept_bag self.now) }
+        ensures { FindsField (nodes_of self.now) path.now (option_map (λ found. (found.0, shape_of found.1.now)) result) }
+    {
+        match path.split_once('.') {
+            None => {
+                let place = place_of(&self.items, &self.by_name, path.as_bytes())?;
+                Some((self.slots_before(place), &self.items[place].shape))
+            }
+            Some((name, rest)) => {
+                let place = place_of(&self.items, &self.by_name, name.as_bytes())?;
+                let before = self.slots_before(place);
+                if let Shape::Bag(inner) = &self.items[place].shape {
+                    let (behind, shape) = inner.find(rest)?;
+                    Some((before + behind, shape))
+                } else {
+                    None
+                }
+            }
+        }
+    }
+
+    /// The place of the field that holds the slot with this number.
+    fn place_holding(&self, slot: usize) -> usize
+        requires ready { IsReady (kept_bag self.now) }
+        requires slot { slot < length (slots_of (nodes_of self.now)) }
+        ensures { Holds (nodes_of self.now) slot result }
+    {
+        self.ends.partition_point(|end| *end <= slot)
+    }
+
+    /// The shape of the slot with this number.
+    #[cycle(shape_at)]
+    pub(crate) fn shape_at(&self, slot: usize) -> &Shape
+        requires ready { IsReady (kept_bag self.now) }
+        requires slot { slot < length (slots_of (nodes_of self.now)) }
+        ensures { Some (shape_of result.now) ≡ option_map (λ found. found.shape) (slice_get (slots_of (nodes_of self.now)) slot) }
+    {
+        let place = self.place_holding(slot);
+        let inside = slot - self.slots_before(place);
+        let shape = &self.items[place].shape;
+        if let Shape::Bag(inner) = shape {
+            inner.shape_at(inside)
+        } else {
+            shape
+        }
+    }
+
+    /// Adds the numbers on the way to the slot with this number.
+    #[cycle(put_numbers)]
+    pub(crate) fn put_numbers(&self, slot: usize, path: &mut SlotPath)
+        requires ready { IsReady (kept_bag self.now) }
+        requires slot { slot < length (slots_of (nodes_of self.now)) }
+        requires room { length path.old + levels (nodes_of self.now) ≤ 16 }
+        ensures { Some path.new ≡ option_map (λ found. path.old ++ found.numbers) (slice_get (slots_of (nodes_of self.now)) slot) }
+    {
+        let place = self.place_holding(slot);
+        let inside = slot - self.slots_before(place);
+        let item = &self.items[place];
+        path.push(u64::from(item.number));
+        if let Shape::Bag(inner) = &item.shape {
+            inner.put_numbers(inside, path);
+        }
+    }
+
+    /// Adds the name path of the slot with this number.
+    #[cycle(put_name)]
+    pub(crate) fn put_name(&self, slot: usize, path: &mut String) -> Result<(), Memory>
+        requires ready { IsReady (kept_bag self.now) }
+        requires slot { slot < length (slots_of (nodes_of self.now)) }
+        ensures { OnOk result (Some (string_bytes path.new) ≡ option_map (λ found. string_bytes path.old ++ name_path found) (slice_get (slots_of (nodes_of self.now)) slot)) }
+    {
+        let place = self.place_holding(slot);
+        let inside = slot - self.slots_before(place);
+        let item = &self.items[place];
+        path.push_str(item.name.as_str())?;
+        if let Shape::Bag(inner) = &item.shape {
+            path.push('.')?;
+            inner.put_name(inside, path)?;
+        }
+        Ok(())
+    }
+}
+
+impl Shape {
+    /// How many slots a field of this shape has.
+    pub(crate) fn slot_count(&self) -> usize
+        ensures { IsKept (kept_shape self.now) → result ≡ capped (slot_count (shape_of self.now)) }
+    {
+        match self {
+            Shape::Bag(fields) => fields.slot_count(),
+            Shape::Taint => 1,
+            Shape::Scalar(_) => 1,
+            Shape::Set(_) => 1,
+            Shape::Counter => 1,
+            Shape::Map(_, _) => 1,
+        }
+    }
+}
+
+/// How many of the places, in the order of the names there, have a lesser name.
+fn rank_of(items: &[Slot], by_name: &[usize], name: &[u8]) -> usize
+    ensures bound { result ≤ length by_name.now }
+    ensures rank { IsNameOrder (map name_of items.now) by_name.now → IsRank (map name_of items.now) by_name.now name.now result }
+{
+    let mut low = 0;
+    let mut high = by_name.len();
+    while low < high {
+        let middle = low + (high - low) / 2;
+        if is_before(items, by_name[middle], name) {
+            low = middle + 1;
+        } else {
+            high = middle;
+        }
+    }
+    low
+}
+
+/// Whether the field at this place has a lesser name.
+fn is_before(items: &[Slot], place: usize, name: &[u8]) -> bool
+    ensures { place < length items.now → IsTrue result ↔ (slice_cmp nat_cmp (get_or (map name_of items.now) place []) name.now ≡ Less) }
+{
+    place < items.len() && items[place].name.as_str().as_bytes().cmp(name).is_lt()
+}
+
+/// The place of the field with this name.
+fn place_of(items: &[Slot], by_name: &[usize], name: &[u8]) -> Option<usize>
+    requires { IsNameOrder (map name_of items.now) by_name.now }
+    ensures { IsPlaceOf (map name_of items.now) name.now result }
+{
+    let rank = rank_of(items, by_name, name);
+    if rank == by_name.len() {
+        return None;
+    }
+    let place = by_name[rank];
+    if is_named(items, place, name) {
+        Some(place)
+    } else {
+        None
+    }
+}
+
+/// Whether the field at this place has this name.
+fn is_named(items: &[Slot], place: usize, name: &[u8]) -> bool
+    ensures { place < length items.now → IsTrue result ↔ (get_or (map name_of items.now) place [] ≡ name.now) }
+{
+    place < items.len() && items[place].name.as_str().as_bytes() == name
+}
