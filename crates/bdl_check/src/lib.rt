@@ -3,6 +3,7 @@
 
 mod bags;
 mod checks;
+mod code_names;
 mod faults;
 mod later;
 mod source;
