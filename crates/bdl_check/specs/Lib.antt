@@ -6,3 +6,4 @@ pub mod Seen
 pub mod Layouts
 pub mod Tables
 pub mod CodeNames
+pub mod Compiled

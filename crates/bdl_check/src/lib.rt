@@ -4,10 +4,12 @@
 mod bags;
 mod checks;
 mod code_names;
+mod compiling;
 mod faults;
 mod later;
 mod source;
 #[cfg(test)]
 mod tests;
 
+pub use compiling::compile;
 pub use faults::{DefCode, DefFault, Fault};
