@@ -5,3 +5,4 @@ pub mod SpellingOrder
 pub mod SpellingRows
 pub mod SlotLaws
 pub mod PathLaws
+pub mod SlotPaths

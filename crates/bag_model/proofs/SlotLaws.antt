@@ -1,10 +1,11 @@
 -- The slots of a bag, field by field.
-use Rattle.std.proofs.Common.{◌≡◌, ℕ, ◌+◌, ◌-◌, ◌<◌, ◌≤◌, zero, suc, List, [], ◌∷◌, ◌++◌, length, map, Option, Some, None, refl, sym, ◌∙◌, ap, subst, arith}
+use Rattle.std.proofs.Common.{◌≡◌, ℕ, ◌+◌, ◌<◌, ◌≤◌, zero, suc, List, [], ◌∷◌, ◌++◌, length, map, Some, refl, sym, ◌∙◌, ap, subst, arith}
 use Rattle.std.specs.List.{slice_get}
 use Rattle.std.specs.Option.{option_map}
 use Rattle.std.proofs.lemmas.Option.{slice_get-map}
 use Rattle.std.proofs.lemmas.List.{length-append, length-map}
-use Rattle.bag_model.specs.Shapes.{Shape, Nodes, Field, fields, nodes_from, no_node, node}
+use Rattle.bag_model.specs.Shapes.{Shape, Nodes, Field, fields, nodes_from, no_node, node, Taint, Scalar, Set, Counter, Map, Bag}
+use Rattle.bag_model.specs.Tables.{nodes_under, node_count}
 use Rattle.bag_model.specs.Slots.{Slot, slots_of, slots_in, slot_count, starts, within}
 
 -- The slots of a list of fields.
@@ -68,9 +69,24 @@ slot_there (g ∷ gs) zero f slot inside at is within_it =
     let P : Field → Type 0 = λ h. slice_get (slots_list (g ∷ gs)) slot ≡ option_map (within h.name h.number) (slice_get (slots_in h.shape) inside) in
     let Q : Field → Type 0 = λ h. inside < slot_count h.shape in
     subst P (sym same) (
-      get_front (map (within g.name g.number) (slots_in g.shape)) (slots_list gs) slot (omega (arith, is, subst Q same within_it, length-map (slots_in g.shape) (within g.name g.number)))
-      ∙ slice_get-map (within g.name g.number) (slots_in g.shape) slot ∙ ap (λ n. option_map (within g.name g.number) (slice_get (slots_in g.shape) n)) here
+    get_front (map (within g.name g.number) (slots_in g.shape)) (slots_list gs) slot (omega (arith, is, subst Q same within_it, length-map (slots_in g.shape) (within g.name g.number)))
+    ∙ slice_get-map (within g.name g.number) (slots_in g.shape) slot ∙ ap (λ n. option_map (within g.name g.number) (slice_get (slots_in g.shape) n)) here
     )
 slot_there (g ∷ gs) (suc i) f slot inside at is within_it =
     get_back (map (within g.name g.number) (slots_in g.shape)) (slots_list gs) slot (starts gs i + inside) (omega (arith, is, length-map (slots_in g.shape) (within g.name g.number)))
     ∙ slot_there gs i f (starts gs i + inside) inside at refl within_it
+
+-- There are no more slots than fields.
+mutual
+  pub slots_few : (nodes : Nodes) → length (slots_of nodes) ≤ node_count nodes
+  slots_few no_node = omega arith
+  slots_few (node name number shape nodes) =
+      omega (arith, slots_in_few shape, slots_few nodes, length-append (map (within name number) (slots_in shape)) (slots_of nodes), length-map (slots_in shape) (within name number))
+
+  slots_in_few : (shape : Shape) → slot_count shape ≤ 1 + nodes_under shape
+  slots_in_few (Bag nodes) = omega (arith, slots_few nodes)
+  slots_in_few Taint = omega arith
+  slots_in_few (Scalar kind) = omega arith
+  slots_in_few (Set kind) = omega arith
+  slots_in_few Counter = omega arith
+  slots_in_few (Map key value) = omega arith

@@ -1,6 +1,6 @@
 -- The slots of a table: the fields that are reached through bags and are no bags.
-use Rattle.std.specs.Prelude.{◌≡◌, ◌≢◌, ◌⊎◌, ℕ, zero, suc, ◌+◌, List, [], ◌∷◌, ◌++◌, map, length, Option, Some, None}
-use Rattle.std.specs.List.{slice_get}
+use Rattle.std.specs.Prelude.{◌≡◌, ◌≢◌, ◌⊎◌, ℕ, zero, suc, ◌+◌, ◌==◌, false, List, [], ◌∷◌, ◌++◌, map, length, Option, Some, None}
+use Rattle.std.specs.List.{slice_get, list_any}
 use Rattle.std.specs.Option.{option_map}
 use Rattle.bag_model.specs.Shapes.{Shape, Nodes, Field, Taint, Scalar, Set, Counter, Map, Bag, no_node, node}
 
@@ -45,6 +45,15 @@ dotted [] = []
 dotted (name ∷ []) = name
 dotted (name ∷ other ∷ names) = name ++ 46 ∷ dotted (other ∷ names)
 
+-- No byte is a dot.
+abbrev pub HasNoDot : List ℕ → Type 0
+HasNoDot bytes = list_any (λ byte. byte == 46) bytes ≡ false
+
+-- A path is a name alone, or a name, a dot and the rest.
+abbrev pub IsSplit : List ℕ → List ℕ → Option (List ℕ) → Type 0
+IsSplit path name None = path ≡ name
+IsSplit path name (Some rest) = path ≡ name ++ 46 ∷ rest
+
 -- The name path of a slot.
 abbrev pub name_path : Slot → List ℕ
 name_path slot = dotted slot.names
@@ -78,6 +87,10 @@ abbrev pub FindsField : Nodes → List ℕ → Option (ℕ × Shape) → Type 0
 FindsField nodes path (Some found) = (name : List ℕ) × (names : List (List ℕ)) × (dotted (name ∷ names) ≡ path) × IsReached nodes name names found.0 found.1
 FindsField nodes path None =
     (name : List ℕ) (names : List (List ℕ)) (before : ℕ) (shape : Shape) → IsReached nodes name names before shape → dotted (name ∷ names) ≢ path
+
+-- All fields with this name path have the shape of the one that was found.
+abbrev pub IsOnly : Nodes → List ℕ → ℕ × Shape → Type 0
+IsOnly nodes path found = (name : List ℕ) (names : List (List ℕ)) (before : ℕ) (shape : Shape) → IsReached nodes name names before shape → dotted (name ∷ names) ≡ path → shape ≡ found.1
 
 -- The slots of a field: from the number before it on, and up to that and its own.
 abbrev pub range_of : ℕ × Shape → ℕ × ℕ

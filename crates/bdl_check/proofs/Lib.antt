@@ -4,4 +4,9 @@ mod CheckLaws
 mod Given
 mod Words
 mod Names
-mod Layouts
+mod BagLaws
+mod ShapeLaws
+mod SoundLaws
+mod TableLaws
+mod Fetched
+mod OneOutcome

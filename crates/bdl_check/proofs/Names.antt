@@ -1,5 +1,5 @@
 -- The names of a module's fields are names.
-use Rattle.std.proofs.Common.{◌≡◌, ℕ, zero, suc, true, Option, Some, None, List, [], ◌∷◌, codes, refl, subst}
+use Rattle.std.proofs.Common.{◌≡◌, ℕ, zero, suc, ◌<◌, ◌^◌, arith, true, Option, Some, None, List, [], ◌∷◌, codes, refl, subst}
 use Rattle.std.specs.List.{All, AllByRecursion}
 use Rattle.std.specs.Option.{option_map}
 use Rattle.std.proofs.lemmas.List.Elements.{All-head, All-tail}
@@ -7,7 +7,7 @@ use Rattle.bag_model.specs.Tables.{is_word, is_name}
 use Rattle.bdl_lexer.specs.declared.Token.{Token}
 use Rattle.bdl_lexer.specs.declared.TokenClass.{TokenClass}
 use Rattle.bdl_lexer.specs.declared.TokenClass.TheVariants.{Word, Number, Text, Sign}
-use Rattle.bdl_lexer.specs.Pieces.{HasForm}
+use Rattle.bdl_lexer.specs.Pieces.{HasForm, IsInRange}
 use Rattle.bdl_lexer.specs.Spans.{LiesIn, token_text}
 use Rattle.bdl_parser.specs.declared.trees.Decl.{Decl}
 use Rattle.bdl_parser.specs.declared.trees.Decl.TheVariants.{Bag, Struct}
@@ -20,30 +20,31 @@ use Rattle.bdl_parser.specs.Lexemes.{What, Lexeme, word, number, quoted, sign, w
 use Rattle.bdl_parser.specs.Trees.{TypeTree, BagFieldTree}
 use Rattle.bdl_parser.specs.Words.{name_of}
 use Rattle.grammar_model.specs.Forms.{Form, token, two, either, made, many, ended}
+use Rattle.bdl_check.specs.Layouts.{IsSpelledField}
 use Rattle.bdl_check.proofs.Given.{Gives, gives_token, gives_two, gives_either, gives_made, gives_many, gives_nothing, gives_ended}
 use Rattle.bdl_check.proofs.Words.{word_of, name_is_name}
 
--- a word has the bytes of one
+-- a word has the bytes of one, and a number has 16 bits
 abbrev IsWordIn : What → Type 0
 IsWordIn (word text) = is_word text ≡ true
-IsWordIn (number value) = Unit {0}
+IsWordIn (number value) = value < 2 ^ 16
 IsWordIn (quoted text) = Unit {0}
 IsWordIn (sign byte) = Unit {0}
 
 abbrev IsSpelled : Lexeme → Type 0
 IsSpelled t = IsWordIn t.what
 
-spelled_as : (class : TokenClass) (text : List ℕ) → HasForm class text → IsWordIn (what_of class text)
-spelled_as Word text form = word_of text form
-spelled_as (Number value) text form = tt
-spelled_as Text text form = tt
-spelled_as (Sign byte) text form = tt
+spelled_as : (class : TokenClass) (text : List ℕ) → HasForm class text → IsInRange class → IsWordIn (what_of class text)
+spelled_as Word text form in_range = word_of text form
+spelled_as (Number value) text form in_range = omega (arith, in_range)
+spelled_as Text text form in_range = tt
+spelled_as (Sign byte) text form in_range = tt
 
 spelled : (source : List ℕ) (tokens : List Token) → All (LiesIn source) tokens → AllByRecursion IsSpelled (lexemes_of source tokens)
 spelled source [] all = tt
 spelled source (t ∷ tokens) all =
     let one = All-head (LiesIn source) t tokens all in
-    (spelled_as t.class (token_text source t) one.longest.longest.form, spelled source tokens (All-tail (LiesIn source) t tokens all))
+    (spelled_as t.class (token_text source t) one.longest.longest.form one.longest.in_range, spelled source tokens (All-tail (LiesIn source) t tokens all))
 
 -- anything at all
 abbrev Any : {A : Type 0} → A → Type 0
@@ -69,6 +70,20 @@ Says Q f = Gives IsSpelled Q f
 
 says_any : {A : Type 0} (meant : Lexeme → Option A) → Says Any (token meant)
 says_any meant = gives_token IsSpelled Any meant (λ t a w e. tt)
+
+abbrev IsSmall : ℕ × Spot → Type 0
+IsSmall found = found.0 < 2 ^ 16
+
+small_in : (what : What) (spot : Spot) (found : ℕ × Spot) → IsWordIn what → option_map (λ value. (value, spot)) (grammar.number_in what) ≡ Some found → IsSmall found
+small_in (number value) spot found w e =
+    let same : (value, spot) ≡ found = (cc) in
+    subst IsSmall same w
+small_in (word text) spot found w e = (cc)
+small_in (quoted text) spot found w e = (cc)
+small_in (sign byte) spot found w e = (cc)
+
+says_number : Says IsSmall (token grammar.a_number)
+says_number = gives_token IsSpelled IsSmall grammar.a_number (λ t a w e. small_in t.what t.spot a w e)
 
 says_name : Says IsNamed (token grammar.a_name)
 says_name = gives_token IsSpelled IsNamed grammar.a_name (λ t a w e. named_in t.what t.spot a w e)
@@ -97,24 +112,21 @@ any_type (suc n) =
     gives_either IsSpelled Any (token grammar.a_leaf) (either (grammar.set_of (grammar.a_type n)) (grammar.map_of (grammar.a_type n))) (says_any grammar.a_leaf)
     (gives_either IsSpelled Any (grammar.set_of (grammar.a_type n)) (grammar.map_of (grammar.a_type n)) (any_set (grammar.a_type n) (any_type n)) (any_map (grammar.a_type n) (any_type n)))
 
--- the field's name is a name
-abbrev pub IsNamedField : BagFieldTree → Type 0
-IsNamedField field = is_name field.name ≡ true
-
-says_field : (n : ℕ) → Says IsNamedField (grammar.a_bag_field n)
+says_field : (n : ℕ) → Says IsSpelledField (grammar.a_bag_field n)
 says_field n =
-    gives_made IsSpelled (λ (p : TypeTree × ((List ℕ × Spot) × (Spot × ((ℕ × Spot) × Spot)))). Any p.0 × (IsNamed p.1.0 × Any p.1.1)) IsNamedField _ _ (λ a q. q.1.0)
-    (gives_two IsSpelled Any (λ (p : (List ℕ × Spot) × (Spot × ((ℕ × Spot) × Spot))). IsNamed p.0 × Any p.1) (grammar.a_type n) _ (any_type n)
-    (gives_two IsSpelled IsNamed Any (token grammar.a_name) _ says_name
-    (and_any _ _ (says_any (grammar.mark 61)) (and_any _ _ (says_any grammar.a_number) (says_any (grammar.mark 59))))))
+    gives_made IsSpelled (λ (p : TypeTree × ((List ℕ × Spot) × (Spot × ((ℕ × Spot) × Spot)))). Any p.0 × (IsNamed p.1.0 × (Any p.1.1.0 × (IsSmall p.1.1.1.0 × Any p.1.1.1.1)))) IsSpelledField _ _ (λ a q. (q.1.0, q.1.1.1.0))
+    (gives_two IsSpelled Any (λ (p : (List ℕ × Spot) × (Spot × ((ℕ × Spot) × Spot))). IsNamed p.0 × (Any p.1.0 × (IsSmall p.1.1.0 × Any p.1.1.1))) (grammar.a_type n) _ (any_type n)
+    (gives_two IsSpelled IsNamed (λ (p : Spot × ((ℕ × Spot) × Spot)). Any p.0 × (IsSmall p.1.0 × Any p.1.1)) (token grammar.a_name) _ says_name
+    (gives_two IsSpelled Any (λ (p : (ℕ × Spot) × Spot). IsSmall p.0 × Any p.1) (token (grammar.mark 61)) _ (says_any (grammar.mark 61))
+    (gives_two IsSpelled IsSmall Any (token grammar.a_number) _ says_number (says_any (grammar.mark 59))))))
 
 abbrev pub AreNamedFields : List BagFieldTree → Type 0
-AreNamedFields fields = AllByRecursion IsNamedField fields
+AreNamedFields fields = AllByRecursion IsSpelledField fields
 
 says_fields : (n : ℕ) → Says AreNamedFields (grammar.bag_fields n)
 says_fields n =
     gives_made IsSpelled (λ (p : List BagFieldTree × Spot). AreNamedFields p.0 × Any p.1) AreNamedFields _ _ (λ a q. q.0)
-    (gives_many IsSpelled IsNamedField Any (grammar.a_bag_field n) (token (grammar.mark 125)) (says_field n) (says_any (grammar.mark 125)))
+    (gives_many IsSpelled IsSpelledField Any (grammar.a_bag_field n) (token (grammar.mark 125)) (says_field n) (says_any (grammar.mark 125)))
 
 -- the names of a bag's fields are names
 abbrev pub IsNamedDecl : Decl → Type 0

@@ -1,5 +1,5 @@
 -- Walks over lists, element by element.
-use Rattle.std.proofs.Common.{◌≡◌, ℕ, suc, ◌+◌, ◌≤◌, List, [], ◌∷◌, ◌++◌, length, map, take, drop, Some, ap, sym, ◌∙◌, add-one}
+use Rattle.std.proofs.Common.{◌≡◌, ℕ, suc, ◌+◌, ◌<◌, ◌≤◌, get_or, List, [], ◌∷◌, ◌++◌, length, map, take, drop, Some, ap, sym, ◌∙◌, add-one}
 use Rattle.std.specs.List.{slice_get, flat_map, fold}
 use Rattle.std.proofs.Math.Seq.{drop-cons}
 use Rattle.std.proofs.lemmas.List.{drop_all, take_more, map-append}
@@ -37,3 +37,14 @@ pub mapped_more : {X Y : Type 0} (f : X → Y) (items new : List X) (x : X) (ys 
     → map f items ≡ take i ys → map f new ≡ take (i + 1) ys
 mapped_more f items new x ys i is e front =
     ap (map f) is ∙ map-append f items (x ∷ []) ∙ ap (λ zs. zs ++ f x ∷ []) front ∙ sym (take_some ys i (f x) e)
+
+-- the front of a mapped list, with one element more
+pub mapped_taken : {X Y : Type 0} (f : X → Y) (xs : List X) (i : ℕ) (x : X) → i < length xs → x ≡ get_or xs i x → map f (take (i + 1) xs) ≡ map f (take i xs) ++ f x ∷ []
+mapped_taken f xs i x within is =
+    ap (map f) (take_more xs i x within ∙ ap (λ y. take i xs ++ y ∷ []) (sym is)) ∙ map-append f (take i xs) (x ∷ [])
+
+-- what is left of a mapped list from an element on
+pub mapped_left : {X Y : Type 0} (f : X → Y) (xs : List X) (i : ℕ) (x : X) → i < length xs → x ≡ get_or xs i x → map f (drop i xs) ≡ f x ∷ map f (drop (i + 1) xs)
+mapped_left f xs i x within is =
+    let left : drop i xs ≡ x ∷ drop (i + 1) xs = rw add-one (drop-cons xs i x within ∙ ap (λ y. y ∷ drop (suc i) xs) (sym is)) in
+    ap (map f) left

@@ -1,10 +1,12 @@
 -- The fields of a bag as those of a table.
-use Rattle.std.specs.Prelude.{◌≡◌, ℕ, Option, None, Some, List, [], ◌∷◌, map, if◌then◌else◌}
+use Rattle.std.specs.Prelude.{◌≡◌, ℕ, ◌<◌, ◌^◌, true, Option, None, Some, List, [], ◌∷◌, map, if◌then◌else◌}
+use Rattle.std.specs.List.{AllByRecursion, flat_map}
 use Rattle.std.specs.List.Sorted.{IsPermutation, IsStrictlyIncreasing}
 use Rattle.std.specs.Option.{option_map, option_and_then}
 use Rattle.std.specs.Str.{bytes_eq}
 use Rattle.bag_model.specs.Scalars as scalars
 use Rattle.bag_model.specs.Shapes.{Shape, Nodes, Field, fields, Taint, Scalar, Set, Counter, Map}
+use Rattle.bag_model.specs.Tables.{is_name}
 use Rattle.bdl_parser.specs.declared.trees.Decl.{Decl}
 use Rattle.bdl_parser.specs.declared.trees.Decl.TheVariants.{Bag, Struct}
 use Rattle.bdl_parser.specs.declared.trees.ScalarWord.{ScalarWord}
@@ -12,6 +14,8 @@ use Rattle.bdl_parser.specs.declared.trees.ScalarWord.TheVariants.{Bool, Int32, 
 use Rattle.bdl_parser.specs.declared.trees.Spot.{Spot}
 use Rattle.bdl_parser.specs.Trees as trees
 use Rattle.bdl_parser.specs.Words.{or_else}
+use Rattle.bdl_check.specs.Checks.{field_faults}
+use Rattle.bdl_check.specs.Later.{type_spots}
 
 -- the word as the model of scalars has it
 abbrev pub word_in : ScalarWord → scalars.Word
@@ -61,6 +65,16 @@ pub record IsLaidOut (list : List trees.BagFieldTree) (nodes : Nodes) : Type 0 w
   pub same : IsPermutation list sorted
   pub rising : IsStrictlyIncreasing (map (λ (tree : trees.BagFieldTree). tree.number) sorted)
   pub each : AreFieldsOf sorted (fields nodes)
+
+-- the field's name is a name, and its number has 16 bits
+abbrev pub IsSpelledField : trees.BagFieldTree → Type 0
+IsSpelledField tree = (is_name tree.name ≡ true) × (tree.number < 2 ^ 16)
+
+-- fields without a fault, as they come from a source in which no type has a name
+pub record AreSound (list : List trees.BagFieldTree) : Type 0 where
+  pub none : field_faults [] [] list ≡ []
+  pub known : flat_map (λ (tree : trees.BagFieldTree). type_spots tree.kind) list ≡ []
+  pub spelled : AllByRecursion IsSpelledField list
 
 -- a bag of a definition: where its name stands, and its fields
 pub record BagTree : Type 0 where

@@ -6,4 +6,3 @@ pub mod Seen
 pub mod Layouts
 pub mod Tables
 pub mod CodeNames
-pub mod Compiled

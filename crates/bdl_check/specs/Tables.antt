@@ -4,8 +4,12 @@ use Rattle.bag_model.specs.Shapes.{Nodes}
 use Rattle.bag_model.specs.Tables.{levels, node_count}
 use Rattle.bdl_lexer.specs.declared.Token.{Token}
 use Rattle.bdl_parser.specs.declared.trees.Module.{Module}
+use Rattle.bdl_parser.specs.declared.trees.Spot.{Spot}
 use Rattle.bdl_parser.specs.Lexemes.{lexemes_of}
+use Rattle.bdl_parser.specs.Trees.{BagFieldTree}
 use Rattle.bdl_check.specs.declared.faults.DefCode.TheVariants.{NoFile, NotYet, NoSuchBag, TooDeep, TooManySlots}
+use Rattle.bdl_check.specs.declared.faults.DefFault.{DefFault}
+use Rattle.bdl_check.specs.declared.faults.DefFault.TheVariants.{At, Failed, Memory}
 use Rattle.bdl_check.specs.declared.faults.Fault.{Fault}
 use Rattle.bdl_check.specs.Checks.{plain_faults}
 use Rattle.bdl_check.specs.Faults.{first_spot, fault, first_of}
@@ -30,13 +34,22 @@ pub record Chooses (source name : List ℕ) (bag : BagTree) : Type 0 where
   pub sound : IsSound source file
   pub chosen : bag_named name file.decls ≡ Some bag
 
--- the table of the bag of this name: it lays out the bag's fields, in no more than 16 levels and 16,384 fields
+-- the fields laid out, in no more than 16 levels of headers and 16,384 fields
+pub record Fits (list : List BagFieldTree) (nodes : Nodes) : Type 0 where
+  pub laid_out : IsLaidOut list nodes
+  pub shallow : levels nodes ≤ 16
+  pub small : node_count nodes ≤ 16384
+
+-- the fault of the bag at this place whose fields take more levels, or no more but are more fields
+pub data IsUnfit (spot : Spot) (list : List BagFieldTree) (found : Fault) : Type 0 where
+  deep : (nodes : Nodes) → IsLaidOut list nodes → 16 < levels nodes → found ≡ fault TooDeep spot → IsUnfit spot list found
+  large : (nodes : Nodes) → IsLaidOut list nodes → levels nodes ≤ 16 → 16384 < node_count nodes → found ≡ fault TooManySlots spot → IsUnfit spot list found
+
+-- the table of the bag of this name
 pub record IsTableOf (source name : List ℕ) (nodes : Nodes) : Type 0 where
   pub bag : BagTree
   pub chooses : Chooses source name bag
-  pub laid_out : IsLaidOut bag.list nodes
-  pub shallow : levels nodes ≤ 16
-  pub small : node_count nodes ≤ 16384
+  pub fits : Fits bag.list nodes
 
 -- the earliest place of what isn't read yet
 pub record IsNotYet (source : List ℕ) (found : Fault) : Type 0 where
@@ -59,24 +72,11 @@ pub record IsMissing (source name : List ℕ) (found : Fault) : Type 0 where
   pub none : bag_named name file.decls ≡ None
   pub found_is : found ≡ fault NoSuchBag first_spot
 
--- the bag's fields take more than 16 levels of headers
-pub record IsDeep (source name : List ℕ) (found : Fault) : Type 0 where
+-- the bag of the name has a fault of its own
+pub record IsUnfitBag (source name : List ℕ) (found : Fault) : Type 0 where
   pub bag : BagTree
   pub chooses : Chooses source name bag
-  pub nodes : Nodes
-  pub laid_out : IsLaidOut bag.list nodes
-  pub deep : 16 < levels nodes
-  pub found_is : found ≡ fault TooDeep bag.spot
-
--- they take no more, but there are more than 16,384 of them
-pub record IsLarge (source name : List ℕ) (found : Fault) : Type 0 where
-  pub bag : BagTree
-  pub chooses : Chooses source name bag
-  pub nodes : Nodes
-  pub laid_out : IsLaidOut bag.list nodes
-  pub shallow : levels nodes ≤ 16
-  pub large : 16384 < node_count nodes
-  pub found_is : found ≡ fault TooManySlots bag.spot
+  pub unfit : IsUnfit bag.spot bag.list found
 
 -- the first fault of a source that is asked for the bag of this name
 pub data IsFirstFault (source name : List ℕ) (found : Fault) : Type 0 where
@@ -84,8 +84,7 @@ pub data IsFirstFault (source name : List ℕ) (found : Fault) : Type 0 where
   not_yet : IsNotYet source found → IsFirstFault source name found
   plain : IsPlain source found → IsFirstFault source name found
   missing : IsMissing source name found → IsFirstFault source name found
-  deep : IsDeep source name found → IsFirstFault source name found
-  large : IsLarge source name found → IsFirstFault source name found
+  unfit : IsUnfitBag source name found → IsFirstFault source name found
 
 -- the same of a file that may be missing
 abbrev pub IsFirstFaultOf : Option (List ℕ) → List ℕ → Fault → Type 0
@@ -96,3 +95,15 @@ IsFirstFaultOf (Some source) name found = IsFirstFault source name found
 abbrev pub IsTableIn : Option (List ℕ) → List ℕ → Nodes → Type 0
 IsTableIn None name nodes = ⊥
 IsTableIn (Some source) name nodes = IsTableOf source name nodes
+
+-- the answer blames this fault of this file, or there is no memory
+abbrev pub BlamesFile : List ℕ → Fault → DefFault → Type 0
+BlamesFile name found (At file line column code) = (file ≡ name) × (found ≡ fault code (record { line = line; column = column }))
+BlamesFile name found Failed = ⊥
+BlamesFile name found Memory = Unit {0}
+
+-- the answer blames the first fault of the file of this name, of which this is held
+abbrev pub Blames : Option (List ℕ) → List ℕ → List ℕ → DefFault → Type 0
+Blames held name bag (At file line column code) = (file ≡ name) × IsFirstFaultOf held bag (fault code (record { line = line; column = column }))
+Blames held name bag Failed = Unit {0}
+Blames held name bag Memory = Unit {0}

@@ -13,7 +13,7 @@ use outside::Memory;
 use std::alloc::Global;
 
 /// Whether the headers under that of a field of this type take no more than so many levels.
-fn fits(node: &TypeNode, room: u32) -> bool
+pub(crate) fn fits(node: &TypeNode, room: u32) -> bool
     ensures { (shape : Shape) → shape_in (tree_of node.now) ≡ Some shape → IsTrue result ↔ (levels_under shape ≤ room) }
 {
     match &node.form {

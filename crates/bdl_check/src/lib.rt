@@ -4,12 +4,15 @@
 mod bags;
 mod checks;
 mod code_names;
-mod compiling;
+mod compiler;
 mod faults;
+pub mod laws;
 mod later;
+mod layouts;
 mod source;
+mod tables;
 #[cfg(test)]
 mod tests;
 
-pub use compiling::compile;
+pub use compiler::compile;
 pub use faults::{DefCode, DefFault, Fault};

@@ -1,12 +1,11 @@
 -- The ends of fields: which field holds the slot with a number.
-use Rattle.std.proofs.Common.{◌≡◌, ◌⊎◌, inl, inr, ℕ, ◌+◌, ◌-◌, ◌^◌, ◌<◌, ◌≤◌, ◌==◌, if◌then◌else◌, min, zero, suc, Bool, true, false, List, [], ◌∷◌, length, map, get_or, Option, Some, None, refl, sym, ◌∙◌, ap, subst, arith}
-use Rattle.std.specs.List.{slice_get, slice_index}
+use Rattle.std.proofs.Common.{◌≡◌, ◌⊎◌, inl, inr, ℕ, ◌+◌, ◌<◌, ◌≤◌, zero, suc, true, false, List, [], ◌∷◌, length, get_or, refl, sym, ◌∙◌, ap, subst, arith}
 use Rattle.std.specs.List.Sorted.{IsPartitionedBy, IsPartitionPoint}
 use Rattle.std.proofs.Math.Dec.{leb}
 use Rattle.std.proofs.lemmas.Bool.{leb-true, leb-false, le-leb, cases_lt}
 use Rattle.bag_model.specs.Shapes.{Field, fields, Nodes}
-use Rattle.bag_model.specs.Slots.{slots_of, slots_in, slot_count, starts}
-use Rattle.bag_model.proofs.SlotLaws.{slots_list, slots_of-list, starts-zero, starts-bound, starts-all, starts-more}
+use Rattle.bag_model.specs.Slots.{slots_of, slot_count, starts}
+use Rattle.bag_model.proofs.SlotLaws.{slots_list, slots_of-list, starts-zero, starts-bound, starts-all}
 use Rattle.field_table.specs.Kept.{capped, ends_after, start_at, Holds}
 
 pub length-ends : (b : ℕ) (fs : List Field) → length (ends_after b fs) ≡ length fs
@@ -62,6 +61,7 @@ module _ (nodes : Nodes) (small : length (slots_of nodes) ≤ 16384) where
           let inside : k < length (fields nodes) = omega (arith, is, upto) in
           let passed : get_or (ends_after 0 (fields nodes)) k 0 ≤ slot = leb-true (get_or (ends_after 0 (fields nodes)) k 0) slot (point.0 k 0 (omega arith) (omega (arith, is))) in
           omega (arith, passed, end_is k 0 inside)
+
       by : (place < length (fields nodes)) ⊎ (length (fields nodes) ≤ place) → Holds nodes slot place
       by (inr past) = absurd (omega (arith, less, from_start place refl, starts-all (fields nodes) place past, ap length (slots_of-list nodes)))
       by (inl inside) =

@@ -1,13 +1,15 @@
 -- The field that holds a slot, and what is inside it.
-use Rattle.std.proofs.Common.{◌≡◌, ◌⊎◌, inl, inr, ℕ, ◌+◌, ◌-◌, ◌<◌, ◌≤◌, zero, suc, List, [], ◌∷◌, length, map, get_or, max, Option, Some, None, refl, sym, ◌∙◌, ap, subst, arith, ◌++◌}
+use Rattle.std.proofs.Common.{◌≡◌, ◌⊎◌, inl, inr, ℕ, ◌+◌, ◌-◌, ◌<◌, ◌≤◌, zero, suc, List, [], ◌∷◌, length, map, get_or, Option, Some, None, refl, sym, ◌∙◌, ap, subst, arith, ◌++◌, append_assoc}
 use Rattle.std.specs.Prelude.{◌≢◌}
 use Rattle.std.specs.List.{slice_get}
 use Rattle.std.specs.Option.{option_map}
-use Rattle.std.proofs.lemmas.Option.{slice_get-get_or, slice_get_within}
+use Rattle.std.proofs.lemmas.Option.{slice_get-get_or, slice_get-map}
+use Rattle.std.proofs.lemmas.Bool.{cases_lt}
+use Rattle.std.proofs.lemmas.List.{length-map}
 use Rattle.bag_model.specs.Shapes as model
-use Rattle.bag_model.specs.Slots.{Slot as SlotAt, slots_of, slots_in, slot_count, starts, within}
-use Rattle.bag_model.specs.Tables.{is_name, IsShape, AreFields, levels, levels_under, nodes_under, node_count}
-use Rattle.bag_model.proofs.SlotLaws.{slots_list, slots_of-list, slot_there, starts-zero, length-slots}
+use Rattle.bag_model.specs.Slots.{Slot as SlotAt, slots_of, slots_in, slot_count, starts, within, dotted, name_path}
+use Rattle.bag_model.specs.Tables.{IsShape, levels, levels_under, nodes_under, node_count}
+use Rattle.bag_model.proofs.SlotLaws.{slots_list, slots_of-list, slot_there, starts-zero, length-slots, get_front, get_back}
 use Rattle.bag_model.proofs.PathLaws.{is_field}
 use Rattle.scalar_types.specs.KindViews.{kind_of}
 use Rattle.field_table.specs.declared.shapes.Shape.{Shape}
@@ -16,9 +18,9 @@ use Rattle.field_table.specs.declared.shapes.Slot.{Slot}
 use Rattle.field_table.specs.declared.shapes.Slots.{Slots}
 use Rattle.field_table.specs.declared.shapes.Shape.TheFolds.{fold-roll-Shape, fold_out-Slot, fold_out-Shape, map-Shape}
 use Rattle.field_table.specs.declared.shapes.Shape.TheOpen.{Shape-F}
-use Rattle.field_table.specs.declared.shapes.Shape.TheViews.{out-Slots, out-Slot, out-Shape, roll-Shape, roll-out-Shape}
-use Rattle.field_table.specs.Kept.{Kept, KeptField, KeptBag, Bag, plain, ends_of, ends_after, start_at, Holds, IsReady, IsKept, IsKeptBag}
-use Rattle.field_table.specs.Plain.{shape_step, slot_step, slots_step, kept_shape, kept_field, kept_bag, field_of, shape_of, nodes_of, IsIndexed, IsIndexedField}
+use Rattle.field_table.specs.declared.shapes.Shape.TheViews.{out-Slots, out-Shape, roll-Shape, roll-out-Shape}
+use Rattle.field_table.specs.Kept.{Kept, KeptField, KeptBag, Bag, plain, ends_of, start_at, Holds, IsReady, IsKept}
+use Rattle.field_table.specs.Plain.{shape_step, slot_step, slots_step, kept_shape, kept_field, kept_bag, field_of, shape_of, nodes_of}
 use Rattle.field_table.proofs.Ends.{before_is, length-ends}
 use Rattle.field_table.proofs.Opened.{get_field, length_fields, has_indexes, open_ends}
 
@@ -126,8 +128,10 @@ no_bag shape h nodes is = by (out-Shape shape) refl
   where
     seen : kept_shape shape ≡ shape_step (map-Shape Shape Slot Slots Kept KeptField KeptBag kept_shape kept_field kept_bag (out-Shape shape))
     seen = fold_out-Shape Kept KeptField KeptBag shape_step slot_step slots_step shape
+
     plainly : (o : Shape-F Shape Slot Slots) → out-Shape shape ≡ o → plain (shape_step (map-Shape Shape Slot Slots Kept KeptField KeptBag kept_shape kept_field kept_bag o)) ≡ model.Shape.Bag nodes
     plainly o e = subst (λ (p : Shape-F Shape Slot Slots). plain (shape_step (map-Shape Shape Slot Slots Kept KeptField KeptBag kept_shape kept_field kept_bag p)) ≡ model.Shape.Bag nodes) e (ap plain (sym seen) ∙ is)
+
     by : (o : Shape-F Shape Slot Slots) → out-Shape shape ≡ o → ⊥
     by (Shape-F.Bag inner) e = h inner (sym (roll-out-Shape shape) ∙ (ap roll-Shape e ∙ variants.rolls-Bag inner))
     by Shape-F.Taint e = let bad : model.Shape.Taint ≡ model.Shape.Bag nodes = plainly Shape-F.Taint e in cc bad
@@ -148,3 +152,79 @@ pub inner_fewer : (s : Slots) (place : ℕ) (x : Slot) (inner : Slots) → slice
 inner_fewer s place x inner at is =
     let plain_is : shape_of x.shape ≡ model.Shape.Bag (nodes_of inner) = ap shape_of is ∙ ap plain (shape_bag inner) in
     subst (λ (shape : model.Shape). nodes_under shape < node_count (nodes_of s)) plain_is (fewer (nodes_of s) place (record { name = x.name; number = x.number; shape = shape_of x.shape }) (item_field s place x at))
+
+pub levels_there : (nodes : model.Nodes) (i : ℕ) (f : model.Field) → slice_get (model.fields nodes) i ≡ Some f → 1 + levels_under f.shape ≤ levels nodes
+levels_there model.Nodes.no_node i f at = absurd (cc at)
+levels_there (model.Nodes.node name number shape nodes) zero f at =
+    let same : record { name = name; number = number; shape = shape } ≡ f = cc at in
+    subst (λ (g : model.Field). 1 + levels_under g.shape ≤ levels (model.Nodes.node name number shape nodes)) same (omega arith)
+levels_there (model.Nodes.node name number shape nodes) (suc i) f at = omega (arith, levels_there nodes i f at)
+
+pub some_level : (s : Slots) (slot place : ℕ) (x : Slot) → IsHeld s slot place x → 1 ≤ levels (nodes_of s)
+some_level s slot place x h = omega (arith, levels_there (nodes_of s) place (record { name = x.name; number = x.number; shape = shape_of x.shape }) (item_field s place x h.at))
+
+-- A slot in a bag inside: it is one of that bag, which is smaller and as ready.
+pub record IsHeldInside (s : Slots) (slot before : ℕ) (x : Slot) (inner : Slots) : Type 0 where
+  pub fewer_nodes : node_count (nodes_of inner) < node_count (nodes_of s)
+  pub ready : IsReady (kept_bag inner)
+  pub less : slot - before < length (slots_of (nodes_of inner))
+  pub found : slice_get (slots_of (nodes_of s)) slot ≡ option_map (within x.name x.number) (slice_get (slots_of (nodes_of inner)) (slot - before))
+  pub deeper : 1 + levels (nodes_of inner) ≤ levels (nodes_of s)
+
+pub held_inside : (s : Slots) (slot place before : ℕ) (x : Slot) (inner : Slots) → IsReady (kept_bag s) → Holds (nodes_of s) slot place → x ≡ get_or (out-Slots s).items.items place x
+    → before ≡ start_at (ends_of (kept_bag s)) place → x.shape ≡ variants.Bag inner → IsHeldInside s slot before x inner
+held_inside s slot place before x inner ready holds at starts_at is =
+    let h = held s slot place x holds at in
+    let here : before ≡ starts (model.fields (nodes_of s)) place = starts_at ∙ start_is s place ready (omega (arith, holds.within)) in
+    let plain_is : shape_of x.shape ≡ model.Shape.Bag (nodes_of inner) = ap shape_of is ∙ ap plain (shape_bag inner) in
+    let field : model.Field = record { name = x.name; number = x.number; shape = shape_of x.shape } in
+    record {
+      fewer_nodes = inner_fewer s place x inner h.at is;
+      ready = inner_ready s place x inner ready h.at is;
+      less =
+          subst (λ (n : ℕ). slot - n < length (slots_of (nodes_of inner))) (sym here)
+          (subst (λ (shape : model.Shape). slot - starts (model.fields (nodes_of s)) place < slot_count shape) plain_is h.inside);
+      found =
+          h.found
+          ∙ ap (option_map (within x.name x.number)) (ap (λ shape. slice_get (slots_in shape) (slot - starts (model.fields (nodes_of s)) place)) plain_is ∙ ap (slice_get (slots_of (nodes_of inner))) (ap (λ n. slot - n) (sym here)));
+      deeper = subst (λ (shape : model.Shape). 1 + levels_under shape ≤ levels (nodes_of s)) plain_is (levels_there (nodes_of s) place field (item_field s place x h.at));
+    }
+
+pub numbers_within : (front : List ℕ) (name : List ℕ) (number : ℕ) (slot : Option SlotAt)
+    → option_map (λ (found : SlotAt). (front ++ number ∷ []) ++ found.numbers) slot ≡ option_map (λ (found : SlotAt). front ++ found.numbers) (option_map (within name number) slot)
+numbers_within front name number None = refl
+numbers_within front name number (Some slot) = ap Some (append_assoc front (number ∷ []) slot.numbers)
+
+-- The names of a slot in a bag aren't empty.
+named : (fs : List model.Field) (i : ℕ) (slot : SlotAt) → slice_get (slots_list fs) i ≡ Some slot → (name : List ℕ) × (names : List (List ℕ)) × (slot.names ≡ name ∷ names)
+named [] i slot at = absurd (cc at)
+named (f ∷ fs) i slot at = by (cases_lt i (slot_count f.shape)) (λ k. named fs k slot)
+  where
+    inside : List SlotAt
+    inside = map (within f.name f.number) (slots_in f.shape)
+
+    long : length inside ≡ slot_count f.shape
+    long = length-map (slots_in f.shape) (within f.name f.number)
+
+    of_within : (o : Option SlotAt) → option_map (within f.name f.number) o ≡ Some slot → (name : List ℕ) × (names : List (List ℕ)) × (slot.names ≡ name ∷ names)
+    of_within None e = absurd (cc e)
+    of_within (Some own) e = let same : within f.name f.number own ≡ slot = cc e in (f.name, own.names, sym (ap (λ (t : SlotAt). t.names) same))
+
+    by : (i < slot_count f.shape) ⊎ (slot_count f.shape ≤ i) → ((k : ℕ) → slice_get (slots_list fs) k ≡ Some slot → (name : List ℕ) × (names : List (List ℕ)) × (slot.names ≡ name ∷ names))
+        → (name : List ℕ) × (names : List (List ℕ)) × (slot.names ≡ name ∷ names)
+    by (inl less) later = of_within (slice_get (slots_in f.shape) i) (sym (slice_get-map (within f.name f.number) (slots_in f.shape) i) ∙ (sym (get_front inside (slots_list fs) i (omega (arith, less, long))) ∙ at))
+    by (inr more) later = later (i - slot_count f.shape) (sym (get_back inside (slots_list fs) i (i - slot_count f.shape) (omega (arith, more, long))) ∙ at)
+
+-- The path of a slot in a bag inside is that of the bag, a dot, and the slot's own.
+pub path_within : (nodes : model.Nodes) (i : ℕ) (front name : List ℕ) (number : ℕ)
+    → option_map (λ (found : SlotAt). ((front ++ name) ++ 46 ∷ []) ++ name_path found) (slice_get (slots_of nodes) i)
+    ≡ option_map (λ (found : SlotAt). front ++ name_path found) (option_map (within name number) (slice_get (slots_of nodes) i))
+path_within nodes i front name number = by (slice_get (slots_of nodes) i) refl
+  where
+    by : (o : Option SlotAt) → slice_get (slots_of nodes) i ≡ o
+        → option_map (λ (found : SlotAt). ((front ++ name) ++ 46 ∷ []) ++ name_path found) o ≡ option_map (λ (found : SlotAt). front ++ name_path found) (option_map (within name number) o)
+    by None e = refl
+    by (Some slot) e =
+        let n = named (model.fields nodes) i slot (ap (λ l. slice_get l i) (sym (slots_of-list nodes)) ∙ e) in
+        let longer : dotted (name ∷ slot.names) ≡ name ++ 46 ∷ dotted slot.names = ap (λ l. dotted (name ∷ l)) n.2 ∙ ap (λ l. name ++ 46 ∷ dotted l) (sym n.2) in
+        ap Some (append_assoc (front ++ name) (46 ∷ []) (dotted slot.names) ∙ append_assoc front name (46 ∷ dotted slot.names) ∙ ap (λ l. front ++ l) (sym longer))

@@ -1,19 +1,19 @@
 -- What a value of the code is made of, as it is kept.
-use Rattle.std.proofs.Common.{◌≡◌, ℕ, zero, suc, List, [], ◌∷◌, length, map, Some, refl, sym, ◌∙◌, ap, subst}
-use Rattle.std.specs.List.{slice_get, slice_index}
+use Rattle.std.proofs.Common.{◌≡◌, ℕ, zero, suc, List, [], ◌∷◌, ◌++◌, length, map, Some, refl, sym, ◌∙◌, ap, subst}
+use Rattle.std.specs.List.{slice_get}
 use Rattle.std.specs.Option.{option_map}
 use Rattle.std.proofs.lemmas.List.{length-map}
 use Rattle.std.proofs.lemmas.Option.{slice_get-map}
 use Rattle.bag_model.specs.Shapes as model
 use Rattle.bag_model.specs.Slots.{slots_of}
 use Rattle.bag_model.proofs.SlotLaws.{slots_of-list}
-use Rattle.scalar_types.specs.KindViews.{kind_of}
 use Rattle.field_table.specs.declared.shapes.Shape.{Shape}
 use Rattle.field_table.specs.declared.shapes.Slot.{Slot}
 use Rattle.field_table.specs.declared.shapes.Slots.{Slots}
-use Rattle.field_table.specs.declared.shapes.Shape.TheFolds.{fold-Shape, fold-Slot, fold-Slots, fold_out-Slots, fold_out-Slot, fold_out-Shape}
-use Rattle.field_table.specs.declared.shapes.Shape.TheViews.{out-Slots, out-Slot, out-Shape}
-use Rattle.field_table.specs.Kept.{Kept, KeptField, KeptBag, KeptNodes, kept, kept_nodes, kept_list, kept_fields, ends_of, plain, plain_bag, plain_nodes, capped, start_at, name, ends_after, IsNameOrder, IsKeptBag, AreKept}
+use Rattle.field_table.specs.declared.shapes.Shape.TheFolds.{fold_out-Slots, fold_out-Slot}
+use Rattle.field_table.specs.declared.shapes.Shape.TheViews.{out-Slots, out-Slot, roll-Slots, out-roll-Slots}
+use Rattle.field_table.specs.declared.shapes.Shape.TheOpen.{Slots-F}
+use Rattle.field_table.specs.Kept.{Kept, KeptField, KeptBag, kept, kept_nodes, kept_list, ends_of, plain, plain_bag, plain_nodes, capped, start_at, name, ends_after, IsNameOrder, IsKeptBag, AreKept}
 use Rattle.field_table.proofs.Ends.{length-ends, last_end}
 use Rattle.field_table.specs.Plain.{shape_step, slot_step, slots_step, kept_shape, kept_field, kept_bag, field_of, nodes_of, name_of, IsIndexed, IsIndexedField}
 
@@ -87,7 +87,28 @@ pub count_is : (s : Slots) → IsIndexed s → start_at (ends_of (kept_bag s)) (
 count_is s h =
     let fs = model.fields (nodes_of s) in
     let counted : start_at (ends_after 0 fs) (length (ends_after 0 fs)) ≡ capped (length (slots_of (nodes_of s))) =
-        ap (start_at (ends_after 0 fs)) (length-ends 0 fs) ∙ (last_end fs ∙ ap capped (ap length (sym (slots_of-list (nodes_of s)))))
+    ap (start_at (ends_after 0 fs)) (length-ends 0 fs) ∙ (last_end fs ∙ ap capped (ap length (sym (slots_of-list (nodes_of s)))))
     in
     ap (λ ends. start_at ends (length (out-Slots s).ends.items)) (open_ends s)
     ∙ subst (λ (ends : List ℕ). start_at ends (length ends) ≡ capped (length (slots_of (nodes_of s)))) (sym (has_indexes s h).ends) counted
+
+all_kept : (items : List Slot) → ((i : ℕ) (slot : Slot) → slice_get items i ≡ Some slot → IsIndexedField slot) → AreKept (kept_nodes (map kept_field items))
+all_kept [] h = tt
+all_kept (x ∷ xs) h = (h 0 x refl, all_kept xs (λ i slot at. h (suc i) slot at))
+
+-- And the other way round.
+pub are_indexed : (s : Slots) → HasIndexes s → IsIndexed s
+are_indexed s h =
+    subst IsKeptBag (sym (open_bag s)) (
+      h.ends ∙ ap (ends_after 0) (sym (plain_again s)),
+      subst (λ (names : List (List ℕ)). IsNameOrder names (out-Slots s).by_name.items) (sym (ap (map name) (plain_again s) ∙ names_of-items s)) h.order,
+      all_kept (out-Slots s).items.items h.inside,
+    )
+
+-- The plain fields of a bag that is put together.
+pub fields_of-rolled : (r : Slots-F Shape Slot Slots) → model.fields (nodes_of (roll-Slots r)) ≡ map field_of r.items.items
+fields_of-rolled r = fields_of-items (roll-Slots r) ∙ ap (λ (o : Slots-F Shape Slot Slots). map field_of o.items.items) (out-roll-Slots r)
+
+pub map_push : {A B : Type 0} (f : A → B) (xs : List A) (x : A) → map f (xs ++ x ∷ []) ≡ map f xs ++ f x ∷ []
+map_push f [] x = refl
+map_push f (y ∷ ys) x = ap (λ l. f y ∷ l) (map_push f ys x)

@@ -1,16 +1,16 @@
 -- Names in order: what one comparison says of all places on its one side.
-use Rattle.std.proofs.Common.{◌≡◌, ◌⊎◌, inl, inr, ℕ, ◌+◌, ◌<◌, ◌≤◌, zero, suc, List, [], ◌∷◌, length, get_or, Option, Some, None, refl, sym, ◌∙◌, ap, subst, arith}
+use Rattle.std.proofs.Common.{◌≡◌, ◌⊎◌, inl, inr, ℕ, ◌+◌, ◌<◌, ◌≤◌, suc, List, [], ◌∷◌, length, get_or, Some, None, refl, sym, ◌∙◌, ap, subst, arith}
 use Rattle.std.specs.Prelude.{◌≢◌}
-use Rattle.std.specs.Cmp.{IsTotalOrder, tied_itself, alike_right}
+use Rattle.std.specs.Cmp.{tied_itself}
 use Rattle.std.specs.Cmp.Lexicographic.{slice_cmp}
 use Rattle.std.specs.List.{slice_get, slice_index}
-use Rattle.std.specs.Ordering.{nat_cmp, ordering_reverse}
+use Rattle.std.specs.Ordering.{nat_cmp}
 use Rattle.std.specs.declared.cmp.Ordering.{Ordering}
 use Rattle.std.specs.declared.cmp.Ordering.TheVariants.{Less, Equal, Greater}
 use Rattle.std.proofs.lemmas.Bool.{cases_lt}
 use Rattle.std.proofs.lemmas.Cmp.{nat_list_cmp_total}
 use Rattle.std.proofs.lemmas.Map.Lookups.{exact_bytes}
-use Rattle.std.proofs.lemmas.Option.{slice_get_within, slice_get-get_or, get_or_from_slice_get}
+use Rattle.std.proofs.lemmas.Option.{slice_get_within, get_or_from_slice_get}
 use Rattle.context_model.specs.Orders.{IsIn}
 use Rattle.field_table.specs.Kept.{IsNameOrder, IsRank, IsPlaceOf}
 
@@ -83,6 +83,7 @@ none_there names places name rank order found within other place at =
   where
     tie : name_cmp name name ≡ Equal
     tie = tied_itself nat_list_cmp_total name
+
     by : (r : (k : ℕ) × (k < length places) × (ranked names places k ≡ name)) → (r.0 < rank) ⊎ (rank ≤ r.0) → ⊥
     by r (inl less) = let l : name_cmp name name ≡ Less = subst (λ (n : List ℕ). name_cmp n name ≡ Less) r.2 (found.before r.0 less) in cc (tie, l)
     by r (inr more) = at_rank (name_cmp (ranked names places rank) name) refl

@@ -2,11 +2,13 @@
 #![tactic(auto)]
 
 mod shapes;
+mod sharing;
 mod slot_paths;
 mod tables;
 mod views;
 
 pub use shapes::{Shape, Slot, Slots};
+pub use sharing::{cross_threads, views_cross_threads};
 pub use slot_paths::SlotPath;
 pub use tables::Table;
 pub use views::{SlotSet, View};

@@ -1,13 +1,13 @@
 //! Fields, their shapes, and the fields of a bag with indexes over them.
 
-ghost use Rattle.std.specs.Prelude.{◌≡◌, ◌≢◌, ◌<◌, ◌≤◌, ◌+◌, ◌-◌, ◌↔◌, ◌++◌, [], ◌∷◌, length, map, get_or, IsTrue, OnOk, OnErr, Some, string_bytes};
-ghost use Rattle.std.specs.List.{slice_get};
+ghost use Rattle.std.specs.Prelude.{◌≡◌, ◌≢◌, ◌<◌, ◌≤◌, ◌+◌, ◌-◌, ◌↔◌, ◌++◌, [], ◌∷◌, length, map, get_or, IsTrue, OnOk, OnErr, Some, IfSome, string_bytes};
+ghost use Rattle.std.specs.List.{slice_get, insert};
 ghost use Rattle.std.specs.Option.{option_map};
 ghost use Rattle.std.specs.Cmp.Lexicographic.{slice_cmp};
 ghost use Rattle.std.specs.Ordering.{nat_cmp};
 ghost use Rattle.std.specs.declared.cmp.Ordering.TheVariants.{Less};
 ghost use Rattle.bag_model.specs.Shapes.{fields, no_node};
-ghost use Rattle.bag_model.specs.Slots.{slots_of, slot_count, name_path, FindsField};
+ghost use Rattle.bag_model.specs.Slots.{slots_of, slot_count, name_path, FindsField, IsOnly, IsSplit, HasNoDot};
 ghost use Rattle.bag_model.specs.Tables.{levels};
 ghost use Rattle.field_table.specs.Kept.{capped, ends_of, IsKept, IsNameOrder, IsPlaceOf, IsRank, IsReady, Holds, start_at};
 ghost use Rattle.field_table.specs.Plain.{shape_of, kept_shape, name_of, field_of, nodes_of, kept_bag, IsIndexed, IsIndexedField};
@@ -74,7 +74,7 @@ impl Slots {
 
     /// Whether there is no field.
     pub fn is_empty(&self) -> bool
-        ensures { IsTrue result ↔ (nodes_of self.now ≡ no_node) }
+        ensures { IsTrue result ↔ (length (fields (nodes_of self.now)) ≡ 0) }
     {
         self.items.is_empty()
     }
@@ -97,16 +97,16 @@ impl Slots {
         ensures err { OnErr result (nodes_of self.new ≡ nodes_of self.old) }
         ensures indexed { IsIndexed self.old → IsIndexedField item → IsIndexed self.new }
     {
-        self.items.reserve(1)?;
-        self.ends.reserve(1)?;
-        self.by_name.reserve(1)?;
-        let place = self.items.len();
         let rank = rank_of(&self.items, &self.by_name, item.name.as_str().as_bytes());
         let end = self.slot_count().saturating_add(item.shape.slot_count());
-        self.by_name.insert(rank, place).unwrap();
-        self.ends.push(end).unwrap();
-        self.items.push(item).unwrap();
-        Ok(())
+        add_field(
+            &mut self.items,
+            &mut self.ends,
+            &mut self.by_name,
+            item,
+            end,
+            rank,
+        )
     }
 
     /// How many slots there are.
@@ -127,24 +127,23 @@ impl Slots {
     /// The field with this name path, and how many slots there are before it. Fields of bags are looked for in the bags.
     #[cycle(find)]
     pub(crate) fn find(&self, path: &str) -> Option<(usize, &Shape)>
-        requires { IsReady (kept_bag self.now) }
-        ensures { FindsField (nodes_of self.now) path.now (option_map (λ found. (found.0, shape_of found.1.now)) result) }
+        requires ready { IsReady (kept_bag self.now) }
+        ensures found { FindsField (nodes_of self.now) path.now (option_map (λ found. (found.0, shape_of found.1.now)) result) }
+        ensures only { IfSome result (λ found. IsOnly (nodes_of self.now) path.now (found.0, shape_of found.1.now)) }
+        ensures kept { IfSome result (λ found. IsKept (kept_shape found.1.now)) }
     {
-        match path.split_once('.') {
-            None => {
-                let place = place_of(&self.items, &self.by_name, path.as_bytes())?;
-                Some((self.slots_before(place), &self.items[place].shape))
-            }
-            Some((name, rest)) => {
-                let place = place_of(&self.items, &self.by_name, name.as_bytes())?;
-                let before = self.slots_before(place);
-                if let Shape::Bag(inner) = &self.items[place].shape {
-                    let (behind, shape) = inner.find(rest)?;
-                    Some((before + behind, shape))
-                } else {
-                    None
-                }
-            }
+        let (name, rest) = split_name(path);
+        let place = place_of(&self.items, &self.by_name, name.as_bytes())?;
+        let before = self.slots_before(place);
+        let shape = &self.items[place].shape;
+        let Some(rest) = rest else {
+            return Some((before, shape));
+        };
+        if let Shape::Bag(inner) = shape {
+            let (behind, shape) = inner.find(rest)?;
+            Some((before + behind, shape))
+        } else {
+            None
         }
     }
 
@@ -226,6 +225,30 @@ impl Shape {
     }
 }
 
+/// Adds a field, its end, and its place at this rank. All room is taken first, so want of memory leaves all as it was.
+fn add_field(
+    items: &mut Vec<Slot>,
+    ends: &mut Vec<usize>,
+    by_name: &mut Vec<usize>,
+    item: Slot,
+    end: usize,
+    rank: usize,
+) -> Result<(), Memory>
+    requires rank { rank ≤ length by_name.old.items }
+    ensures items { OnOk result (items.new.items ≡ items.old.items ++ item ∷ []) }
+    ensures ends { OnOk result (ends.new.items ≡ ends.old.items ++ end ∷ []) }
+    ensures places { OnOk result (by_name.new.items ≡ insert by_name.old.items rank (length items.old.items)) }
+    ensures err { OnErr result ((items.new.items ≡ items.old.items) × (ends.new.items ≡ ends.old.items) × (by_name.new.items ≡ by_name.old.items)) }
+{
+    items.reserve(1)?;
+    ends.reserve(1)?;
+    by_name.reserve(1)?;
+    by_name.insert(rank, items.len()).unwrap();
+    ends.push(end).unwrap();
+    items.push(item).unwrap();
+    Ok(())
+}
+
 /// How many of the places, in the order of the names there, have a lesser name.
 fn rank_of(items: &[Slot], by_name: &[usize], name: &[u8]) -> usize
     ensures bound { result ≤ length by_name.now }
@@ -273,4 +296,15 @@ fn is_named(items: &[Slot], place: usize, name: &[u8]) -> bool
     ensures { place < length items.now → IsTrue result ↔ (get_or (map name_of items.now) place [] ≡ name.now) }
 {
     place < items.len() && items[place].name.as_str().as_bytes() == name
+}
+
+/// The first name of a path, and the rest behind a dot.
+fn split_name(path: &str) -> (&str, Option<&str>)
+    ensures split { IsSplit path.now result.0.now (option_map (λ rest. rest.now) result.1) }
+    ensures name { HasNoDot result.0.now }
+{
+    match path.split_once('.') {
+        Some((name, rest)) => (name, Some(rest)),
+        None => (path, None),
+    }
 }

@@ -64,10 +64,11 @@ impl Table {
     pub fn find(&self, dotted: &str) -> Option<usize>
         ensures { FindsSlot self.now dotted.now result }
     {
-        match self.nodes.find(dotted) {
-            Some((_, Shape::Bag(_))) => None,
-            Some((slot, _)) => Some(slot),
-            None => None,
+        let (slot, shape) = self.nodes.find(dotted)?;
+        if let Shape::Bag(_) = shape {
+            None
+        } else {
+            Some(slot)
         }
     }
 

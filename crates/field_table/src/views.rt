@@ -81,7 +81,8 @@ impl SlotSet {
     fn contains(&self, slot: usize) -> bool
         ensures { IsTrue result ↔ IsIn slot self.now }
     {
-        self.slots.binary_search(&slot).is_ok()
+        let place = self.slots.partition_point(|held| *held < slot);
+        place < self.slots.len() && self.slots[place] == slot
     }
 }
 

@@ -2,7 +2,7 @@ use Rattle.std.proofs.Common.{drop, ◌+◌, ap, sym, ◌∙◌}
 use Rattle.std.specs.Option.{option_copied}
 use Rattle.bdl_parser.specs.Words.{or_else}
 use Rattle.bdl_check.specs.Layouts.{bag_named}
-use Rattle.bdl_check.proofs.Layouts.{bag_more}
+use Rattle.bdl_check.proofs.BagLaws.{bag_more}
 use Rattle.bdl_check.proofs.bags.find_bag.Goals as goal
 
 pub returns-in-Some : goal.returns-in-Some

@@ -1,9 +1,8 @@
-use Rattle.std.proofs.Common.{◌≡◌, ◌<◌, ◌+◌, ◌-◌, ◌/◌, ℕ, length, map, IsTrue, subst, arith}
+use Rattle.std.proofs.Common.{◌<◌, ◌+◌, ◌-◌, ◌/◌, ℕ, length, map, IsTrue, subst, arith}
 use Rattle.std.specs.List.{slice_index}
 use Rattle.std.proofs.lemmas.List.{length-map}
-use Rattle.field_table.specs.Kept.{IsNameOrder}
 use Rattle.field_table.specs.Plain.{name_of}
-use Rattle.field_table.proofs.Ranks.{ranked, less_before, not_less_behind}
+use Rattle.field_table.proofs.Ranks.{less_before, not_less_behind}
 use Rattle.field_table.proofs.shapes.rank_of.Goals as goal
 
 pub loop-low-preserved-then-is_before : goal.loop-low-preserved-then-is_before
@@ -34,6 +33,6 @@ loop-low-preserved c =
       behind = λ order.
           not_less_behind names places c.args.name.now middle order inside
           (λ less.
-              let yes : IsTrue c.is_before.result = (c.is_before.ensures (subst (λ (n : ℕ). slice_index places middle < n) (length-map c.args.items.now name_of) (order.below middle inside))).1 less in
-              cc (yes, c.if-is_before.false));
+          let yes : IsTrue c.is_before.result = (c.is_before.ensures (subst (λ (n : ℕ). slice_index places middle < n) (length-map c.args.items.now name_of) (order.below middle inside))).1 less in
+          cc (yes, c.if-is_before.false));
     }

@@ -13,8 +13,8 @@ decreases-loop-low l = l.high - l.low
 
 abbrev pub invariant-loop-low : goal.invariant-loop-low
 invariant-loop-low l = record {
-    ordered : l.low ≤ l.high;
-    within : l.high ≤ length l.by_name;
-    before : IsNameOrder (map name_of l.items) l.by_name → (k : ℕ) → k < l.low → slice_cmp nat_cmp (ranked (map name_of l.items) l.by_name k) l.name ≡ Less;
-    behind : IsNameOrder (map name_of l.items) l.by_name → (k : ℕ) → l.high ≤ k → k < length l.by_name → slice_cmp nat_cmp (ranked (map name_of l.items) l.by_name k) l.name ≢ Less;
-  }
+  ordered : l.low ≤ l.high;
+  within : l.high ≤ length l.by_name;
+  before : IsNameOrder (map name_of l.items) l.by_name → (k : ℕ) → k < l.low → slice_cmp nat_cmp (ranked (map name_of l.items) l.by_name k) l.name ≡ Less;
+  behind : IsNameOrder (map name_of l.items) l.by_name → (k : ℕ) → l.high ≤ k → k < length l.by_name → slice_cmp nat_cmp (ranked (map name_of l.items) l.by_name k) l.name ≢ Less;
+}

@@ -1,11 +1,11 @@
-use Rattle.std.proofs.Common.{rules, ◌≡◌, ℕ, ◌-◌, ◌<◌, ◌≤◌, length, Some, sym, ◌∙◌, ap, subst, arith}
+use Rattle.std.proofs.Common.{◌≡◌, ℕ, ◌-◌, ◌<◌, length, sym, ◌∙◌, ap, subst, arith}
 use Rattle.bag_model.specs.Shapes as model
 use Rattle.bag_model.specs.Slots.{starts, slots_of, slots_in, slot_count, within, Slot as SlotAt}
 use Rattle.field_table.specs.declared.shapes.Shape.TheViews.{out-Slots}
 use Rattle.std.specs.List.{slice_get}
 use Rattle.std.specs.Option.{option_map}
 use Rattle.field_table.specs.Kept.{plain}
-use Rattle.field_table.specs.Plain.{nodes_of, kept_bag, shape_of}
+use Rattle.field_table.specs.Plain.{nodes_of, shape_of}
 use Rattle.field_table.proofs.Opened.{length_fields}
 use Rattle.field_table.proofs.Held.{ends_are, start_is, held, held_own, inner_ready, inner_fewer, no_bag, shape_bag, shape_within}
 use Rattle.field_table.proofs.shapes.Slots.+shape_at.Goals as goal
@@ -32,7 +32,7 @@ shape_at-requires t c =
     let is = c.slots_before.ensures ∙ start_is s place c.requires.ready (omega (arith, c.place_holding-place.ensures.within)) in
     let plain_is : shape_of x.shape ≡ model.Shape.Bag (nodes_of inner) = ap shape_of c.in-Bag.is ∙ ap plain (shape_bag inner) in
     let less : c.args.slot - c.slots_before.result < length (slots_of (nodes_of inner)) =
-        subst (λ (n : ℕ). c.args.slot - n < length (slots_of (nodes_of inner))) (sym is) (subst (λ (shape : model.Shape). c.args.slot - starts (model.fields (nodes_of s)) place < slot_count shape) plain_is h.inside) in
+    subst (λ (n : ℕ). c.args.slot - n < length (slots_of (nodes_of inner))) (sym is) (subst (λ (shape : model.Shape). c.args.slot - starts (model.fields (nodes_of s)) place < slot_count shape) plain_is h.inside) in
     (omega (arith, c.decreases, inner_fewer s place x inner h.at c.in-Bag.is), (inner_ready s place x inner c.requires.ready h.at c.in-Bag.is, less))
 
 pub returns-in-Bag : goal.returns-in-Bag
@@ -45,7 +45,7 @@ returns-in-Bag t c =
     let is = c.slots_before.ensures ∙ start_is s place c.requires.ready (omega (arith, c.place_holding-place.ensures.within)) in
     let plain_is : shape_of x.shape ≡ model.Shape.Bag (nodes_of inner) = ap shape_of c.in-Bag.is ∙ ap plain (shape_bag inner) in
     c.shape_at.ensures ∙ sym (ap (option_map (λ (found : SlotAt). found.shape)) (h.found ∙ ap (option_map (within x.name x.number)) (ap (λ shape. slice_get (slots_in shape) (c.args.slot - starts (model.fields (nodes_of s)) place)) plain_is ∙ ap (slice_get (slots_of (nodes_of inner))) (ap (λ n. c.args.slot - n) (sym is))))
-        ∙ shape_within x.name x.number (slice_get (slots_of (nodes_of inner)) (c.args.slot - c.slots_before.result)))
+    ∙ shape_within x.name x.number (slice_get (slots_of (nodes_of inner)) (c.args.slot - c.slots_before.result)))
 
 pub returns-in_default : goal.returns-in_default
 returns-in_default t c =

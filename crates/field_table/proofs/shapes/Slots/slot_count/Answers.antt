@@ -1,4 +1,4 @@
-use Rattle.std.proofs.Common.{◌≡◌, ℕ, length, sym, ◌∙◌, ap, subst, arith}
+use Rattle.std.proofs.Common.{◌∙◌, ap, arith}
 use Rattle.field_table.specs.declared.shapes.Shape.TheViews.{out-Slots}
 use Rattle.field_table.specs.Kept.{ends_of, start_at}
 use Rattle.field_table.specs.Plain.{kept_bag}
