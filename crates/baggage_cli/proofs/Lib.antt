@@ -4,3 +4,4 @@ pub mod Lines
 pub mod Pairs
 pub mod Numbers
 pub mod Words
+pub mod Checks

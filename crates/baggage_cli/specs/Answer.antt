@@ -130,6 +130,6 @@ Answers words None scene answer =
 Answers words (Some command) scene answer =
     (outcome : Outcome) × Comes words command scene.library scene.source outcome × Delivers outcome scene.out scene.errs answer
 
--- A command gives one outcome for an input.
-abbrev pub GivesOne : (List ℕ → Outcome → Type 0) → Type 0
-GivesOne gives = (input : List ℕ) (a b : Outcome) → gives input a → gives input b → a ≡ b
+-- A command gives one outcome for an input, or for the files of a library.
+abbrev pub GivesOne : {A : Type 0} → (A → Outcome → Type 0) → Type 0
+GivesOne {A} gives = (input : A) (a b : Outcome) → gives input a → gives input b → a ≡ b

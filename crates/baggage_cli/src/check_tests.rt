@@ -3,9 +3,7 @@
 use crate::adapters::FileLibrary;
 use crate::tests::words_of;
 use crate::top::baggage_top;
-use outside::{
-    Library, LibraryFault, MemoryLibrary, MemorySink, MemorySource, Open, SureLibrary,
-};
+use outside::{Library, LibraryFault, MemoryLibrary, MemorySink, MemorySource, Open, SureLibrary};
 use std::alloc::Global;
 use std::fs;
 use std::process::Abort;
@@ -23,7 +21,12 @@ struct Row {
 }
 
 /// A check that counts slots.
-const fn counts(file: &'static str, source: &'static str, words: &'static str, line: &'static str) -> Row {
+const fn counts(
+    file: &'static str,
+    source: &'static str,
+    words: &'static str,
+    line: &'static str,
+) -> Row {
     Row {
         file,
         source,
@@ -34,7 +37,12 @@ const fn counts(file: &'static str, source: &'static str, words: &'static str, l
 }
 
 /// A check that finds a fault.
-const fn blames(file: &'static str, source: &'static str, words: &'static str, line: &'static str) -> Row {
+const fn blames(
+    file: &'static str,
+    source: &'static str,
+    words: &'static str,
+    line: &'static str,
+) -> Row {
     Row {
         file,
         source,
@@ -44,7 +52,8 @@ const fn blames(file: &'static str, source: &'static str, words: &'static str, l
     }
 }
 
-const REQUEST: &str = "bag Req { fixed32 id = 0; set<string> tags = 1; counter hops = 2; taint debug = 3; map<string, uint32> load = 4; }";
+const REQUEST: &str =
+    "bag Req { fixed32 id = 0; set<string> tags = 1; counter hops = 2; taint debug = 3; map<string, uint32> load = 4; }";
 
 /// Calls the program with a library and compares its answer. The source fails each read, since `check` reads none.
 fn answers<R: Abort + Threads + Sync, L: Library>(
@@ -93,20 +102,90 @@ fn checks_definitions(rt: HostRuntime) -> Result<(), Fail> {
     let rows = [
         counts("q.bdl", REQUEST, "check q.bdl Req", "ok 5\n"),
         counts("f.bdl", "bag B { }", "check f.bdl B", "ok 0\n"),
-        counts("f.bdl", "bag A { bool a = 1; } bag B { }", "check f.bdl A", "ok 1\n"),
-        counts("f.bdl", "bag A { bool a = 1; } bag B { }", "check f.bdl B", "ok 0\n"),
-        blames("q.bdl", REQUEST, "check q.bdl Nix", "definition q.bdl 1:1 NoSuchBag\n"),
-        blames("q.bdl", REQUEST, "check Req q.bdl", "definition Req 1:1 NoFile\n"),
-        blames("q.bdl", REQUEST, "check z.bdl Z", "definition z.bdl 1:1 NoFile\n"),
-        blames("d.bdl", "bag B { double x = 1; }", "check d.bdl B", "definition d.bdl 1:9 FloatingType\n"),
-        blames("f.bdl", "bag B { bool a = 65536; }", "check f.bdl B", "definition f.bdl 1:18 NumberRange\n"),
-        blames("f.bdl", "bag B {", "check f.bdl B", "definition f.bdl 1:7 Expected\n"),
-        blames("f.bdl", "bag B {\n  set<set<bool>> s = 0;\n}\n", "check f.bdl B", "definition f.bdl 2:7 BadKeyType\n"),
-        blames("f.bdl", "bag B { set<set<bool>> s = 0; }", "check f.bdl B", "definition f.bdl 1:13 BadKeyType\n"),
-        blames("f.bdl", "bag B { } bag B { }", "check f.bdl B", "definition f.bdl 1:15 DuplicateName\n"),
-        blames("f.bdl", "/* bag B { }", "check f.bdl B", "definition f.bdl 1:1 OpenComment\n"),
-        blames("f.bdl", "import \"q.bdl\";", "check f.bdl B", "definition f.bdl 1:1 NotYet\n"),
-        blames("f.bdl", "", "check f.bdl B", "definition f.bdl 1:1 NoSuchBag\n"),
+        counts(
+            "f.bdl",
+            "bag A { bool a = 1; } bag B { }",
+            "check f.bdl A",
+            "ok 1\n",
+        ),
+        counts(
+            "f.bdl",
+            "bag A { bool a = 1; } bag B { }",
+            "check f.bdl B",
+            "ok 0\n",
+        ),
+        blames(
+            "q.bdl",
+            REQUEST,
+            "check q.bdl Nix",
+            "definition q.bdl 1:1 NoSuchBag\n",
+        ),
+        blames(
+            "q.bdl",
+            REQUEST,
+            "check Req q.bdl",
+            "definition Req 1:1 NoFile\n",
+        ),
+        blames(
+            "q.bdl",
+            REQUEST,
+            "check z.bdl Z",
+            "definition z.bdl 1:1 NoFile\n",
+        ),
+        blames(
+            "d.bdl",
+            "bag B { double x = 1; }",
+            "check d.bdl B",
+            "definition d.bdl 1:9 FloatingType\n",
+        ),
+        blames(
+            "f.bdl",
+            "bag B { bool a = 65536; }",
+            "check f.bdl B",
+            "definition f.bdl 1:18 NumberRange\n",
+        ),
+        blames(
+            "f.bdl",
+            "bag B {",
+            "check f.bdl B",
+            "definition f.bdl 1:7 Expected\n",
+        ),
+        blames(
+            "f.bdl",
+            "bag B {\n  set<set<bool>> s = 0;\n}\n",
+            "check f.bdl B",
+            "definition f.bdl 2:7 BadKeyType\n",
+        ),
+        blames(
+            "f.bdl",
+            "bag B { set<set<bool>> s = 0; }",
+            "check f.bdl B",
+            "definition f.bdl 1:13 BadKeyType\n",
+        ),
+        blames(
+            "f.bdl",
+            "bag B { } bag B { }",
+            "check f.bdl B",
+            "definition f.bdl 1:15 DuplicateName\n",
+        ),
+        blames(
+            "f.bdl",
+            "/* bag B { }",
+            "check f.bdl B",
+            "definition f.bdl 1:1 OpenComment\n",
+        ),
+        blames(
+            "f.bdl",
+            "import \"q.bdl\";",
+            "check f.bdl B",
+            "definition f.bdl 1:1 NotYet\n",
+        ),
+        blames(
+            "f.bdl",
+            "",
+            "check f.bdl B",
+            "definition f.bdl 1:1 NoSuchBag\n",
+        ),
     ];
     for row in &rows {
         holds(&rt, alloc, *row)?;
@@ -163,7 +242,14 @@ fn checks_a_file_of_the_system(rt: HostRuntime) -> Result<(), Fail> {
     let missing = "definition z.bdl 1:1 NoFile\n";
     answers(&rt, alloc, &mut library, "check z.bdl Req", 1, missing)?;
     // A folder can't be read.
-    answers(&rt, alloc, &mut library, "check . Req", 4, "library failed\n")?;
+    answers(
+        &rt,
+        alloc,
+        &mut library,
+        "check . Req",
+        4,
+        "library failed\n",
+    )?;
 
     let long = vec![in alloc; b' '; 1_048_578]?;
     fs::write(&rt, "long.bdl", long.as_slice())?;

@@ -1,11 +1,11 @@
 //! The command that counts the slots of a bag of a definition.
 
-ghost use Rattle.std.specs.Prelude.{◌≡◌, Ok, Err, IfOk, IfErr, string_bytes};
+ghost use Rattle.std.specs.Prelude.{◌≡◌, ℕ, List, Ok, Err, IfOk, IfErr, string_bytes};
 ghost use Rattle.baggage_cli.specs.Scene.{change};
-ghost use Rattle.baggage_cli.specs.Answer.{ok_line, CheckGives, Compiles};
+ghost use Rattle.baggage_cli.specs.Answer.{ok_line, CheckGives, Compiles, GivesOne};
 
 use crate::refusals::Refusal;
-use bdl_check::compile;
+use bdl_check::{compile, laws};
 use outside::{Library, Memory};
 use std::alloc::Global;
 
@@ -28,4 +28,13 @@ pub fn check_bag<L: Library>(
 {
     let table = compile(library, alloc, file, bag)?;
     Ok(ok_line(alloc, table.slots())?)
+}
+
+/// Checking gives one outcome for the files of a library.
+pub fn check_gives_one()
+    ensures { (file bag : List ℕ) → GivesOne (CheckGives file bag) }
+{
+    laws::tables_are_unique();
+    laws::tables_exclude_faults();
+    laws::faults_are_unique();
 }

@@ -113,15 +113,15 @@ one_order (x ∷ xs) [] rx ry there back = absurd (let none = there x (is_in_fro
 one_order (x ∷ xs) (y ∷ ys) rx ry there back =
     let same = same_first x y xs ys rx ry (there x (is_in_front x xs)) (back y (is_in_front y ys)) in
     let rest = one_order xs ys rx.1 ry.1
-      (rest_within x xs ys rx (λ z is. subst (λ (w : BagFieldTree). Contains (w ∷ ys) z) (sym same) (there z is)))
-      (rest_within y ys xs ry (λ z is. subst (λ (w : BagFieldTree). Contains (w ∷ xs) z) same (back z is))) in
+    (rest_within x xs ys rx (λ z is. subst (λ (w : BagFieldTree). Contains (w ∷ ys) z) (sym same) (there z is)))
+    (rest_within y ys xs ry (λ z is. subst (λ (w : BagFieldTree). Contains (w ∷ xs) z) same (back z is))) in
     cc (same, rest)
 
 one_sorted : (list xs ys : List BagFieldTree) → IsPermutation list xs → IsPermutation list ys → IsStrictlyIncreasing (numbers xs) → IsStrictlyIncreasing (numbers ys) → xs ≡ ys
 one_sorted list xs ys px py rx ry =
     one_order xs ys (rises xs (AllPairs-from_increasing (numbers xs) rx)) (rises ys (AllPairs-from_increasing (numbers ys) ry))
-      (λ z there. Contains-permutation list ys z py (Contains-permutation xs list z (IsPermutation-sym list xs px) there))
-      (λ z there. Contains-permutation list xs z px (Contains-permutation ys list z (IsPermutation-sym list ys py) there))
+    (λ z there. Contains-permutation list ys z py (Contains-permutation xs list z (IsPermutation-sym list xs px) there))
+    (λ z there. Contains-permutation list xs z px (Contains-permutation ys list z (IsPermutation-sym list ys py) there))
 
 -- ---- layouts
 
@@ -199,11 +199,11 @@ one_stage tokens_one modules_one source name s t a b =
 
 later_stage : (source name : List ℕ) (f : Fault) → IsNotYet source f → Staged source name (later f.at)
 later_stage source name f n = record {
-    tokens = n.tokens;
-    file = n.file;
-    read = n.read;
-    is = ap (λ spot. stage spot (plain_faults n.file.decls) (bag_named name n.file.decls)) n.first;
-  }
+  tokens = n.tokens;
+  file = n.file;
+  read = n.read;
+  is = ap (λ spot. stage spot (plain_faults n.file.decls) (bag_named name n.file.decls)) n.first;
+}
 
 first_stage : (faults : List Fault) (bag : Option BagTree) (f : Fault) → first_of faults ≡ Some f → stage_of_faults faults bag ≡ plain f
 first_stage [] bag f e = absurd (cc e)
@@ -211,19 +211,19 @@ first_stage (one ∷ more) bag f e = let same : one ≡ f = cc e in ap plain sam
 
 plain_stage : (source name : List ℕ) (f : Fault) → IsPlain source f → Staged source name (plain f)
 plain_stage source name f p = record {
-    tokens = p.known.tokens;
-    file = p.file;
-    read = p.known.read;
-    is = ap (λ spot. stage spot (plain_faults p.file.decls) (bag_named name p.file.decls)) p.known.none ∙ first_stage (plain_faults p.file.decls) (bag_named name p.file.decls) f p.first;
-  }
+  tokens = p.known.tokens;
+  file = p.file;
+  read = p.known.read;
+  is = ap (λ spot. stage spot (plain_faults p.file.decls) (bag_named name p.file.decls)) p.known.none ∙ first_stage (plain_faults p.file.decls) (bag_named name p.file.decls) f p.first;
+}
 
 bag_stage : (source name : List ℕ) (file : Module) (bag : Option BagTree) → IsSound source file → bag_named name file.decls ≡ bag → Staged source name (stage_of_bag bag)
 bag_stage source name file bag s e = record {
-    tokens = s.known.tokens;
-    file = file;
-    read = s.known.read;
-    is = ap (λ spot. stage spot (plain_faults file.decls) (bag_named name file.decls)) s.known.none ∙ ap (λ faults. stage_of_faults faults (bag_named name file.decls)) s.none ∙ ap stage_of_bag e;
-  }
+  tokens = s.known.tokens;
+  file = file;
+  read = s.known.read;
+  is = ap (λ spot. stage spot (plain_faults file.decls) (bag_named name file.decls)) s.known.none ∙ ap (λ faults. stage_of_faults faults (bag_named name file.decls)) s.none ∙ ap stage_of_bag e;
+}
 
 chosen_stage : (source name : List ℕ) (bag : BagTree) → Chooses source name bag → Staged source name (chosen bag)
 chosen_stage source name bag c = bag_stage source name c.file (Some bag) c.sound c.chosen
@@ -347,6 +347,6 @@ faults_one tokens_one no_tokens lexical_one modules_one no_module syntactic_one 
   | inr has ↦ elim (found_stage source name g b) [
     | inl other ↦ absurd (read_excludes tokens_one no_tokens no_module source has.staged.tokens has.staged.file g has.staged.read other)
     | inr second ↦ let same = one_stage tokens_one modules_one source name has.reached second.reached has.staged second.staged in
-      fault_of_one second.reached f g (subst (λ s. FaultOf s f) same has.says) second.says
+        fault_of_one second.reached f g (subst (λ s. FaultOf s f) same has.says) second.says
   ]
 ]
