@@ -11,7 +11,7 @@ use Rattle.wire_bytes.specs.Codes.{byte_code_of}
 use Rattle.baggage_cli.specs.declared.refusals.InputCode.{InputCode}
 use Rattle.baggage_cli.specs.declared.refusals.InputCode.TheVariants.{TooLong, NoLine, Form, TooManyLines, HexTooLong, BadHex}
 use Rattle.baggage_cli.specs.declared.refusals.Refusal.{Refusal}
-use Rattle.baggage_cli.specs.declared.refusals.Refusal.TheVariants.{Input, Context, SourceFailed, Memory}
+use Rattle.baggage_cli.specs.declared.refusals.Refusal.TheVariants.{Input, Context, Definition, LibraryFailed, SourceFailed, Memory}
 use Rattle.baggage_cli.specs.HexLine.{IsHexOf}
 use Rattle.baggage_cli.specs.InputLines.{Line}
 use Rattle.baggage_cli.specs.ReadLines.{Wanted, IsListOf, IsFirstFault, Says, IsNoHex, IsBad, AllSay, IsFirstBad}
@@ -96,6 +96,8 @@ bad_says : (wanted : Wanted) (line : Line) (refusal : Refusal) (list : List Atom
 bad_says wanted line (Input number code) list bad (bytes, hex, is) = no_hex_says code line.1 bytes bad.1 hex
 bad_says wanted line (Context number offset code) list (number_is, (bytes, hex, fault)) (bytes', hex', is) =
     never_both wanted bytes list offset (byte_code_of code) (subst (IsListOf wanted list) (same_bytes line.1 bytes' bytes hex' hex) is) fault
+bad_says wanted line (Definition file row column code) list bad says = absurd bad
+bad_says wanted line LibraryFailed list bad says = absurd bad
 bad_says wanted line SourceFailed list bad says = absurd bad
 bad_says wanted line Memory list bad says = absurd bad
 
@@ -113,10 +115,16 @@ one_bad wanted line (Context m i c) (Context n j d) (m_is, (bytes, hex, fault)) 
     let offset : i ≡ j = at.0 in
     let code : c ≡ d = code_cancel c d at.1 in
     cc (number, offset, code)
+one_bad wanted line (Definition file row column code) s f g = absurd f
+one_bad wanted line LibraryFailed s f g = absurd f
 one_bad wanted line SourceFailed s f g = absurd f
 one_bad wanted line Memory s f g = absurd f
+one_bad wanted line (Input m c) (Definition file row column code) f g = absurd g
+one_bad wanted line (Input m c) LibraryFailed f g = absurd g
 one_bad wanted line (Input m c) SourceFailed f g = absurd g
 one_bad wanted line (Input m c) Memory f g = absurd g
+one_bad wanted line (Context m i c) (Definition file row column code) f g = absurd g
+one_bad wanted line (Context m i c) LibraryFailed f g = absurd g
 one_bad wanted line (Context m i c) SourceFailed f g = absurd g
 one_bad wanted line (Context m i c) Memory f g = absurd g
 

@@ -1,5 +1,5 @@
 -- What follows from what a command may come to, and from how that is delivered.
-use Rattle.std.proofs.Common.{◌≡◌, ◌⊎◌, inl, inr, ℕ, List, [], ◌∷◌, ◌++◌, length, Option, Some, Ok, Err, refl, sym, ◌∙◌, ap, subst, length-append, arith}
+use Rattle.std.proofs.Common.{◌≡◌, ◌⊎◌, inl, inr, ℕ, ◌≤◌, List, [], ◌∷◌, ◌++◌, length, Option, Some, None, Ok, Err, refl, sym, ◌∙◌, ap, subst, length-append, arith}
 use Rattle.std.specs.List.{AllByRecursion}
 use Rattle.context_model.specs.Atoms.{Atom}
 use Rattle.context_model.specs.Framing.{bytes_of}
@@ -7,18 +7,26 @@ use Rattle.context_model.specs.Trimmed.{trimmed}
 use Rattle.context_model.specs.Merged.{IsMerged}
 use Rattle.context_model.specs.WellFormed.{IsWellFormed}
 use Rattle.context_model.proofs.MergedLaws.{has_one_merge}
+use Rattle.bag_model.specs.Shapes.{Nodes}
+use Rattle.bag_model.specs.Slots.{slots_of}
+use Rattle.bdl_check.specs.declared.faults.DefCode.{DefCode}
+use Rattle.bdl_check.specs.declared.faults.Fault.{Fault}
+use Rattle.bdl_check.specs.Faults.{fault}
+use Rattle.bdl_check.specs.Tables.{IsTableIn, IsFirstFaultOf}
+use Rattle.baggage_cli.specs.Asked.{file_word, bag_word}
 use Rattle.baggage_cli.specs.declared.commands.Command.{Command}
-use Rattle.baggage_cli.specs.declared.commands.Command.TheVariants.{Trim, Merge}
-use Rattle.baggage_cli.specs.declared.refusals.InputCode.TheVariants.{Form, TooManyLines}
+use Rattle.baggage_cli.specs.declared.commands.Command.TheVariants.{Trim, Merge, Check}
+use Rattle.baggage_cli.specs.declared.refusals.InputCode.{InputCode}
+use Rattle.baggage_cli.specs.declared.refusals.InputCode.TheVariants.{TooLong, Form, TooManyLines}
 use Rattle.baggage_cli.specs.declared.refusals.Refusal.{Refusal}
-use Rattle.baggage_cli.specs.declared.refusals.Refusal.TheVariants.{Input, Context, SourceFailed, Memory}
+use Rattle.baggage_cli.specs.declared.refusals.Refusal.TheVariants.{Input, Context, Definition, LibraryFailed, SourceFailed, Memory}
 use Rattle.baggage_cli.specs.HexLine.{hex_line}
 use Rattle.baggage_cli.specs.InputLines.{Line, lines_of}
-use Rattle.baggage_cli.specs.ReadLines.{Wanted, AllSay, SaysLists}
+use Rattle.baggage_cli.specs.ReadLines.{Wanted, AllSay, IsBad, IsFirstBad, SaysLists}
 use Rattle.baggage_cli.specs.ReadLines.Wanted.{AnyList, OnlyContext}
 use Rattle.baggage_cli.specs.Scene.{Change, Scene, HasFailed, Takes}
-use Rattle.baggage_cli.specs.Refused.{status_of}
-use Rattle.baggage_cli.specs.Answer.{Outcome, IsTooLong, Within, RefusesOne, TrimsLines, MergesLines, TrimGives, MergeGives, Accepts, GivesOne, Reads, Comes, Delivers, Answers}
+use Rattle.baggage_cli.specs.Refused.{status_of, line_of}
+use Rattle.baggage_cli.specs.Answer.{Outcome, Holding, ok_line, CheckGives, Compiles, IsTooLong, Within, RefusesOne, TrimsLines, MergesLines, TrimGives, MergeGives, Accepts, GivesOne, Reads, Comes, Tells, Delivers, Answers}
 use Rattle.baggage_cli.proofs.FirstBad.{all_say-length, all_say_one, first_bad_one, all_good}
 
 -- ---- one outcome
@@ -79,11 +87,14 @@ pub memory_instead : (words : List (List ℕ)) (command : Command) (library : Ch
     → Comes words command library source (Err refusal) → Comes words command library source (Err Memory)
 memory_instead words (Trim budget) library source refusal comes = (comes.0, inl refl)
 memory_instead words Merge library source refusal comes = (comes.0, inl refl)
+memory_instead words Check library source refusal comes = (comes.0, inl refl)
 
 -- No refusal has the status of success.
 status_some : (refusal : Refusal) → status_of refusal ≡ 0 → ⊥
 status_some (Input line code) e = omega arith
 status_some (Context line offset code) e = omega arith
+status_some (Definition file line column code) e = omega arith
+status_some LibraryFailed e = omega arith
 status_some SourceFailed e = omega arith
 status_some Memory e = omega arith
 
@@ -128,6 +139,149 @@ merge_appends words input lists merged scene answer (outcome, comes, delivers) h
         let same : others ≡ lists = all_say_one OnlyContext (lines_of input) others lists says' says.1 in
         output_is ∙ ap (λ list. hex_line (bytes_of list)) (has_one_merge lists other merged (subst (λ ls. IsMerged ls other) same is') is)
 
+-- ---- definitions
+
+-- What a definition comes to is given for the files that the library tells, but for want of memory and a library that failed.
+compiled : (gives : Holding → Outcome → Type 0) (library : Change Holding) (held : Holding) (output : List ℕ) → library.before ≡ Some held → Compiles gives library (Ok output) → gives held (Ok output)
+compiled gives library held output is (inl e) = absurd (cc e)
+compiled gives library held output is (inr (inl failed)) = absurd (cc (failed.0))
+compiled gives library held output is (inr (inr (form, gave))) = rw is at gave
+
+-- Where the call checks a definition and answers 0, the line of its table's slots was appended to its output.
+pub check_appends : (words : List (List ℕ)) (command : Option Command) (held : Holding) (scene : Scene) (answer : ℕ)
+    → Answers words command scene answer → command ≡ Some Check → scene.library.before ≡ Some held → answer ≡ 0
+    → (table : Nodes) × IsTableIn (held (file_word words)) (bag_word words) table × Takes scene.out (ok_line (length (slots_of table)))
+check_appends words command held scene answer answers is told zero_is = by (subst (λ command. Answers words command scene answer) is answers)
+  where
+    by : Answers words (Some Check) scene answer → (table : Nodes) × IsTableIn (held (file_word words)) (bag_word words) table × Takes scene.out (ok_line (length (slots_of table)))
+    by (outcome, comes, delivers) =
+        let out = delivered outcome scene.out scene.errs answer delivers zero_is in
+        let gave : CheckGives (file_word words) (bag_word words) held (Ok out.0) =
+        compiled (CheckGives (file_word words) (bag_word words)) scene.library held out.0 told (subst (Compiles (CheckGives (file_word words) (bag_word words)) scene.library) out.1 comes.1) in
+        (gave.0, gave.1, subst (Takes scene.out) gave.2 out.2)
+
+-- A refusal of a line or of the whole input.
+abbrev OfInput : Refusal → Type 0
+OfInput (Input line code) = Unit {0}
+OfInput (Context line offset code) = Unit {0}
+OfInput refusal = ⊥
+
+bad_of_input : (wanted : Wanted) (line : Line) (refusal : Refusal) → IsBad wanted line refusal → OfInput refusal
+bad_of_input wanted line (Input number code) bad = tt
+bad_of_input wanted line (Context number offset code) bad = tt
+bad_of_input wanted line (Definition file row column code) bad = bad
+bad_of_input wanted line LibraryFailed bad = bad
+bad_of_input wanted line SourceFailed bad = bad
+bad_of_input wanted line Memory bad = bad
+
+first_of_input : (wanted : Wanted) (most : ℕ) (extra : InputCode) (lines : List Line) (refusal : Refusal) → IsFirstBad wanted most extra lines refusal → OfInput refusal
+first_of_input wanted most extra lines refusal first = elim first.bad [
+  | inl many ↦ subst OfInput (sym many.1) tt
+  | inr bad ↦ bad_of_input wanted first.line refusal bad.1
+]
+
+trim_of_input : (budget : ℕ) (input : List ℕ) (refusal : Refusal) → TrimGives budget input (Err refusal) → OfInput refusal
+trim_of_input budget input refusal (inl long) = let is : refusal ≡ Input 0 TooLong = cc (long.1) in subst OfInput (sym is) tt
+trim_of_input budget input refusal (inr (short, inl none)) = subst OfInput (sym none.1) tt
+trim_of_input budget input refusal (inr (short, inr first)) = first_of_input AnyList 1 Form (lines_of input) refusal first
+
+merge_of_input : (input : List ℕ) (refusal : Refusal) → MergeGives input (Err refusal) → OfInput refusal
+merge_of_input input refusal (inl long) = let is : refusal ≡ Input 0 TooLong = cc (long.1) in subst OfInput (sym is) tt
+merge_of_input input refusal (inr (short, first)) = first_of_input OnlyContext 4096 TooManyLines (lines_of input) refusal first
+
+-- A command that reads has no other refusals but want of memory and a source that failed.
+reads_refuse : (gives : List ℕ → Outcome → Type 0) (source : Change (List ℕ)) (refusal : Refusal) → ((input : List ℕ) → gives input (Err refusal) → OfInput refusal) → Reads gives source (Err refusal)
+    → (refusal ≡ Memory) ⊎ ((refusal ≡ SourceFailed) × HasFailed source) ⊎ OfInput refusal
+reads_refuse gives source refusal of (inl e) = inl (cc e)
+reads_refuse gives source refusal of (inr (inl failed)) = inr (inl (cc (failed.0), failed.1))
+reads_refuse gives source refusal of (inr (inr (input, held, gave, ended))) = inr (inr (of input gave))
+
+no_definition : (source : Change (List ℕ)) (file : List ℕ) (line column : ℕ) (code : DefCode)
+    → (Definition file line column code ≡ Memory) ⊎ ((Definition file line column code ≡ SourceFailed) × HasFailed source) ⊎ OfInput (Definition file line column code) → ⊥
+no_definition source file line column code (inl e) = cc e
+no_definition source file line column code (inr (inl failed)) = cc (failed.0)
+no_definition source file line column code (inr (inr none)) = none
+
+-- The status 4 has its cause.
+failed_source : (library : Change Holding) (source : Change (List ℕ)) (refusal : Refusal) → (refusal ≡ Memory) ⊎ ((refusal ≡ SourceFailed) × HasFailed source) ⊎ OfInput refusal → status_of refusal ≡ 4
+    → HasFailed library ⊎ HasFailed source
+failed_source library source refusal (inl e) four_is = absurd (let six = ap status_of e in omega (arith, six, four_is))
+failed_source library source refusal (inr (inl failed)) four_is = inr failed.1
+failed_source library source (Input line code) (inr (inr of)) four_is = absurd (omega (arith, four_is))
+failed_source library source (Context line offset code) (inr (inr of)) four_is = absurd (omega (arith, four_is))
+failed_source library source (Definition file line column code) (inr (inr of)) four_is = absurd of
+failed_source library source LibraryFailed (inr (inr of)) four_is = absurd of
+failed_source library source SourceFailed (inr (inr of)) four_is = absurd of
+failed_source library source Memory (inr (inr of)) four_is = absurd of
+
+failed_library : (gives : Holding → Outcome → Type 0) (library : Change Holding) (source : Change (List ℕ)) (refusal : Refusal) → Compiles gives library (Err refusal) → status_of refusal ≡ 4 → HasFailed library ⊎ HasFailed source
+failed_library gives library source refusal (inl e) four_is = absurd (let is : refusal ≡ Memory = cc e in let six = ap status_of is in omega (arith, six, four_is))
+failed_library gives library source refusal (inr (inl failed)) four_is = inl failed.1
+failed_library gives library source (Definition file line column code) (inr (inr (form, gave))) four_is = absurd (omega (arith, four_is))
+failed_library gives library source (Input line code) (inr (inr (form, gave))) four_is = absurd form
+failed_library gives library source (Context line offset code) (inr (inr (form, gave))) four_is = absurd form
+failed_library gives library source LibraryFailed (inr (inr (form, gave))) four_is = absurd form
+failed_library gives library source SourceFailed (inr (inr (form, gave))) four_is = absurd form
+failed_library gives library source Memory (inr (inr (form, gave))) four_is = absurd form
+
+failed_comes : (words : List (List ℕ)) (command : Command) (library : Change Holding) (source : Change (List ℕ)) (refusal : Refusal) → Comes words command library source (Err refusal) → status_of refusal ≡ 4
+    → HasFailed library ⊎ HasFailed source
+failed_comes words (Trim budget) library source refusal comes four_is =
+    failed_source library source refusal (reads_refuse (TrimGives budget) source refusal (λ input. trim_of_input budget input refusal) comes.1) four_is
+failed_comes words Merge library source refusal comes four_is =
+    failed_source library source refusal (reads_refuse MergeGives source refusal (λ input. merge_of_input input refusal) comes.1) four_is
+failed_comes words Check library source refusal comes four_is = failed_library (CheckGives (file_word words) (bag_word words)) library source refusal comes.1 four_is
+
+pub failed_rose : (words : List (List ℕ)) (command : Option Command) (scene : Scene) (answer : ℕ) → Answers words command scene answer → answer ≡ 4 → HasFailed scene.library ⊎ HasFailed scene.source
+failed_rose words None scene answer (library, source, out, inl told) four_is = absurd (let status = told.0 in omega arith)
+failed_rose words None scene answer (library, source, out, inr failed) four_is = absurd (let status = failed.0 in omega arith)
+failed_rose words (Some command) scene answer (Ok output, comes, inl done) four_is = absurd (let status = done.0 in omega arith)
+failed_rose words (Some command) scene answer (Ok output, comes, inr failed) four_is = absurd (let status = failed.0 in omega arith)
+failed_rose words (Some command) scene answer (Err refusal, comes, (same, inl told)) four_is = failed_comes words command scene.library scene.source refusal comes (sym told.0 ∙ four_is)
+failed_rose words (Some command) scene answer (Err refusal, comes, (same, inr failed)) four_is = absurd (let status = failed.0 in omega arith)
+
+-- A first fault of the file that the words name, with its line.
+abbrev SaysFault : List (List ℕ) → Holding → Scene → Type 0
+SaysFault words held scene =
+    (found : Fault) × IsFirstFaultOf (held (file_word words)) (bag_word words) found × Takes scene.errs (line_of (Definition (file_word words) found.at.line found.at.column found.code))
+
+check_says : (words : List (List ℕ)) (held : Holding) (scene : Scene) (file : List ℕ) (line column : ℕ) (code : DefCode)
+    → Compiles (CheckGives (file_word words) (bag_word words)) scene.library (Err (Definition file line column code)) → scene.library.before ≡ Some held
+    → Takes scene.errs (line_of (Definition file line column code)) → SaysFault words held scene
+check_says words held scene file line column code (inl e) is takes = absurd (cc e)
+check_says words held scene file line column code (inr (inl failed)) is takes = absurd (cc (failed.0))
+check_says words held scene file line column code (inr (inr (form, gave))) is takes =
+    let said : CheckGives (file_word words) (bag_word words) held (Err (Definition file line column code)) = rw is at gave in
+    (fault code (record { line = line; column = column }), said.1, subst (λ name. Takes scene.errs (line_of (Definition name line column code))) said.0 takes)
+
+comes_definition : (words : List (List ℕ)) (command : Command) (held : Holding) (scene : Scene) (file : List ℕ) (line column : ℕ) (code : DefCode)
+    → Comes words command scene.library scene.source (Err (Definition file line column code)) → scene.library.before ≡ Some held
+    → Takes scene.errs (line_of (Definition file line column code)) → SaysFault words held scene
+comes_definition words (Trim budget) held scene file line column code comes is takes = absurd (no_definition scene.source file line column code (reads_refuse (TrimGives budget) scene.source (Definition file line column code) (λ input. trim_of_input budget input (Definition file line column code)) comes.1))
+comes_definition words Merge held scene file line column code comes is takes = absurd (no_definition scene.source file line column code (reads_refuse MergeGives scene.source (Definition file line column code) (λ input. merge_of_input input (Definition file line column code)) comes.1))
+comes_definition words Check held scene file line column code comes is takes = check_says words held scene file line column code comes.1 is takes
+
+refusal_definition : (words : List (List ℕ)) (command : Command) (held : Holding) (scene : Scene) (answer : ℕ) (refusal : Refusal)
+    → Comes words command scene.library scene.source (Err refusal) → Tells (status_of refusal) (line_of refusal) scene.errs answer → scene.library.before ≡ Some held → answer ≡ 1
+    → SaysFault words held scene
+refusal_definition words command held scene answer refusal comes (inr failed) is one_is = absurd (let five = failed.0 in omega arith)
+refusal_definition words command held scene answer (Definition file line column code) comes (inl told) is one_is = comes_definition words command held scene file line column code comes is told.1
+refusal_definition words command held scene answer (Input line code) comes (inl told) is one_is = absurd (let status = told.0 in omega arith)
+refusal_definition words command held scene answer (Context line offset code) comes (inl told) is one_is = absurd (let status = told.0 in omega arith)
+refusal_definition words command held scene answer LibraryFailed comes (inl told) is one_is = absurd (let status = told.0 in omega arith)
+refusal_definition words command held scene answer SourceFailed comes (inl told) is one_is = absurd (let status = told.0 in omega arith)
+refusal_definition words command held scene answer Memory comes (inl told) is one_is = absurd (let status = told.0 in omega arith)
+
+-- The answer 1 comes only for a first fault of the file that the words name, and its line was appended to the errors.
+pub says_definition : (words : List (List ℕ)) (command : Option Command) (held : Holding) (scene : Scene) (answer : ℕ)
+    → Answers words command scene answer → scene.library.before ≡ Some held → answer ≡ 1
+    → (found : Fault) × IsFirstFaultOf (held (file_word words)) (bag_word words) found × Takes scene.errs (line_of (Definition (file_word words) found.at.line found.at.column found.code))
+says_definition words None held scene answer (library, source, out, inl told) is one_is = absurd (let status = told.0 in omega arith)
+says_definition words None held scene answer (library, source, out, inr failed) is one_is = absurd (let status = failed.0 in omega arith)
+says_definition words (Some command) held scene answer (Ok output, comes, inl done) is one_is = absurd (let status = done.0 in omega arith)
+says_definition words (Some command) held scene answer (Ok output, comes, inr failed) is one_is = absurd (let status = failed.0 in omega arith)
+says_definition words (Some command) held scene answer (Err refusal, comes, (same, told)) is one_is = refusal_definition words command held scene answer refusal comes told is one_is
+
 -- ---- completeness
 
 -- Lines that say contexts say well-formed lists.
@@ -138,13 +292,13 @@ contexts (line ∷ lines) [] says = absurd says
 contexts (line ∷ lines) (list ∷ lists) ((bytes, hex, is), says) = (is.1, contexts lines lists says)
 
 -- What a command accepts it doesn't refuse.
-trim_accepts : (budget : ℕ) (input : List ℕ) (refusal : Refusal) → Accepts (Trim budget) input → TrimGives budget input (Err refusal) → ⊥
-trim_accepts budget input refusal (list, (short, says)) (inl long) = let l = long.0 in omega arith
-trim_accepts budget input refusal (list, (short, says)) (inr (short', refused)) = only_good AnyList (lines_of input) list refusal says refused
+trim_accepts : (budget : ℕ) (input : List ℕ) (list : List Atom) (refusal : Refusal) → SaysLists AnyList input (list ∷ []) → TrimGives budget input (Err refusal) → ⊥
+trim_accepts budget input list refusal (short, says) (inl long) = let l = long.0 in omega arith
+trim_accepts budget input list refusal (short, says) (inr (short', refused)) = only_good AnyList (lines_of input) list refusal says refused
 
-merge_accepts : (input : List ℕ) (refusal : Refusal) → Accepts Merge input → MergeGives input (Err refusal) → ⊥
-merge_accepts input refusal (lists, (short, says), few) (inl long) = let l = long.0 in omega arith
-merge_accepts input refusal (lists, (short, says), few) (inr (short', refused)) =
+merge_accepts : (input : List ℕ) (lists : List (List Atom)) (refusal : Refusal) → SaysLists OnlyContext input lists → length lists ≤ 4096 → MergeGives input (Err refusal) → ⊥
+merge_accepts input lists refusal (short, says) few (inl long) = let l = long.0 in omega arith
+merge_accepts input lists refusal (short, says) few (inr (short', refused)) =
     all_good OnlyContext 4096 TooManyLines (lines_of input) lists refusal says (let count = all_say-length OnlyContext (lines_of input) lists says in omega arith) refused
 
 -- After a good input without a fault of the source, a refusal is want of memory.
@@ -156,22 +310,38 @@ reads_good gives source input refusal held good sure (inr (inr (told, is, gave, 
     let same : input ≡ told = rw held at is in
     absurd (good (subst (λ bytes. gives bytes (Err refusal)) (sym same) gave))
 
-only_memory : (words : List (List ℕ)) (command : Command) (library : Change (List ℕ → Option (List ℕ))) (source : Change (List ℕ)) (input : List ℕ) (refusal : Refusal)
-    → Comes words command library source (Err refusal) → source.before ≡ Some input → Accepts command input → ¬ (HasFailed source) → refusal ≡ Memory
-only_memory words (Trim budget) library source input refusal comes held accepts sure = reads_good (TrimGives budget) source input refusal held (trim_accepts budget input refusal accepts) sure comes.1
-only_memory words Merge library source input refusal comes held accepts sure = reads_good MergeGives source input refusal held (merge_accepts input refusal accepts) sure comes.1
+-- After a definition without a first fault and without a fault of the library, a refusal is want of memory.
+check_good : (file bag : List ℕ) (library : Change Holding) (held : Holding) (refusal : Refusal) → library.before ≡ Some held → ((found : Fault) → IsFirstFaultOf (held file) bag found → ⊥) → ¬ (HasFailed library)
+    → Compiles (CheckGives file bag) library (Err refusal) → refusal ≡ Memory
+check_good file bag library held refusal is none sure (inl wanting) = cc wanting
+check_good file bag library held refusal is none sure (inr (inl failed)) = absurd (sure failed.1)
+check_good file bag library held refusal is none sure (inr (inr (form, gave))) = absurd (refuses_nothing refusal (rw is at gave))
+  where
+    refuses_nothing : (refusal : Refusal) → CheckGives file bag held (Err refusal) → ⊥
+    refuses_nothing (Definition name line column code) said = none (fault code (record { line = line; column = column })) said.1
+    refuses_nothing (Input line code) said = said
+    refuses_nothing (Context line offset code) said = said
+    refuses_nothing LibraryFailed said = said
+    refuses_nothing SourceFailed said = said
+    refuses_nothing Memory said = said
+
+only_memory : (words : List (List ℕ)) (command : Command) (library : Change Holding) (source : Change (List ℕ)) (refusal : Refusal)
+    → Comes words command library source (Err refusal) → Accepts words command library.before source.before → ¬ (HasFailed library) → ¬ (HasFailed source) → refusal ≡ Memory
+only_memory words (Trim budget) library source refusal comes (input, told, (list, says)) library_sure sure = reads_good (TrimGives budget) source input refusal told (trim_accepts budget input list refusal says) sure comes.1
+only_memory words Merge library source refusal comes (input, told, (lists, says, few)) library_sure sure = reads_good MergeGives source input refusal told (merge_accepts input lists refusal says few) sure comes.1
+only_memory words Check library source refusal comes (held, told, none) library_sure sure = check_good (file_word words) (bag_word words) library held refusal told none library_sure comes.1
 
 -- Such a call answers 0 or 6, unless a sink failed.
-pub completes : (words : List (List ℕ)) (command : Command) (input : List ℕ) (scene : Scene) (answer : ℕ)
-    → Answers words (Some command) scene answer → scene.source.before ≡ Some input → Accepts command input
-    → ¬ (HasFailed scene.source) → ¬ (HasFailed scene.out) → ¬ (HasFailed scene.errs) → (answer ≡ 0) ⊎ (answer ≡ 6)
-completes words command input scene answer (Ok output, comes, delivers) held accepts sure out_sure errs_sure =
+pub completes : (words : List (List ℕ)) (command : Command) (scene : Scene) (answer : ℕ)
+    → Answers words (Some command) scene answer → Accepts words command scene.library.before scene.source.before
+    → ¬ (HasFailed scene.library) → ¬ (HasFailed scene.source) → ¬ (HasFailed scene.out) → ¬ (HasFailed scene.errs) → (answer ≡ 0) ⊎ (answer ≡ 6)
+completes words command scene answer (Ok output, comes, delivers) accepts library_sure sure out_sure errs_sure =
     elim delivers [
       | inl done ↦ inl done.0
       | inr failed ↦ absurd (out_sure failed.1.0)
     ]
-completes words command input scene answer (Err refusal, comes, (same, told)) held accepts sure out_sure errs_sure =
+completes words command scene answer (Err refusal, comes, (same, told)) accepts library_sure sure out_sure errs_sure =
     elim told [
-      | inl said ↦ inr (said.0 ∙ ap status_of (only_memory words command scene.library scene.source input refusal comes held accepts sure))
+      | inl said ↦ inr (said.0 ∙ ap status_of (only_memory words command scene.library scene.source refusal comes accepts library_sure sure))
       | inr failed ↦ absurd (errs_sure failed.1.0)
     ]

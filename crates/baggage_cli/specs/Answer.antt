@@ -1,15 +1,22 @@
 -- What a call of the program may come to, and how it is delivered.
-use Rattle.std.specs.Prelude.{◌≡◌, ◌⊎◌, ℕ, ◌<◌, ◌≤◌, List, [], ◌∷◌, length, Option, Some, None, Result, Ok, Err, OnOk}
+use Rattle.std.specs.Prelude.{◌≡◌, ◌⊎◌, ℕ, ◌<◌, ◌≤◌, List, [], ◌∷◌, ◌++◌, length, codes, Option, Some, None, IfSome, Result, Ok, Err, OnOk}
+use Rattle.std.specs.Fmt.{decimal}
 use Rattle.std.specs.Io.KnownBytes.{IsAtEnd}
 use Rattle.context_model.specs.Atoms.{Atom}
 use Rattle.context_model.specs.Framing.{bytes_of}
 use Rattle.context_model.specs.Trimmed.{trimmed}
 use Rattle.context_model.specs.Merged.{IsMerged}
+use Rattle.bag_model.specs.Shapes.{Nodes}
+use Rattle.bag_model.specs.Slots.{slots_of}
+use Rattle.bdl_check.specs.declared.faults.Fault.{Fault}
+use Rattle.bdl_check.specs.Faults.{fault}
+use Rattle.bdl_check.specs.Tables.{IsTableIn, IsFirstFaultOf}
+use Rattle.baggage_cli.specs.Asked.{file_word, bag_word}
 use Rattle.baggage_cli.specs.declared.commands.Command.{Command}
-use Rattle.baggage_cli.specs.declared.commands.Command.TheVariants.{Trim, Merge}
+use Rattle.baggage_cli.specs.declared.commands.Command.TheVariants.{Trim, Merge, Check}
 use Rattle.baggage_cli.specs.declared.refusals.InputCode.TheVariants.{TooLong, NoLine, Form, TooManyLines}
 use Rattle.baggage_cli.specs.declared.refusals.Refusal.{Refusal}
-use Rattle.baggage_cli.specs.declared.refusals.Refusal.TheVariants.{Input, SourceFailed, Memory}
+use Rattle.baggage_cli.specs.declared.refusals.Refusal.TheVariants.{Input, Definition, LibraryFailed, SourceFailed, Memory}
 use Rattle.baggage_cli.specs.HexLine.{hex_line}
 use Rattle.baggage_cli.specs.InputLines.{Line, lines_of}
 use Rattle.baggage_cli.specs.ReadLines.{Wanted, AllSay, IsFirstBad, SaysLists}
@@ -52,10 +59,25 @@ TrimGives budget = Within (TrimsLines budget)
 abbrev pub MergeGives : List ℕ → Outcome → Type 0
 MergeGives = Within MergesLines
 
--- The command has nothing to refuse in the input.
-abbrev pub Accepts : Command → List ℕ → Type 0
-Accepts (Trim budget) input = (list : List Atom) × SaysLists AnyList input (list ∷ [])
-Accepts Merge input = (lists : List (List Atom)) × SaysLists OnlyContext input lists × (length lists ≤ 4096)
+-- The files that a library holds, by name.
+abbrev pub Holding : Type 0
+Holding = List ℕ → Option (List ℕ)
+
+-- The line that says how many slots a table has.
+abbrev pub ok_line : ℕ → List ℕ
+ok_line slots = codes "ok " ++ (decimal slots ++ 10 ∷ [])
+
+-- What the files give for a bag in one of them: the number of its table's slots, or the file's first fault.
+abbrev pub CheckGives : List ℕ → List ℕ → Holding → Outcome → Type 0
+CheckGives file bag held (Ok output) = (table : Nodes) × IsTableIn (held file) bag table × (output ≡ ok_line (length (slots_of table)))
+CheckGives file bag held (Err (Definition name line column code)) = (name ≡ file) × IsFirstFaultOf (held file) bag (fault code (record { line = line; column = column }))
+CheckGives file bag held (Err refusal) = ⊥
+
+-- The command has nothing to refuse in what the library and the source tell.
+abbrev pub Accepts : List (List ℕ) → Command → Option Holding → Option (List ℕ) → Type 0
+Accepts words (Trim budget) files content = (input : List ℕ) × (content ≡ Some input) × ((list : List Atom) × SaysLists AnyList input (list ∷ []))
+Accepts words Merge files content = (input : List ℕ) × (content ≡ Some input) × ((lists : List (List Atom)) × SaysLists OnlyContext input lists × (length lists ≤ 4096))
+Accepts words Check files content = (held : Holding) × (files ≡ Some held) × ((found : Fault) → IsFirstFaultOf (held (file_word words)) (bag_word words) found → ⊥)
 
 -- The source is read to its end. Memory may be wanting, and a source that failed has its cause; otherwise it is what is given for
 -- the input, and after an output nothing is left. A source that doesn't tell had some input for which it is so.
@@ -65,10 +87,25 @@ Reads gives source outcome =
     ⊎ ((outcome ≡ Err SourceFailed) × HasFailed source)
     ⊎ ((input : List ℕ) × Held source input × gives input outcome × OnOk outcome (IsAtEnd source.after))
 
+-- The outcome is an output or the fault of a definition.
+abbrev pub IsCompiled : Outcome → Type 0
+IsCompiled (Ok output) = Unit {0}
+IsCompiled (Err (Definition file line column code)) = Unit {0}
+IsCompiled (Err refusal) = ⊥
+
+-- A definition is compiled. Memory may be wanting, and a library that failed has its cause; otherwise it is an output or a fault, and
+-- what is given for the files that the library holds, where it tells.
+abbrev pub Compiles : (Holding → Outcome → Type 0) → Change Holding → Outcome → Type 0
+Compiles gives library outcome =
+    (outcome ≡ Err Memory)
+    ⊎ ((outcome ≡ Err LibraryFailed) × HasFailed library)
+    ⊎ (IsCompiled outcome × IfSome library.before (λ held. gives held outcome))
+
 -- What each command may come to, with its words and with the library and the source before and after it.
-abbrev pub Comes : List (List ℕ) → Command → Change (List ℕ → Option (List ℕ)) → Change (List ℕ) → Outcome → Type 0
+abbrev pub Comes : List (List ℕ) → Command → Change Holding → Change (List ℕ) → Outcome → Type 0
 Comes words (Trim budget) library source outcome = IsSame library × Reads (TrimGives budget) source outcome
 Comes words Merge library source outcome = IsSame library × Reads MergeGives source outcome
+Comes words Check library source outcome = IsSame source × Compiles (CheckGives (file_word words) (bag_word words)) library outcome
 
 -- A line with its status: it was written to the sink of errors, or that failed and the status is 5.
 abbrev pub Tells : ℕ → List ℕ → Change (List ℕ) → ℕ → Type 0
@@ -93,6 +130,6 @@ Answers words None scene answer =
 Answers words (Some command) scene answer =
     (outcome : Outcome) × Comes words command scene.library scene.source outcome × Delivers outcome scene.out scene.errs answer
 
--- A command gives one outcome for an input.
-abbrev pub GivesOne : (List ℕ → Outcome → Type 0) → Type 0
-GivesOne gives = (input : List ℕ) (a b : Outcome) → gives input a → gives input b → a ≡ b
+-- A command gives one outcome for an input, or for the files of a library.
+abbrev pub GivesOne : {A : Type 0} → (A → Outcome → Type 0) → Type 0
+GivesOne {A} gives = (input : A) (a b : Outcome) → gives input a → gives input b → a ≡ b

@@ -1,11 +1,15 @@
-//! Standard input, output and error, and the words of the command line. What they hold isn't known to contracts.
+//! Standard input, output and error, the files of the system, and the words of the command line. What they hold isn't known to
+//! contracts.
 
-ghost use Rattle.std.specs.Prelude.{◌≡◌, ◌-◌, ◌^◌, ◌≤◌, None};
+ghost use Rattle.std.specs.Prelude.{◌≡◌, ◌-◌, ◌^◌, ◌≤◌, length, IfOk, None};
 ghost use Rattle.outside.specs.Bounds.{zero_in_range};
 
-use outside::{Failed, Memory, Sink, Source, Text, Words};
+use outside::{Failed, Library, LibraryFault, Memory, Sink, Source, Text, Words};
+use std::alloc::Global;
 use std::env;
-use std::io::{ErrorKind, Read, Write};
+use std::fs::File;
+use std::io::{self, ErrorKind, Read, Write};
+use std::rt::Files;
 
 /// A source over a reader. It tells no content.
 #[derive(Drop)]
@@ -74,6 +78,60 @@ impl<W: Write + Drop> Sink for StreamSink<W> {
                 Err(Failed)
             }
         }
+    }
+}
+
+/// The most bytes of a file that are fetched.
+const FETCHED: usize = 1_048_577;
+
+/// The first bytes of an opened file, or all of a shorter one.
+fn read_front<F: Read + Drop>(alloc: Global, file: F) -> io::Result<Vec<u8>>
+    ensures { IfOk result (λ bytes. length bytes.items ≤ 1048577) }
+{
+    let mut bytes = Vec::new(alloc);
+    file.take(FETCHED as u64).read_to_end(&mut bytes)?;
+    bytes.truncate(FETCHED);
+    Ok(bytes)
+}
+
+/// The files of the system, by path. It tells no content.
+#[derive(Drop)]
+pub struct FileLibrary<'a, R: Files> {
+    system: &'a R,
+    faults: u64,
+    ghost in_range: { faults ≤ 2 ^ 64 - 1 },
+}
+
+impl<'a, R: Files> FileLibrary<'a, R> {
+    /// A library that has counted no fault.
+    pub fn new(system: &'a R) -> FileLibrary<'a, R>
+        ensures { ⟦<FileLibrary<'a, R> as Library>⟧.faults result ≡ 0 }
+    {
+        FileLibrary { system, faults: 0 }
+    }
+}
+
+impl<'a, R: Files> Library for FileLibrary<'a, R> {
+    ghost files = { λ _. None };
+
+    ghost faults = { λ library. library.faults };
+
+    ghost counted = { λ library. library.in_range };
+
+    fn fetch(&mut self, alloc: Global, name: &str) -> Result<Option<Vec<u8>>, LibraryFault> {
+        let error = match File::open(self.system, name) {
+            Ok(file) => match read_front(alloc, file) {
+                Ok(bytes) => return Ok(Some(bytes)),
+                Err(error) => error,
+            },
+            Err(error) if error.kind() == ErrorKind::NotFound => return Ok(None),
+            Err(error) => error,
+        };
+        if error.kind() == ErrorKind::OutOfMemory {
+            return Err(LibraryFault::Memory);
+        }
+        self.faults = self.faults.saturating_add(1);
+        Err(LibraryFault::Failed)
     }
 }
 

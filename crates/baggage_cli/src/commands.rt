@@ -1,6 +1,6 @@
 //! What the words of a command line ask for.
 
-ghost use Rattle.std.specs.Prelude.{◌≡◌, ◌<◌, [], ◌∷◌, IfSome};
+ghost use Rattle.std.specs.Prelude.{◌≡◌, ◌<◌, [], ◌∷◌, IfSome, ℕ, List};
 ghost use Rattle.baggage_cli.specs.Asked.{asked, number_of, IsSound};
 
 use outside::Words;
@@ -12,6 +12,8 @@ pub enum Command {
     Trim { budget: u32 },
     /// Merge the contexts of all lines.
     Merge,
+    /// Count the slots of a bag of a definition.
+    Check,
 }
 
 /// A number from 1 to 4,294,967,295, without sign or leading zero.
@@ -51,6 +53,18 @@ fn numbered_command(name: &str, word: &str) -> Option<Command>
     Some(Command::Trim { budget })
 }
 
+/// The command that a word asks for with a file and a bag.
+#[tactic(auto, unfolding(crate::specs::Asked::asked))]
+fn definition_command(name: &str) -> Option<Command>
+    ensures command { (file bag : List ℕ) → result ≡ asked (name.now ∷ file ∷ bag ∷ []) }
+    ensures sound { IfSome result IsSound }
+{
+    match name {
+        "check" => Some(Command::Check),
+        _ => None,
+    }
+}
+
 /// The command that the words ask for; `None` where they have no form.
 #[tactic(auto, unfolding(crate::specs::Asked::asked))]
 pub fn command_of(words: &Words) -> Option<Command>
@@ -61,6 +75,7 @@ pub fn command_of(words: &Words) -> Option<Command>
     match words.len() {
         1 => bare_command(name),
         2 => numbered_command(name, words.get(1)?.as_str()),
+        3 => definition_command(name),
         _ => None,
     }
 }

@@ -39,6 +39,7 @@ pub fn refuse<E: Sink>(alloc: Global, errs: &mut E, refusal: &Refusal) -> u8
     ensures { Refuses refusal.now (change E.written E.faults errs.old errs.new) result }
 {
     match refusal {
+        Refusal::LibraryFailed => tell(errs, b"library failed\n", 4),
         Refusal::SourceFailed => tell(errs, b"source failed\n", 4),
         Refusal::Memory => tell(errs, b"memory\n", 6),
         _ => tell_in_full(alloc, errs, refusal),

@@ -2,6 +2,9 @@
 #![tactic(auto)]
 
 mod adapters;
+#[cfg(test)]
+mod check_tests;
+mod checking;
 mod commands;
 mod delivery;
 mod hex_lines;
@@ -14,14 +17,14 @@ mod tests;
 mod top;
 mod trimming;
 
-use adapters::{StreamSink, StreamSource, words_of};
-use outside::{Memory, Open, SureLibrary};
+use adapters::{FileLibrary, StreamSink, StreamSource, words_of};
+use outside::{Memory, Open};
 use std::process::ExitCode;
 use top::baggage_top;
 
 fn main(rt: HostRuntime) -> ExitCode {
     let alloc = rt.alloc();
-    let mut library = SureLibrary::new(alloc);
+    let mut library = FileLibrary::new(&rt);
     let mut source = StreamSource::new(rt.stdin().lock());
     let mut out = StreamSink::new(rt.stdout());
     let mut errs = StreamSink::new(rt.stderr());

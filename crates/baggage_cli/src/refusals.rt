@@ -3,7 +3,8 @@
 ghost use Rattle.std.specs.Prelude.{◌≡◌, IfOk, string_bytes};
 ghost use Rattle.baggage_cli.specs.Refused.{status_of, line_of};
 
-use outside::Memory;
+use bdl_check::{DefCode, DefFault};
+use outside::{Memory, Text};
 use std::alloc::{AllocFailed, Global};
 use std::fmt;
 use wire_bytes::ByteCode;
@@ -26,7 +27,7 @@ pub enum InputCode {
 }
 
 /// Why a command gives no output.
-#[derive(Clone, Copy, Debug, PartialEq, Eq)]
+#[derive(Drop)]
 pub enum Refusal {
     /// A line of the input is bad. Line 0 is the input as a whole.
     Input {
@@ -39,6 +40,15 @@ pub enum Refusal {
         offset: usize,
         code: ByteCode,
     },
+    /// A definition has this first fault, at a line and a byte of that line of one of its files.
+    Definition {
+        file: Text,
+        line: u32,
+        column: u32,
+        code: DefCode,
+    },
+    /// The library counted a fault.
+    LibraryFailed,
     /// The source counted a fault.
     SourceFailed,
     /// There is no memory for the work.
@@ -85,6 +95,31 @@ impl<T: Drop> From<AllocFailed<T>> for Refusal {
     }
 }
 
+impl From<DefFault> for Refusal {
+    ghost use Rattle.std.specs.Prelude.{◌≡◌};
+    ghost use Rattle.baggage_cli.specs.Refused.{refusal_of};
+
+    ghost from_gives = { λ fault refusal. refusal ≡ refusal_of fault };
+
+    fn from(fault: DefFault) -> Refusal {
+        match fault {
+            DefFault::At {
+                file,
+                line,
+                column,
+                code,
+            } => Refusal::Definition {
+                file,
+                line,
+                column,
+                code,
+            },
+            DefFault::Failed => Refusal::LibraryFailed,
+            DefFault::Memory => Refusal::Memory,
+        }
+    }
+}
+
 impl Refusal {
     /// The status that the program ends with.
     pub fn status(&self) -> u8
@@ -93,6 +128,8 @@ impl Refusal {
         match self {
             Refusal::Input { .. } => 2,
             Refusal::Context { .. } => 3,
+            Refusal::Definition { .. } => 1,
+            Refusal::LibraryFailed => 4,
             Refusal::SourceFailed => 4,
             Refusal::Memory => 6,
         }
@@ -107,6 +144,16 @@ impl Refusal {
             Refusal::Context { line, offset, code } => Ok(format!(in alloc;
                 "context line {line} offset {offset} {code}\n"
             )?),
+            Refusal::Definition {
+                file,
+                line,
+                column,
+                code,
+            } => {
+                let file = file.as_str();
+                Ok(format!(in alloc; "definition {file} {line}:{column} {code}\n")?)
+            }
+            Refusal::LibraryFailed => Ok(String::from_str(alloc, "library failed\n")?),
             Refusal::SourceFailed => Ok(String::from_str(alloc, "source failed\n")?),
             Refusal::Memory => Ok(String::from_str(alloc, "memory\n")?),
         }

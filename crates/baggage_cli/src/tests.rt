@@ -40,7 +40,7 @@ fn refuses(words: &'static str, input: &'static [u8], status: u8, errs: &'static
 }
 
 /// The words of a command line, cut at blanks.
-fn words_of(alloc: Global, line: &str) -> Result<Words, Fail> {
+pub fn words_of(alloc: Global, line: &str) -> Result<Words, Fail> {
     let mut words = Words::new(alloc);
     for word in line.split_whitespace() {
         words.push(Text::of(alloc, word)?)?;
@@ -296,6 +296,11 @@ fn refuses_words_without_a_form(rt: HostRuntime) -> Result<(), Fail> {
         "--help",
         "load 1001",
         "run q.bdl",
+        "check",
+        "check f.bdl",
+        "check a b c",
+        "Check f.bdl B",
+        "trim 9 B",
     ];
     for line in &lines {
         holds(&rt, alloc, &refuses(*line, LINE, 7, b"words refused\n"))?;

@@ -1,18 +1,24 @@
 //! The one call that does all that the program does.
 
-ghost use Rattle.std.specs.Prelude.{◌≡◌, ◌≢◌, ◌⊎◌, ℕ, ◌<◌, List, [], ◌∷◌, Some, None, Ok, Err, IfOk, IfErr, string_bytes};
+ghost use Rattle.std.specs.Prelude.{◌≡◌, ◌≢◌, ◌⊎◌, ℕ, ◌<◌, List, [], ◌∷◌, Some, None, Ok, Err, IfOk, IfErr, string_bytes, length, get_or, Option};
 ghost use Rattle.std.specs.Io.KnownBytes.{Appends, IsAtEnd};
 ghost use Rattle.outside.specs.Causes.{Rose};
 ghost use Rattle.context_model.specs.Framing.{bytes_of};
 ghost use Rattle.context_model.specs.Merged.{IsMerged};
 ghost use Rattle.context_model.specs.Trimmed.{trimmed};
-ghost use Rattle.baggage_cli.specs.Asked.{asked, IsSound, ReadsSource};
+ghost use Rattle.bag_model.specs.Shapes.{Nodes};
+ghost use Rattle.bag_model.specs.Slots.{slots_of};
+ghost use Rattle.bdl_check.specs.declared.faults.Fault.{Fault};
+ghost use Rattle.bdl_check.specs.Tables.{IsTableIn, IsFirstFaultOf};
+ghost use Rattle.baggage_cli.specs.Asked.{asked, IsSound, ReadsSource, file_word, bag_word};
 ghost use Rattle.baggage_cli.specs.HexLine.{hex_line};
 ghost use Rattle.baggage_cli.specs.ReadLines.{SaysLists};
 ghost use Rattle.baggage_cli.specs.ReadLines.Wanted.{AnyList, OnlyContext};
 ghost use Rattle.baggage_cli.specs.Scene.{change};
-ghost use Rattle.baggage_cli.specs.Answer.{Accepts, Comes, Answers};
+ghost use Rattle.baggage_cli.specs.Refused.{line_of};
+ghost use Rattle.baggage_cli.specs.Answer.{Holding, ok_line, Accepts, Comes, Answers};
 
+use crate::checking::check_bag;
 use crate::commands::{Command, command_of};
 use crate::delivery::{deliver, refuse, tell};
 use crate::merging::merge_source;
@@ -21,6 +27,16 @@ use crate::trimming::trim_source;
 use outside::{Gate, Library, Sink, Source, Words};
 use std::alloc::Global;
 use std::thread::Threads;
+
+/// The word at a place, which is empty behind the last one.
+fn word(words: &Words, at: usize) -> &str
+    ensures { result.now ≡ get_or words.now at [] }
+{
+    match words.get(at) {
+        Some(word) => word.as_str(),
+        None => "",
+    }
+}
 
 /// Carries a command out: its output, or why there is none.
 fn carry_out<L: Library, S: Source>(
@@ -37,6 +53,7 @@ fn carry_out<L: Library, S: Source>(
     match command {
         Command::Trim { budget } => trim_source(alloc, source, budget),
         Command::Merge => merge_source(alloc, source),
+        Command::Check => check_bag(alloc, library, word(words, 1), word(words, 2)),
     }
 }
 
@@ -91,7 +108,12 @@ fn answer_words<L: Library, S: Source, K: Sink, E: Sink>(
 ///
 /// `trim N` reads one line of hexadecimal digits from the source, which frames a list of atoms, and writes the line of the
 /// list trimmed to `N` bytes. `merge` reads any number of lines up to 4,096, each of which frames a context, and writes the
+<<<<<<< HEAD
 /// line of their merge, a dash where there is no line. Empty lines and lines that begin with `#` are skipped.
+=======
+/// line of their merge. `check FILE BAG` reads nothing from the source: it compiles the bag of that name in a file of the library
+/// and writes the line `ok S`, where `S` is the number of the slots of its table.
+>>>>>>> 2e3938c5aeeaa0e307b88deb20f7970e9f403ecc
 pub fn baggage_top<R: Threads + Sync, G: Gate, L: Library, S: Source, K: Sink, E: Sink>(
     _rt: &R,
     alloc: Global,
@@ -115,18 +137,22 @@ pub fn baggage_top<R: Threads + Sync, G: Gate, L: Library, S: Source, K: Sink, E
         → result ≡ 0 → Appends (K.written out.old) (K.written out.new) (hex_line (bytes_of (trimmed list budget))) }
     ensures merge { (input : List ℕ) (lists : List (List (List ℕ))) (merged : List (List ℕ)) → asked words.now ≡ Some Command.Merge → S.left source.old ≡ Some input → SaysLists OnlyContext input lists → IsMerged lists merged
         → result ≡ 0 → Appends (K.written out.old) (K.written out.new) (hex_line (bytes_of merged)) }
+    ensures check { (held : Holding) → asked words.now ≡ Some Command.Check → L.files library.old ≡ Some held
+        → result ≡ 0 → (table : Nodes) × IsTableIn (held (file_word words.now)) (bag_word words.now) table × Appends (K.written out.old) (K.written out.new) (ok_line (length (slots_of table))) }
 
     // What each status says of the objects.
     ensures errs { result ≡ 0 → E.written errs.new ≡ E.written errs.old }
     ensures ended { (command : Command) → asked words.now ≡ Some command → ReadsSource command → result ≡ 0 → IsAtEnd (S.left source.new) }
     ensures quiet { result ≢ 0 → result ≢ 5 → K.written out.new ≡ K.written out.old }
+    ensures definition { (held : Holding) → L.files library.old ≡ Some held → result ≡ 1
+        → (found : Fault) × IsFirstFaultOf (held (file_word words.now)) (bag_word words.now) found × Appends (E.written errs.old) (E.written errs.new) (line_of (Refusal.Definition (file_word words.now) found.at.line found.at.column found.code)) }
     ensures words { result ≡ 7 → asked words.now ≡ None }
     ensures failed { result ≡ 4 → Rose (L.faults library.old) (L.faults library.new) ⊎ Rose (S.faults source.old) (S.faults source.new) }
     ensures sink_failed { result ≡ 5 → Rose (K.faults out.old) (K.faults out.new) ⊎ Rose (E.faults errs.old) (E.faults errs.new) }
 
-    // A good input and no count that rose leave only success and want of memory.
-    ensures complete { (command : Command) (input : List ℕ) → asked words.now ≡ Some command → S.left source.old ≡ Some input → Accepts command input
-        → ¬ (Rose (S.faults source.old) (S.faults source.new)) → ¬ (Rose (K.faults out.old) (K.faults out.new)) → ¬ (Rose (E.faults errs.old) (E.faults errs.new)) → (result ≡ 0) ⊎ (result ≡ 6) }
+    // Where a command has nothing to refuse and no count rose, there is only success and want of memory.
+    ensures complete { (command : Command) → asked words.now ≡ Some command → Accepts words.now command (L.files library.old) (S.left source.old)
+        → ¬ (Rose (L.faults library.old) (L.faults library.new)) → ¬ (Rose (S.faults source.old) (S.faults source.new)) → ¬ (Rose (K.faults out.old) (K.faults out.new)) → ¬ (Rose (E.faults errs.old) (E.faults errs.new)) → (result ≡ 0) ⊎ (result ≡ 6) }
 {
     answer_words(alloc, words, library, source, out, errs)
 }

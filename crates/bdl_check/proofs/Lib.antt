@@ -9,3 +9,4 @@ mod ShapeLaws
 mod SoundLaws
 mod TableLaws
 mod Fetched
+mod OneOutcome

@@ -5,3 +5,4 @@ pub mod Checks
 pub mod Seen
 pub mod Layouts
 pub mod Tables
+pub mod CodeNames

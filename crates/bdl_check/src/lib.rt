@@ -3,9 +3,11 @@
 
 mod bags;
 mod checks;
+mod code_names;
 mod compiler;
 mod faults;
 mod later;
+pub mod laws;
 mod layouts;
 mod source;
 mod tables;
