@@ -108,12 +108,9 @@ fn answer_words<L: Library, S: Source, K: Sink, E: Sink>(
 ///
 /// `trim N` reads one line of hexadecimal digits from the source, which frames a list of atoms, and writes the line of the
 /// list trimmed to `N` bytes. `merge` reads any number of lines up to 4,096, each of which frames a context, and writes the
-<<<<<<< HEAD
 /// line of their merge, a dash where there is no line. Empty lines and lines that begin with `#` are skipped.
-=======
-/// line of their merge. `check FILE BAG` reads nothing from the source: it compiles the bag of that name in a file of the library
-/// and writes the line `ok S`, where `S` is the number of the slots of its table.
->>>>>>> 2e3938c5aeeaa0e307b88deb20f7970e9f403ecc
+/// `check FILE BAG` reads nothing from the source: it compiles the bag of that name in a file of the library and writes the
+/// line `ok S`, where `S` is the number of the slots of its table.
 pub fn baggage_top<R: Threads + Sync, G: Gate, L: Library, S: Source, K: Sink, E: Sink>(
     _rt: &R,
     alloc: Global,
