@@ -26,7 +26,7 @@ pub fn check_bag<L: Library>(
     ensures ok { IfOk result (λ output. Compiles (CheckGives file.now bag.now) (change L.files L.faults library.old library.new) (Ok (string_bytes output))) }
     ensures err { IfErr result (λ refusal. Compiles (CheckGives file.now bag.now) (change L.files L.faults library.old library.new) (Err refusal)) }
 {
-    let table = compile(library, alloc, file, bag)?;
+    let table = compile(alloc, library, file, bag)?;
     Ok(ok_line(alloc, table.slots())?)
 }
 

@@ -28,8 +28,8 @@ fn in_file(alloc: Global, file: &str, fault: Fault) -> DefFault
 /// The table of a bag that a file of the library defines. The file is fetched once; its first fault is the answer where
 /// it has one, `Failed` where the fetch failed, and `Memory` where there is none for the file, the table or the fault.
 pub fn compile<L: Library>(
-    library: &mut L,
     alloc: Global,
+    library: &mut L,
     file: &str,
     bag: &str,
 ) -> Result<Table, DefFault>

@@ -315,17 +315,17 @@ fn blames(refusal: &DefFault, name: &str, place: (u32, u32), blamed: DefCode) ->
 fn refused_files(rt: HostRuntime) -> Result<(), Fail> {
     let alloc = rt.alloc();
     let mut library = MemoryLibrary::new(alloc, vec![in alloc; 1]?);
-    let Err(refusal) = compile(&mut library, alloc, "z.bdl", "Z") else {
+    let Err(refusal) = compile(alloc, &mut library, "z.bdl", "Z") else {
         return Err(Fail::from("no file"));
     };
     assert!(rt; blames(&refusal, "z.bdl", (1, 1), DefCode::NoFile));
-    let Err(refusal) = compile(&mut library, alloc, "z.bdl", "Z") else {
+    let Err(refusal) = compile(alloc, &mut library, "z.bdl", "Z") else {
         return Err(Fail::from("a failed fetch"));
     };
     assert!(rt; matches!(refusal, DefFault::Failed));
     for (file, content, bag, line, column, code) in &REFUSED {
         assert!(rt; library.add(file, content.as_bytes()).is_ok());
-        let Err(refusal) = compile(&mut library, alloc, file, bag) else {
+        let Err(refusal) = compile(alloc, &mut library, file, bag) else {
             return Err(Fail::from(*content));
         };
         assert!(rt; blames(&refusal, file, (*line, *column), *code));
@@ -339,7 +339,7 @@ fn tables(rt: HostRuntime) -> Result<(), Fail> {
     let mut library = MemoryLibrary::new(alloc, Vec::new(alloc));
     for (content, bag, slots) in &TABLES {
         assert!(rt; library.add("f.bdl", content.as_bytes()).is_ok());
-        let Ok(table) = compile(&mut library, alloc, "f.bdl", bag) else {
+        let Ok(table) = compile(alloc, &mut library, "f.bdl", bag) else {
             return Err(Fail::from(*content));
         };
         assert_eq!(rt; table.slots(), *slots);
@@ -363,7 +363,7 @@ fn wide_bags(rt: HostRuntime) -> Result<(), Fail> {
     let mut library = MemoryLibrary::new(alloc, Vec::new(alloc));
     let text = wide_bag(alloc, 16_384)?;
     assert!(rt; library.add("f", text.as_str().as_bytes()).is_ok());
-    let Ok(table) = compile(&mut library, alloc, "f", "B") else {
+    let Ok(table) = compile(alloc, &mut library, "f", "B") else {
         return Err(Fail::from("16,384 fields"));
     };
     assert_eq!(rt; table.slots(), 16_384);
@@ -371,7 +371,7 @@ fn wide_bags(rt: HostRuntime) -> Result<(), Fail> {
     assert!(rt; library.add("f", text.as_str().as_bytes()).is_ok());
     assert!(rt;
         matches!(
-            compile(&mut library, alloc, "f", "B"),
+            compile(alloc, &mut library, "f", "B"),
             Err(DefFault::At {
                 code: DefCode::TooManySlots,
                 line: 1,
