@@ -1,5 +1,5 @@
 -- What files give for a bag is one outcome.
-use Rattle.std.proofs.Common.{◌≡◌, ℕ, List, length, Option, Ok, Err, refl, sym, ◌∙◌, ap}
+use Rattle.std.proofs.Common.{◌≡◌, ℕ, List, length, Option, Ok, Err, sym, ◌∙◌, ap}
 use Rattle.bag_model.specs.Shapes.{Nodes}
 use Rattle.bag_model.specs.Slots.{slots_of}
 use Rattle.bdl_check.specs.declared.faults.DefCode.{DefCode}
@@ -8,7 +8,7 @@ use Rattle.bdl_check.specs.Faults.{fault}
 use Rattle.bdl_check.specs.Tables.{IsTableIn, IsFirstFaultOf}
 use Rattle.baggage_cli.specs.declared.refusals.Refusal.{Refusal}
 use Rattle.baggage_cli.specs.declared.refusals.Refusal.TheVariants.{Input, Context, Definition, LibraryFailed, SourceFailed, Memory}
-use Rattle.baggage_cli.specs.Answer.{Outcome, Holding, ok_line, CheckGives, GivesOne}
+use Rattle.baggage_cli.specs.Answer.{Holding, ok_line, CheckGives, GivesOne}
 
 -- A refusal that is given is the first fault of the file.
 record IsBlamed (file bag : List ℕ) (held : Holding) (refusal : Refusal) : Type 0 where

@@ -145,7 +145,9 @@ merge_appends words input lists merged scene answer (outcome, comes, delivers) h
 compiled : (gives : Holding → Outcome → Type 0) (library : Change Holding) (held : Holding) (output : List ℕ) → library.before ≡ Some held → Compiles gives library (Ok output) → gives held (Ok output)
 compiled gives library held output is (inl e) = absurd (cc e)
 compiled gives library held output is (inr (inl failed)) = absurd (cc (failed.0))
-compiled gives library held output is (inr (inr (form, gave))) = rw is at gave
+compiled gives library held output is (inr (inr (files, told, gave))) =
+    let same : held ≡ files = rw is at told in
+    subst (λ held. gives held (Ok output)) (sym same) gave
 
 -- Where the call checks a definition and answers 0, the line of its table's slots was appended to its output.
 pub check_appends : (words : List (List ℕ)) (command : Option Command) (held : Holding) (scene : Scene) (answer : ℕ)
@@ -214,15 +216,16 @@ failed_source library source LibraryFailed (inr (inr of)) four_is = absurd of
 failed_source library source SourceFailed (inr (inr of)) four_is = absurd of
 failed_source library source Memory (inr (inr of)) four_is = absurd of
 
-failed_library : (gives : Holding → Outcome → Type 0) (library : Change Holding) (source : Change (List ℕ)) (refusal : Refusal) → Compiles gives library (Err refusal) → status_of refusal ≡ 4 → HasFailed library ⊎ HasFailed source
-failed_library gives library source refusal (inl e) four_is = absurd (let is : refusal ≡ Memory = cc e in let six = ap status_of is in omega (arith, six, four_is))
-failed_library gives library source refusal (inr (inl failed)) four_is = inl failed.1
-failed_library gives library source (Definition file line column code) (inr (inr (form, gave))) four_is = absurd (omega (arith, four_is))
-failed_library gives library source (Input line code) (inr (inr (form, gave))) four_is = absurd form
-failed_library gives library source (Context line offset code) (inr (inr (form, gave))) four_is = absurd form
-failed_library gives library source LibraryFailed (inr (inr (form, gave))) four_is = absurd form
-failed_library gives library source SourceFailed (inr (inr (form, gave))) four_is = absurd form
-failed_library gives library source Memory (inr (inr (form, gave))) four_is = absurd form
+failed_library : (file bag : List ℕ) (library : Change Holding) (source : Change (List ℕ)) (refusal : Refusal) → Compiles (CheckGives file bag) library (Err refusal) → status_of refusal ≡ 4
+    → HasFailed library ⊎ HasFailed source
+failed_library file bag library source refusal (inl e) four_is = absurd (let is : refusal ≡ Memory = cc e in let six = ap status_of is in omega (arith, six, four_is))
+failed_library file bag library source refusal (inr (inl failed)) four_is = inl failed.1
+failed_library file bag library source (Definition name line column code) (inr (inr (held, told, gave))) four_is = absurd (omega (arith, four_is))
+failed_library file bag library source (Input line code) (inr (inr (held, told, gave))) four_is = absurd gave
+failed_library file bag library source (Context line offset code) (inr (inr (held, told, gave))) four_is = absurd gave
+failed_library file bag library source LibraryFailed (inr (inr (held, told, gave))) four_is = absurd gave
+failed_library file bag library source SourceFailed (inr (inr (held, told, gave))) four_is = absurd gave
+failed_library file bag library source Memory (inr (inr (held, told, gave))) four_is = absurd gave
 
 failed_comes : (words : List (List ℕ)) (command : Command) (library : Change Holding) (source : Change (List ℕ)) (refusal : Refusal) → Comes words command library source (Err refusal) → status_of refusal ≡ 4
     → HasFailed library ⊎ HasFailed source
@@ -230,7 +233,7 @@ failed_comes words (Trim budget) library source refusal comes four_is =
     failed_source library source refusal (reads_refuse (TrimGives budget) source refusal (λ input. trim_of_input budget input refusal) comes.1) four_is
 failed_comes words Merge library source refusal comes four_is =
     failed_source library source refusal (reads_refuse MergeGives source refusal (λ input. merge_of_input input refusal) comes.1) four_is
-failed_comes words Check library source refusal comes four_is = failed_library (CheckGives (file_word words) (bag_word words)) library source refusal comes.1 four_is
+failed_comes words Check library source refusal comes four_is = failed_library (file_word words) (bag_word words) library source refusal comes.1 four_is
 
 pub failed_rose : (words : List (List ℕ)) (command : Option Command) (scene : Scene) (answer : ℕ) → Answers words command scene answer → answer ≡ 4 → HasFailed scene.library ⊎ HasFailed scene.source
 failed_rose words None scene answer (library, source, out, inl told) four_is = absurd (let status = told.0 in omega arith)
@@ -250,8 +253,9 @@ check_says : (words : List (List ℕ)) (held : Holding) (scene : Scene) (file : 
     → Takes scene.errs (line_of (Definition file line column code)) → SaysFault words held scene
 check_says words held scene file line column code (inl e) is takes = absurd (cc e)
 check_says words held scene file line column code (inr (inl failed)) is takes = absurd (cc (failed.0))
-check_says words held scene file line column code (inr (inr (form, gave))) is takes =
-    let said : CheckGives (file_word words) (bag_word words) held (Err (Definition file line column code)) = rw is at gave in
+check_says words held scene file line column code (inr (inr (files, told, gave))) is takes =
+    let same : held ≡ files = rw is at told in
+    let said = subst (λ held. CheckGives (file_word words) (bag_word words) held (Err (Definition file line column code))) (sym same) gave in
     (fault code (record { line = line; column = column }), said.1, subst (λ name. Takes scene.errs (line_of (Definition name line column code))) said.0 takes)
 
 comes_definition : (words : List (List ℕ)) (command : Command) (held : Holding) (scene : Scene) (file : List ℕ) (line column : ℕ) (code : DefCode)
@@ -315,7 +319,9 @@ check_good : (file bag : List ℕ) (library : Change Holding) (held : Holding) (
     → Compiles (CheckGives file bag) library (Err refusal) → refusal ≡ Memory
 check_good file bag library held refusal is none sure (inl wanting) = cc wanting
 check_good file bag library held refusal is none sure (inr (inl failed)) = absurd (sure failed.1)
-check_good file bag library held refusal is none sure (inr (inr (form, gave))) = absurd (refuses_nothing refusal (rw is at gave))
+check_good file bag library held refusal is none sure (inr (inr (files, told, gave))) =
+    let same : held ≡ files = rw is at told in
+    absurd (refuses_nothing refusal (subst (λ held. CheckGives file bag held (Err refusal)) (sym same) gave))
   where
     refuses_nothing : (refusal : Refusal) → CheckGives file bag held (Err refusal) → ⊥
     refuses_nothing (Definition name line column code) said = none (fault code (record { line = line; column = column })) said.1

@@ -1,6 +1,5 @@
 -- The words of a command line by their places.
-use Rattle.std.proofs.Common.{◌≡◌, ℕ, ◌+◌, ◌<◌, zero, suc, List, [], ◌∷◌, length, Option, Some, None, get_or, slice_get, refl, sym, ap, subst, arith}
-use Rattle.std.specs.Option.{option_copied}
+use Rattle.std.proofs.Common.{◌≡◌, ℕ, zero, suc, List, [], ◌∷◌, length, Option, Some, None, get_or, slice_get, refl, sym, subst, arith}
 use Rattle.baggage_cli.specs.declared.commands.Command.{Command}
 use Rattle.baggage_cli.specs.Asked.{asked}
 

@@ -1,5 +1,5 @@
 -- What a call of the program may come to, and how it is delivered.
-use Rattle.std.specs.Prelude.{◌≡◌, ◌⊎◌, ℕ, ◌<◌, ◌≤◌, List, [], ◌∷◌, ◌++◌, length, codes, Option, Some, None, IfSome, Result, Ok, Err, OnOk}
+use Rattle.std.specs.Prelude.{◌≡◌, ◌⊎◌, ℕ, ◌<◌, ◌≤◌, List, [], ◌∷◌, ◌++◌, length, codes, Option, Some, None, Result, Ok, Err, OnOk}
 use Rattle.std.specs.Fmt.{decimal}
 use Rattle.std.specs.Io.KnownBytes.{IsAtEnd}
 use Rattle.context_model.specs.Atoms.{Atom}
@@ -87,19 +87,13 @@ Reads gives source outcome =
     ⊎ ((outcome ≡ Err SourceFailed) × HasFailed source)
     ⊎ ((input : List ℕ) × Held source input × gives input outcome × OnOk outcome (IsAtEnd source.after))
 
--- The outcome is an output or the fault of a definition.
-abbrev pub IsCompiled : Outcome → Type 0
-IsCompiled (Ok output) = Unit {0}
-IsCompiled (Err (Definition file line column code)) = Unit {0}
-IsCompiled (Err refusal) = ⊥
-
--- A definition is compiled. Memory may be wanting, and a library that failed has its cause; otherwise it is an output or a fault, and
--- what is given for the files that the library holds, where it tells.
+-- A definition is compiled. Memory may be wanting, and a library that failed has its cause; otherwise it is what is given for the
+-- files of the library. A library that doesn't tell held some files for which it is so.
 abbrev pub Compiles : (Holding → Outcome → Type 0) → Change Holding → Outcome → Type 0
 Compiles gives library outcome =
     (outcome ≡ Err Memory)
     ⊎ ((outcome ≡ Err LibraryFailed) × HasFailed library)
-    ⊎ (IsCompiled outcome × IfSome library.before (λ held. gives held outcome))
+    ⊎ ((held : Holding) × Held library held × gives held outcome)
 
 -- What each command may come to, with its words and with the library and the source before and after it.
 abbrev pub Comes : List (List ℕ) → Command → Change Holding → Change (List ℕ) → Outcome → Type 0

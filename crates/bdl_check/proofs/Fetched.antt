@@ -1,15 +1,17 @@
 -- What is said of the bytes that were fetched holds of the file.
-use Rattle.std.proofs.Common.{◌≡◌, ℕ, ◌<◌, ◌≤◌, Option, None, Some, List, length, take, subst, ◌⊎◌, inl, inr, arith}
+use Rattle.std.proofs.Common.{◌≡◌, ℕ, ◌<◌, ◌≤◌, Option, None, Some, List, length, take, subst, refl, ◌⊎◌, inl, inr, arith}
 use Rattle.std.specs.Option.{option_map}
 use Rattle.std.proofs.lemmas.Bool.{cases_lt}
 use Rattle.std.proofs.lemmas.List.{take_all, length-take-le}
 use Rattle.bag_model.specs.Shapes.{Nodes}
-use Rattle.outside.specs.Told.{fetched}
+use Rattle.outside.specs.Told.{Files, fetched}
+use Rattle.bdl_check.specs.declared.faults.DefCode.TheVariants.{NoFile}
+use Rattle.bdl_check.specs.Faults.{first_spot, fault}
 use Rattle.bdl_check.specs.declared.faults.DefFault.{DefFault}
 use Rattle.bdl_check.specs.declared.faults.DefFault.TheVariants.{At, Failed, Memory}
 use Rattle.bdl_check.specs.declared.faults.Fault.{Fault}
 use Rattle.bdl_check.specs.Sources.{IsSourceFault, too_long, lexical, syntactic}
-use Rattle.bdl_check.specs.Tables.{IsTableOf, IsTableIn, IsFirstFault, IsFirstFaultOf, BlamesFile, Blames, unread, not_yet, plain, missing, unfit}
+use Rattle.bdl_check.specs.Tables.{IsTableOf, IsTableIn, IsFirstFault, IsFirstFaultOf, BlamesFile, Blames, OfFiles, unread, not_yet, plain, missing, unfit}
 
 -- all of a file was fetched, or one byte too many
 whole_or : (file : List ℕ) → (fetched file ≡ file) ⊎ ((1048576 < length (fetched file)) × (1048576 < length file))
@@ -62,3 +64,14 @@ pub blames : (held : Option (List ℕ)) (name bag : List ℕ) (found : Fault) (r
 blames held name bag found (At file line column code) f b = (b.0, subst (IsFirstFaultOf held bag) b.1 f)
 blames held name bag found Failed f b = tt
 blames held name bag found Memory f b = tt
+
+-- what is so of the files that are told, and of the one that was fetched, is so of the library's files
+pub of_files : (files : Files) (name : List ℕ) (found : Option (List ℕ)) (Holds : Option (List ℕ) → Type 0) → ((held : List ℕ → Option (List ℕ)) → files ≡ Some held → Holds (held name)) → Holds found
+    → OfFiles files (λ held. Holds (held name))
+of_files None name found Holds told other = (λ _. found, tt, other)
+of_files (Some held) name found Holds told other = (held, refl, told held refl)
+
+-- a file that is missing is blamed for that
+pub missing_held : (held : Option (List ℕ)) (name bag : List ℕ) (r : DefFault) → None ≡ option_map fetched held → BlamesFile name (fault NoFile first_spot) r → Blames held name bag r
+missing_held None name bag r e b = blames None name bag (fault NoFile first_spot) r refl b
+missing_held (Some file) name bag r e b = absurd (cc e)

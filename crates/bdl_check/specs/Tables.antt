@@ -1,5 +1,6 @@
 -- The table of a bag, or the first fault of its file.
-use Rattle.std.specs.Prelude.{◌≡◌, ℕ, ◌<◌, ◌≤◌, Option, None, Some, List, []}
+use Rattle.std.specs.Prelude.{◌≡◌, ℕ, ◌<◌, ◌≤◌, Option, None, Some, IfSome, List, []}
+use Rattle.outside.specs.Told.{Files}
 use Rattle.bag_model.specs.Shapes.{Nodes}
 use Rattle.bag_model.specs.Tables.{levels, node_count}
 use Rattle.bdl_lexer.specs.declared.Token.{Token}
@@ -107,3 +108,7 @@ abbrev pub Blames : Option (List ℕ) → List ℕ → List ℕ → DefFault →
 Blames held name bag (At file line column code) = (file ≡ name) × IsFirstFaultOf held bag (fault code (record { line = line; column = column }))
 Blames held name bag Failed = Unit {0}
 Blames held name bag Memory = Unit {0}
+
+-- it is so of the files of a library; one that doesn't tell held some files of which it is so
+abbrev pub OfFiles : Files → ((List ℕ → Option (List ℕ)) → Type 0) → Type 0
+OfFiles files Holds = (held : List ℕ → Option (List ℕ)) × IfSome files (λ told. told ≡ held) × Holds held

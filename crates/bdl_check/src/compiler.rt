@@ -1,8 +1,8 @@
 //! The whole way from a file to a table.
 
-ghost use Rattle.std.specs.Prelude.{◌≡◌, ◌≤◌, ℕ, List, Option, Some, IfOk, IfErr, IsErrOf};
+ghost use Rattle.std.specs.Prelude.{◌≡◌, ◌≤◌, IfOk, IfErr, IsErrOf};
 ghost use Rattle.outside.specs.Causes.{Rose};
-ghost use Rattle.bdl_check.specs.Tables.{IsTableIn, Blames, BlamesFile};
+ghost use Rattle.bdl_check.specs.Tables.{IsTableIn, Blames, BlamesFile, OfFiles};
 
 use crate::faults::{DefCode, DefFault, FIRST, Fault, Refusal};
 use crate::tables::table_of;
@@ -33,8 +33,8 @@ pub fn compile<L: Library>(
     file: &str,
     bag: &str,
 ) -> Result<Table, DefFault>
-    ensures table { (held : List ℕ → Option (List ℕ)) → L.files library.old ≡ Some held → IfOk result (IsTableIn (held file.now) bag.now) }
-    ensures fault { (held : List ℕ → Option (List ℕ)) → L.files library.old ≡ Some held → IfErr result (Blames (held file.now) file.now bag.now) }
+    ensures table { IfOk result (λ table. OfFiles (L.files library.old) (λ held. IsTableIn (held file.now) bag.now table)) }
+    ensures fault { IfErr result (λ fault. OfFiles (L.files library.old) (λ held. Blames (held file.now) file.now bag.now fault)) }
     ensures cause { IsErrOf result DefFault.Failed → Rose (L.faults library.old) (L.faults library.new) }
     ensures later { L.faults library.old ≤ L.faults library.new }
     ensures same { L.files library.new ≡ L.files library.old }

@@ -1,4 +1,4 @@
-use Rattle.std.proofs.Common.{◌≡◌, slice_get, Some, sym, ◌∙◌, ap}
+use Rattle.std.proofs.Common.{Some, sym, ◌∙◌, ap}
 use Rattle.baggage_cli.proofs.Words.{three_words}
 use Rattle.baggage_cli.proofs.commands.command_of.Goals as goal
 

@@ -1,5 +1,3 @@
-use Rattle.std.proofs.Common.{◌≡◌, List, ℕ, [], get_or, sym}
-use Rattle.std.proofs.lemmas.Option.{get_or_from_slice_get}
 use Rattle.baggage_cli.proofs.Words.{none_is_empty}
 use Rattle.baggage_cli.proofs.top.word.Goals as goal
 
