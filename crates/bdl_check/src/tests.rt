@@ -3,16 +3,18 @@ use crate::checks::check_decls;
 use crate::faults::Refusal;
 use crate::later::first_later;
 use crate::source::{Parsed, read_source};
-use crate::{DefCode, DefFault, compile};
+use crate::{DefCode, DefFault, compile, laws};
 use bdl_parser::Spot;
-use outside::MemoryLibrary;
+use field_table::{Shape, Table};
+use outside::{Memory, MemoryLibrary};
+use scalar_types::ScalarKind;
 use std::alloc::Global;
 use std::test::Fail;
 
 type Row = (&'static str, u32, u32, DefCode);
 
 // The first fault of a source before a bag is chosen, with its line and column.
-static FAULTS: [Row; 37] = [
+static FAULTS: [Row; 52] = [
     ("bag B { bool a = 65536; }", 1, 18, DefCode::NumberRange),
     ("bag B {", 1, 7, DefCode::Expected),
     ("bag B { }\n }", 2, 2, DefCode::Expected),
@@ -20,6 +22,31 @@ static FAULTS: [Row; 37] = [
     ("/* bag B { }", 1, 1, DefCode::OpenComment),
     ("bag B { } \"", 1, 11, DefCode::OpenString),
     ("bag B { } ?", 1, 11, DefCode::BadByte),
+    ("/* é */ ?", 1, 10, DefCode::BadByte),
+    ("// é\nbag B { é }", 2, 9, DefCode::BadByte),
+    ("\rbag B { }\r\n?", 2, 1, DefCode::BadByte),
+    ("bag B { } /", 1, 11, DefCode::BadByte),
+    ("bag B { } /*/", 1, 11, DefCode::OpenComment),
+    ("\"", 1, 1, DefCode::OpenString),
+    (
+        "bag B { bool a = 065535; bool b = 65535; }",
+        1,
+        35,
+        DefCode::DuplicateNumber,
+    ),
+    (
+        "bag B { bool a = 65535; bool b = 065536; }",
+        1,
+        34,
+        DefCode::NumberRange,
+    ),
+    ("import", 1, 1, DefCode::Expected),
+    ("bag B { } import \"q.bdl\";", 1, 11, DefCode::Expected),
+    ("bag bag { }", 1, 5, DefCode::Expected),
+    ("bag B { bool a = 1 }", 1, 20, DefCode::Expected),
+    ("bag B { set<bool a = 1; }", 1, 18, DefCode::Expected),
+    ("bag B { bool string = 1; }", 1, 14, DefCode::Expected),
+    ("bag B { map<bool bool> a = 1; }", 1, 18, DefCode::Expected),
     ("bag B { bool a = 70000; } ?", 1, 18, DefCode::NumberRange),
     ("bag B { bool a = b; } ?", 1, 23, DefCode::BadByte),
     ("import \"q.bdl\";", 1, 1, DefCode::NotYet),
@@ -347,6 +374,54 @@ fn tables(rt: HostRuntime) -> Result<(), Fail> {
     Ok(())
 }
 
+/// Whether the table has slots with these names and numbers, in this order, and finds each by its name.
+fn has_slots(alloc: Global, table: &Table, fields: &[(&'static str, u64)]) -> Result<bool, Memory> {
+    if table.slots() != fields.len() {
+        return Ok(false);
+    }
+    for slot in 0..table.slots() {
+        let (name, number) = fields[slot];
+        let found = table.name(alloc, slot)?.as_str() == name
+            && table.numbers(slot).as_slice() == [number].as_slice()
+            && table.find(name) == Some(slot)
+            && table.find_range(name) == Some((slot, slot + 1));
+        if !found {
+            return Ok(false);
+        }
+    }
+    Ok(true)
+}
+
+#[test]
+fn slots_of_tables(rt: HostRuntime) -> Result<(), Fail> {
+    let alloc = rt.alloc();
+    let mut library = MemoryLibrary::new(alloc, Vec::new(alloc));
+    let (content, bag, _) = TABLES[0];
+    assert!(rt; library.add("q.bdl", content.as_bytes()).is_ok());
+    let Ok(table) = compile(alloc, &mut library, "q.bdl", bag) else {
+        return Err(Fail::from(content));
+    };
+    let fields = [
+        ("id", 0),
+        ("tags", 1),
+        ("hops", 2),
+        ("debug", 3),
+        ("load", 4),
+    ];
+    assert!(rt; has_slots(alloc, &table, &fields)?);
+    assert!(rt; table.find("hops.x").is_none() && table.find("loa").is_none());
+    assert!(rt; 4 < table.slots() && matches!(table.shape(4), Shape::Map(ScalarKind::Str, _)));
+
+    let content = "bag B { bool z = 10; bool y = 9; bool x = 100; }";
+    assert!(rt; library.add("f.bdl", content.as_bytes()).is_ok());
+    let Ok(table) = compile(alloc, &mut library, "f.bdl", "B") else {
+        return Err(Fail::from(content));
+    };
+    let fields = [("y", 9), ("z", 10), ("x", 100)];
+    assert!(rt; has_slots(alloc, &table, &fields)?);
+    Ok(())
+}
+
 /// A bag with so many fields.
 fn wide_bag(alloc: Global, count: u32) -> Result<String, Fail> {
     let mut text = String::from_str(alloc, "bag B { ")?;
@@ -381,4 +456,11 @@ fn wide_bags(rt: HostRuntime) -> Result<(), Fail> {
         )
     );
     Ok(())
+}
+
+#[test]
+fn laws() {
+    laws::tables_are_unique();
+    laws::tables_exclude_faults();
+    laws::faults_are_unique();
 }
