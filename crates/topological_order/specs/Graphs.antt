@@ -1,0 +1,27 @@
+-- Graphs, by the nodes to which the edges of each node lead.
+use Rattle.std.specs.Prelude.{◌≡◌, ℕ, ◌<◌, List, map, length, Some, All, Contains, slice_get}
+use Rattle.std.specs.declared.vec.Vec.{Vec}
+use Rattle.std.specs.declared.alloc.Global.{Global}
+
+-- For each node, numbered from 0 on, the nodes to which its edges lead.
+abbrev pub Graph : Type 0
+Graph = List (List ℕ)
+
+-- The graph that the code has.
+abbrev pub graph_of : List (Vec ℕ Global) → Graph
+graph_of rows = map (λ row. row.items) rows
+
+-- There is an edge from the one node to the other.
+pub record HasEdge (graph : Graph) (from to : ℕ) : Type 0 where
+  pub row : List ℕ
+  pub is : slice_get graph from ≡ Some row
+  pub leads : Contains row to
+
+-- Each edge leads to a node.
+abbrev pub IsClosed : Graph → Type 0
+IsClosed graph = All (All (λ to. to < length graph)) graph
+
+-- Along one edge or several the one node is reached from the other.
+pub data Reaches (graph : Graph) : ℕ → ℕ → Type 0 where
+  by_edge : (from to : ℕ) → HasEdge graph from to → Reaches graph from to
+  by_walk : (from next to : ℕ) → HasEdge graph from next → Reaches graph next to → Reaches graph from to
