@@ -1,6 +1,6 @@
 //! The lists of a module's parts, in the order of the text.
 
-ghost use Rattle.std.specs.Prelude.{◌≡◌, ◌↔◌, [], ◌∷◌, ◌++◌, IsTrue, OnOk, OnErr, length};
+ghost use Rattle.std.specs.Prelude.{◌≡◌, ◌↔◌, [], ◌∷◌, ◌++◌, IsTrue, OnOk, OnErr, length, map};
 ghost use Rattle.std.specs.List.{slice_get};
 ghost use Rattle.std.specs.Option.{option_map, option_copied};
 ghost use Rattle.bdl_parser.specs.Views.{bag_field_of, struct_field_of};
@@ -47,6 +47,13 @@ impl Imports {
         ensures { IsTrue result ↔ (length self.now ≡ 0) }
     {
         self.items.is_empty()
+    }
+
+    /// The list as a slice.
+    pub fn as_slice(&self) -> &[Import]
+        ensures { result.now ≡ self.now }
+    {
+        self.items.as_slice()
     }
 
     /// The one with this number, from 0 on.
@@ -105,6 +112,13 @@ impl Decls {
         ensures { IsTrue result ↔ (length self.now ≡ 0) }
     {
         self.items.is_empty()
+    }
+
+    /// The list as a slice.
+    pub fn as_slice(&self) -> &[Decl]
+        ensures { result.now ≡ self.now }
+    {
+        self.items.as_slice()
     }
 
     /// The one with this number, from 0 on.
@@ -167,6 +181,13 @@ impl BagFields {
         self.items.is_empty()
     }
 
+    /// The list as a slice.
+    pub fn as_slice(&self) -> &[BagField]
+        ensures { map bag_field_of result.now ≡ self.now }
+    {
+        self.items.as_slice()
+    }
+
     /// The one with this number, from 0 on.
     pub fn get(&self, at: usize) -> Option<&BagField>
         ensures { option_map (λ found. bag_field_of found.now) result ≡ slice_get self.now at }
@@ -225,6 +246,13 @@ impl StructFields {
         ensures { IsTrue result ↔ (length self.now ≡ 0) }
     {
         self.items.is_empty()
+    }
+
+    /// The list as a slice.
+    pub fn as_slice(&self) -> &[StructField]
+        ensures { map struct_field_of result.now ≡ self.now }
+    {
+        self.items.as_slice()
     }
 
     /// The one with this number, from 0 on.

@@ -135,17 +135,20 @@ fn one_tree(rt: HostRuntime) -> Result<(), Fail> {
     let tokens = lex(rt.alloc(), source)?;
     let module = parse(rt.alloc(), source, &tokens).ok().ok_or("a module")?;
     assert_eq!(rt; module.imports.len(), 1);
+    assert_eq!(rt; module.imports.as_slice().len(), 1);
     assert!(rt; !module.imports.is_empty());
     let import = module.imports.get(0).ok_or("an import")?;
     assert_eq!(rt; import.file.as_str(), "f.bdl");
     assert_eq!(rt; import.at, Spot { line: 1, column: 8 });
     assert_eq!(rt; module.decls.len(), 1);
+    assert_eq!(rt; module.decls.as_slice().len(), 1);
     let decl = module.decls.get(0).ok_or("a declaration")?;
     let Decl::Bag { name, at, fields } = decl else {
         return Err(Fail::from("a bag"));
     };
     assert_eq!(rt; name.as_str(), "B");
     assert_eq!(rt; *at, Spot { line: 2, column: 5 });
+    assert_eq!(rt; fields.as_slice().len(), 1);
     let field = fields.get(0).ok_or("a field")?;
     assert_eq!(rt; field.name.as_str(), "a");
     assert_eq!(rt; field.number, 7);
@@ -175,6 +178,22 @@ fn one_tree(rt: HostRuntime) -> Result<(), Fail> {
         return Err(Fail::from("a name"));
     };
     assert_eq!(rt; named.as_str(), "N");
+    Ok(())
+}
+
+#[test]
+fn struct_fields(rt: HostRuntime) -> Result<(), Fail> {
+    let source = b"struct S { bool a; bytes b; }";
+    let tokens = lex(rt.alloc(), source)?;
+    let module = parse(rt.alloc(), source, &tokens).ok().ok_or("a module")?;
+    let decl = module.decls.get(0).ok_or("a declaration")?;
+    let Decl::Struct { fields, .. } = decl else {
+        return Err(Fail::from("a struct"));
+    };
+    assert_eq!(rt; fields.len(), 2);
+    assert_eq!(rt; fields.as_slice().len(), 2);
+    let field = fields.get(1).ok_or("a field")?;
+    assert_eq!(rt; field.name.as_str(), "b");
     Ok(())
 }
 

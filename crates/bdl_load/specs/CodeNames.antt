@@ -1,7 +1,7 @@
 -- The names of the codes of definitions.
 use Rattle.std.specs.Prelude.{ℕ, List, codes}
-use Rattle.bdl_check.specs.declared.faults.DefCode.{DefCode}
-use Rattle.bdl_check.specs.declared.faults.DefCode.TheVariants.{NotUtf8, BadByte, OpenComment, OpenString, NumberRange, Expected, TypeNesting, NoFile, ImportMissing, ImportCycle, TooManyFiles, DefTooLong, DuplicateName, EmptyStruct, FloatingType, UnknownName, BadKeyType, BadStructField, DuplicateNumber, DuplicateField, Recursive, NoSuchBag, TooDeep, TooManySlots, NotYet}
+use Rattle.bdl_load.specs.declared.faults.DefCode.{DefCode}
+use Rattle.bdl_load.specs.declared.faults.DefCode.TheVariants.{NotUtf8, BadByte, OpenComment, OpenString, NumberRange, Expected, TypeNesting, NoFile, ImportMissing, ImportCycle, TooManyFiles, DefTooLong, DuplicateName, EmptyStruct, FloatingType, UnknownName, BadKeyType, BadStructField, DuplicateNumber, DuplicateField, Recursive, NoSuchBag, TooDeep, TooManySlots}
 
 -- the name of a code, as it is printed
 abbrev pub def_name : DefCode → List ℕ
@@ -29,4 +29,3 @@ def_name Recursive = codes "Recursive"
 def_name NoSuchBag = codes "NoSuchBag"
 def_name TooDeep = codes "TooDeep"
 def_name TooManySlots = codes "TooManySlots"
-def_name NotYet = codes "NotYet"

@@ -1,25 +1,33 @@
 //! The bytes of a file, read to a module.
 
-ghost use Rattle.std.specs.Prelude.{◌≡◌, ◌≤◌, All, IfOk, IfErr, length};
+ghost use Rattle.std.specs.Prelude.{◌≡◌, ◌≤◌, IfOk, IfErr, length};
 ghost use Rattle.std.specs.List.{slice_get};
 ghost use Rattle.bdl_lexer.specs.Faults.{IsRefusalOf};
-ghost use Rattle.bdl_lexer.specs.Spans.{LiesIn};
 ghost use Rattle.bdl_lexer.specs.Tokens.{AreTokensOf};
 ghost use Rattle.bdl_parser.specs.FirstFault.{IsFaultOf};
 ghost use Rattle.bdl_parser.specs.Lexemes.{lexemes_of};
-ghost use Rattle.bdl_check.specs.Faults.{Says};
-ghost use Rattle.bdl_check.specs.Sources.{of_lexer, of_parser, spot_at, IsRead, IsSourceFault, IsLexical, IsSyntactic};
+ghost use Rattle.bdl_load.specs.Faults.{found};
+ghost use Rattle.bdl_load.specs.Sources.{of_lexer, of_parser, spot_at, SaysModule, IsSourceFault};
+ghost use Rattle.bdl_load.specs.SourceRefusals.{Says};
+ghost use Rattle.bdl_load.specs.Spelled.{AreSpelledDecls};
 
-use crate::faults::{DefCode, FIRST, Refusal};
+use crate::faults::{DefCode, FIRST, Finding};
 use bdl_lexer::{LexCode, LexFault, MAX_SOURCE, Token, lex};
 use bdl_parser::{Module, ParseCode, ParseFault, Spot, parse};
 use std::alloc::Global;
 
-/// The tokens of a file, and the module that they say.
-#[derive(Drop)]
-pub(crate) struct Parsed {
-    pub tokens: Vec<Token>,
-    pub module: Module,
+/// Why the bytes of a file say no module.
+#[derive(Clone, Copy, Debug, PartialEq, Eq)]
+pub(crate) enum SourceRefusal {
+    At(Finding),
+    Memory,
+}
+
+/// The refusal of the fault of that code at that place.
+fn refusal(at: Spot, code: DefCode) -> SourceRefusal
+    ensures { result ≡ SourceRefusal.At (found at code) }
+{
+    SourceRefusal::At(Finding { at, code })
 }
 
 fn lexical_code(code: LexCode) -> DefCode
@@ -56,20 +64,20 @@ fn spot_of(source: &[u8], tokens: &[Token], number: usize) -> Spot
     }
 }
 
-fn lexical(source: &[u8], fault: LexFault) -> Refusal
+fn lexical(source: &[u8], fault: LexFault) -> SourceRefusal
     requires fits { length source.now ≤ MAX_SOURCE }
     requires fault { IsRefusalOf source.now fault }
     ensures { Says (IsSourceFault source.now) result }
 {
     match fault {
         LexFault::At { line, column, code } => {
-            Refusal::at(Spot { line, column }, lexical_code(code))
+            refusal(Spot { line, column }, lexical_code(code))
         }
-        LexFault::Memory => Refusal::Memory,
+        LexFault::Memory => SourceRefusal::Memory,
     }
 }
 
-fn syntactic(source: &[u8], tokens: &[Token], fault: ParseFault) -> Refusal
+fn syntactic(source: &[u8], tokens: &[Token], fault: ParseFault) -> SourceRefusal
     requires fits { length source.now ≤ MAX_SOURCE }
     requires are { AreTokensOf source.now tokens.now }
     requires fault { IsFaultOf (lexemes_of source.now tokens.now) fault }
@@ -77,27 +85,27 @@ fn syntactic(source: &[u8], tokens: &[Token], fault: ParseFault) -> Refusal
 {
     match fault {
         ParseFault::At { token, code } => {
-            Refusal::at(spot_of(source, tokens, token), parse_code(code))
+            refusal(spot_of(source, tokens, token), parse_code(code))
         }
-        ParseFault::Memory => Refusal::Memory,
+        ParseFault::Memory => SourceRefusal::Memory,
     }
 }
 
 /// Reads the bytes of a file once to their tokens, and these once to a module.
-pub(crate) fn read_source(alloc: Global, source: &[u8]) -> Result<Parsed, Refusal>
-    ensures read { IfOk result (λ parsed. IsRead source.now parsed.tokens.items parsed.«module») }
-    ensures lie { IfOk result (λ parsed. All (LiesIn source.now) parsed.tokens.items) }
+pub(crate) fn read_source(alloc: Global, source: &[u8]) -> Result<Module, SourceRefusal>
+    ensures read { IfOk result (SaysModule source.now) }
+    ensures spelled { IfOk result (λ found. AreSpelledDecls found.decls) }
     ensures fault { IfErr result (Says (IsSourceFault source.now)) }
 {
     if source.len() > MAX_SOURCE {
-        return Err(Refusal::at(FIRST, DefCode::DefTooLong));
+        return Err(refusal(FIRST, DefCode::DefTooLong));
     }
     let tokens = match lex(alloc, source) {
         Ok(tokens) => tokens,
         Err(fault) => return Err(lexical(source, fault)),
     };
     match parse(alloc, source, &tokens) {
-        Ok(module) => Ok(Parsed { tokens, module }),
+        Ok(module) => Ok(module),
         Err(fault) => Err(syntactic(source, &tokens, fault)),
     }
 }

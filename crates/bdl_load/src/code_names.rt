@@ -5,7 +5,7 @@ use std::fmt;
 
 impl fmt::Display for DefCode {
     ghost use Rattle.std.specs.Prelude.{Some};
-    ghost use Rattle.bdl_check.specs.CodeNames.{def_name};
+    ghost use Rattle.bdl_load.specs.CodeNames.{def_name};
 
     ghost output = { λ code. Some (def_name code) };
 
@@ -35,7 +35,6 @@ impl fmt::Display for DefCode {
             DefCode::NoSuchBag => write!(f, "NoSuchBag"),
             DefCode::TooDeep => write!(f, "TooDeep"),
             DefCode::TooManySlots => write!(f, "TooManySlots"),
-            DefCode::NotYet => write!(f, "NotYet"),
         }
     }
 }

@@ -1,4 +1,4 @@
--- The names of a module's fields are names.
+-- How the names and the numbers of a module's fields are spelled.
 use Rattle.std.proofs.Common.{◌≡◌, ℕ, zero, suc, ◌<◌, ◌^◌, arith, true, Option, Some, None, List, [], ◌∷◌, codes, refl, subst}
 use Rattle.std.specs.List.{All, AllByRecursion}
 use Rattle.std.specs.Option.{option_map}
@@ -20,9 +20,9 @@ use Rattle.bdl_parser.specs.Lexemes.{What, Lexeme, word, number, quoted, sign, w
 use Rattle.bdl_parser.specs.Trees.{TypeTree, BagFieldTree}
 use Rattle.bdl_parser.specs.Words.{name_of}
 use Rattle.grammar_model.specs.Forms.{Form, token, two, either, made, many, ended}
-use Rattle.bdl_check.specs.Layouts.{IsSpelledField}
-use Rattle.bdl_check.proofs.Given.{Gives, gives_token, gives_two, gives_either, gives_made, gives_many, gives_nothing, gives_ended}
-use Rattle.bdl_check.proofs.Words.{word_of, name_is_name}
+use Rattle.bdl_load.specs.Spelled.{IsSpelledField, IsSpelledDecl, AreSpelledDecls}
+use Rattle.bdl_load.proofs.Given.{Gives, gives_token, gives_two, gives_either, gives_made, gives_many, gives_nothing, gives_ended}
+use Rattle.bdl_load.proofs.Words.{word_of, name_is_name}
 
 -- a word has the bytes of one, and a number has 16 bits
 abbrev IsWordIn : What → Type 0
@@ -120,7 +120,7 @@ says_field n =
     (gives_two IsSpelled Any (λ (p : (ℕ × Spot) × Spot). IsSmall p.0 × Any p.1) (token (grammar.mark 61)) _ (says_any (grammar.mark 61))
     (gives_two IsSpelled IsSmall Any (token grammar.a_number) _ says_number (says_any (grammar.mark 59))))))
 
-abbrev pub AreNamedFields : List BagFieldTree → Type 0
+abbrev AreNamedFields : List BagFieldTree → Type 0
 AreNamedFields fields = AllByRecursion IsSpelledField fields
 
 says_fields : (n : ℕ) → Says AreNamedFields (grammar.bag_fields n)
@@ -128,14 +128,9 @@ says_fields n =
     gives_made IsSpelled (λ (p : List BagFieldTree × Spot). AreNamedFields p.0 × Any p.1) AreNamedFields _ _ (λ a q. q.0)
     (gives_many IsSpelled IsSpelledField Any (grammar.a_bag_field n) (token (grammar.mark 125)) (says_field n) (says_any (grammar.mark 125)))
 
--- the names of a bag's fields are names
-abbrev pub IsNamedDecl : Decl → Type 0
-IsNamedDecl (Bag own spot fields) = AreNamedFields fields
-IsNamedDecl (Struct own spot fields) = Unit {0}
-
-says_bag : (n : ℕ) → Says IsNamedDecl (grammar.a_bag n)
+says_bag : (n : ℕ) → Says IsSpelledDecl (grammar.a_bag n)
 says_bag n =
-    gives_made IsSpelled (λ (p : Spot × ((List ℕ × Spot) × (Spot × List BagFieldTree))). Any p.0 × (IsNamed p.1.0 × (Any p.1.1.0 × AreNamedFields p.1.1.1))) IsNamedDecl _ _ (λ a q. q.1.1.1)
+    gives_made IsSpelled (λ (p : Spot × ((List ℕ × Spot) × (Spot × List BagFieldTree))). Any p.0 × (IsNamed p.1.0 × (Any p.1.1.0 × AreNamedFields p.1.1.1))) IsSpelledDecl _ _ (λ a q. q.1.1.1)
     (gives_two IsSpelled Any (λ (p : (List ℕ × Spot) × (Spot × List BagFieldTree)). IsNamed p.0 × (Any p.1.0 × AreNamedFields p.1.1)) (token (grammar.key (codes "bag"))) _ (says_any (grammar.key (codes "bag")))
     (gives_two IsSpelled IsNamed (λ (p : Spot × List BagFieldTree). Any p.0 × AreNamedFields p.1) (token grammar.a_name) _ says_name
     (gives_two IsSpelled Any AreNamedFields (token (grammar.mark 123)) (grammar.bag_fields n) (says_any (grammar.mark 123)) (says_fields n))))
@@ -146,28 +141,25 @@ any_struct_field n = made_any _ _ (and_any (grammar.a_type n) _ (any_type n) (an
 any_struct_fields : (n : ℕ) → Says Any (grammar.struct_fields n)
 any_struct_fields n = made_any _ _ (many_any (grammar.a_struct_field n) _ (any_struct_field n) (says_any (grammar.mark 125)))
 
-says_struct : (n : ℕ) → Says IsNamedDecl (grammar.a_struct n)
+says_struct : (n : ℕ) → Says IsSpelledDecl (grammar.a_struct n)
 says_struct n =
-    gives_made IsSpelled Any IsNamedDecl _ _ (λ a q. tt)
+    gives_made IsSpelled Any IsSpelledDecl _ _ (λ a q. tt)
     (and_any _ _ (says_any (grammar.key (codes "struct"))) (and_any _ _ (says_any grammar.a_name) (and_any _ (grammar.struct_fields n) (says_any (grammar.mark 123)) (any_struct_fields n))))
 
-abbrev pub AreNamedDecls : List Decl → Type 0
-AreNamedDecls decls = AllByRecursion IsNamedDecl decls
-
-says_decls : (n : ℕ) → Says AreNamedDecls (grammar.the_decls n)
+says_decls : (n : ℕ) → Says AreSpelledDecls (grammar.the_decls n)
 says_decls n =
-    gives_made IsSpelled (λ (p : List Decl × Unit {0}). AreNamedDecls p.0 × Unit {0}) AreNamedDecls _ _ (λ a q. q.0)
-    (gives_many IsSpelled IsNamedDecl (λ u. Unit {0}) (grammar.a_decl n) ended
-    (gives_either IsSpelled IsNamedDecl (grammar.a_bag n) (grammar.a_struct n) (says_bag n) (says_struct n)) (gives_ended IsSpelled))
+    gives_made IsSpelled (λ (p : List Decl × Unit {0}). AreSpelledDecls p.0 × Unit {0}) AreSpelledDecls _ _ (λ a q. q.0)
+    (gives_many IsSpelled IsSpelledDecl (λ u. Unit {0}) (grammar.a_decl n) ended
+    (gives_either IsSpelled IsSpelledDecl (grammar.a_bag n) (grammar.a_struct n) (says_bag n) (says_struct n)) (gives_ended IsSpelled))
 
 any_import : Says Any grammar.an_import
 any_import = made_any _ _ (and_any _ _ (says_any (grammar.key (codes "import"))) (and_any _ _ (says_any grammar.a_text) (says_any (grammar.mark 59))))
 
-says_module : (n : ℕ) → Says (λ (file : Module). AreNamedDecls file.decls) (grammar.a_module n)
+says_module : (n : ℕ) → Says (λ (file : Module). AreSpelledDecls file.decls) (grammar.a_module n)
 says_module n =
-    gives_made IsSpelled (λ (p : List Import × List Decl). AllByRecursion Any p.0 × AreNamedDecls p.1) (λ (file : Module). AreNamedDecls file.decls) _ _ (λ a q. q.1)
-    (gives_many IsSpelled Any AreNamedDecls grammar.an_import (grammar.the_decls n) any_import (says_decls n))
+    gives_made IsSpelled (λ (p : List Import × List Decl). AllByRecursion Any p.0 × AreSpelledDecls p.1) (λ (file : Module). AreSpelledDecls file.decls) _ _ (λ a q. q.1)
+    (gives_many IsSpelled Any AreSpelledDecls grammar.an_import (grammar.the_decls n) any_import (says_decls n))
 
--- the names of all fields of a module's bags are names
-pub module_named : (source : List ℕ) (tokens : List Token) (file : Module) → All (LiesIn source) tokens → IsModuleOf (lexemes_of source tokens) file → AreNamedDecls file.decls
-module_named source tokens file all r = (says_module 32 (lexemes_of source tokens) file [] (spelled source tokens all) r).0
+-- the fields of a module's bags are spelled as those of a table
+pub module_spelled : (source : List ℕ) (tokens : List Token) (file : Module) → All (LiesIn source) tokens → IsModuleOf (lexemes_of source tokens) file → AreSpelledDecls file.decls
+module_spelled source tokens file all r = (says_module 32 (lexemes_of source tokens) file [] (spelled source tokens all) r).0

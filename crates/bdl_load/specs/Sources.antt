@@ -13,10 +13,10 @@ use Rattle.bdl_parser.specs.declared.trees.Module.{Module}
 use Rattle.bdl_parser.specs.declared.trees.Spot.{Spot}
 use Rattle.bdl_parser.specs.FirstFault.{IsModuleOf, FaultAt}
 use Rattle.bdl_parser.specs.Lexemes.{Lexeme, lexemes_of}
-use Rattle.bdl_check.specs.declared.faults.DefCode.{DefCode}
-use Rattle.bdl_check.specs.declared.faults.DefCode.TheVariants.{NotUtf8, BadByte, OpenComment, OpenString, NumberRange, Expected, TypeNesting, DefTooLong}
-use Rattle.bdl_check.specs.declared.faults.Fault.{Fault}
-use Rattle.bdl_check.specs.Faults.{first_spot, fault}
+use Rattle.bdl_load.specs.declared.faults.DefCode.{DefCode}
+use Rattle.bdl_load.specs.declared.faults.DefCode.TheVariants.{NotUtf8, BadByte, OpenComment, OpenString, NumberRange, Expected, TypeNesting, DefTooLong}
+use Rattle.bdl_load.specs.declared.faults.Finding.{Finding}
+use Rattle.bdl_load.specs.Faults.{first_spot, found}
 
 -- the code of a lexical fault
 abbrev pub of_lexer : LexCode → DefCode
@@ -35,31 +35,32 @@ of_parser ParseTypeNesting = TypeNesting
 abbrev pub spot_at : List Lexeme → ℕ → Spot
 spot_at ts k = option_map_or (λ t. t.spot) (slice_get ts (min k (length ts - 1))) first_spot
 
--- the source has these tokens, and they say this module
-pub record IsRead (source : List ℕ) (tokens : List Token) (module_ : Module) : Type 0 where
+-- the source says this module, by its tokens
+pub record SaysModule (source : List ℕ) (module_ : Module) : Type 0 where
+  pub tokens : List Token
   pub fits : length source ≤ 1048576
   pub are : AreTokensOf source tokens
   pub says : IsModuleOf (lexemes_of source tokens) module_
 
 -- the first lexical fault of the source
-pub record IsLexical (source : List ℕ) (found : Fault) : Type 0 where
+pub record IsLexical (source : List ℕ) (finding : Finding) : Type 0 where
   pub code : LexCode
   pub fits : length source ≤ 1048576
-  pub first : FirstFault source found.at.line found.at.column code
-  pub code_is : found.code ≡ of_lexer code
+  pub first : FirstFault source finding.at.line finding.at.column code
+  pub code_is : finding.code ≡ of_lexer code
 
 -- the first parse fault of the source's tokens
-pub record IsSyntactic (source : List ℕ) (found : Fault) : Type 0 where
+pub record IsSyntactic (source : List ℕ) (finding : Finding) : Type 0 where
   pub tokens : List Token
   pub number : ℕ
   pub code : ParseCode
   pub fits : length source ≤ 1048576
   pub are : AreTokensOf source tokens
   pub first : FaultAt (lexemes_of source tokens) number code
-  pub found_is : found ≡ fault (of_parser code) (spot_at (lexemes_of source tokens) number)
+  pub finding_is : finding ≡ found (spot_at (lexemes_of source tokens) number) (of_parser code)
 
 -- the first fault of a file's bytes: their length, or else a lexical fault, or else a parse fault
-pub data IsSourceFault (source : List ℕ) (found : Fault) : Type 0 where
-  too_long : 1048576 < length source → found ≡ fault DefTooLong first_spot → IsSourceFault source found
-  lexical : IsLexical source found → IsSourceFault source found
-  syntactic : IsSyntactic source found → IsSourceFault source found
+pub data IsSourceFault (source : List ℕ) (finding : Finding) : Type 0 where
+  too_long : 1048576 < length source → finding ≡ found first_spot DefTooLong → IsSourceFault source finding
+  lexical : IsLexical source finding → IsSourceFault source finding
+  syntactic : IsSyntactic source finding → IsSourceFault source finding

@@ -1,0 +1,82 @@
+-- The files of a definition in the order of fetching, or the first fault of loading.
+use Rattle.std.specs.Prelude.{◌≡◌, ℕ, ◌<◌, ◌≤◌, Bool, true, false, Option, None, Some, IfSome, List, [], ◌∷◌, ◌++◌, length, map}
+use Rattle.std.specs.List.{list_any}
+use Rattle.std.specs.Str.{bytes_eq}
+use Rattle.outside.specs.Told.{Files}
+use Rattle.bdl_parser.specs.declared.trees.Import.{Import}
+use Rattle.bdl_parser.specs.declared.trees.Module.{Module}
+use Rattle.bdl_load.specs.declared.faults.DefCode.TheVariants.{NoFile, ImportCycle, TooManyFiles, ImportMissing}
+use Rattle.bdl_load.specs.declared.faults.Fault.{Fault}
+use Rattle.bdl_load.specs.declared.faults.Finding.{Finding}
+use Rattle.bdl_load.specs.declared.files.LoadedFile.{LoadedFile}
+use Rattle.bdl_load.specs.Faults.{first_spot, found, fault_in}
+use Rattle.bdl_load.specs.Sources.{SaysModule, IsSourceFault}
+
+-- what a library holds under each name
+abbrev pub Holding : Type 0
+Holding = List ℕ → Option (List ℕ)
+
+-- it is so of the files of a library; one that doesn't tell held some files of which it is so
+abbrev pub OfFiles : Files → (Holding → Type 0) → Type 0
+OfFiles files Holds = (held : Holding) × IfSome files (λ told. told ≡ held) × Holds held
+
+-- one of these names
+abbrev pub is_among : List ℕ → List (List ℕ) → Bool
+is_among name names = list_any (bytes_eq name) names
+
+-- the names of files
+abbrev pub names_of : List LoadedFile → List (List ℕ)
+names_of files = map (λ file. file.name) files
+
+-- this file with this module
+abbrev pub loaded_as : List ℕ → Module → LoadedFile
+loaded_as name module_ = record { name = name; «module» = module_ }
+
+-- what loading comes to: all files, in the order of fetching, or the first fault
+pub data Loading : Type 0 where
+  all_loaded : List LoadedFile → Loading
+  stopped : Fault → Loading
+
+-- the file is fetched: its imports aren't being taken, it wasn't loaded before, and fewer than 64 files were
+pub record IsFetched (taking : List (List ℕ)) (files : List LoadedFile) (name : List ℕ) : Type 0 where
+  pub closed : is_among name taking ≡ false
+  pub fresh : is_among name (names_of files) ≡ false
+  pub room : length files < 64
+
+-- Below, `taking` are the names of the files whose imports are being taken, and `files` are those that were fetched so far.
+mutual
+  -- What comes of a file that is held: its own first fault, or what comes of its imports.
+  pub data Enters (held : Holding) : List (List ℕ) → List LoadedFile → List ℕ → List ℕ → Loading → Type 0 where
+    broken : (taking : List (List ℕ)) (files : List LoadedFile) (name source : List ℕ) (finding : Finding)
+        → IsSourceFault source finding → Enters held taking files name source (stopped (fault_in name finding))
+    read : (taking : List (List ℕ)) (files : List LoadedFile) (name source : List ℕ) (module_ : Module) (outcome : Loading)
+        → SaysModule source module_ → Takes held (name ∷ taking) (files ++ loaded_as name module_ ∷ []) name module_.imports outcome
+        → Enters held taking files name source outcome
+
+  -- What comes of the imports of the file of this name, which are taken one after another, each whole before the next.
+  pub data Takes (held : Holding) : List (List ℕ) → List LoadedFile → List ℕ → List Import → Loading → Type 0 where
+    none_left : (taking : List (List ℕ)) (files : List LoadedFile) (from : List ℕ) → Takes held taking files from [] (all_loaded files)
+    cycle : (taking : List (List ℕ)) (files : List LoadedFile) (from : List ℕ) (import : Import) (rest : List Import)
+        → is_among import.file taking ≡ true
+        → Takes held taking files from (import ∷ rest) (stopped (fault_in from (found import.at ImportCycle)))
+    known : (taking : List (List ℕ)) (files : List LoadedFile) (from : List ℕ) (import : Import) (rest : List Import) (outcome : Loading)
+        → is_among import.file taking ≡ false → is_among import.file (names_of files) ≡ true → Takes held taking files from rest outcome
+        → Takes held taking files from (import ∷ rest) outcome
+    too_many : (taking : List (List ℕ)) (files : List LoadedFile) (from : List ℕ) (import : Import) (rest : List Import)
+        → is_among import.file taking ≡ false → is_among import.file (names_of files) ≡ false → 64 ≤ length files
+        → Takes held taking files from (import ∷ rest) (stopped (fault_in from (found import.at TooManyFiles)))
+    missing : (taking : List (List ℕ)) (files : List LoadedFile) (from : List ℕ) (import : Import) (rest : List Import)
+        → IsFetched taking files import.file → held import.file ≡ None
+        → Takes held taking files from (import ∷ rest) (stopped (fault_in from (found import.at ImportMissing)))
+    within : (taking : List (List ℕ)) (files : List LoadedFile) (from source : List ℕ) (import : Import) (rest : List Import) (fault : Fault)
+        → IsFetched taking files import.file → held import.file ≡ Some source → Enters held taking files import.file source (stopped fault)
+        → Takes held taking files from (import ∷ rest) (stopped fault)
+    fetched : (taking : List (List ℕ)) (files more : List LoadedFile) (from source : List ℕ) (import : Import) (rest : List Import) (outcome : Loading)
+        → IsFetched taking files import.file → held import.file ≡ Some source → Enters held taking files import.file source (all_loaded more)
+        → Takes held taking more from rest outcome
+        → Takes held taking files from (import ∷ rest) outcome
+
+-- What comes of a definition whose root is the file of this name.
+pub data Loads (held : Holding) (root : List ℕ) (outcome : Loading) : Type 0 where
+  no_root : held root ≡ None → outcome ≡ stopped (fault_in root (found first_spot NoFile)) → Loads held root outcome
+  from_root : (source : List ℕ) → held root ≡ Some source → Enters held [] [] root source outcome → Loads held root outcome

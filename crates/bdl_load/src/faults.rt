@@ -1,0 +1,108 @@
+//! Why a definition is refused.
+
+use bdl_parser::Spot;
+use outside::Text;
+
+/// What is wrong with a definition.
+#[derive(Clone, Copy, Debug, PartialEq, Eq)]
+pub enum DefCode {
+    /// The bytes from here on aren't UTF-8.
+    NotUtf8,
+    /// No token, blank or comment begins with this byte.
+    BadByte,
+    /// A `/*` without a `*/` behind it.
+    OpenComment,
+    /// A `"` without another on its line.
+    OpenString,
+    /// A number above 65,535.
+    NumberRange,
+    /// No module goes on with this token, or none ends here.
+    Expected,
+    /// Here a type begins inside 32 others.
+    TypeNesting,
+    /// There is no file of the definition's name.
+    NoFile,
+    /// There is no file of an import's name.
+    ImportMissing,
+    /// A file imports itself, perhaps by way of others.
+    ImportCycle,
+    /// A definition of more than 64 files.
+    TooManyFiles,
+    /// A file of more than 1,048,576 bytes.
+    DefTooLong,
+    /// An earlier declaration has this name.
+    DuplicateName,
+    /// A struct without fields.
+    EmptyStruct,
+    /// A `float` or a `double`.
+    FloatingType,
+    /// No declaration has this name.
+    UnknownName,
+    /// The elements of a set, or the keys of a map, can't be of this type.
+    BadKeyType,
+    /// A struct's field can't be of this type.
+    BadStructField,
+    /// An earlier field of the bag has this number.
+    DuplicateNumber,
+    /// An earlier field of the declaration has this name.
+    DuplicateField,
+    /// A bag that stands inside itself.
+    Recursive,
+    /// No bag has the name that was asked for.
+    NoSuchBag,
+    /// A header of the bag would have a level above 15.
+    TooDeep,
+    /// The bag has more than 16,384 fields, those inside them counted.
+    TooManySlots,
+}
+
+/// A fault at a place of a file.
+#[derive(Clone, Copy, Debug, PartialEq, Eq)]
+pub struct Finding {
+    pub at: Spot,
+    pub code: DefCode,
+}
+
+/// A fault with its file, its line and its byte of that line, both from 1 on.
+#[derive(Drop)]
+pub struct Fault {
+    pub file: Text,
+    pub line: u32,
+    pub column: u32,
+    pub code: DefCode,
+}
+
+/// Why there is no table.
+#[derive(Drop)]
+pub enum DefFault {
+    /// The first fault, with its file, its line and its byte of that line, both from 1 on.
+    At {
+        file: Text,
+        line: u32,
+        column: u32,
+        code: DefCode,
+    },
+    /// The library counted a fault.
+    Failed,
+    /// There is no memory for the table.
+    Memory,
+}
+
+/// The first place of a file.
+pub const FIRST: Spot = Spot { line: 1, column: 1 };
+
+impl From<Fault> for DefFault {
+    ghost use Rattle.std.specs.Prelude.{◌≡◌};
+    ghost use Rattle.bdl_load.specs.declared.faults.DefFault.TheVariants.{At};
+
+    ghost from_gives = { λ fault answer. answer ≡ At fault.file fault.line fault.column fault.code };
+
+    fn from(fault: Fault) -> DefFault {
+        DefFault::At {
+            file: fault.file,
+            line: fault.line,
+            column: fault.column,
+            code: fault.code,
+        }
+    }
+}

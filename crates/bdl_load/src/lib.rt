@@ -1,0 +1,13 @@
+//! The files of a baggage definition, from the name of its root, or the first fault of loading them.
+#![tactic(auto)]
+
+mod code_names;
+mod faults;
+mod files;
+pub mod laws;
+mod loader;
+mod source;
+
+pub use faults::{DefCode, DefFault, FIRST, Fault, Finding};
+pub use files::LoadedFile;
+pub use loader::load;
