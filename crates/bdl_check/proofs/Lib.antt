@@ -1,12 +1,1 @@
-mod Exits
-mod Walks
-mod CheckLaws
-mod Given
-mod Words
-mod Names
-mod BagLaws
-mod ShapeLaws
-mod SoundLaws
-mod TableLaws
-mod Fetched
-mod OneOutcome
+

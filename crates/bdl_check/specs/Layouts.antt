@@ -1,21 +1,16 @@
--- The fields of a bag as those of a table.
-use Rattle.std.specs.Prelude.{◌≡◌, ℕ, ◌<◌, ◌^◌, true, Option, None, Some, List, [], ◌∷◌, map, if◌then◌else◌}
-use Rattle.std.specs.List.{AllByRecursion, flat_map}
+-- The fields of a bag as those of a table, with the bags that they name in place.
+use Rattle.std.specs.Prelude.{◌≡◌, ℕ, zero, suc, Option, None, Some, List, [], ◌∷◌, map}
+use Rattle.std.specs.List.{filter_map}
 use Rattle.std.specs.List.Sorted.{IsPermutation, IsStrictlyIncreasing}
-use Rattle.std.specs.Option.{option_map, option_and_then}
-use Rattle.std.specs.Str.{bytes_eq}
+use Rattle.std.specs.Option.{option_and_then}
 use Rattle.bag_model.specs.Scalars as scalars
-use Rattle.bag_model.specs.Shapes.{Shape, Nodes, Field, fields, Taint, Scalar, Set, Counter, Map}
-use Rattle.bag_model.specs.Tables.{is_name}
+use Rattle.bag_model.specs.Shapes.{Shape, Nodes, Field, fields, Taint, Scalar, Set, Counter, Map, Bag as BagOf}
+use Rattle.bdl_check.specs.Declarations.{Placed, named}
 use Rattle.bdl_parser.specs.declared.trees.Decl.{Decl}
 use Rattle.bdl_parser.specs.declared.trees.Decl.TheVariants.{Bag, Struct}
 use Rattle.bdl_parser.specs.declared.trees.ScalarWord.{ScalarWord}
 use Rattle.bdl_parser.specs.declared.trees.ScalarWord.TheVariants.{Bool, Int32, Int64, Sint32, Sint64, Uint32, Uint64, Fixed32, Fixed64, Sfixed32, Sfixed64, Str, Bytes}
-use Rattle.bdl_parser.specs.declared.trees.Spot.{Spot}
 use Rattle.bdl_parser.specs.Trees as trees
-use Rattle.bdl_parser.specs.Words.{or_else}
-use Rattle.bdl_check.specs.Checks.{field_faults}
-use Rattle.bdl_check.specs.Later.{type_spots}
 
 -- the word as the model of scalars has it
 abbrev pub word_in : ScalarWord → scalars.Word
@@ -33,60 +28,71 @@ word_in Sfixed64 = scalars.Word.Sfixed64
 word_in Str = scalars.Word.Str
 word_in Bytes = scalars.Word.Bytes
 
--- the kind of scalars that a type is, if it is one
-abbrev pub kind_in : trees.TypeTree → Option scalars.ScalarKind
-kind_in (trees.leaf (trees.scalar word) spot) = Some (scalars.ScalarKind.One (word_in word))
-kind_in _ = None
+-- the word that a type is, if it is one
+abbrev pub word_of_type : trees.TypeTree → Option scalars.Word
+word_of_type (trees.leaf (trees.scalar word) spot) = Some (word_in word)
+word_of_type _ = None
 
--- the shape of a field of that type, if it has one
-abbrev pub shape_in : trees.TypeTree → Option Shape
-shape_in (trees.leaf (trees.scalar word) spot) = Some (Scalar (scalars.ScalarKind.One (word_in word)))
-shape_in (trees.leaf trees.taint spot) = Some Taint
-shape_in (trees.leaf trees.counter spot) = Some Counter
-shape_in (trees.leaf _ spot) = None
-shape_in (trees.set element spot) = option_map Set (kind_in element)
-shape_in (trees.map key value spot) = option_and_then (λ kind. option_map (Map kind) (shape_in value)) (kind_in key)
+-- the words of a struct's fields, in the order of the text
+abbrev pub words_of : List trees.StructFieldTree → List scalars.Word
+words_of fields = filter_map (λ field. word_of_type field.kind) fields
+
+-- the kind of scalars that a declaration is: a struct is one of its words
+abbrev pub kind_of_decl : Decl → Option scalars.ScalarKind
+kind_of_decl (Bag own spot list) = None
+kind_of_decl (Struct own spot list) = Some (scalars.ScalarKind.Packed (words_of list))
+
+-- the kind of scalars that a type is, if it is one
+abbrev pub kind_in : List Placed → trees.TypeTree → Option scalars.ScalarKind
+kind_in ds (trees.leaf (trees.scalar word) spot) = Some (scalars.ScalarKind.One (word_in word))
+kind_in ds (trees.leaf (trees.name text) spot) = option_and_then (λ d. kind_of_decl d.decl) (named ds text)
+kind_in ds _ = None
+
+-- how the fields of a bag are laid out
+abbrev pub Layout : Type 1
+Layout = List trees.BagFieldTree → Nodes → Type 0
+
+-- the shape of a field whose type is the name of a declaration: a struct is a scalar, and a bag stands in place
+abbrev pub IsShapeOfDecl : Layout → Decl → Shape → Type 0
+IsShapeOfDecl LaysOut (Bag own spot list) shape = (nodes : Nodes) × LaysOut list nodes × (shape ≡ BagOf nodes)
+IsShapeOfDecl LaysOut (Struct own spot list) shape = shape ≡ Scalar (scalars.ScalarKind.Packed (words_of list))
+
+-- the shape of a field of this type
+abbrev pub IsShapeOf : List Placed → Layout → trees.TypeTree → Shape → Type 0
+IsShapeOf ds LaysOut (trees.leaf (trees.scalar word) spot) shape = shape ≡ Scalar (scalars.ScalarKind.One (word_in word))
+IsShapeOf ds LaysOut (trees.leaf trees.float spot) shape = ⊥
+IsShapeOf ds LaysOut (trees.leaf trees.double spot) shape = ⊥
+IsShapeOf ds LaysOut (trees.leaf trees.taint spot) shape = shape ≡ Taint
+IsShapeOf ds LaysOut (trees.leaf trees.counter spot) shape = shape ≡ Counter
+IsShapeOf ds LaysOut (trees.leaf (trees.name text) spot) shape = (d : Placed) × (named ds text ≡ Some d) × IsShapeOfDecl LaysOut d.decl shape
+IsShapeOf ds LaysOut (trees.set element spot) shape = (kind : scalars.ScalarKind) × (kind_in ds element ≡ Some kind) × (shape ≡ Set kind)
+IsShapeOf ds LaysOut (trees.map key value spot) shape =
+    (kind : scalars.ScalarKind) × (inner : Shape) × (kind_in ds key ≡ Some kind) × IsShapeOf ds LaysOut value inner × (shape ≡ Map kind inner)
 
 -- a field of a table is this field of a bag
-pub record IsFieldOf (tree : trees.BagFieldTree) (field : Field) : Type 0 where
+pub record IsFieldOf (ds : List Placed) (LaysOut : Layout) (tree : trees.BagFieldTree) (field : Field) : Type 0 where
   pub name_is : field.name ≡ tree.name
   pub number_is : field.number ≡ tree.number
-  pub shape_is : shape_in tree.kind ≡ Some field.shape
+  pub shape : IsShapeOf ds LaysOut tree.kind field.shape
 
 -- each of them, one for one
-abbrev pub AreFieldsOf : List trees.BagFieldTree → List Field → Type 0
-AreFieldsOf [] [] = Unit {0}
-AreFieldsOf (tree ∷ list) (field ∷ more) = IsFieldOf tree field × AreFieldsOf list more
-AreFieldsOf _ _ = ⊥
+abbrev pub AreFieldsOf : List Placed → Layout → List trees.BagFieldTree → List Field → Type 0
+AreFieldsOf ds LaysOut [] [] = Unit {0}
+AreFieldsOf ds LaysOut (tree ∷ list) (field ∷ more) = IsFieldOf ds LaysOut tree field × AreFieldsOf ds LaysOut list more
+AreFieldsOf ds LaysOut _ _ = ⊥
 
--- the fields of the bag, in ascending order of number
-pub record IsLaidOut (list : List trees.BagFieldTree) (nodes : Nodes) : Type 0 where
+-- the fields in ascending order of number, with bags in place that are laid out so
+pub record IsInOrder (ds : List Placed) (LaysOut : Layout) (list : List trees.BagFieldTree) (nodes : Nodes) : Type 0 where
   pub sorted : List trees.BagFieldTree
   pub same : IsPermutation list sorted
   pub rising : IsStrictlyIncreasing (map (λ (tree : trees.BagFieldTree). tree.number) sorted)
-  pub each : AreFieldsOf sorted (fields nodes)
+  pub each : AreFieldsOf ds LaysOut sorted (fields nodes)
 
--- the field's name is a name, and its number has 16 bits
-abbrev pub IsSpelledField : trees.BagFieldTree → Type 0
-IsSpelledField tree = (is_name tree.name ≡ true) × (tree.number < 2 ^ 16)
+-- the same, where at most so many bags stand inside one another, this one among them
+abbrev pub IsLaidOutWithin : ℕ → List Placed → Layout
+IsLaidOutWithin zero ds list nodes = ⊥
+IsLaidOutWithin (suc room) ds list nodes = IsInOrder ds (IsLaidOutWithin room ds) list nodes
 
--- fields without a fault, as they come from a source in which no type has a name
-pub record AreSound (list : List trees.BagFieldTree) : Type 0 where
-  pub none : field_faults [] [] list ≡ []
-  pub known : flat_map (λ (tree : trees.BagFieldTree). type_spots tree.kind) list ≡ []
-  pub spelled : AllByRecursion IsSpelledField list
-
--- a bag of a definition: where its name stands, and its fields
-pub record BagTree : Type 0 where
-  pub spot : Spot
-  pub list : List trees.BagFieldTree
-
--- the bag that a declaration with this name is
-abbrev pub bag_in : List ℕ → Decl → Option BagTree
-bag_in name (Bag own spot list) = if bytes_eq own name then Some (record { spot = spot; list = list }) else None
-bag_in name (Struct own spot list) = None
-
--- the bag of this name, if there is one
-abbrev pub bag_named : List ℕ → List Decl → Option BagTree
-bag_named name [] = None
-bag_named name (decl ∷ decls) = or_else (bag_in name decl) (bag_named name decls)
+-- the fields of a bag as those of a table, however deep its bags stand
+abbrev pub IsLaidOut : List Placed → Layout
+IsLaidOut ds list nodes = (room : ℕ) × IsLaidOutWithin room ds list nodes

@@ -1,114 +1,76 @@
--- The table of a bag, or the first fault of its file.
-use Rattle.std.specs.Prelude.{◌≡◌, ℕ, ◌<◌, ◌≤◌, Option, None, Some, IfSome, List, []}
-use Rattle.outside.specs.Told.{Files}
+-- The table of a bag, or the first fault of a definition.
+use Rattle.std.specs.Prelude.{◌≡◌, ℕ, ◌<◌, ◌≤◌, Option, None, Some, List, []}
+use Rattle.std.specs.Option.{option_and_then}
 use Rattle.bag_model.specs.Shapes.{Nodes}
 use Rattle.bag_model.specs.Tables.{levels, node_count}
-use Rattle.bdl_lexer.specs.declared.Token.{Token}
-use Rattle.bdl_parser.specs.declared.trees.Module.{Module}
+use Rattle.bdl_check.specs.Checks.{declared_faults}
+use Rattle.bdl_check.specs.Declarations.{Placed, all_placed, named}
+use Rattle.bdl_check.specs.Faults.{first}
+use Rattle.bdl_check.specs.Layouts.{IsLaidOut}
+use Rattle.bdl_check.specs.Recursion.{IsAcyclic, IsRecursive}
+use Rattle.bdl_load.specs.declared.faults.DefCode.TheVariants.{NoSuchBag, TooDeep, TooManySlots}
+use Rattle.bdl_load.specs.declared.faults.Fault.{Fault}
+use Rattle.bdl_load.specs.declared.files.LoadedFile.{LoadedFile}
+use Rattle.bdl_load.specs.Faults.{first_spot, found, fault_in}
+use Rattle.bdl_load.specs.Loading.{Holding, Loads, all_loaded, stopped}
+use Rattle.bdl_parser.specs.declared.trees.Decl.{Decl}
+use Rattle.bdl_parser.specs.declared.trees.Decl.TheVariants.{Bag, Struct}
 use Rattle.bdl_parser.specs.declared.trees.Spot.{Spot}
-use Rattle.bdl_parser.specs.Lexemes.{lexemes_of}
 use Rattle.bdl_parser.specs.Trees.{BagFieldTree}
-use Rattle.bdl_check.specs.declared.faults.DefCode.TheVariants.{NoFile, NotYet, NoSuchBag, TooDeep, TooManySlots}
-use Rattle.bdl_check.specs.declared.faults.DefFault.{DefFault}
-use Rattle.bdl_check.specs.declared.faults.DefFault.TheVariants.{At, Failed, Memory}
-use Rattle.bdl_check.specs.declared.faults.Fault.{Fault}
-use Rattle.bdl_check.specs.Checks.{plain_faults}
-use Rattle.bdl_check.specs.Faults.{first_spot, fault, first_of}
-use Rattle.bdl_check.specs.Later.{earliest, later_spots}
-use Rattle.bdl_check.specs.Layouts.{BagTree, bag_named, IsLaidOut}
-use Rattle.bdl_check.specs.Sources.{IsRead, IsSourceFault}
 
--- the source says this module, in which nothing comes that isn't read yet
-pub record IsKnown (source : List ℕ) (module_ : Module) : Type 0 where
-  pub tokens : List Token
-  pub read : IsRead source tokens module_
-  pub none : earliest (later_spots (lexemes_of source tokens) module_) ≡ None
+-- a bag of a definition: its file, where its name stands, and its fields
+pub record BagTree : Type 0 where
+  pub file : List ℕ
+  pub spot : Spot
+  pub list : List BagFieldTree
 
--- the same, and its declarations have no fault
-pub record IsSound (source : List ℕ) (module_ : Module) : Type 0 where
-  pub known : IsKnown source module_
-  pub none : plain_faults module_.decls ≡ []
+-- the bag that a declaration of this file is
+abbrev pub bag_in : List ℕ → Decl → Option BagTree
+bag_in file (Bag own spot list) = Some (record { file = file; spot = spot; list = list })
+bag_in file (Struct own spot list) = None
 
--- the fields of the bag of this name, if the source has it without a fault
-pub record Chooses (source name : List ℕ) (bag : BagTree) : Type 0 where
-  pub file : Module
-  pub sound : IsSound source file
-  pub chosen : bag_named name file.decls ≡ Some bag
+-- the bag of this name, if there is one
+abbrev pub bag_named : List Placed → List ℕ → Option BagTree
+bag_named ds name = option_and_then (λ d. bag_in d.file d.decl) (named ds name)
 
 -- the fields laid out, in no more than 16 levels of headers and 16,384 fields
-pub record Fits (list : List BagFieldTree) (nodes : Nodes) : Type 0 where
-  pub laid_out : IsLaidOut list nodes
+pub record Fits (ds : List Placed) (list : List BagFieldTree) (nodes : Nodes) : Type 0 where
+  pub laid_out : IsLaidOut ds list nodes
   pub shallow : levels nodes ≤ 16
   pub small : node_count nodes ≤ 16384
 
--- the fault of the bag at this place whose fields take more levels, or no more but are more fields
-pub data IsUnfit (spot : Spot) (list : List BagFieldTree) (found : Fault) : Type 0 where
-  deep : (nodes : Nodes) → IsLaidOut list nodes → 16 < levels nodes → found ≡ fault TooDeep spot → IsUnfit spot list found
-  large : (nodes : Nodes) → IsLaidOut list nodes → levels nodes ≤ 16 → 16384 < node_count nodes → found ≡ fault TooManySlots spot → IsUnfit spot list found
+-- the fault of a bag whose fields take more levels, or no more but are more fields
+pub data IsUnfit (ds : List Placed) (bag : BagTree) (fault : Fault) : Type 0 where
+  deep : (nodes : Nodes) → IsLaidOut ds bag.list nodes → 16 < levels nodes → fault ≡ fault_in bag.file (found bag.spot TooDeep) → IsUnfit ds bag fault
+  large : (nodes : Nodes) → IsLaidOut ds bag.list nodes → levels nodes ≤ 16 → 16384 < node_count nodes → fault ≡ fault_in bag.file (found bag.spot TooManySlots) → IsUnfit ds bag fault
 
--- the table of the bag of this name
-pub record IsTableOf (source name : List ℕ) (nodes : Nodes) : Type 0 where
+-- the bag of this name among the declarations, laid out within the limits
+pub record IsTableOf (ds : List Placed) (name : List ℕ) (nodes : Nodes) : Type 0 where
   pub bag : BagTree
-  pub chooses : Chooses source name bag
-  pub fits : Fits bag.list nodes
+  pub chosen : bag_named ds name ≡ Some bag
+  pub fits : Fits ds bag.list nodes
 
--- the earliest place of what isn't read yet
-pub record IsNotYet (source : List ℕ) (found : Fault) : Type 0 where
-  pub tokens : List Token
-  pub file : Module
-  pub read : IsRead source tokens file
-  pub first : earliest (later_spots (lexemes_of source tokens) file) ≡ Some found.at
-  pub code_is : found.code ≡ NotYet
+-- why declarations have no table for this name: there is no such bag, which is a fault of the root, or it doesn't fit
+pub data IsUntabled (ds : List Placed) (root name : List ℕ) (fault : Fault) : Type 0 where
+  missing : bag_named ds name ≡ None → fault ≡ fault_in root (found first_spot NoSuchBag) → IsUntabled ds root name fault
+  unfit : (bag : BagTree) → bag_named ds name ≡ Some bag → IsUnfit ds bag fault → IsUntabled ds root name fault
 
--- the first fault of the declarations
-pub record IsPlain (source : List ℕ) (found : Fault) : Type 0 where
-  pub file : Module
-  pub known : IsKnown source file
-  pub first : first_of (plain_faults file.decls) ≡ Some found
+-- the files of a definition whose declarations have no fault, and in which no bag stands inside itself
+pub record AreSound (held : Holding) (root : List ℕ) (files : List LoadedFile) : Type 0 where
+  pub loaded : Loads held root (all_loaded files)
+  pub declared : declared_faults files ≡ []
+  pub acyclic : IsAcyclic (all_placed files)
 
--- no bag has the name
-pub record IsMissing (source name : List ℕ) (found : Fault) : Type 0 where
-  pub file : Module
-  pub sound : IsSound source file
-  pub none : bag_named name file.decls ≡ None
-  pub found_is : found ≡ fault NoSuchBag first_spot
+-- the table of the bag of this name in the definition with this root
+pub record IsTable (held : Holding) (root name : List ℕ) (nodes : Nodes) : Type 0 where
+  pub files : List LoadedFile
+  pub sound : AreSound held root files
+  pub table : IsTableOf (all_placed files) name nodes
 
--- the bag of the name has a fault of its own
-pub record IsUnfitBag (source name : List ℕ) (found : Fault) : Type 0 where
-  pub bag : BagTree
-  pub chooses : Chooses source name bag
-  pub unfit : IsUnfit bag.spot bag.list found
-
--- the first fault of a source that is asked for the bag of this name
-pub data IsFirstFault (source name : List ℕ) (found : Fault) : Type 0 where
-  unread : IsSourceFault source found → IsFirstFault source name found
-  not_yet : IsNotYet source found → IsFirstFault source name found
-  plain : IsPlain source found → IsFirstFault source name found
-  missing : IsMissing source name found → IsFirstFault source name found
-  unfit : IsUnfitBag source name found → IsFirstFault source name found
-
--- the same of a file that may be missing
-abbrev pub IsFirstFaultOf : Option (List ℕ) → List ℕ → Fault → Type 0
-IsFirstFaultOf None name found = found ≡ fault NoFile first_spot
-IsFirstFaultOf (Some source) name found = IsFirstFault source name found
-
--- the same of a table
-abbrev pub IsTableIn : Option (List ℕ) → List ℕ → Nodes → Type 0
-IsTableIn None name nodes = ⊥
-IsTableIn (Some source) name nodes = IsTableOf source name nodes
-
--- the answer blames this fault of this file, or there is no memory
-abbrev pub BlamesFile : List ℕ → Fault → DefFault → Type 0
-BlamesFile name found (At file line column code) = (file ≡ name) × (found ≡ fault code (record { line = line; column = column }))
-BlamesFile name found Failed = ⊥
-BlamesFile name found Memory = Unit {0}
-
--- the answer blames the first fault of the file of this name, of which this is held
-abbrev pub Blames : Option (List ℕ) → List ℕ → List ℕ → DefFault → Type 0
-Blames held name bag (At file line column code) = (file ≡ name) × IsFirstFaultOf held bag (fault code (record { line = line; column = column }))
-Blames held name bag Failed = Unit {0}
-Blames held name bag Memory = Unit {0}
-
--- it is so of the files of a library; one that doesn't tell held some files of which it is so
-abbrev pub OfFiles : Files → ((List ℕ → Option (List ℕ)) → Type 0) → Type 0
-OfFiles files Holds = (held : List ℕ → Option (List ℕ)) × IfSome files (λ told. told ≡ held) × Holds held
+-- the first fault of the definition with this root, asked for the bag of this name: of loading, of the declarations, of the
+-- bags inside one another, or of the bag
+pub data IsFirstFault (held : Holding) (root name : List ℕ) (fault : Fault) : Type 0 where
+  unloaded : Loads held root (stopped fault) → IsFirstFault held root name fault
+  declared : (files : List LoadedFile) → Loads held root (all_loaded files) → first (declared_faults files) ≡ Some fault → IsFirstFault held root name fault
+  recursive : (files : List LoadedFile) → Loads held root (all_loaded files) → declared_faults files ≡ [] → IsRecursive (all_placed files) fault → IsFirstFault held root name fault
+  untabled : (files : List LoadedFile) → AreSound held root files → IsUntabled (all_placed files) root name fault → IsFirstFault held root name fault

@@ -1,153 +1,104 @@
-//! The checks of declarations, each by itself.
+//! The checks of all declarations, which look at each declaration alone and at the names of all.
 
-ghost use Rattle.std.specs.Prelude.{◌≡◌, ℕ, List, ◌∷◌, [], OnOk, IfOk, IfErr, Some, not};
-ghost use Rattle.bdl_parser.specs.Views.{tree_of, bag_field_of};
-ghost use Rattle.bdl_check.specs.Checks.{node_faults, type_faults, one_field_faults, field_faults, decl_faults, name_faults, plain_faults, is_among, has_number, decl_name, decl_spot};
-ghost use Rattle.bdl_check.specs.Faults.{first_of, Says};
-ghost use Rattle.bdl_check.specs.Seen.{HasNames, HasNumbers};
+ghost use Rattle.std.specs.Prelude.{◌≡◌, ◌++◌, [], None, Some, Ok, IfOk, IfErr, OnOk};
+ghost use Rattle.bdl_check.specs.Checks.{name_faults, declaration_faults, declared_faults};
+ghost use Rattle.bdl_check.specs.Declarations.{kind_named, placed_in, all_placed};
+ghost use Rattle.bdl_load.specs.Faults.{fault_in};
+ghost use Rattle.bdl_check.specs.Faults.{first, Says};
 
-use crate::faults::{DefCode, Fault, Refusal};
-use bdl_parser::{BagField, BagFields, Decl, Decls, Spot, TypeForm, TypeNode};
-use indexmap::IndexSet;
-use outside::Memory;
+use bdl_load::{DefCode, Fault, Finding};
+use crate::fields::decl_fault;
+use bdl_load::LoadedFile;
+use crate::declarations::{Declarations, decl_place};
+use crate::refusals::Refusal;
+use outside::{Memory, Text};
 use std::alloc::Global;
 
-/// Where a type stands: as a whole, or as the element of a set or the key of a map.
-#[derive(Clone, Copy)]
-pub(crate) enum Role {
-    Whole,
-    Element,
-    Key,
+/// The fault in a file of this name.
+fn found_in(found: Finding, file: &Text) -> Result<Fault, Memory>
+    ensures { IfOk result (λ fault. fault ≡ fault_in file.now found) }
+{
+    Ok(Fault {
+        file: file.copy()?,
+        line: found.at.line,
+        column: found.at.column,
+        code: found.code,
+    })
 }
 
-/// The fault of a node of a type, whatever stands inside it.
-fn node_fault(node: &TypeNode, role: Role) -> Option<Fault>
-    ensures { result ≡ first_of (node_faults role (tree_of node.now)) }
+fn file_fault(
+    alloc: Global,
+    declarations: &Declarations,
+    file: &LoadedFile,
+) -> Result<Option<Fault>, Memory>
+    ensures { IfOk result (λ fault. fault ≡ first (declaration_faults (kind_named declarations.now) (placed_in file.now))) }
 {
-    let code = match (&node.form, role) {
-        (TypeForm::Float | TypeForm::Double, _) => DefCode::FloatingType,
-        (TypeForm::Scalar(_), _) | (_, Role::Whole) => return None,
-        _ => DefCode::BadKeyType,
-    };
-    Some(Fault { at: node.at, code })
-}
-
-/// The first fault of a type, from left to right, a node before those inside it.
-fn type_fault(node: &TypeNode, role: Role) -> Option<Fault>
-    ensures { result ≡ first_of (type_faults role (tree_of node.now)) }
-{
-    if let Some(fault) = node_fault(node, role) {
-        return Some(fault);
-    }
-    match &node.form {
-        TypeForm::Set(element) => type_fault(element, Role::Element),
-        TypeForm::Map(key, value) => {
-            if let Some(fault) = type_fault(key, Role::Key) {
-                return Some(fault);
-            }
-            type_fault(value, Role::Whole)
+    for decl in file.module.decls.as_slice() {
+        if let Some(found) = decl_fault(alloc, declarations, decl)? {
+            return Ok(Some(found_in(found, &file.name)?));
         }
-        _ => None,
     }
+    Ok(None)
 }
 
-/// Puts a name among those seen, and answers whether it is new.
-fn is_new_name<'a>(names: &mut IndexSet<&'a str>, name: &'a str) -> Result<bool, Memory>
-    ensures new { (seen : List (List ℕ)) → HasNames names.old seen → IfOk result (λ new. new ≡ not (is_among seen name.now)) }
-    ensures has { (seen : List (List ℕ)) → HasNames names.old seen → OnOk result (HasNames names.new (name.now ∷ seen)) }
+fn files_fault(
+    alloc: Global,
+    declarations: &Declarations,
+    files: &[LoadedFile],
+) -> Result<Option<Fault>, Memory>
+    ensures { IfOk result (λ fault. fault ≡ first (declaration_faults (kind_named declarations.now) (all_placed files.now))) }
 {
-    Ok(names.insert(name)?)
+    for file in files {
+        if let Some(fault) = file_fault(alloc, declarations, file)? {
+            return Ok(Some(fault));
+        }
+    }
+    Ok(None)
 }
 
-/// Puts a number among those seen, and answers whether it is new.
-fn is_new_number(numbers: &mut IndexSet<u16>, number: u16) -> Result<bool, Memory>
-    ensures new { (seen : List ℕ) → HasNumbers numbers.old seen → IfOk result (λ new. new ≡ not (has_number seen number)) }
-    ensures has { (seen : List ℕ) → HasNumbers numbers.old seen → OnOk result (HasNumbers numbers.new (number ∷ seen)) }
+/// Declares what a file declares, up to the first name that was declared before.
+fn declare_file<'a>(declarations: &mut Declarations<'a>, file: &'a LoadedFile) -> Result<Option<Fault>, Memory>
+    ensures found { IfOk result (λ fault. fault ≡ first (name_faults declarations.old (placed_in file.now))) }
+    ensures declared { result ≡ Ok None → declarations.new ≡ declarations.old ++ placed_in file.now }
 {
-    Ok(numbers.insert(number)?)
+    for decl in file.module.decls.as_slice() {
+        if !declarations.declare(&file.name, decl)? {
+            let found = Finding {
+                at: decl_place(decl),
+                code: DefCode::DuplicateName,
+            };
+            return Ok(Some(found_in(found, &file.name)?));
+        }
+    }
+    Ok(None)
 }
 
-/// Checks a field behind those whose numbers and names were seen.
-fn check_field<'a>(
-    numbers: &mut IndexSet<u16>,
-    names: &mut IndexSet<&'a str>,
-    field: &'a BagField,
-) -> Result<(), Refusal>
-    ensures ok { (seen : List ℕ) → (known : List (List ℕ)) → HasNumbers numbers.old seen → HasNames names.old known → OnOk result (one_field_faults seen known (bag_field_of field.now) ≡ []) }
-    ensures numbers { (seen : List ℕ) → HasNumbers numbers.old seen → OnOk result (HasNumbers numbers.new (field.now.number ∷ seen)) }
-    ensures names { (known : List (List ℕ)) → HasNames names.old known → OnOk result (HasNames names.new (field.now.name ∷ known)) }
-    ensures err { (seen : List ℕ) → (known : List (List ℕ)) → HasNumbers numbers.old seen → HasNames names.old known → IfErr result (Says (λ fault. first_of (one_field_faults seen known (bag_field_of field.now)) ≡ Some fault)) }
+/// Declares what all files declare, up to the first name that was declared before.
+fn declare_files<'a>(declarations: &mut Declarations<'a>, files: &'a [LoadedFile]) -> Result<Option<Fault>, Memory>
+    ensures found { IfOk result (λ fault. fault ≡ first (name_faults declarations.old (all_placed files.now))) }
+    ensures declared { result ≡ Ok None → declarations.new ≡ declarations.old ++ all_placed files.now }
 {
-    if let Some(fault) = type_fault(&field.kind, Role::Whole) {
+    for file in files {
+        if let Some(fault) = declare_file(declarations, file)? {
+            return Ok(Some(fault));
+        }
+    }
+    Ok(None)
+}
+
+/// The declarations of all files, or their first fault: first come the names that an earlier declaration has, and then what
+/// each declaration says.
+pub(crate) fn check_declarations(alloc: Global, files: &[LoadedFile]) -> Result<Declarations<'_>, Refusal>
+    ensures all { IfOk result (λ declarations. declarations ≡ all_placed files.now) }
+    ensures none { OnOk result (declared_faults files.now ≡ []) }
+    ensures fault { IfErr result (Says (λ fault. first (declared_faults files.now) ≡ Some fault)) }
+{
+    let mut declarations = Declarations::new(alloc);
+    if let Some(fault) = declare_files(&mut declarations, files)? {
         return Err(Refusal::At(fault));
     }
-    if !is_new_number(numbers, field.number)? {
-        return Err(Refusal::at(field.number_at, DefCode::DuplicateNumber));
+    if let Some(fault) = files_fault(alloc, &declarations, files)? {
+        return Err(Refusal::At(fault));
     }
-    if !is_new_name(names, field.name.as_str())? {
-        return Err(Refusal::at(field.name_at, DefCode::DuplicateField));
-    }
-    Ok(())
-}
-
-/// Checks the fields of a bag.
-fn check_fields(alloc: Global, fields: &BagFields) -> Result<(), Refusal>
-    ensures ok { OnOk result (field_faults [] [] fields.now ≡ []) }
-    ensures err { IfErr result (Says (λ fault. first_of (field_faults [] [] fields.now) ≡ Some fault)) }
-{
-    let mut numbers = IndexSet::new(alloc);
-    let mut names = IndexSet::new(alloc);
-    'fields: for at in 0..fields.len() {
-        let field = fields.get(at).unwrap();
-        check_field(&mut numbers, &mut names, field)?;
-    }
-    Ok(())
-}
-
-/// Checks that no declaration has an earlier one's name.
-fn check_names(alloc: Global, decls: &Decls) -> Result<(), Refusal>
-    ensures ok { OnOk result (name_faults [] decls.now ≡ []) }
-    ensures err { IfErr result (Says (λ fault. first_of (name_faults [] decls.now) ≡ Some fault)) }
-{
-    let mut names = IndexSet::new(alloc);
-    'decls: for at in 0..decls.len() {
-        let (name, spot) = heading(decls.get(at).unwrap());
-        if !is_new_name(&mut names, name)? {
-            return Err(Refusal::at(spot, DefCode::DuplicateName));
-        }
-    }
-    Ok(())
-}
-
-/// The name of a declaration, and its place.
-fn heading(decl: &Decl) -> (&str, Spot)
-    ensures name { result.0.now ≡ decl_name decl.now }
-    ensures spot { result.1 ≡ decl_spot decl.now }
-{
-    match decl {
-        Decl::Bag { name, at, .. } | Decl::Struct { name, at, .. } => (name.as_str(), *at),
-    }
-}
-
-/// Checks what a declaration says, its name aside.
-fn check_decl(alloc: Global, decl: &Decl) -> Result<(), Refusal>
-    ensures ok { OnOk result (decl_faults decl.now ≡ []) }
-    ensures err { IfErr result (Says (λ fault. first_of (decl_faults decl.now) ≡ Some fault)) }
-{
-    match decl {
-        Decl::Bag { fields, .. } => check_fields(alloc, fields),
-        Decl::Struct { .. } => Ok(()),
-    }
-}
-
-/// Checks all declarations: their names first, and then one after another.
-pub(crate) fn check_decls(alloc: Global, decls: &Decls) -> Result<(), Refusal>
-    ensures ok { OnOk result (plain_faults decls.now ≡ []) }
-    ensures err { IfErr result (Says (λ fault. first_of (plain_faults decls.now) ≡ Some fault)) }
-{
-    check_names(alloc, decls)?;
-    'decls: for at in 0..decls.len() {
-        check_decl(alloc, decls.get(at).unwrap())?;
-    }
-    Ok(())
+    Ok(declarations)
 }

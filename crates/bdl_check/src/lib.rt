@@ -1,18 +1,16 @@
 //! The table of a bag, from its definition, or the first fault of the definition.
 #![tactic(auto)]
 
-mod bags;
 mod checks;
-mod code_names;
 mod compiler;
-mod faults;
-mod later;
-pub mod laws;
+mod declarations;
+mod fields;
 mod layouts;
-mod source;
+mod recursion;
+mod refusals;
+mod sizes;
 mod tables;
-#[cfg(test)]
-mod tests;
+mod types;
 
+pub use bdl_load::{DefCode, DefFault, Fault};
 pub use compiler::compile;
-pub use faults::{DefCode, DefFault, Fault};

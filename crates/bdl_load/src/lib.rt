@@ -4,7 +4,6 @@
 mod code_names;
 mod faults;
 mod files;
-pub mod laws;
 mod loader;
 mod source;
 
