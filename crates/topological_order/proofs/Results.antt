@@ -1,0 +1,164 @@
+-- The begin and the end of a walk.
+use Rattle.std.proofs.Common.{◌≡◌, ℕ, zero, suc, ◌+◌, ◌-◌, ◌<◌, ◌≤◌, ◌⊎◌, List, [], ◌∷◌, ◌++◌, length, take, replicate, get_or, Option, Some, None, refl, sym, ap, subst, ◌∙◌, inl, inr, arith, get_or-take}
+use Rattle.std.specs.List.{Contains, slice_get, count_by}
+use Rattle.std.proofs.lemmas.List.{length-replicate, length-take-le}
+use Rattle.std.proofs.lemmas.Option.{slice_get_within, slice_get_read}
+use Rattle.topological_order.specs.Graphs.{Graph, HasEdge, IsClosed, Reaches, by_edge, by_walk}
+use Rattle.topological_order.specs.Orders.{IsOrder, IsFirstCyclic}
+use Rattle.topological_order.specs.declared.walk.Mark.{Mark}
+use Rattle.topological_order.specs.declared.walk.Mark.TheVariants.{New, Open, Done}
+use Rattle.topological_order.specs.Walks.{Trail, mark_of, is_new, opened, effort, IsAtMost, IsWalk, Follows}
+use Rattle.topological_order.proofs.Edges.{from_within}
+use Rattle.topological_order.proofs.Efforts.{none_new}
+use Rattle.topological_order.proofs.Steps.{opened_walk, opened_kept, opened_less}
+
+new_marks : (count node : ℕ) → mark_of (replicate count New) node ≡ New
+new_marks zero node = refl
+new_marks (suc count) zero = refl
+new_marks (suc count) (suc node) = new_marks count node
+
+no_looks : (count node : ℕ) → get_or (replicate count 0) node 0 ≡ 0
+no_looks zero node = refl
+no_looks (suc count) zero = refl
+no_looks (suc count) (suc node) = no_looks count node
+
+all_new : (count : ℕ) → count_by is_new (replicate count New) ≡ count
+all_new zero = refl
+all_new (suc count) = omega (arith, all_new count)
+
+-- a walk begins where nothing was met
+pub started : (s : Trail) → IsClosed s.graph → s.marks ≡ replicate (length s.graph) New → s.looked ≡ replicate (length s.graph) 0 → length s.path ≡ 0 → length s.starts ≡ 0 → length s.frames ≡ 0 → length s.order ≡ 0 → s.first ≡ None → IsWalk s
+started s whole m l p b f o none =
+    let count = length s.graph in
+    let fresh : (n : ℕ) → mark_of s.marks n ≡ New = λ n. ap (λ x. mark_of x n) m ∙ new_marks count n in
+    let not_done : (n : ℕ) → mark_of s.marks n ≡ Done → ⊥ = λ n is. let is_fresh = fresh n in (cc) in
+    let zero_looked : (n : ℕ) → get_or s.looked n 0 ≡ 0 = λ n. ap (λ x. get_or x n 0) l ∙ no_looks count n in
+    record {
+      whole = whole;
+      marking = record {
+        all_marked = ap length m ∙ length-replicate count New;
+        all_looked = ap length l ∙ length-replicate count 0;
+        placed = λ n q is. let is_fresh = fresh n in (cc);
+        marked = λ q n less is. absurd (omega arith);
+        ordered = λ n is. absurd (not_done n is);
+        fresh = λ n is. zero_looked n;
+        counted = omega (arith, ap (count_by is_new) m, all_new count);
+      };
+      linking = record { forth = λ i j less more. absurd (omega arith); back = λ i j less more free. absurd (omega arith) };
+      stacking = record {
+        starts_rise = λ i j less more. absurd (omega arith);
+        frames_rise = λ i j less more. absurd (omega arith);
+        on_path = λ q c. absurd (omega (arith, c.1));
+        framed = λ q c. absurd (omega (arith, c.1));
+        begun = λ less. absurd (omega arith);
+      };
+      looking = record { leads = λ q n k less is more. absurd (omega arith); ended = λ q n less is free. absurd (omega arith) };
+      ending = record {
+        closed = λ n next is e. absurd (not_done n is);
+        sound = λ n is. (cc);
+        found = λ n is r. absurd (not_done n is);
+        looped = λ n k less is. absurd (omega (arith, zero_looked n));
+        sorted = λ is q n next at e. absurd (omega (arith, slice_get_within s.order q n at));
+      };
+    }
+
+pub follows_then : (s t u : Trail) → Follows s t → Follows t u → Follows s u
+follows_then s t u a b = record {
+    graph = b.graph ∙ a.graph;
+    walk = b.walk;
+    kept = λ n is. a.kept n (b.kept n is);
+    less = omega (arith, a.less, b.less);
+  }
+
+-- a walk from a new node
+pub rooted : (s : Trail) (root : ℕ) → IsWalk s → length s.path ≡ 0 → root < length s.graph → mark_of s.marks root ≡ New → Follows s (opened s root)
+rooted s root w none l fresh =
+    let inside : root < length s.marks = omega (arith, w.marking.all_marked) in
+    record {
+      graph = refl;
+      walk = opened_walk s root w l fresh (λ i less. absurd (omega arith));
+      kept = λ n is. opened_kept s root n inside is;
+      less = opened_less s root inside fresh;
+    }
+
+-- without frames nothing is left on the path
+pub all_left : (s : Trail) → IsWalk s → length s.frames ≡ 0 → length s.path ≡ 0
+all_left s w none =
+    let some : 0 < length s.path → ⊥ = λ less. let c = w.stacking.framed 0 (w.stacking.begun less) in omega (arith, c.1) in
+    omega arith
+
+mark_kinds : (mark : Mark) → (mark ≡ New) ⊎ (((place : ℕ) × (mark ≡ Open place)) ⊎ (mark ≡ Done))
+mark_kinds New = inl refl
+mark_kinds (Open place) = inr (inl (place, refl))
+mark_kinds Done = inr (inr refl)
+
+-- a walk that has met each node, and has left all
+pub record IsOver (s : Trail) : Type 0 where
+  pub walk : IsWalk s
+  pub path : length s.path ≡ 0
+  pub met : (node : ℕ) → node < length s.graph → mark_of s.marks node ≡ New → ⊥
+
+all_over : (s : Trail) → IsOver s → (node : ℕ) → node < length s.graph → mark_of s.marks node ≡ Done
+all_over s a node l = elim (mark_kinds (mark_of s.marks node)) [
+    | inl is ↦ absurd (a.met node l is)
+    | inr (inl (place, is)) ↦ absurd (omega (arith, (a.walk.marking.placed node place is).0, a.path))
+    | inr (inr is) ↦ is
+    ]
+
+reach_within : (graph : Graph) (from to : ℕ) → Reaches graph from to → from < length graph
+reach_within graph _ _ (by_edge from to e) = from_within graph from to e
+reach_within graph _ _ (by_walk from next to e r) = from_within graph from next e
+
+pub cycle_found : (s : Trail) (node : ℕ) → IsOver s → s.first ≡ Some node → IsFirstCyclic s.graph node
+cycle_found s node a is =
+    let ending = a.walk.ending in
+    let P : ℕ → Option ℕ → Type 0 = λ other o. IsAtMost o other in
+    record {
+      cyclic = ending.sound node is;
+      first = λ other less r.
+        let found : node ≤ other = subst (P other) is (ending.found other (all_over s a other (reach_within s.graph other other r)) r) in
+        omega arith;
+    }
+
+pub order_found : (s : Trail) → IsOver s → s.first ≡ None → IsOrder s.graph s.order
+order_found s a none =
+    let m = a.walk.marking in
+    let met : (node : ℕ) → node < length s.marks → mark_of s.marks node ≡ New → ⊥ = λ node l is. a.met node (omega (arith, m.all_marked)) is in
+    record {
+      all = λ node l. m.ordered node (all_over s a node l);
+      once = omega (arith, m.counted, a.path, none_new s.marks met);
+      behind = a.walk.ending.sorted none;
+    }
+
+got : (xs : List ℕ) (node : ℕ) (c : Contains xs node) → slice_get xs c.0 ≡ Some node
+got xs node c = slice_get_read xs (length xs) c.0 node refl c.1 (sym c.2)
+
+-- the node to which an edge leads stands before
+before : (graph : Graph) (order : List ℕ) (from to place : ℕ) → IsOrder graph order → slice_get order place ≡ Some from → HasEdge graph from to → (other : ℕ) × (other < place) × (slice_get order other ≡ Some to)
+before graph order from to place o is e =
+    let c = o.behind place from to is e in
+    let within : place < length order = slice_get_within order place from is in
+    let short : length (take place order) ≡ place = length-take-le place order (omega arith) in
+    let less : c.0 < place = omega (arith, c.1) in
+    let there : get_or order c.0 to ≡ to = sym (get_or-take place order c.0 to less) ∙ c.2 in
+    (c.0, less, slice_get_read order (length order) c.0 to refl (omega arith) (sym there))
+
+-- what a node of an order reaches stands before it
+reached_before : (graph : Graph) (order : List ℕ) (from to place : ℕ) → IsOrder graph order → slice_get order place ≡ Some from → Reaches graph from to → (other : ℕ) × (other < place) × (slice_get order other ≡ Some to)
+reached_before graph order _ _ place o is (by_edge from to e) = before graph order from to place o is e
+reached_before graph order _ _ place o is (by_walk from next to e r) =
+    let one = before graph order from next place o is e in
+    let more = reached_before graph order next to one.0 o one.2 r in
+    (more.0, omega (arith, more.1, one.1), more.2)
+
+never_again : (graph : Graph) (order : List ℕ) (node bound place : ℕ) → IsOrder graph order → Reaches graph node node → place < bound → slice_get order place ≡ Some node → ⊥
+never_again graph order node zero place o r l is = omega arith
+never_again graph order node (suc bound) place o r l is =
+    let one = reached_before graph order node node place o is r in
+    never_again graph order node bound one.0 o r (omega (arith, one.1)) one.2
+
+-- where there is an order, no node reaches itself
+pub orders_exclude : (graph : Graph) (order : List ℕ) (node : ℕ) → IsOrder graph order → Reaches graph node node → ⊥
+orders_exclude graph order node o r =
+    let c = o.all node (reach_within graph node node r) in
+    never_again graph order node (c.0 + 1) c.0 o r (omega arith) (got order node c)
