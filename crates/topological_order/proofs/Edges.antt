@@ -1,8 +1,11 @@
 -- Edges of a graph, and what they reach.
-use Rattle.std.proofs.Common.{◌≡◌, ℕ, ◌<◌, ◌≤◌, ◌⊎◌, List, [], length, get_or, Some, refl, sym, subst, ap, ◌∙◌, inl, inr, arith}
+use Rattle.std.proofs.Common.{◌≡◌, ℕ, zero, suc, ◌^◌, ◌<◌, ◌≤◌, ◌⊎◌, List, [], ◌∷◌, length, get_or, Some, refl, sym, subst, ap, ◌∙◌, inl, inr, arith}
+use Rattle.std.specs.declared.alloc.Global.{Global}
+use Rattle.std.specs.declared.vec.Vec.{Vec}
 use Rattle.std.specs.List.{All, Contains, slice_get}
+use Rattle.std.proofs.lemmas.List.{length-map}
 use Rattle.std.proofs.lemmas.Option.{slice_get-get_or, slice_get_within, get_or_from_slice_get, slice_get_read}
-use Rattle.topological_order.specs.Graphs.{Graph, HasEdge, IsClosed, Reaches, by_edge, by_walk}
+use Rattle.topological_order.specs.Graphs.{Graph, graph_of, HasEdge, IsClosed, Reaches, by_edge, by_walk}
 use Rattle.topological_order.specs.Walks.{row_of}
 
 -- an element of a row is an edge
@@ -33,6 +36,15 @@ to_within graph node edge to whole l is =
     let row = row_of graph node in
     let P : ℕ → Type 0 = λ t. t < length graph in
     subst P (get_or_from_slice_get row edge to to is) (whole node [] l edge to (slice_get_within row edge to is))
+
+pub graph_length : (rows : List (Vec ℕ Global)) → length (graph_of rows) ≡ length rows
+graph_length rows = length-map rows (λ row. row.items)
+
+-- the row of a node in the code's graph has a length that fits
+pub row_small : (rows : List (Vec ℕ Global)) (node : ℕ) → length (row_of (graph_of rows) node) < 2 ^ 63
+row_small [] node = omega arith
+row_small (v ∷ rows) zero = omega (arith, v.ok.0, v.ok.1, v.small)
+row_small (v ∷ rows) (suc node) = row_small rows node
 
 pub reach_join : (graph : Graph) (from over to : ℕ) → Reaches graph from over → Reaches graph over to → Reaches graph from to
 reach_join graph _ _ to (by_edge from over e) r = by_walk from over to e r

@@ -15,6 +15,11 @@ mark_set marks node mark l = get_or-set_same marks node mark New l
 pub mark_other : (marks : List Mark) (node other : ℕ) (mark : Mark) → (other ≡ node → ⊥) → mark_of (set marks node mark) other ≡ mark_of marks other
 mark_other marks node other mark ne = get_or-set_other marks node other mark New ne
 
+pub new_mark : (mark : Mark) → is_new mark ≡ true → mark ≡ New
+new_mark New is = refl
+new_mark (Open place) is = (cc)
+new_mark Done is = (cc)
+
 -- a mark after a write was there before, or was written
 pub mark_cases : (marks : List Mark) (node other : ℕ) (mark now : Mark) → node < length marks → mark_of (set marks node mark) other ≡ now → ((other ≡ node) × (mark ≡ now)) ⊎ ((other ≡ node → ⊥) × (mark_of marks other ≡ now))
 mark_cases marks node other mark now l is =

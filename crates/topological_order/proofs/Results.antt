@@ -1,7 +1,7 @@
 -- The begin and the end of a walk.
-use Rattle.std.proofs.Common.{◌≡◌, ℕ, zero, suc, ◌+◌, ◌-◌, ◌<◌, ◌≤◌, ◌⊎◌, List, [], ◌∷◌, ◌++◌, length, take, replicate, get_or, Option, Some, None, refl, sym, ap, subst, ◌∙◌, inl, inr, arith, get_or-take}
+use Rattle.std.proofs.Common.{◌≡◌, ℕ, zero, suc, ◌+◌, ◌-◌, ◌<◌, ◌≤◌, ◌⊎◌, List, [], ◌∷◌, ◌++◌, length, take, get_or, Option, Some, None, refl, sym, ap, subst, ◌∙◌, inl, inr, arith, get_or-take}
 use Rattle.std.specs.List.{Contains, slice_get, count_by}
-use Rattle.std.proofs.lemmas.List.{length-replicate, length-take-le}
+use Rattle.std.proofs.lemmas.List.{length-take-le}
 use Rattle.std.proofs.lemmas.Option.{slice_get_within, slice_get_read}
 use Rattle.topological_order.specs.Graphs.{Graph, HasEdge, IsClosed, Reaches, by_edge, by_walk}
 use Rattle.topological_order.specs.Orders.{IsOrder, IsFirstCyclic}
@@ -11,56 +11,6 @@ use Rattle.topological_order.specs.Walks.{Trail, mark_of, is_new, opened, effort
 use Rattle.topological_order.proofs.Edges.{from_within}
 use Rattle.topological_order.proofs.Efforts.{none_new}
 use Rattle.topological_order.proofs.Steps.{opened_walk, opened_kept, opened_less}
-
-new_marks : (count node : ℕ) → mark_of (replicate count New) node ≡ New
-new_marks zero node = refl
-new_marks (suc count) zero = refl
-new_marks (suc count) (suc node) = new_marks count node
-
-no_looks : (count node : ℕ) → get_or (replicate count 0) node 0 ≡ 0
-no_looks zero node = refl
-no_looks (suc count) zero = refl
-no_looks (suc count) (suc node) = no_looks count node
-
-all_new : (count : ℕ) → count_by is_new (replicate count New) ≡ count
-all_new zero = refl
-all_new (suc count) = omega (arith, all_new count)
-
--- a walk begins where nothing was met
-pub started : (s : Trail) → IsClosed s.graph → s.marks ≡ replicate (length s.graph) New → s.looked ≡ replicate (length s.graph) 0 → length s.path ≡ 0 → length s.starts ≡ 0 → length s.frames ≡ 0 → length s.order ≡ 0 → s.first ≡ None → IsWalk s
-started s whole m l p b f o none =
-    let count = length s.graph in
-    let fresh : (n : ℕ) → mark_of s.marks n ≡ New = λ n. ap (λ x. mark_of x n) m ∙ new_marks count n in
-    let not_done : (n : ℕ) → mark_of s.marks n ≡ Done → ⊥ = λ n is. let is_fresh = fresh n in (cc) in
-    let zero_looked : (n : ℕ) → get_or s.looked n 0 ≡ 0 = λ n. ap (λ x. get_or x n 0) l ∙ no_looks count n in
-    record {
-      whole = whole;
-      marking = record {
-        all_marked = ap length m ∙ length-replicate count New;
-        all_looked = ap length l ∙ length-replicate count 0;
-        placed = λ n q is. let is_fresh = fresh n in (cc);
-        marked = λ q n less is. absurd (omega arith);
-        ordered = λ n is. absurd (not_done n is);
-        fresh = λ n is. zero_looked n;
-        counted = omega (arith, ap (count_by is_new) m, all_new count);
-      };
-      linking = record { forth = λ i j less more. absurd (omega arith); back = λ i j less more free. absurd (omega arith) };
-      stacking = record {
-        starts_rise = λ i j less more. absurd (omega arith);
-        frames_rise = λ i j less more. absurd (omega arith);
-        on_path = λ q c. absurd (omega (arith, c.1));
-        framed = λ q c. absurd (omega (arith, c.1));
-        begun = λ less. absurd (omega arith);
-      };
-      looking = record { leads = λ q n k less is more. absurd (omega arith); ended = λ q n less is free. absurd (omega arith) };
-      ending = record {
-        closed = λ n next is e. absurd (not_done n is);
-        sound = λ n is. (cc);
-        found = λ n is r. absurd (not_done n is);
-        looped = λ n k less is. absurd (omega (arith, zero_looked n));
-        sorted = λ is q n next at e. absurd (omega (arith, slice_get_within s.order q n at));
-      };
-    }
 
 pub follows_then : (s t u : Trail) → Follows s t → Follows t u → Follows s u
 follows_then s t u a b = record {

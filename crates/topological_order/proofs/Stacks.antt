@@ -5,7 +5,7 @@ use Rattle.std.proofs.lemmas.List.{get_or_append_left, get_or_default, take_more
 use Rattle.std.proofs.lemmas.List.Elements.{Contains-append_left, Contains-push, Contains-push_cases}
 use Rattle.std.proofs.lemmas.Option.{slice_get_within, get_or_from_slice_get}
 use Rattle.std.proofs.lemmas.Bool.{cases_lt, cases_eq}
-use Rattle.topological_order.specs.Walks.{Rises}
+use Rattle.topological_order.specs.Walks.{Rises, IsJoined}
 
 -- a list is all but its last element, and that
 pub top_split : {X : Type 0} (xs : List X) (x : X) → slice_get xs (length xs - 1) ≡ Some x → xs ≡ take (length xs - 1) xs ++ x ∷ []
@@ -76,3 +76,31 @@ popped xs x top rise =
       cases = here;
       most = λ y h. elim (here y h) [ inl a ↦ omega (arith, below_last ys x y risen a) | inr q ↦ omega arith ];
     }
+
+-- the starts that are left while those above a place are taken off
+pub record AreAbove (at : ℕ) (all starts : List ℕ) : Type 0 where
+  pub rise : Rises starts
+  pub were : (start : ℕ) → Contains starts start → Contains all start
+  pub stay : (start : ℕ) → Contains all start → start ≤ at → Contains starts start
+
+-- what a read gives, at the default 0
+pub read : (xs : List ℕ) (i x : ℕ) → i < length xs → x ≡ get_or xs i x → get_or xs i 0 ≡ x
+read xs i x l e = get_or_default xs i 0 x l ∙ sym e
+
+-- what is left of the starts after the last was taken off, as it was above the place
+pub joined_more : (all starts left : List ℕ) (at start : ℕ) → slice_get starts (length starts - 1) ≡ Some start → at < start → left ≡ take (length starts - 1) starts → AreAbove at all starts → AreAbove at all left
+joined_more all starts left at start top high e h =
+    let p = popped starts start top h.rise in
+    let P : List ℕ → Type 0 = AreAbove at all in
+    let there : P (take (length starts - 1) starts) = record {
+      rise = p.rise;
+      were = λ s c. h.were s (p.were s c);
+      stay = λ s c low. elim (p.cases s (h.stay s c low)) [ inl old ↦ old | inr same ↦ absurd (omega arith) ];
+    } in
+    subst P (sym e) there
+
+-- where the last start is at most the place, all are
+pub joined_end : (all starts : List ℕ) (at start : ℕ) → slice_get starts (length starts - 1) ≡ Some start → start ≤ at → AreAbove at all starts → IsJoined at all starts
+joined_end all starts at start top low h =
+    let p = popped starts start top h.rise in
+    record { rise = h.rise; were = h.were; stay = h.stay; low = λ s c. omega (arith, p.most s c) }

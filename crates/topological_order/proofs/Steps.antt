@@ -69,6 +69,13 @@ edge_here s place to a =
     let node = get_or s.path place 0 in
     has_edge s.graph node (get_or s.looked node 0) to (is_here s place a.walk a.top).node a.edge
 
+-- that edge leads to a node that has a mark
+pub edge_in : (s : Trail) (place to : ℕ) → IsAtEdge s place to → to < length s.marks
+edge_in s place to a =
+    let node = get_or s.path place 0 in
+    let within = to_within s.graph node (get_or s.looked node 0) to a.walk.whole (is_here s place a.walk a.top).node a.edge in
+    omega (arith, within, a.walk.marking.all_marked)
+
 pub met_new : (s : Trail) (place to : ℕ) → IsAtEdge s place to → mark_of s.marks to ≡ New → IsMet s (opened s to) place to
 met_new s place to a fresh =
     let w = a.walk in
@@ -213,3 +220,44 @@ left_follows s place a free =
       kept = λ n is. is;
       less = omega arith;
     }
+
+-- a node whose place isn't the last start begins no part
+pub begins_none : (s : Trail) (place : ℕ) → IsAtEnd s place → (slice_get s.starts (length s.starts - 1) ≡ Some place → ⊥) → Contains s.starts place → ⊥
+begins_none s place a other c =
+    let w = a.walk in
+    let here = is_here s place w a.top in
+    let end = length s.starts - 1 in
+    let last = get_or s.starts end 0 in
+    let top : slice_get s.starts end ≡ Some last = slice_get-get_or s.starts end 0 (omega (arith, c.1)) in
+    let p = popped s.starts last top w.stacking.starts_rise in
+    let same : last ≡ place = omega (arith, p.most place c, here.most last p.last) in
+    other (top ∙ ap Some same)
+
+-- how many edges were looked at, before one more is
+pub record IsCounted (s t : Trail) (place to node count : ℕ) : Type 0 where
+  pub edge : IsAtEdge s place to
+  pub met : IsMet s t place to
+  pub here : get_or t.path place 0 ≡ node
+  pub counted : get_or t.looked node 0 ≡ count
+
+pub counted_in : (s t : Trail) (place to node : ℕ) → IsAtEdge s place to → IsMet s t place to → get_or t.path place 0 ≡ node → node < length t.looked
+counted_in s t place to node a m is =
+    let h = is_here s place a.walk a.top in
+    let was : get_or s.path place 0 ≡ node = sym m.here ∙ is in
+    omega (arith, h.node, ap (λ g. length g) m.graph, m.walk.marking.all_looked)
+
+pub counted_less : (s t : Trail) (place to node count : ℕ) → IsCounted s t place to node count → count < length (row_of s.graph node)
+counted_less s t place to node count h =
+    let was : get_or s.path place 0 ≡ node = sym h.met.here ∙ h.here in
+    let less = slice_get_within (row_of s.graph (get_or s.path place 0)) (get_or s.looked (get_or s.path place 0) 0) to h.edge.edge in
+    omega (arith, less, ap (λ n. length (row_of s.graph n)) was, ap (λ n. get_or s.looked n 0) was, ap (λ l. get_or l node 0) h.met.looked, h.counted)
+
+pub counted_follows : (s t : Trail) (place to node count : ℕ) → IsCounted s t place to node count → Follows s (record t { looked = set t.looked node (count + 1) })
+counted_follows s t place to node count h =
+    let P : ℕ → Type 0 = λ k. Follows s (record t { looked = set t.looked node (k + 1) }) in
+    subst P h.counted (looked_follows s t place to node h.edge h.met h.here)
+
+-- the edge that the code reads
+pub edge_read : (graph : Graph) (looked path : List ℕ) (place node count : ℕ) (read : Option ℕ) → get_or path place 0 ≡ node → get_or looked node 0 ≡ count → read ≡ slice_get (row_of graph node) count → slice_get (row_of graph (get_or path place 0)) (get_or looked (get_or path place 0) 0) ≡ read
+edge_read graph looked path place node count read here counted is =
+    ap (λ n. slice_get (row_of graph n) (get_or looked n 0)) here ∙ ap (slice_get (row_of graph node)) counted ∙ sym is

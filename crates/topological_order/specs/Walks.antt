@@ -118,8 +118,7 @@ opened s node = record s {
 
 -- Nodes are done.
 abbrev pub done_all : List ℕ → List Mark → List Mark
-done_all [] marks = marks
-done_all (node ∷ nodes) marks = done_all nodes (slice_set marks node Done)
+done_all nodes marks = fold (λ done node. slice_set done node Done) marks nodes
 
 -- The last part, from that place on, is taken off the path. Where it has several nodes, all of them reach themselves.
 abbrev pub closed : Trail → ℕ → Trail

@@ -1,8 +1,8 @@
 //! A walk over a graph that keeps its open nodes in parts whose nodes reach each other.
 
-ghost use Rattle.std.specs.Prelude.{◌≡◌, ℕ, ◌+◌, ◌-◌, ◌<◌, ◌≤◌, ◌++◌, IsTrue, Some, length, Contains, OnOk, IfOk, slice_get, slice_index};
+ghost use Rattle.std.specs.Prelude.{◌≡◌, ℕ, ◌+◌, ◌-◌, ◌<◌, ◌≤◌, ◌++◌, ◌↔◌, IsTrue, Some, length, Contains, OnOk, IfOk, slice_get, slice_index};
 ghost use Rattle.std.specs.List.{fold};
-ghost use Rattle.topological_order.specs.Graphs.{graph_of};
+ghost use Rattle.topological_order.specs.Graphs.{graph_of, IsClosed};
 ghost use Rattle.topological_order.specs.Walks.{row_of, mark_of, is_new, lesser, done_all, trail_of, opened, closed, IsWalk, Follows, Rises, IsJoined, IsAtEdge, IsMet, IsAtEnd};
 
 use outside::Memory;
@@ -93,6 +93,7 @@ fn finish(marks: &mut Vec<Mark>, order: &mut Vec<usize>, part: &[usize]) -> Resu
 
 impl<'a> Walk<'a> {
     pub fn new(alloc: Global, graph: &'a [Vec<usize>]) -> Result<Walk<'a>, Memory>
+        requires { IsClosed (graph_of graph.now) }
         ensures graph { IfOk result (λ walk. walk.graph.now ≡ graph.now) }
         ensures path { IfOk result (λ walk. length walk.path.items ≡ 0) }
         ensures walk { IfOk result (λ walk. IsWalk (trail_of walk)) }
@@ -175,18 +176,23 @@ impl<'a> Walk<'a> {
         Ok(())
     }
 
+    /// Whether the last part begins at that place.
+    fn begins_at(&self, place: usize) -> bool
+        ensures { IsTrue result ↔ (slice_get self.now.starts.items (length self.now.starts.items - 1) ≡ Some place) }
+    {
+        matches!(self.starts.last(), Some(start) if *start == place)
+    }
+
     /// Leaves the node at the last of the frames, whose edges were all looked at.
     fn leave(&mut self, place: usize) -> Result<(), Memory>
         requires { IsAtEnd (trail_of self.old) place }
         ensures { OnOk result (Follows (trail_of self.old) (trail_of self.new)) }
     {
-        match self.starts.last() {
-            Some(&start) if start == place => self.close(place),
-            _ => {
-                self.frames.pop();
-                Ok(())
-            }
+        if self.begins_at(place) {
+            return self.close(place);
         }
+        self.frames.pop();
+        Ok(())
     }
 
     /// Goes one step on from the last of the frames.
