@@ -20,6 +20,9 @@ new_mark New is = refl
 new_mark (Open place) is = (cc)
 new_mark Done is = (cc)
 
+pub is_fresh : (mark : Mark) → mark ≡ New → is_new mark ≡ true
+is_fresh mark is = ap is_new is
+
 -- a mark after a write was there before, or was written
 pub mark_cases : (marks : List Mark) (node other : ℕ) (mark now : Mark) → node < length marks → mark_of (set marks node mark) other ≡ now → ((other ≡ node) × (mark ≡ now)) ⊎ ((other ≡ node → ⊥) × (mark_of marks other ≡ now))
 mark_cases marks node other mark now l is =

@@ -3,12 +3,16 @@ use Rattle.std.proofs.Common.{◌≡◌, ℕ, zero, suc, ◌+◌, ◌-◌, ◌<�
 use Rattle.std.specs.List.{Contains, slice_get, count_by}
 use Rattle.std.proofs.lemmas.List.{length-take-le}
 use Rattle.std.proofs.lemmas.Option.{slice_get_within, slice_get_read}
-use Rattle.topological_order.specs.Graphs.{Graph, HasEdge, IsClosed, Reaches, by_edge, by_walk}
+use Rattle.topological_order.specs.Graphs.{Graph, graph_of, HasEdge, IsClosed, Reaches, by_edge, by_walk}
 use Rattle.topological_order.specs.Orders.{IsOrder, IsFirstCyclic}
+use Rattle.std.specs.declared.alloc.Global.{Global}
+use Rattle.std.specs.declared.vec.Vec.{Vec}
+use Rattle.std.proofs.lemmas.Bool.{cases_eq}
+use Rattle.topological_order.specs.declared.walk.Walk.{Walk}
 use Rattle.topological_order.specs.declared.walk.Mark.{Mark}
 use Rattle.topological_order.specs.declared.walk.Mark.TheVariants.{New, Open, Done}
-use Rattle.topological_order.specs.Walks.{Trail, mark_of, is_new, opened, effort, IsAtMost, IsWalk, Follows}
-use Rattle.topological_order.proofs.Edges.{from_within}
+use Rattle.topological_order.specs.Walks.{Trail, trail_of, mark_of, is_new, opened, effort, IsAtMost, IsWalk, Follows}
+use Rattle.topological_order.proofs.Edges.{from_within, graph_length}
 use Rattle.topological_order.proofs.Efforts.{none_new}
 use Rattle.topological_order.proofs.Steps.{opened_walk, opened_kept, opened_less}
 
@@ -41,6 +45,29 @@ mark_kinds : (mark : Mark) → (mark ≡ New) ⊎ (((place : ℕ) × (mark ≡ O
 mark_kinds New = inl refl
 mark_kinds (Open place) = inr (inl (place, refl))
 mark_kinds Done = inr (inr refl)
+
+-- a walk that has met the nodes below that one, and has left all
+pub record IsUpTo (graph : List (Vec ℕ Global)) (walk : Walk) (root : ℕ) : Type 0 where
+  pub same : graph_of walk.graph.now ≡ graph_of graph
+  pub proper : IsWalk (trail_of walk)
+  pub path : length walk.path.items ≡ 0
+  pub met : (node : ℕ) → node < root → mark_of walk.marks.items node ≡ New → ⊥
+
+more_met : (marks : List Mark) (root : ℕ) → ((node : ℕ) → node < root → mark_of marks node ≡ New → ⊥) → (mark_of marks root ≡ New → ⊥) → (node : ℕ) → node < root + 1 → mark_of marks node ≡ New → ⊥
+more_met marks root below here node l is =
+    elim (cases_eq node root) [ inl e ↦ here (ap (mark_of marks) (sym e) ∙ is) | inr ne ↦ below node (omega arith) is ]
+
+-- from one root to the next
+pub up_walked : (graph : List (Vec ℕ Global)) (walk next : Walk) (root : ℕ) → IsUpTo graph walk root → Follows (trail_of walk) (trail_of next) → length next.path.items ≡ 0 → (mark_of next.marks.items root ≡ New → ⊥) → IsUpTo graph next (root + 1)
+up_walked graph walk next root h f none met = record {
+    same = f.graph ∙ h.same;
+    proper = f.walk;
+    path = none;
+    met = more_met next.marks.items root (λ n l is. h.met n l (f.kept n is)) met;
+  }
+
+pub up_passed : (graph : List (Vec ℕ Global)) (walk : Walk) (root : ℕ) → IsUpTo graph walk root → (mark_of walk.marks.items root ≡ New → ⊥) → IsUpTo graph walk (root + 1)
+up_passed graph walk root h met = record { same = h.same; proper = h.proper; path = h.path; met = more_met walk.marks.items root h.met met }
 
 -- a walk that has met each node, and has left all
 pub record IsOver (s : Trail) : Type 0 where
@@ -112,3 +139,16 @@ pub orders_exclude : (graph : Graph) (order : List ℕ) (node : ℕ) → IsOrder
 orders_exclude graph order node o r =
     let c = o.all node (reach_within graph node node r) in
     never_again graph order node (c.0 + 1) c.0 o r (omega arith) (got order node c)
+
+-- the end of the last walk
+pub up_all : (graph : List (Vec ℕ Global)) (walk : Walk) (root : ℕ) → IsUpTo graph walk root → length graph ≤ root → IsOver (trail_of walk)
+up_all graph walk root h all = record {
+    walk = h.proper;
+    path = h.path;
+    met = λ n l. h.met n (omega (arith, l, ap (λ g. length g) h.same, graph_length graph));
+  }
+
+pub up_within : (graph : List (Vec ℕ Global)) (walk : Walk) (root : ℕ) → IsUpTo graph walk root → root < length graph → (root < length walk.marks.items) × (root < length walk.graph.now)
+up_within graph walk root h l =
+    let long = ap (λ g. length g) h.same in
+    (omega (arith, long, graph_length graph, h.proper.marking.all_marked), omega (arith, long, graph_length graph, graph_length walk.graph.now))

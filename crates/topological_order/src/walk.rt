@@ -216,6 +216,7 @@ impl<'a> Walk<'a> {
         requires fresh { IsTrue (is_new (mark_of self.old.marks.items root)) }
         ensures walk { OnOk result (Follows (trail_of self.old) (trail_of self.new)) }
         ensures path { OnOk result (length self.new.path.items ≡ 0) }
+        ensures met { OnOk result (IsTrue (is_new (mark_of self.new.marks.items root)) → ⊥) }
     {
         self.open(root)?;
         while let Some(&place) = self.frames.last() {
