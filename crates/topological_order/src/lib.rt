@@ -1,6 +1,9 @@
 //! The order of a graph's nodes in which each stands behind those that its edges lead to.
 #![tactic(auto)]
 
+pub mod laws;
+#[cfg(test)]
+mod tests;
 mod walk;
 
 ghost use Rattle.std.specs.Prelude.{IfOk};
