@@ -1,1 +1,12 @@
-
+pub mod Stacks
+pub mod Marks
+pub mod Edges
+pub mod Marking
+pub mod Linking
+pub mod Stacking
+pub mod Looking
+pub mod Ending
+pub mod Efforts
+pub mod Steps
+pub mod Closing
+pub mod Results

@@ -1,10 +1,16 @@
 //! The order of a graph's nodes in which each stands behind those that its edges lead to.
 #![tactic(auto)]
 
+pub mod laws;
+#[cfg(test)]
+mod tests;
+mod walk;
+
 ghost use Rattle.std.specs.Prelude.{IfOk};
 ghost use Rattle.topological_order.specs.Graphs.{graph_of, IsClosed};
 ghost use Rattle.topological_order.specs.Orders.{IsSorted};
 
+use crate::walk::Walk;
 use outside::Memory;
 use std::alloc::Global;
 
@@ -23,7 +29,14 @@ pub fn topological_order(alloc: Global, graph: &[Vec<usize>]) -> Result<Sorted, 
     requires { IsClosed (graph_of graph.now) }
     ensures { IfOk result (IsSorted (graph_of graph.now)) }
 {
-    let _ = alloc;
-    let _ = graph;
-    Err(Memory)
+    let mut walk = Walk::new(alloc, graph)?;
+    for root in 0..graph.len() {
+        if walk.is_new(root) {
+            walk.walk_from(root)?;
+        }
+    }
+    Ok(match walk.first {
+        Some(node) => Sorted::Cycle(node),
+        None => Sorted::Order(walk.order),
+    })
 }

@@ -1,0 +1,99 @@
+//! Graphs with an order, and graphs with nodes that reach themselves.
+
+ghost use Rattle.std.specs.Prelude.{IsTrue};
+ghost use Rattle.topological_order.specs.Graphs.{graph_of, IsClosed};
+
+use crate::{Sorted, laws, topological_order};
+use outside::Memory;
+use std::alloc::Global;
+use std::test::Fail;
+
+type Rows = &'static [&'static [usize]];
+
+// The rows of a graph, and the first node that reaches itself.
+static GRAPHS: [(Rows, Option<usize>); 17] = [
+    (&[], None),
+    (&[&[]], None),
+    (&[&[0]], Some(0)),
+    (&[&[1], &[0]], Some(0)),
+    (&[&[1], &[2], &[3], &[2]], Some(2)),
+    (&[&[3], &[2], &[1], &[4], &[3]], Some(1)),
+    (&[&[4], &[1], &[], &[], &[0, 1]], Some(0)),
+    (&[&[1, 2], &[3], &[3], &[]], None),
+    (&[&[1, 1], &[2, 2, 2], &[]], None),
+    (&[&[1, 1], &[2], &[1, 0]], Some(0)),
+    (&[&[2], &[2], &[1, 3], &[4], &[5], &[4]], Some(1)),
+    (&[&[1], &[2, 4], &[3], &[3], &[]], Some(3)),
+    (&[&[1], &[], &[0, 1], &[3, 2]], Some(3)),
+    (&[&[], &[3], &[3], &[0], &[4, 0]], Some(4)),
+    (&[&[1], &[2], &[3, 1], &[4], &[5], &[3, 2]], Some(1)),
+    (&[&[4], &[5], &[3], &[2], &[1], &[]], Some(2)),
+    (&[&[3], &[2], &[1, 0], &[4], &[3]], Some(1)),
+];
+
+fn graph(alloc: Global, rows: &[&[usize]]) -> Result<Vec<Vec<usize>>, Memory> {
+    let mut graph = Vec::new(alloc);
+    for row in rows {
+        graph.push(Vec::from_slice(alloc, row)?)?;
+    }
+    Ok(graph)
+}
+
+fn is_closed(graph: &[Vec<usize>]) -> bool
+    ensures { IsTrue result → IsClosed (graph_of graph.now) }
+{
+    graph
+        .iter()
+        .all(|row| row.iter().all(|to| *to < graph.len()))
+}
+
+fn sorted(alloc: Global, graph: &[Vec<usize>]) -> Result<Sorted, Fail> {
+    if !is_closed(graph) {
+        return Err(Fail::from("an edge to no node"));
+    }
+    Ok(topological_order(alloc, graph)?)
+}
+
+#[test]
+fn first_cyclic_nodes(rt: HostRuntime) -> Result<(), Fail> {
+    let alloc = rt.alloc();
+    laws::orders_exclude_cycles();
+    for (rows, want) in &GRAPHS {
+        match sorted(alloc, &graph(alloc, rows)?)? {
+            Sorted::Cycle(node) => assert_eq!(rt; Some(node), *want, "{rows:?}"),
+            Sorted::Order(order) => {
+                assert!(rt; want.is_none(), "{rows:?}");
+                assert_eq!(rt; order.len(), rows.len());
+            }
+        }
+    }
+    Ok(())
+}
+
+/// A chain of so many nodes, from the first to the last.
+fn chain(alloc: Global, len: usize) -> Result<Vec<Vec<usize>>, Memory>
+    requires { 0 < len }
+{
+    let mut graph = Vec::new(alloc);
+    for to in 1..len {
+        graph.push(vec![in alloc; to]?)?;
+    }
+    graph.push(Vec::new(alloc))?;
+    Ok(graph)
+}
+
+#[test]
+fn long_walks(rt: HostRuntime) -> Result<(), Fail> {
+    let alloc = rt.alloc();
+    let mut graph = chain(alloc, 100_000)?;
+    let Sorted::Order(order) = sorted(alloc, &graph)? else {
+        return Err(Fail::from("a chain is no circle"));
+    };
+    assert_eq!(rt; order.first().copied(), Some(99_999));
+    assert_eq!(rt; order.last().copied(), Some(0));
+    if let Some(row) = graph.last_mut() {
+        row.push(7)?;
+    }
+    assert!(rt; matches!(sorted(alloc, &graph)?, Sorted::Cycle(7)));
+    Ok(())
+}
