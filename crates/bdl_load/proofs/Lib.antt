@@ -1,3 +1,5 @@
 mod Given
 mod Words
 mod Names
+mod OneSource
+mod OneLoading
