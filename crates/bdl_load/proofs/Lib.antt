@@ -3,3 +3,7 @@ mod Words
 mod Names
 mod OneSource
 mod OneLoading
+mod Asking
+mod Fetched
+mod FilesSoFar
+mod Taking

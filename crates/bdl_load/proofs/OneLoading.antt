@@ -67,7 +67,7 @@ mutual
   enters_one one held taking files name source _ _ (Enters.read _ _ _ _ m a r t) (Enters.broken _ _ _ _ f x) = absurd (one.excludes source m f r x)
   enters_one one held taking files name source _ _ (Enters.read _ _ _ _ m a r t) (Enters.read _ _ _ _ n b s u) =
       let same = one.modules source n m s r in
-      takes_one one held (name ∷ taking) (files ++ loaded_as name m ∷ []) name m.imports a b t (subst (λ m. Takes held (name ∷ taking) (files ++ loaded_as name m ∷ []) name m.imports b) same u)
+      takes_one one held (taking ++ name ∷ []) (files ++ loaded_as name m ∷ []) name m.imports a b t (subst (λ m. Takes held (taking ++ name ∷ []) (files ++ loaded_as name m ∷ []) name m.imports b) same u)
 
   takes_one : SaysOne → (held : Holding) (taking : List (List ℕ)) (files : List LoadedFile) (from : List ℕ) (imports : List Import) (a b : Loading) → Takes held taking files from imports a → Takes held taking files from imports b → a ≡ b
   takes_one one held taking files from _ _ _ (Takes.none_left _ _ _) (Takes.none_left _ _ _) = refl
