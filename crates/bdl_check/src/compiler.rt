@@ -1,15 +1,34 @@
-//! The whole way from files to a table.
+//! The whole way from the name of a root to the table of a bag.
 
-ghost use Rattle.std.specs.Prelude.{◌≡◌, ◌≤◌, IfOk, IfErr, IsErrOf};
+ghost use Rattle.std.specs.Prelude.{◌≡◌, ◌≤◌, All, IfOk, IfErr, IsErrOf};
 ghost use Rattle.outside.specs.Causes.{Rose};
 ghost use Rattle.bdl_load.specs.Faults.{Blames};
 ghost use Rattle.bdl_load.specs.Loading.{OfFiles};
-ghost use Rattle.bdl_check.specs.Tables.{IsTable, IsFirstFault};
+ghost use Rattle.bdl_load.specs.Spelled.{AreSpelledDecls};
+ghost use Rattle.bdl_check.specs.Definitions.{IsTableIn, IsFaultIn, IsTable, IsFirstFault};
+ghost use Rattle.bdl_check.specs.Faults.{Says};
 
-use bdl_load::DefFault;
+use crate::checks::check_declarations;
+use crate::recursion::order_of;
+use crate::refusals::Refusal;
+use crate::tables::table_of;
+use bdl_load::{DefFault, LoadedFile, load};
 use field_table::Table;
 use outside::Library;
 use std::alloc::Global;
+use topological_order::laws;
+
+/// The table of the bag of this name in the files of a definition, the first of which is its root.
+fn table_in(alloc: Global, files: &[LoadedFile], root: &str, bag: &str) -> Result<Table, Refusal>
+    requires { All (λ file. AreSpelledDecls file.«module».decls) files.now }
+    ensures table { IfOk result (IsTableIn files.now bag.now) }
+    ensures fault { IfErr result (Says (IsFaultIn files.now root.now bag.now)) }
+{
+    let declarations = check_declarations(alloc, files)?;
+    let order = order_of(alloc, &declarations)?;
+    laws::orders_exclude_cycles();
+    table_of(alloc, &declarations, &order, root, bag)
+}
 
 /// The table of a bag of a definition, whose root is a file of the library. The root is fetched first, and then each file that
 /// is imported, once; the first fault of all is the answer where there is one, `Failed` where a fetch failed, and `Memory`
@@ -26,9 +45,6 @@ pub fn compile<L: Library>(
     ensures later { L.faults library.old ≤ L.faults library.new }
     ensures same { L.files library.new ≡ L.files library.old }
 {
-    let _ = alloc;
-    let _ = library;
-    let _ = file;
-    let _ = bag;
-    Err(DefFault::Memory)
+    let files = load(alloc, library, file)?;
+    Ok(table_in(alloc, &files, file, bag)?)
 }

@@ -1,3 +1,9 @@
 mod Given
 mod Words
 mod Names
+mod OneSource
+mod OneLoading
+mod Asking
+mod Fetched
+mod FilesSoFar
+mod Taking

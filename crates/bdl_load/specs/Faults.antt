@@ -1,5 +1,7 @@
 -- Faults of a definition: at a place of a file, and with the file's name.
 use Rattle.std.specs.Prelude.{ℕ, List}
+use Rattle.outside.specs.declared.answers.LibraryFault.{LibraryFault}
+use Rattle.outside.specs.declared.answers.LibraryFault.TheVariants.{Failed as LibraryFailed, Memory as LibraryMemory}
 use Rattle.bdl_parser.specs.declared.trees.Spot.{Spot}
 use Rattle.bdl_load.specs.declared.faults.DefCode.{DefCode}
 use Rattle.bdl_load.specs.declared.faults.DefFault.{DefFault}
@@ -24,3 +26,8 @@ abbrev pub Blames : (Fault → Type 0) → DefFault → Type 0
 Blames Holds (At file line column code) = Holds (record { file = file; line = line; column = column; code = code })
 Blames Holds Failed = Unit {0}
 Blames Holds Memory = Unit {0}
+
+-- the answer where a library fails
+abbrev pub of_library : LibraryFault → DefFault
+of_library LibraryFailed = Failed
+of_library LibraryMemory = Memory

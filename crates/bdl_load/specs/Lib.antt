@@ -4,3 +4,4 @@ pub mod Sources
 pub mod SourceRefusals
 pub mod Spelled
 pub mod Loading
+pub mod Asked

@@ -50,7 +50,7 @@ mutual
     broken : (taking : List (List ℕ)) (files : List LoadedFile) (name source : List ℕ) (finding : Finding)
         → IsSourceFault source finding → Enters held taking files name source (stopped (fault_in name finding))
     read : (taking : List (List ℕ)) (files : List LoadedFile) (name source : List ℕ) (module_ : Module) (outcome : Loading)
-        → SaysModule source module_ → Takes held (name ∷ taking) (files ++ loaded_as name module_ ∷ []) name module_.imports outcome
+        → SaysModule source module_ → Takes held (taking ++ name ∷ []) (files ++ loaded_as name module_ ∷ []) name module_.imports outcome
         → Enters held taking files name source outcome
 
   -- What comes of the imports of the file of this name, which are taken one after another, each whole before the next.

@@ -1,7 +1,7 @@
 //! Why a definition is refused.
 
 use bdl_parser::Spot;
-use outside::Text;
+use outside::{LibraryFault, Memory, Text};
 
 /// What is wrong with a definition.
 #[derive(Clone, Copy, Debug, PartialEq, Eq)]
@@ -103,6 +103,31 @@ impl From<Fault> for DefFault {
             line: fault.line,
             column: fault.column,
             code: fault.code,
+        }
+    }
+}
+
+impl From<Memory> for DefFault {
+    ghost use Rattle.std.specs.Prelude.{◌≡◌};
+    ghost use Rattle.bdl_load.specs.declared.faults.DefFault.TheVariants.{Memory};
+
+    ghost from_gives = { λ _ answer. answer ≡ Memory };
+
+    fn from(_memory: Memory) -> DefFault {
+        DefFault::Memory
+    }
+}
+
+impl From<LibraryFault> for DefFault {
+    ghost use Rattle.std.specs.Prelude.{◌≡◌};
+    ghost use Rattle.bdl_load.specs.Faults.{of_library};
+
+    ghost from_gives = { λ fault answer. answer ≡ of_library fault };
+
+    fn from(fault: LibraryFault) -> DefFault {
+        match fault {
+            LibraryFault::Failed => DefFault::Failed,
+            LibraryFault::Memory => DefFault::Memory,
         }
     }
 }

@@ -4,6 +4,7 @@
 mod code_names;
 mod faults;
 mod files;
+pub mod laws;
 mod loader;
 mod source;
 

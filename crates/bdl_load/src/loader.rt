@@ -1,15 +1,198 @@
 //! The way from the name of a file to all files that it imports.
 
-ghost use Rattle.std.specs.Prelude.{◌≡◌, ◌≤◌, All, IfOk, IfErr, IsErrOf};
+ghost use Rattle.std.specs.Prelude.{◌≡◌, ℕ, List, [], ◌∷◌, ◌++◌, ◌+◌, ◌<◌, ◌≤◌, length, drop, All, IfOk, IfErr, IsErrOf, false};
 ghost use Rattle.outside.specs.Causes.{Rose};
-ghost use Rattle.bdl_load.specs.Faults.{Blames};
-ghost use Rattle.bdl_load.specs.Loading.{OfFiles, Loads, all_loaded, stopped};
+ghost use Rattle.bdl_load.specs.Asked.{IsFound, IsBroken, IsSpelledFile, AreSound, IsChosen, Passes, Stopped, Loaded, file_at, names_at};
+ghost use Rattle.bdl_load.specs.Faults.{Blames, found, fault_in};
+ghost use Rattle.bdl_load.specs.Loading.{Holding, OfFiles, Takes, Loads, all_loaded, stopped, is_among, names_of};
 ghost use Rattle.bdl_load.specs.Spelled.{AreSpelledDecls};
+ghost use Rattle.bdl_parser.specs.declared.trees.Import.{Import};
 
-use crate::faults::DefFault;
+use crate::faults::{DefCode, DefFault, FIRST};
 use crate::files::LoadedFile;
-use outside::Library;
+use crate::source::{SourceRefusal, read_source};
+use bdl_parser::{Import, Spot};
+use outside::{Library, Memory, Text};
 use std::alloc::Global;
+
+/// The most files of a definition.
+const MAX_FILES: usize = 64;
+
+/// The refusal for the fault of that code at that place of the file.
+fn blame(alloc: Global, file: &str, at: Spot, code: DefCode) -> DefFault
+    ensures says { Blames (λ fault. fault ≡ fault_in file.now (found at code)) result }
+    ensures inside { result ≡ DefFault.Failed → ⊥ }
+{
+    match Text::of(alloc, file) {
+        Ok(file) => DefFault::At {
+            file,
+            line: at.line,
+            column: at.column,
+            code,
+        },
+        Err(_) => DefFault::Memory,
+    }
+}
+
+/// The file of that name, fetched and read, or `None` where the library holds no such file.
+fn fetch_file<L: Library>(
+    alloc: Global,
+    library: &mut L,
+    name: &str,
+) -> Result<Option<LoadedFile>, DefFault>
+    ensures found { IfOk result (IsFound (L.files library.old) name.now) }
+    ensures fault { IfErr result (Blames (IsBroken (L.files library.old) name.now)) }
+    ensures cause { IsErrOf result DefFault.Failed → Rose (L.faults library.old) (L.faults library.new) }
+    ensures later { L.faults library.old ≤ L.faults library.new }
+    ensures same { L.files library.new ≡ L.files library.old }
+{
+    let Some(source) = library.fetch(alloc, name)? else {
+        return Ok(None);
+    };
+    match read_source(alloc, &source) {
+        Ok(module) => {
+            let name = Text::of(alloc, name)?;
+            Ok(Some(LoadedFile { name, module }))
+        }
+        Err(SourceRefusal::At(finding)) => Err(blame(alloc, name, finding.at, finding.code)),
+        Err(SourceRefusal::Memory) => Err(DefFault::Memory),
+    }
+}
+
+/// The files that were fetched so far, and the numbers of those whose imports are being taken.
+#[derive(Drop)]
+struct Loader {
+    alloc: Global,
+    files: Vec<LoadedFile>,
+    taking: Vec<usize>,
+}
+
+impl Loader {
+    /// Whether the imports of the file of that name are being taken.
+    fn is_taking(&self, name: &str) -> bool
+        requires { All (λ number. number < length self.now.files.items) self.now.taking.items }
+        ensures { result ≡ is_among name.now (names_at self.now.files.items self.now.taking.items) }
+    {
+        for number in &self.taking {
+            if name == self.files[*number].name.as_str() {
+                return true;
+            }
+        }
+        false
+    }
+
+    /// Whether a file of that name was loaded.
+    fn is_loaded(&self, name: &str) -> bool
+        ensures { result ≡ is_among name.now (names_of self.now.files.items) }
+    {
+        self.files.iter().any(|file| name == file.name.as_str())
+    }
+
+    /// Whether the import's file is to be fetched, since it wasn't loaded before.
+    fn is_to_fetch(&self, from: &str, import: &Import) -> Result<bool, DefFault>
+        requires { AreSound self.now.files.items self.now.taking.items }
+        ensures chosen { IfOk result (IsChosen (names_at self.now.files.items self.now.taking.items) self.now.files.items import.now.file) }
+        ensures fault { IfErr result (Blames (λ fault. (held : Holding) → (rest : List Import) → Takes held (names_at self.now.files.items self.now.taking.items) self.now.files.items from.now (import.now ∷ rest) (stopped fault))) }
+        ensures inside { IsErrOf result DefFault.Failed → ⊥ }
+    {
+        let name = import.file.as_str();
+        if self.is_taking(name) {
+            return Err(blame(self.alloc, from, import.at, DefCode::ImportCycle));
+        }
+        if self.is_loaded(name) {
+            return Ok(false);
+        }
+        if self.files.len() >= MAX_FILES {
+            return Err(blame(self.alloc, from, import.at, DefCode::TooManyFiles));
+        }
+        Ok(true)
+    }
+
+    /// Adds a file whose imports are to be taken.
+    fn begin(&mut self, file: LoadedFile) -> Result<(), Memory>
+        ensures files { IfOk result (λ _. self.new.files.items ≡ self.old.files.items ++ file ∷ []) }
+        ensures taking { IfOk result (λ _. self.new.taking.items ≡ self.old.taking.items ++ length self.old.files.items ∷ []) }
+    {
+        self.taking.push(self.files.len())?;
+        self.files.push(file)?;
+        Ok(())
+    }
+
+    /// Takes in a file that was just fetched, and all files that it imports.
+    #[cycle(load)]
+    fn enter<L: Library>(&mut self, library: &mut L, file: LoadedFile) -> Result<(), DefFault>
+        requires sound { AreSound self.old.files.items self.old.taking.items }
+        requires fresh { is_among file.name (names_of self.old.files.items) ≡ false }
+        requires room { length self.old.files.items < MAX_FILES }
+        requires spelled { IsSpelledFile file }
+        ensures sound { IfOk result (λ _. AreSound self.new.files.items self.new.taking.items) }
+        ensures taking { IfOk result (λ _. self.new.taking.items ≡ self.old.taking.items) }
+        ensures loaded { let begun = self.old.files.items ++ file ∷ [] in let names = names_at self.old.files.items self.old.taking.items in IfOk result (λ _. Loaded (L.files library.old) begun self.new.files.items (λ held. Takes held (names ++ file.name ∷ []) begun file.name file.«module».imports (all_loaded self.new.files.items))) }
+        ensures fault { let begun = self.old.files.items ++ file ∷ [] in let names = names_at self.old.files.items self.old.taking.items in IfErr result (Blames (λ fault. Stopped (L.files library.old) begun (λ held. Takes held (names ++ file.name ∷ []) begun file.name file.«module».imports (stopped fault)))) }
+        ensures cause { IsErrOf result DefFault.Failed → Rose (L.faults library.old) (L.faults library.new) }
+        ensures later { L.faults library.old ≤ L.faults library.new }
+        ensures same { L.files library.new ≡ L.files library.old }
+    {
+        let from = self.files.len();
+        self.begin(file)?;
+        self.take_imports(library, from)?;
+        self.taking.pop();
+        Ok(())
+    }
+
+    /// Takes the imports of the file of that number, one after another.
+    #[cycle(load)]
+    fn take_imports<L: Library>(&mut self, library: &mut L, from: usize) -> Result<(), DefFault>
+        requires sound { AreSound self.old.files.items self.old.taking.items }
+        requires within { from < length self.old.files.items }
+        ensures sound { IfOk result (λ _. AreSound self.new.files.items self.new.taking.items) }
+        ensures taking { IfOk result (λ _. self.new.taking.items ≡ self.old.taking.items) }
+        ensures loaded { let names = names_at self.old.files.items self.old.taking.items in let file = file_at self.old.files.items from in IfOk result (λ _. Loaded (L.files library.old) self.old.files.items self.new.files.items (λ held. Takes held names self.old.files.items file.name file.«module».imports (all_loaded self.new.files.items))) }
+        ensures fault { let names = names_at self.old.files.items self.old.taking.items in let file = file_at self.old.files.items from in IfErr result (Blames (λ fault. Stopped (L.files library.old) self.old.files.items (λ held. Takes held names self.old.files.items file.name file.«module».imports (stopped fault)))) }
+        ensures cause { IsErrOf result DefFault.Failed → Rose (L.faults library.old) (L.faults library.new) }
+        ensures later { L.faults library.old ≤ L.faults library.new }
+        ensures same { L.files library.new ≡ L.files library.old }
+    {
+        let count = self.files[from].module.imports.len();
+        for number in 0..count {
+            self.take_import(library, from, number)?;
+        }
+        Ok(())
+    }
+
+    /// Takes one import of the file of that number.
+    #[cycle(load)]
+    fn take_import<L: Library>(
+        &mut self,
+        library: &mut L,
+        from: usize,
+        number: usize,
+    ) -> Result<(), DefFault>
+        requires sound { AreSound self.old.files.items self.old.taking.items }
+        requires within { from < length self.old.files.items }
+        requires counted { number < length (file_at self.old.files.items from).«module».imports }
+        ensures sound { IfOk result (λ _. AreSound self.new.files.items self.new.taking.items) }
+        ensures taking { IfOk result (λ _. self.new.taking.items ≡ self.old.taking.items) }
+        ensures loaded { let names = names_at self.old.files.items self.old.taking.items in let file = file_at self.old.files.items from in IfOk result (λ _. Loaded (L.files library.old) self.old.files.items self.new.files.items (λ held. Passes held names file.name self.old.files.items (drop number file.«module».imports) self.new.files.items (drop (number + 1) file.«module».imports))) }
+        ensures fault { let names = names_at self.old.files.items self.old.taking.items in let file = file_at self.old.files.items from in IfErr result (Blames (λ fault. Stopped (L.files library.old) self.old.files.items (λ held. Takes held names self.old.files.items file.name (drop number file.«module».imports) (stopped fault)))) }
+        ensures cause { IsErrOf result DefFault.Failed → Rose (L.faults library.old) (L.faults library.new) }
+        ensures later { L.faults library.old ≤ L.faults library.new }
+        ensures same { L.files library.new ≡ L.files library.old }
+    {
+        let file = &self.files[from];
+        let import = &file.module.imports.as_slice()[number];
+        if !self.is_to_fetch(file.name.as_str(), import)? {
+            return Ok(());
+        }
+        match fetch_file(self.alloc, library, import.file.as_str())? {
+            Some(file) => self.enter(library, file),
+            None => {
+                let from = file.name.as_str();
+                Err(blame(self.alloc, from, import.at, DefCode::ImportMissing))
+            }
+        }
+    }
+}
 
 /// Fetches the root file and all files that it imports, the imports of each file depth first and each file once, and reads
 /// each as soon as it is fetched. They stand in the order of fetching. The first fault is the answer where there is one,
@@ -26,8 +209,14 @@ pub fn load<L: Library>(
     ensures later { L.faults library.old ≤ L.faults library.new }
     ensures same { L.files library.new ≡ L.files library.old }
 {
-    let _ = alloc;
-    let _ = library;
-    let _ = root;
-    Err(DefFault::Memory)
+    let Some(file) = fetch_file(alloc, library, root)? else {
+        return Err(blame(alloc, root, FIRST, DefCode::NoFile));
+    };
+    let mut loader = Loader {
+        alloc,
+        files: Vec::new(alloc),
+        taking: Vec::new(alloc),
+    };
+    loader.enter(library, file)?;
+    Ok(loader.files)
 }

@@ -7,5 +7,5 @@ use Rattle.bdl_load.proofs.source.read_source.Goals as goal
 
 pub returns-in-Ok-parse-clause-spelled : goal.returns-in-Ok-parse-clause-spelled
 returns-in-Ok-parse-clause-spelled c =
-    module_spelled c.args.source.now c.in-Ok.tokens.items c.in-Ok-parse.module c.in-Ok.ensures.lie
-    (subst (λ (tokens : List Token). IsModuleOf (lexemes_of c.args.source.now tokens) c.in-Ok-parse.module) c.deref.ensures.value c.in-Ok-parse.ensures.module)
+    let says = subst (λ (tokens : List Token). IsModuleOf (lexemes_of c.args.source.now tokens) c.in-Ok-parse.module) c.deref.ensures.value c.in-Ok-parse.ensures.module in
+    module_spelled c.args.source.now c.in-Ok.tokens.items c.in-Ok-parse.module c.in-Ok.ensures.lie says
