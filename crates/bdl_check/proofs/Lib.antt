@@ -1,1 +1,6 @@
-
+pub mod Firsts
+pub mod Entries
+pub mod DeclLaws
+pub mod FieldLaws
+pub mod PassLaws
+pub mod Rows
