@@ -1,5 +1,6 @@
 pub mod Firsts
 pub mod Entries
+pub mod NameLaws
 pub mod DeclLaws
 pub mod FieldLaws
 pub mod PassLaws

@@ -1,5 +1,5 @@
 -- Declarations have no fault exactly where they pass.
-use Rattle.std.proofs.Common.{◌≡◌, ℕ, Bool, true, false, not, ◌&&◌, ◌||◌, ◌==◌, List, [], ◌∷◌, ◌++◌, Option, None, Some, map, refl, sym, ◌∙◌, ap, if◌then◌else◌}
+use Rattle.std.proofs.Common.{◌≡◌, ℕ, Bool, true, false, not, cond, ◌&&◌, ◌||◌, ◌==◌, List, [], ◌∷◌, ◌++◌, Option, None, Some, map, refl, sym, ◌∙◌, ap, if◌then◌else◌}
 use Rattle.std.proofs.lemmas.List.{map-append}
 use Rattle.std.proofs.lemmas.List.Concat.{flat_map-cons}
 use Rattle.std.proofs.lemmas.List.Folds.{list_all-append}
@@ -13,7 +13,8 @@ use Rattle.bdl_check.specs.declared.declarations.DeclKind.TheVariants.{Bag as Is
 use Rattle.bdl_check.specs.declared.types.Role.{Role}
 use Rattle.bdl_check.specs.declared.types.Role.TheVariants.{BagField, StructField, Element, Key, MapValue}
 use Rattle.bdl_check.specs.Checks.{faults_in, name_fault, name_faults, declaration_faults, placed_faults}
-use Rattle.bdl_check.specs.Declarations.{Placed, name_of, place_of, kind_of, kind_named}
+use Rattle.bdl_check.specs.Declarations.{Placed, name_of, place_of, named, kind_named}
+use Rattle.bdl_check.proofs.NameLaws.{is_some-kind}
 use Rattle.bdl_check.specs.Faults.{first, when}
 use Rattle.bdl_load.specs.Faults.{found, fault_in}
 use Rattle.bdl_check.specs.Fields.{is_number_among, is_name_among, numbers_of, names_of, struct_names_of, bag_field_faults, bag_faults, struct_field_faults, struct_faults, decl_faults}
@@ -219,15 +220,17 @@ decls_pass kinds (d ∷ ds) =
     ∙ (λ i. nothing_map (fault_in d.file) (decl_faults kinds d.decl) i && decls_pass kinds ds i)
     ∙ (λ i. decl_passes kinds d.decl i && list_all (λ e. passes_decl kinds e.decl) ds)
 
-either_way : (b : Bool) (kind : DeclKind) (rest : Option DeclKind) → is_some (if b then Some kind else rest) ≡ (b || is_some rest)
-either_way true kind rest = refl
-either_way false kind rest = refl
+either_way : (b : Bool) (d : Placed) (rest : Option Placed) → is_some (cond b (Some d) rest) ≡ (b || is_some rest)
+either_way true d rest = refl
+either_way false d rest = refl
+
+named_among : (ds : List Placed) (text : List ℕ) → is_some (named ds text) ≡ is_name_among text (map (λ d. name_of d.decl) ds)
+named_among [] text = refl
+named_among (d ∷ ds) text = either_way (bytes_eq (name_of d.decl) text) d (named ds text) ∙ (λ i. bytes_eq (name_of d.decl) text || named_among ds text i)
 
 -- a name was declared exactly where it is the name of a declaration
 declared_is : (ds : List Placed) (text : List ℕ) → is_some (kind_named ds text) ≡ is_name_among text (map (λ d. name_of d.decl) ds)
-declared_is [] text = refl
-declared_is (d ∷ ds) text =
-    either_way (bytes_eq (name_of d.decl) text) (kind_of d.decl) (kind_named ds text) ∙ (λ i. bytes_eq (name_of d.decl) text || declared_is ds text i)
+declared_is ds text = is_some-kind ds text ∙ named_among ds text
 
 names_pass : (earlier ds : List Placed) → nothing (name_faults earlier ds) ≡ is_fresh bytes_eq (map (λ d. name_of d.decl) earlier) (map (λ d. name_of d.decl) ds)
 names_pass earlier [] = refl
