@@ -14,7 +14,7 @@ use Rattle.bdl_check.specs.declared.declarations.Declaration.{Declaration}
 use Rattle.bdl_check.specs.Declarations.{Placed, name_of, named, number_named}
 use Rattle.bdl_check.specs.DeclarationViews.{placed_of}
 
-abbrev Entry : Type 0
+abbrev pub Entry : Type 0
 Entry = Bor (List ℕ) × Declaration
 
 -- the entries as declarations
