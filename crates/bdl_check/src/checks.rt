@@ -15,7 +15,7 @@ use outside::{Memory, Text};
 use std::alloc::Global;
 
 /// The fault in a file of this name.
-fn found_in(found: Finding, file: &Text) -> Result<Fault, Memory>
+pub(crate) fn found_in(found: Finding, file: &Text) -> Result<Fault, Memory>
     ensures { IfOk result (λ fault. fault ≡ fault_in file.now found) }
 {
     Ok(Fault {

@@ -1,12 +1,13 @@
 //! The declarations of all files, by number and by name.
 
-ghost use Rattle.std.specs.Prelude.{◌≡◌, ◌++◌, [], ◌∷◌, length, not, slice_get, IfOk, OnOk, Ok, true};
+ghost use Rattle.std.specs.Prelude.{◌≡◌, ◌++◌, [], ◌∷◌, length, map, not, slice_get, IfOk, OnOk, Ok, true};
 ghost use Rattle.std.specs.Option.{is_some, option_map};
 ghost use Rattle.bdl_check.specs.Declarations.{named, number_named, kind_named, placed, name_of, place_of, kind_of};
 ghost use Rattle.bdl_check.specs.DeclarationViews.{placed_of};
 
 use bdl_parser::{Decl, Spot};
 use indexmap::IndexMap;
+use indexmap::map::Values;
 use outside::{Memory, Text};
 use std::alloc::Global;
 use std::marker::Model;
@@ -70,6 +71,13 @@ impl<'a> Declarations<'a> {
     {
         let (_, found) = self.by_name.get_index(number)?;
         Some(*found)
+    }
+
+    /// All of them, in order.
+    pub(crate) fn iter(&self) -> Values<'_, &'a str, Declaration<'a>>
+        ensures { map placed_of result ≡ self.now }
+    {
+        self.by_name.values()
     }
 
     /// The one of this name.

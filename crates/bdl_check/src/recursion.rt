@@ -1,13 +1,82 @@
 //! Bags that stand inside themselves.
 
-ghost use Rattle.std.specs.Prelude.{IfOk, IfErr};
+ghost use Rattle.std.specs.Prelude.{◌≡◌, ◌++◌, IfOk, IfErr, OnOk};
+ghost use Rattle.std.specs.List.{filter_map};
+ghost use Rattle.bdl_load.specs.Faults.{found, fault_in};
+ghost use Rattle.bdl_load.specs.declared.faults.DefCode.TheVariants.{Recursive};
+ghost use Rattle.bdl_check.specs.Declarations.{number_named, place_of};
+ghost use Rattle.bdl_check.specs.DeclarationViews.{placed_of};
 ghost use Rattle.bdl_check.specs.Faults.{Says};
-ghost use Rattle.bdl_check.specs.Recursion.{links, IsRecursive};
+ghost use Rattle.bdl_check.specs.Recursion.{names_in, uses, links, IsRecursive};
+ghost use Rattle.bdl_parser.specs.Views.{tree_of};
+ghost use Rattle.topological_order.specs.Graphs.{graph_of};
 ghost use Rattle.topological_order.specs.Orders.{IsOrder};
 
-use crate::declarations::Declarations;
+use bdl_load::{DefCode, Fault, Finding};
+use bdl_parser::{Decl, TypeForm, TypeNode};
+use crate::checks::found_in;
+use crate::declarations::{Declaration, Declarations, decl_place};
 use crate::refusals::Refusal;
+use outside::Memory;
 use std::alloc::Global;
+use topological_order::{Sorted, topological_order};
+
+/// Adds the numbers of the declarations that a type names, from left to right.
+fn add_links(declarations: &Declarations, node: &TypeNode, row: &mut Vec<usize>) -> Result<(), Memory>
+    ensures { OnOk result (row.new.items ≡ row.old.items ++ filter_map (number_named declarations.now) (names_in (tree_of node.now))) }
+{
+    match &node.form {
+        TypeForm::Name(name) => {
+            if let Some(number) = declarations.number(name.as_str()) {
+                row.push(number)?;
+            }
+            Ok(())
+        }
+        TypeForm::Set(element) => add_links(declarations, element, row),
+        TypeForm::Map(key, value) => {
+            add_links(declarations, key, row)?;
+            add_links(declarations, value, row)
+        }
+        _ => Ok(()),
+    }
+}
+
+/// The numbers of the declarations that a declaration names.
+fn links_from(alloc: Global, declarations: &Declarations, decl: &Decl) -> Result<Vec<usize>, Memory>
+    ensures { IfOk result (λ row. row.items ≡ filter_map (number_named declarations.now) (uses decl.now)) }
+{
+    let mut row = Vec::new(alloc);
+    let Decl::Bag { fields, .. } = decl else {
+        return Ok(row);
+    };
+    for field in fields.as_slice() {
+        add_links(declarations, &field.kind, &mut row)?;
+    }
+    Ok(row)
+}
+
+/// The same for each declaration.
+fn all_links(alloc: Global, declarations: &Declarations) -> Result<Vec<Vec<usize>>, Memory>
+    ensures { IfOk result (λ rows. graph_of rows.items ≡ links declarations.now) }
+{
+    let mut rows = Vec::new(alloc);
+    for declaration in declarations.iter() {
+        let row = links_from(alloc, declarations, declaration.decl)?;
+        rows.push(row)?;
+    }
+    Ok(rows)
+}
+
+/// The fault of a declaration that stands inside itself.
+fn recursive(declaration: &Declaration) -> Result<Fault, Memory>
+    ensures { IfOk result (λ fault. fault ≡ fault_in declaration.now.file.now (found (place_of declaration.now.decl.now) Recursive)) }
+{
+    let found = Finding {
+        at: decl_place(declaration.decl),
+        code: DefCode::Recursive,
+    };
+    found_in(found, declaration.file)
+}
 
 /// The numbers of the declarations in an order in which each stands behind those that it names, or the fault of the first
 /// bag that stands inside itself.
@@ -15,7 +84,12 @@ pub(crate) fn order_of(alloc: Global, declarations: &Declarations) -> Result<Vec
     ensures order { IfOk result (λ order. IsOrder (links declarations.now) order.items) }
     ensures fault { IfErr result (Says (IsRecursive declarations.now)) }
 {
-    let _ = alloc;
-    let _ = declarations;
-    Err(Refusal::Memory)
+    let rows = all_links(alloc, declarations)?;
+    match topological_order(alloc, &rows)? {
+        Sorted::Order(order) => Ok(order),
+        Sorted::Cycle(number) => {
+            let first = declarations.get(number).unwrap();
+            Err(Refusal::At(recursive(&first)?))
+        }
+    }
 }
