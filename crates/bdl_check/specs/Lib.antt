@@ -12,3 +12,4 @@ pub mod Recursion
 pub mod Layouts
 pub mod Sizes
 pub mod Tables
+pub mod Definitions

@@ -1,18 +1,13 @@
--- The table of a bag, or the first fault of a definition.
-use Rattle.std.specs.Prelude.{◌≡◌, ℕ, ◌<◌, ◌≤◌, Option, None, Some, List, []}
+-- The table of a bag among declarations, or why they have none.
+use Rattle.std.specs.Prelude.{◌≡◌, ℕ, ◌<◌, ◌≤◌, Option, None, Some, List}
 use Rattle.std.specs.Option.{option_and_then}
 use Rattle.bag_model.specs.Shapes.{Nodes}
 use Rattle.bag_model.specs.Tables.{levels, node_count}
-use Rattle.bdl_check.specs.Checks.{declared_faults}
-use Rattle.bdl_check.specs.Declarations.{Placed, all_placed, named}
-use Rattle.bdl_check.specs.Faults.{first}
+use Rattle.bdl_check.specs.Declarations.{Placed, named}
 use Rattle.bdl_check.specs.Layouts.{IsLaidOut}
-use Rattle.bdl_check.specs.Recursion.{IsAcyclic, IsRecursive}
 use Rattle.bdl_load.specs.declared.faults.DefCode.TheVariants.{NoSuchBag, TooDeep, TooManySlots}
 use Rattle.bdl_load.specs.declared.faults.Fault.{Fault}
-use Rattle.bdl_load.specs.declared.files.LoadedFile.{LoadedFile}
 use Rattle.bdl_load.specs.Faults.{first_spot, found, fault_in}
-use Rattle.bdl_load.specs.Loading.{Holding, Loads, all_loaded, stopped}
 use Rattle.bdl_parser.specs.declared.trees.Decl.{Decl}
 use Rattle.bdl_parser.specs.declared.trees.Decl.TheVariants.{Bag, Struct}
 use Rattle.bdl_parser.specs.declared.trees.Spot.{Spot}
@@ -54,23 +49,3 @@ pub record IsTableOf (ds : List Placed) (name : List ℕ) (nodes : Nodes) : Type
 pub data IsUntabled (ds : List Placed) (root name : List ℕ) (fault : Fault) : Type 0 where
   missing : bag_named ds name ≡ None → fault ≡ fault_in root (found first_spot NoSuchBag) → IsUntabled ds root name fault
   unfit : (bag : BagTree) → bag_named ds name ≡ Some bag → IsUnfit ds bag fault → IsUntabled ds root name fault
-
--- the files of a definition whose declarations have no fault, and in which no bag stands inside itself
-pub record AreSound (held : Holding) (root : List ℕ) (files : List LoadedFile) : Type 0 where
-  pub loaded : Loads held root (all_loaded files)
-  pub declared : declared_faults files ≡ []
-  pub acyclic : IsAcyclic (all_placed files)
-
--- the table of the bag of this name in the definition with this root
-pub record IsTable (held : Holding) (root name : List ℕ) (nodes : Nodes) : Type 0 where
-  pub files : List LoadedFile
-  pub sound : AreSound held root files
-  pub table : IsTableOf (all_placed files) name nodes
-
--- the first fault of the definition with this root, asked for the bag of this name: of loading, of the declarations, of the
--- bags inside one another, or of the bag
-pub data IsFirstFault (held : Holding) (root name : List ℕ) (fault : Fault) : Type 0 where
-  unloaded : Loads held root (stopped fault) → IsFirstFault held root name fault
-  declared : (files : List LoadedFile) → Loads held root (all_loaded files) → first (declared_faults files) ≡ Some fault → IsFirstFault held root name fault
-  recursive : (files : List LoadedFile) → Loads held root (all_loaded files) → declared_faults files ≡ [] → IsRecursive (all_placed files) fault → IsFirstFault held root name fault
-  untabled : (files : List LoadedFile) → AreSound held root files → IsUntabled (all_placed files) root name fault → IsFirstFault held root name fault
