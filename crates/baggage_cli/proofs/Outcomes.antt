@@ -9,10 +9,10 @@ use Rattle.context_model.specs.WellFormed.{IsWellFormed}
 use Rattle.context_model.proofs.MergedLaws.{has_one_merge}
 use Rattle.bag_model.specs.Shapes.{Nodes}
 use Rattle.bag_model.specs.Slots.{slots_of}
-use Rattle.bdl_check.specs.declared.faults.DefCode.{DefCode}
-use Rattle.bdl_check.specs.declared.faults.Fault.{Fault}
-use Rattle.bdl_check.specs.Faults.{fault}
-use Rattle.bdl_check.specs.Tables.{IsTableIn, IsFirstFaultOf}
+use Rattle.bdl_load.specs.declared.faults.DefCode.{DefCode}
+use Rattle.bdl_load.specs.declared.faults.Fault.{Fault}
+use Rattle.bdl_load.specs.Loading.{Holding}
+use Rattle.bdl_check.specs.Definitions.{IsTable, IsFirstFault}
 use Rattle.baggage_cli.specs.Asked.{file_word, bag_word}
 use Rattle.baggage_cli.specs.declared.commands.Command.{Command}
 use Rattle.baggage_cli.specs.declared.commands.Command.TheVariants.{Trim, Merge, Check}
@@ -26,7 +26,7 @@ use Rattle.baggage_cli.specs.ReadLines.{Wanted, AllSay, IsBad, IsFirstBad, SaysL
 use Rattle.baggage_cli.specs.ReadLines.Wanted.{AnyList, OnlyContext}
 use Rattle.baggage_cli.specs.Scene.{Change, Scene, HasFailed, Takes}
 use Rattle.baggage_cli.specs.Refused.{status_of, line_of}
-use Rattle.baggage_cli.specs.Answer.{Outcome, Holding, ok_line, CheckGives, Compiles, IsTooLong, Within, RefusesOne, TrimsLines, MergesLines, TrimGives, MergeGives, Accepts, GivesOne, Reads, Comes, Tells, Delivers, Answers}
+use Rattle.baggage_cli.specs.Answer.{Outcome, ok_line, CheckGives, Compiles, IsTooLong, Within, RefusesOne, TrimsLines, MergesLines, TrimGives, MergeGives, Accepts, GivesOne, Reads, Comes, Tells, Delivers, Answers}
 use Rattle.baggage_cli.proofs.FirstBad.{all_say-length, all_say_one, first_bad_one, all_good}
 
 -- ---- one outcome
@@ -152,10 +152,10 @@ compiled gives library held output is (inr (inr (files, told, gave))) =
 -- Where the call checks a definition and answers 0, the line of its table's slots was appended to its output.
 pub check_appends : (words : List (List ℕ)) (command : Option Command) (held : Holding) (scene : Scene) (answer : ℕ)
     → Answers words command scene answer → command ≡ Some Check → scene.library.before ≡ Some held → answer ≡ 0
-    → (table : Nodes) × IsTableIn (held (file_word words)) (bag_word words) table × Takes scene.out (ok_line (length (slots_of table)))
+    → (table : Nodes) × IsTable held (file_word words) (bag_word words) table × Takes scene.out (ok_line (length (slots_of table)))
 check_appends words command held scene answer answers is told zero_is = by (subst (λ command. Answers words command scene answer) is answers)
   where
-    by : Answers words (Some Check) scene answer → (table : Nodes) × IsTableIn (held (file_word words)) (bag_word words) table × Takes scene.out (ok_line (length (slots_of table)))
+    by : Answers words (Some Check) scene answer → (table : Nodes) × IsTable held (file_word words) (bag_word words) table × Takes scene.out (ok_line (length (slots_of table)))
     by (outcome, comes, delivers) =
         let out = delivered outcome scene.out scene.errs answer delivers zero_is in
         let gave : CheckGives (file_word words) (bag_word words) held (Ok out.0) =
@@ -243,10 +243,10 @@ failed_rose words (Some command) scene answer (Ok output, comes, inr failed) fou
 failed_rose words (Some command) scene answer (Err refusal, comes, (same, inl told)) four_is = failed_comes words command scene.library scene.source refusal comes (sym told.0 ∙ four_is)
 failed_rose words (Some command) scene answer (Err refusal, comes, (same, inr failed)) four_is = absurd (let status = failed.0 in omega arith)
 
--- A first fault of the file that the words name, with its line.
+-- The first fault of the definition that the words name, with its line.
 abbrev SaysFault : List (List ℕ) → Holding → Scene → Type 0
 SaysFault words held scene =
-    (found : Fault) × IsFirstFaultOf (held (file_word words)) (bag_word words) found × Takes scene.errs (line_of (Definition (file_word words) found.at.line found.at.column found.code))
+    (fault : Fault) × IsFirstFault held (file_word words) (bag_word words) fault × Takes scene.errs (line_of (Definition fault.file fault.line fault.column fault.code))
 
 check_says : (words : List (List ℕ)) (held : Holding) (scene : Scene) (file : List ℕ) (line column : ℕ) (code : DefCode)
     → Compiles (CheckGives (file_word words) (bag_word words)) scene.library (Err (Definition file line column code)) → scene.library.before ≡ Some held
@@ -256,7 +256,7 @@ check_says words held scene file line column code (inr (inl failed)) is takes = 
 check_says words held scene file line column code (inr (inr (files, told, gave))) is takes =
     let same : held ≡ files = rw is at told in
     let said = subst (λ held. CheckGives (file_word words) (bag_word words) held (Err (Definition file line column code))) (sym same) gave in
-    (fault code (record { line = line; column = column }), said.1, subst (λ name. Takes scene.errs (line_of (Definition name line column code))) said.0 takes)
+    (record { file = file; line = line; column = column; code = code }, said, takes)
 
 comes_definition : (words : List (List ℕ)) (command : Command) (held : Holding) (scene : Scene) (file : List ℕ) (line column : ℕ) (code : DefCode)
     → Comes words command scene.library scene.source (Err (Definition file line column code)) → scene.library.before ≡ Some held
@@ -276,10 +276,10 @@ refusal_definition words command held scene answer LibraryFailed comes (inl told
 refusal_definition words command held scene answer SourceFailed comes (inl told) is one_is = absurd (let status = told.0 in omega arith)
 refusal_definition words command held scene answer Memory comes (inl told) is one_is = absurd (let status = told.0 in omega arith)
 
--- The answer 1 comes only for a first fault of the file that the words name, and its line was appended to the errors.
+-- The answer 1 comes only for the first fault of the definition that the words name, and its line was appended to the errors.
 pub says_definition : (words : List (List ℕ)) (command : Option Command) (held : Holding) (scene : Scene) (answer : ℕ)
     → Answers words command scene answer → scene.library.before ≡ Some held → answer ≡ 1
-    → (found : Fault) × IsFirstFaultOf (held (file_word words)) (bag_word words) found × Takes scene.errs (line_of (Definition (file_word words) found.at.line found.at.column found.code))
+    → (fault : Fault) × IsFirstFault held (file_word words) (bag_word words) fault × Takes scene.errs (line_of (Definition fault.file fault.line fault.column fault.code))
 says_definition words None held scene answer (library, source, out, inl told) is one_is = absurd (let status = told.0 in omega arith)
 says_definition words None held scene answer (library, source, out, inr failed) is one_is = absurd (let status = failed.0 in omega arith)
 says_definition words (Some command) held scene answer (Ok output, comes, inl done) is one_is = absurd (let status = done.0 in omega arith)
@@ -315,7 +315,7 @@ reads_good gives source input refusal held good sure (inr (inr (told, is, gave, 
     absurd (good (subst (λ bytes. gives bytes (Err refusal)) (sym same) gave))
 
 -- After a definition without a first fault and without a fault of the library, a refusal is want of memory.
-check_good : (file bag : List ℕ) (library : Change Holding) (held : Holding) (refusal : Refusal) → library.before ≡ Some held → ((found : Fault) → IsFirstFaultOf (held file) bag found → ⊥) → ¬ (HasFailed library)
+check_good : (file bag : List ℕ) (library : Change Holding) (held : Holding) (refusal : Refusal) → library.before ≡ Some held → ((fault : Fault) → IsFirstFault held file bag fault → ⊥) → ¬ (HasFailed library)
     → Compiles (CheckGives file bag) library (Err refusal) → refusal ≡ Memory
 check_good file bag library held refusal is none sure (inl wanting) = cc wanting
 check_good file bag library held refusal is none sure (inr (inl failed)) = absurd (sure failed.1)
@@ -324,7 +324,7 @@ check_good file bag library held refusal is none sure (inr (inr (files, told, ga
     absurd (refuses_nothing refusal (subst (λ held. CheckGives file bag held (Err refusal)) (sym same) gave))
   where
     refuses_nothing : (refusal : Refusal) → CheckGives file bag held (Err refusal) → ⊥
-    refuses_nothing (Definition name line column code) said = none (fault code (record { line = line; column = column })) said.1
+    refuses_nothing (Definition name line column code) said = none (record { file = name; line = line; column = column; code = code }) said
     refuses_nothing (Input line code) said = said
     refuses_nothing (Context line offset code) said = said
     refuses_nothing LibraryFailed said = said

@@ -8,9 +8,9 @@ use Rattle.context_model.specs.Trimmed.{trimmed}
 use Rattle.context_model.specs.Merged.{IsMerged}
 use Rattle.bag_model.specs.Shapes.{Nodes}
 use Rattle.bag_model.specs.Slots.{slots_of}
-use Rattle.bdl_check.specs.declared.faults.Fault.{Fault}
-use Rattle.bdl_check.specs.Faults.{fault}
-use Rattle.bdl_check.specs.Tables.{IsTableIn, IsFirstFaultOf}
+use Rattle.bdl_load.specs.declared.faults.Fault.{Fault}
+use Rattle.bdl_load.specs.Loading.{Holding}
+use Rattle.bdl_check.specs.Definitions.{IsTable, IsFirstFault}
 use Rattle.baggage_cli.specs.Asked.{file_word, bag_word}
 use Rattle.baggage_cli.specs.declared.commands.Command.{Command}
 use Rattle.baggage_cli.specs.declared.commands.Command.TheVariants.{Trim, Merge, Check}
@@ -59,25 +59,21 @@ TrimGives budget = Within (TrimsLines budget)
 abbrev pub MergeGives : List ℕ → Outcome → Type 0
 MergeGives = Within MergesLines
 
--- The files that a library holds, by name.
-abbrev pub Holding : Type 0
-Holding = List ℕ → Option (List ℕ)
-
 -- The line that says how many slots a table has.
 abbrev pub ok_line : ℕ → List ℕ
 ok_line slots = codes "ok " ++ (decimal slots ++ 10 ∷ [])
 
--- What the files give for a bag in one of them: the number of its table's slots, or the file's first fault.
+-- What files give for a bag of the definition with this root: the number of its table's slots, or the definition's first fault.
 abbrev pub CheckGives : List ℕ → List ℕ → Holding → Outcome → Type 0
-CheckGives file bag held (Ok output) = (table : Nodes) × IsTableIn (held file) bag table × (output ≡ ok_line (length (slots_of table)))
-CheckGives file bag held (Err (Definition name line column code)) = (name ≡ file) × IsFirstFaultOf (held file) bag (fault code (record { line = line; column = column }))
-CheckGives file bag held (Err refusal) = ⊥
+CheckGives root bag held (Ok output) = (table : Nodes) × IsTable held root bag table × (output ≡ ok_line (length (slots_of table)))
+CheckGives root bag held (Err (Definition file line column code)) = IsFirstFault held root bag (record { file = file; line = line; column = column; code = code })
+CheckGives root bag held (Err refusal) = ⊥
 
 -- The command has nothing to refuse in what the library and the source tell.
 abbrev pub Accepts : List (List ℕ) → Command → Option Holding → Option (List ℕ) → Type 0
 Accepts words (Trim budget) files content = (input : List ℕ) × (content ≡ Some input) × ((list : List Atom) × SaysLists AnyList input (list ∷ []))
 Accepts words Merge files content = (input : List ℕ) × (content ≡ Some input) × ((lists : List (List Atom)) × SaysLists OnlyContext input lists × (length lists ≤ 4096))
-Accepts words Check files content = (held : Holding) × (files ≡ Some held) × ((found : Fault) → IsFirstFaultOf (held (file_word words)) (bag_word words) found → ⊥)
+Accepts words Check files content = (held : Holding) × (files ≡ Some held) × ((fault : Fault) → IsFirstFault held (file_word words) (bag_word words) fault → ⊥)
 
 -- The source is read to its end. Memory may be wanting, and a source that failed has its cause; otherwise it is what is given for
 -- the input, and after an output nothing is left. A source that doesn't tell had some input for which it is so.

@@ -3,9 +3,9 @@ use Rattle.std.specs.Prelude.{ℕ, List, [], ◌∷◌, ◌++◌, codes}
 use Rattle.std.specs.Fmt.{decimal}
 use Rattle.context_model.specs.ByteCodes.{code_name}
 use Rattle.wire_bytes.specs.Codes.{byte_code_of}
-use Rattle.bdl_check.specs.CodeNames.{def_name}
-use Rattle.bdl_check.specs.declared.faults.DefFault.{DefFault}
-use Rattle.bdl_check.specs.declared.faults.DefFault.TheVariants as defs
+use Rattle.bdl_load.specs.CodeNames.{def_name}
+use Rattle.bdl_load.specs.declared.faults.DefFault.{DefFault}
+use Rattle.bdl_load.specs.declared.faults.DefFault.TheVariants as defs
 use Rattle.baggage_cli.specs.declared.refusals.InputCode.{InputCode}
 use Rattle.baggage_cli.specs.declared.refusals.InputCode.TheVariants.{TooLong, NoLine, Form, TooManyLines, HexTooLong, BadHex}
 use Rattle.baggage_cli.specs.declared.refusals.Refusal.{Refusal}

@@ -16,7 +16,7 @@ fn ok_line(alloc: Global, slots: usize) -> Result<String, Memory>
     Ok(format!(in alloc; "ok {slots}\n")?)
 }
 
-/// Compiles a bag of a file of the library and answers the line of its table's slots.
+/// Compiles a bag of the definition whose root is this file of the library, and answers the line of its table's slots.
 pub fn check_bag<L: Library>(
     alloc: Global,
     library: &mut L,
@@ -32,7 +32,7 @@ pub fn check_bag<L: Library>(
 
 /// Checking gives one outcome for the files of a library.
 pub fn check_gives_one()
-    ensures { (file bag : List ℕ) → GivesOne (CheckGives file bag) }
+    ensures { (root bag : List ℕ) → GivesOne (CheckGives root bag) }
 {
     laws::tables_are_unique();
     laws::tables_exclude_faults();

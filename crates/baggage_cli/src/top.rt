@@ -8,15 +8,16 @@ ghost use Rattle.context_model.specs.Merged.{IsMerged};
 ghost use Rattle.context_model.specs.Trimmed.{trimmed};
 ghost use Rattle.bag_model.specs.Shapes.{Nodes};
 ghost use Rattle.bag_model.specs.Slots.{slots_of};
-ghost use Rattle.bdl_check.specs.declared.faults.Fault.{Fault};
-ghost use Rattle.bdl_check.specs.Tables.{IsTableIn, IsFirstFaultOf};
+ghost use Rattle.bdl_load.specs.declared.faults.Fault.{Fault};
+ghost use Rattle.bdl_load.specs.Loading.{Holding};
+ghost use Rattle.bdl_check.specs.Definitions.{IsTable, IsFirstFault};
 ghost use Rattle.baggage_cli.specs.Asked.{asked, IsSound, ReadsSource, file_word, bag_word};
 ghost use Rattle.baggage_cli.specs.HexLine.{hex_line};
 ghost use Rattle.baggage_cli.specs.ReadLines.{SaysLists};
 ghost use Rattle.baggage_cli.specs.ReadLines.Wanted.{AnyList, OnlyContext};
 ghost use Rattle.baggage_cli.specs.Scene.{change};
 ghost use Rattle.baggage_cli.specs.Refused.{line_of};
-ghost use Rattle.baggage_cli.specs.Answer.{Holding, ok_line, Accepts, Comes, Answers};
+ghost use Rattle.baggage_cli.specs.Answer.{ok_line, Accepts, Comes, Answers};
 
 use crate::checking::check_bag;
 use crate::commands::{Command, command_of};
@@ -109,8 +110,8 @@ fn answer_words<L: Library, S: Source, K: Sink, E: Sink>(
 /// `trim N` reads one line of hexadecimal digits from the source, which frames a list of atoms, and writes the line of the
 /// list trimmed to `N` bytes. `merge` reads any number of lines up to 4,096, each of which frames a context, and writes the
 /// line of their merge, a dash where there is no line. Empty lines and lines that begin with `#` are skipped.
-/// `check FILE BAG` reads nothing from the source: it compiles the bag of that name in a file of the library and writes the
-/// line `ok S`, where `S` is the number of the slots of its table.
+/// `check FILE BAG` reads nothing from the source: it compiles the bag of that name in the definition whose root is that file of
+/// the library, with the files that it imports, and writes the line `ok S`, where `S` is the number of the slots of its table.
 pub fn baggage_top<R: Threads + Sync, G: Gate, L: Library, S: Source, K: Sink, E: Sink>(
     _rt: &R,
     alloc: Global,
@@ -135,14 +136,14 @@ pub fn baggage_top<R: Threads + Sync, G: Gate, L: Library, S: Source, K: Sink, E
     ensures merge { (input : List ℕ) (lists : List (List (List ℕ))) (merged : List (List ℕ)) → asked words.now ≡ Some Command.Merge → S.left source.old ≡ Some input → SaysLists OnlyContext input lists → IsMerged lists merged
         → result ≡ 0 → Appends (K.written out.old) (K.written out.new) (hex_line (bytes_of merged)) }
     ensures check { (held : Holding) → asked words.now ≡ Some Command.Check → L.files library.old ≡ Some held
-        → result ≡ 0 → (table : Nodes) × IsTableIn (held (file_word words.now)) (bag_word words.now) table × Appends (K.written out.old) (K.written out.new) (ok_line (length (slots_of table))) }
+        → result ≡ 0 → (table : Nodes) × IsTable held (file_word words.now) (bag_word words.now) table × Appends (K.written out.old) (K.written out.new) (ok_line (length (slots_of table))) }
 
     // What each status says of the objects.
     ensures errs { result ≡ 0 → E.written errs.new ≡ E.written errs.old }
     ensures ended { (command : Command) → asked words.now ≡ Some command → ReadsSource command → result ≡ 0 → IsAtEnd (S.left source.new) }
     ensures quiet { result ≢ 0 → result ≢ 5 → K.written out.new ≡ K.written out.old }
     ensures definition { (held : Holding) → L.files library.old ≡ Some held → result ≡ 1
-        → (found : Fault) × IsFirstFaultOf (held (file_word words.now)) (bag_word words.now) found × Appends (E.written errs.old) (E.written errs.new) (line_of (Refusal.Definition (file_word words.now) found.at.line found.at.column found.code)) }
+        → (fault : Fault) × IsFirstFault held (file_word words.now) (bag_word words.now) fault × Appends (E.written errs.old) (E.written errs.new) (line_of (Refusal.Definition fault.file fault.line fault.column fault.code)) }
     ensures words { result ≡ 7 → asked words.now ≡ None }
     ensures failed { result ≡ 4 → Rose (L.faults library.old) (L.faults library.new) ⊎ Rose (S.faults source.old) (S.faults source.new) }
     ensures sink_failed { result ≡ 5 → Rose (K.faults out.old) (K.faults out.new) ⊎ Rose (E.faults errs.old) (E.faults errs.new) }
