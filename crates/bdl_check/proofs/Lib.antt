@@ -6,3 +6,4 @@ pub mod Links
 pub mod FieldLaws
 pub mod PassLaws
 pub mod Rows
+pub mod OneLayout
