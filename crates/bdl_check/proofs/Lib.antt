@@ -7,3 +7,5 @@ pub mod FieldLaws
 pub mod PassLaws
 pub mod Rows
 pub mod OneLayout
+pub mod Compiling
+pub mod OneOutcome
