@@ -1,9 +1,8 @@
 -- What the steps of compiling say of files and of definitions.
 use Rattle.std.proofs.Common.{◌≡◌, ◌∙◌, ℕ, List, [], ◌∷◌, subst, sym}
-use Rattle.std.specs.Prelude.{Result, Ok, Err, IfErr, IfSome, Some, None}
-use Rattle.std.specs.List.{All, AllByRecursion, flat_map}
+use Rattle.std.specs.Prelude.{Result, Ok, Err, IfErr}
+use Rattle.std.specs.List.{All, AllByRecursion}
 use Rattle.std.specs.Result.{IsErrAnd}
-use Rattle.std.proofs.lemmas.Grind.{flat_map-append}
 use Rattle.std.proofs.lemmas.List.Concat.{flat_map-cons}
 use Rattle.std.proofs.lemmas.List.Elements.{All-nil, All-append, All-cons, All-head, All-tail, All-map}
 use Rattle.outside.specs.Told.{Files}
@@ -11,9 +10,12 @@ use Rattle.bag_model.specs.Shapes.{Nodes}
 use Rattle.bdl_check.specs.declared.refusals.Refusal.{Refusal}
 use Rattle.bdl_check.specs.declared.refusals.Refusal.TheVariants.{At, Memory}
 use Rattle.bdl_check.specs.Declarations.{Placed, placed, placed_in, all_placed, AreSpelled}
-use Rattle.bdl_check.specs.Definitions.{IsTableIn, IsFaultIn, IsTable, IsFirstFault}
+use Rattle.bdl_check.specs.Checks.{declared_faults}
+use Rattle.bdl_check.specs.Definitions.{AreSound, IsTableIn, IsFaultIn, IsTable, IsFirstFault}
 use Rattle.bdl_check.specs.Faults.{Says}
+use Rattle.bdl_check.specs.Recursion.{links}
 use Rattle.bdl_check.specs.Refusals.{IsAnswerOf}
+use Rattle.bdl_check.specs.Tables.{IsUntabled}
 use Rattle.bdl_load.specs.declared.faults.DefFault.{DefFault}
 use Rattle.bdl_load.specs.declared.faults.DefFault.TheVariants as defs
 use Rattle.bdl_load.specs.declared.faults.Fault.{Fault}
@@ -21,7 +23,8 @@ use Rattle.bdl_load.specs.declared.files.LoadedFile.{LoadedFile}
 use Rattle.bdl_load.specs.Faults.{Blames}
 use Rattle.bdl_load.specs.Loading.{Holding, OfFiles, Loads, all_loaded, stopped}
 use Rattle.bdl_load.specs.Spelled.{IsSpelledDecl, AreSpelledDecls}
-use Rattle.bdl_parser.specs.declared.trees.Decl.{Decl}
+use Rattle.topological_order.specs.Graphs.{Graph, Reaches}
+use Rattle.topological_order.specs.Orders.{IsOrder}
 
 -- ---- spelling
 
@@ -43,19 +46,30 @@ all_spelled (file ∷ files) h =
 -- ---- early returns
 
 -- what an early return by `?` hands on
-pub exit_err : {T E : Type 0} (Q : E → Type 0) (r : Result T E) (e : E) → IsErrAnd r (λ d. d ≡ e) → Q e → IfErr r Q
-exit_err Q (Ok x) e p q = tt
-exit_err Q (Err d) e p q = subst Q (sym p) q
+pub exit_err : {T E : Type 0} (P Q : E → Type 0) (r : Result T E) → ((e : E) → P e → Q e) → IsErrAnd r P → IfErr r Q
+exit_err P Q (Ok x) h is = tt
+exit_err P Q (Err e) h is = h e is
 
 pub says_weaker : (P Q : Fault → Type 0) → ((f : Fault) → P f → Q f) → (r : Refusal) → Says P r → Says Q r
 says_weaker P Q h (At f) p = h f p
 says_weaker P Q h Memory p = tt
 
--- ---- definitions
+-- ---- files
 
--- what is so of a definition, where it is so of the files that were loaded
-pub of_loaded : (files : Files) (P Q : Holding → Type 0) → ((held : Holding) → P held → Q held) → OfFiles files P → OfFiles files Q
-of_loaded files P Q h (held, told, is) = (held, told, h held is)
+-- files whose declarations have no fault, and have an order, are sound
+pub sound_files : (files : List LoadedFile) (ds : List Placed) (order : List ℕ) → ((graph : Graph) (order : List ℕ) (node : ℕ) → IsOrder graph order → Reaches graph node node → ⊥)
+    → ds ≡ all_placed files → declared_faults files ≡ [] → IsOrder (links ds) order → AreSound files
+sound_files files ds order exclude is none ordered = record {
+  declared = none;
+  acyclic = λ number walk. exclude (links (all_placed files)) order number (subst (λ (those : List Placed). IsOrder (links those) order) is ordered) walk;
+}
+
+pub untabled_files : (files : List LoadedFile) (ds : List Placed) (root name : List ℕ) → AreSound files → ds ≡ all_placed files → (refusal : Refusal)
+    → Says (IsUntabled ds root name) refusal → Says (IsFaultIn files root name) refusal
+untabled_files files ds root name sound is refusal says =
+    says_weaker (IsUntabled ds root name) (IsFaultIn files root name) (λ f u. IsFaultIn.untabled sound (subst (λ (those : List Placed). IsUntabled those root name f) is u)) refusal says
+
+-- ---- definitions
 
 pub table_of_files : (files : Files) (root name : List ℕ) (loaded : List LoadedFile) (nodes : Nodes) → OfFiles files (λ held. Loads held root (all_loaded loaded)) → IsTableIn loaded name nodes
     → OfFiles files (λ held. IsTable held root name nodes)
