@@ -11,6 +11,8 @@ mod recursion;
 mod refusals;
 mod sizes;
 mod tables;
+#[cfg(test)]
+mod tests;
 mod types;
 
 pub use bdl_load::{DefCode, DefFault, Fault};
