@@ -10,47 +10,11 @@ use std::process::Abort;
 use std::test::Fail;
 use std::thread::Threads;
 
-/// A file, the words that check it, and what the program must answer.
-#[derive(Clone, Copy)]
-struct Row {
-    file: &'static str,
-    source: &'static str,
-    words: &'static str,
-    status: u8,
-    line: &'static str,
-}
+/// The name of a file, and what it holds.
+type File = (&'static str, &'static str);
 
-/// A check that counts slots.
-const fn counts(
-    file: &'static str,
-    source: &'static str,
-    words: &'static str,
-    line: &'static str,
-) -> Row {
-    Row {
-        file,
-        source,
-        words,
-        status: 0,
-        line,
-    }
-}
-
-/// A check that finds a fault.
-const fn blames(
-    file: &'static str,
-    source: &'static str,
-    words: &'static str,
-    line: &'static str,
-) -> Row {
-    Row {
-        file,
-        source,
-        words,
-        status: 1,
-        line,
-    }
-}
+/// Files, the words that check them, and what the program must answer.
+type Row = (&'static [File], &'static str, u8, &'static str);
 
 const REQUEST: &str =
     "bag Req { fixed32 id = 0; set<string> tags = 1; counter hops = 2; taint debug = 3; map<string, uint32> load = 4; }";
@@ -89,108 +53,93 @@ fn answers<R: Abort + Threads + Sync, L: Library>(
     Ok(())
 }
 
-/// Checks a file that stands alone in the library.
-fn holds<R: Abort + Threads + Sync>(rt: &R, alloc: Global, row: Row) -> Result<(), Fail> {
-    let mut library = SureLibrary::new(alloc);
-    library.add(row.file, row.source.as_bytes())?;
-    answers(rt, alloc, &mut library, row.words, row.status, row.line)
-}
+const Q: &[File] = &[("q.bdl", REQUEST)];
+
+static ROWS: [Row; 24] = [
+    (Q, "check q.bdl Req", 0, "ok 5\n"),
+    (&[("f.bdl", "bag B { }")], "check f.bdl B", 0, "ok 0\n"),
+    (&[("f.bdl", "bag A { bool a = 1; } bag B { }")], "check f.bdl A", 0, "ok 1\n"),
+    (&[("f.bdl", "bag A { bool a = 1; } bag B { }")], "check f.bdl B", 0, "ok 0\n"),
+    (Q, "check q.bdl Nix", 1, "definition q.bdl 1:1 NoSuchBag\n"),
+    (Q, "check Req q.bdl", 1, "definition Req 1:1 NoFile\n"),
+    (Q, "check z.bdl Z", 1, "definition z.bdl 1:1 NoFile\n"),
+    (&[("d.bdl", "bag B { double x = 1; }")], "check d.bdl B", 1, "definition d.bdl 1:9 FloatingType\n"),
+    (&[("f.bdl", "bag B { bool a = 65536; }")], "check f.bdl B", 1, "definition f.bdl 1:18 NumberRange\n"),
+    (&[("f.bdl", "bag B {")], "check f.bdl B", 1, "definition f.bdl 1:7 Expected\n"),
+    (&[("f.bdl", "bag B {\n  set<set<bool>> s = 0;\n}\n")], "check f.bdl B", 1, "definition f.bdl 2:7 BadKeyType\n"),
+    (&[("f.bdl", "bag B { set<set<bool>> s = 0; }")], "check f.bdl B", 1, "definition f.bdl 1:13 BadKeyType\n"),
+    (&[("f.bdl", "bag B { } bag B { }")], "check f.bdl B", 1, "definition f.bdl 1:15 DuplicateName\n"),
+    (&[("f.bdl", "/* bag B { }")], "check f.bdl B", 1, "definition f.bdl 1:1 OpenComment\n"),
+    (&[("f.bdl", "")], "check f.bdl B", 1, "definition f.bdl 1:1 NoSuchBag\n"),
+    (&[("f.bdl", "import \"q.bdl\";")], "check f.bdl B", 1, "definition f.bdl 1:8 ImportMissing\n"),
+    (&[("m.bdl", "import \"in.bdl\"; bag M { In x = 0; }"), ("in.bdl", "bag In { bool a = 3; bool b = 3; }")], "check m.bdl M", 1, "definition in.bdl 1:31 DuplicateNumber\n"),
+    (&[("m.bdl", "import \"in.bdl\"; bag M { In x = 0; S s = 1; }"), ("in.bdl", "struct S { bool a; } bag In { bool a = 3; bool b = 4; }")], "check m.bdl M", 0, "ok 3\n"),
+    (&[("a.bdl", "import \"b.bdl\";"), ("b.bdl", "import \"a.bdl\";")], "check a.bdl A", 1, "definition b.bdl 1:8 ImportCycle\n"),
+    (&[("f.bdl", "bag A { B b = 0; } bag B { A a = 0; }")], "check f.bdl B", 1, "definition f.bdl 1:5 Recursive\n"),
+    (&[("f.bdl", "struct S { } bag A { S s = 0; }")], "check f.bdl A", 1, "definition f.bdl 1:8 EmptyStruct\n"),
+    (&[("f.bdl", "struct S { counter c; }")], "check f.bdl S", 1, "definition f.bdl 1:12 BadStructField\n"),
+    (&[("f.bdl", "bag A { Nix x = 0; }")], "check f.bdl A", 1, "definition f.bdl 1:9 UnknownName\n"),
+    (&[("a.bdl", "import \"b.bdl\"; import \"b.bdl\";"), ("b.bdl", "bag A { bool x = 0; }")], "check a.bdl A", 0, "ok 1\n"),
+];
 
 #[test]
 fn checks_definitions(rt: HostRuntime) -> Result<(), Fail> {
     let alloc = rt.alloc();
-    let rows = [
-        counts("q.bdl", REQUEST, "check q.bdl Req", "ok 5\n"),
-        counts("f.bdl", "bag B { }", "check f.bdl B", "ok 0\n"),
-        counts(
-            "f.bdl",
-            "bag A { bool a = 1; } bag B { }",
-            "check f.bdl A",
-            "ok 1\n",
-        ),
-        counts(
-            "f.bdl",
-            "bag A { bool a = 1; } bag B { }",
-            "check f.bdl B",
-            "ok 0\n",
-        ),
-        blames(
-            "q.bdl",
-            REQUEST,
-            "check q.bdl Nix",
-            "definition q.bdl 1:1 NoSuchBag\n",
-        ),
-        blames(
-            "q.bdl",
-            REQUEST,
-            "check Req q.bdl",
-            "definition Req 1:1 NoFile\n",
-        ),
-        blames(
-            "q.bdl",
-            REQUEST,
-            "check z.bdl Z",
-            "definition z.bdl 1:1 NoFile\n",
-        ),
-        blames(
-            "d.bdl",
-            "bag B { double x = 1; }",
-            "check d.bdl B",
-            "definition d.bdl 1:9 FloatingType\n",
-        ),
-        blames(
-            "f.bdl",
-            "bag B { bool a = 65536; }",
-            "check f.bdl B",
-            "definition f.bdl 1:18 NumberRange\n",
-        ),
-        blames(
-            "f.bdl",
-            "bag B {",
-            "check f.bdl B",
-            "definition f.bdl 1:7 Expected\n",
-        ),
-        blames(
-            "f.bdl",
-            "bag B {\n  set<set<bool>> s = 0;\n}\n",
-            "check f.bdl B",
-            "definition f.bdl 2:7 BadKeyType\n",
-        ),
-        blames(
-            "f.bdl",
-            "bag B { set<set<bool>> s = 0; }",
-            "check f.bdl B",
-            "definition f.bdl 1:13 BadKeyType\n",
-        ),
-        blames(
-            "f.bdl",
-            "bag B { } bag B { }",
-            "check f.bdl B",
-            "definition f.bdl 1:15 DuplicateName\n",
-        ),
-        blames(
-            "f.bdl",
-            "/* bag B { }",
-            "check f.bdl B",
-            "definition f.bdl 1:1 OpenComment\n",
-        ),
-        blames(
-            "f.bdl",
-            "import \"q.bdl\";",
-            "check f.bdl B",
-            "definition f.bdl 1:1 NotYet\n",
-        ),
-        blames(
-            "f.bdl",
-            "",
-            "check f.bdl B",
-            "definition f.bdl 1:1 NoSuchBag\n",
-        ),
-    ];
-    for row in &rows {
-        holds(&rt, alloc, *row)?;
+    for (files, words, status, line) in &ROWS {
+        let mut library = SureLibrary::new(alloc);
+        for (name, source) in *files {
+            library.add(name, source.as_bytes())?;
+        }
+        answers(&rt, alloc, &mut library, words, *status, line)?;
     }
     Ok(())
+}
+
+/// Adds a chain of bags from `B0` to the one of that number, each with a field of the next and the last with a bool.
+fn add_chain(alloc: Global, library: &mut SureLibrary, last: u32) -> Result<(), Fail> {
+    let mut text = String::new(alloc);
+    for number in 0..last {
+        let next = u64::from(number) + 1;
+        text.push_str(format!(in alloc; "bag B{number} {{ B{next} f = 0; }}\n")?.as_str())?;
+    }
+    text.push_str(format!(in alloc; "bag B{last} {{ bool b = 0; }}\n")?.as_str())?;
+    library.add("chain.bdl", text.as_str().as_bytes())?;
+    Ok(())
+}
+
+#[test]
+fn checks_a_chain_of_bags(rt: HostRuntime) -> Result<(), Fail> {
+    let alloc = rt.alloc();
+    let mut library = SureLibrary::new(alloc);
+    add_chain(alloc, &mut library, 15)?;
+    answers(&rt, alloc, &mut library, "check chain.bdl B0", 0, "ok 1\n")?;
+    add_chain(alloc, &mut library, 16)?;
+    let too_deep = "definition chain.bdl 1:5 TooDeep\n";
+    answers(&rt, alloc, &mut library, "check chain.bdl B0", 1, too_deep)
+}
+
+/// Adds files from `f0.bdl` to the one of that number, each but the last with an import of the next.
+fn add_files(alloc: Global, library: &mut SureLibrary, last: u32) -> Result<(), Fail> {
+    for number in 0..last {
+        let next = u64::from(number) + 1;
+        let name = format!(in alloc; "f{number}.bdl")?;
+        let text = format!(in alloc; "import \"f{next}.bdl\";")?;
+        library.add(name.as_str(), text.as_str().as_bytes())?;
+    }
+    let name = format!(in alloc; "f{last}.bdl")?;
+    library.add(name.as_str(), b"bag B { }")?;
+    Ok(())
+}
+
+#[test]
+fn checks_many_files(rt: HostRuntime) -> Result<(), Fail> {
+    let alloc = rt.alloc();
+    let mut library = SureLibrary::new(alloc);
+    add_files(alloc, &mut library, 63)?;
+    answers(&rt, alloc, &mut library, "check f0.bdl B", 0, "ok 0\n")?;
+    add_files(alloc, &mut library, 64)?;
+    let too_many = "definition f63.bdl 1:8 TooManyFiles\n";
+    answers(&rt, alloc, &mut library, "check f0.bdl B", 1, too_many)
 }
 
 #[test]
@@ -239,6 +188,8 @@ fn checks_a_file_of_the_system(rt: HostRuntime) -> Result<(), Fail> {
     fs::write(&rt, "q.bdl", REQUEST)?;
     let mut library = FileLibrary::new(&rt);
     answers(&rt, alloc, &mut library, "check q.bdl Req", 0, "ok 5\n")?;
+    fs::write(&rt, "two.bdl", "import \"q.bdl\"; bag Two { Req a = 0; Req b = 1; }")?;
+    answers(&rt, alloc, &mut library, "check two.bdl Two", 0, "ok 10\n")?;
     let missing = "definition z.bdl 1:1 NoFile\n";
     answers(&rt, alloc, &mut library, "check z.bdl Req", 1, missing)?;
     // A folder can't be read.
