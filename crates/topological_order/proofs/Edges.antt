@@ -1,8 +1,8 @@
 -- Edges of a graph, and what they reach.
-use Rattle.std.proofs.Common.{◌≡◌, ℕ, zero, suc, ◌^◌, ◌<◌, ◌≤◌, ◌⊎◌, List, [], ◌∷◌, length, get_or, Some, refl, sym, subst, ap, ◌∙◌, inl, inr, arith}
+use Rattle.std.proofs.Common.{◌≡◌, ℕ, zero, suc, ◌^◌, ◌<◌, ◌⊎◌, List, [], ◌∷◌, length, Some, refl, sym, subst, inl, inr, arith}
 use Rattle.std.specs.declared.alloc.Global.{Global}
 use Rattle.std.specs.declared.vec.Vec.{Vec}
-use Rattle.std.specs.List.{All, Contains, slice_get}
+use Rattle.std.specs.List.{slice_get}
 use Rattle.std.proofs.lemmas.List.{length-map}
 use Rattle.std.proofs.lemmas.Option.{slice_get-get_or, slice_get_within, get_or_from_slice_get, slice_get_read}
 use Rattle.topological_order.specs.Graphs.{Graph, graph_of, HasEdge, IsClosed, Reaches, by_edge, by_walk}
@@ -67,8 +67,8 @@ reach_over graph from left right to a e b =
     let last : Reaches graph left to = elim b [
       | inl same ↦ let P : ℕ → Type 0 = λ x. HasEdge graph left x in by_edge left to (subst P same e)
       | inr r ↦ by_walk left right to e r
-      ] in
+    ] in
     elim a [
-    | inl same ↦ reach_same graph from to left to same refl last
-    | inr r ↦ reach_join graph from left to r last
+      | inl same ↦ reach_same graph from to left to same refl last
+      | inr r ↦ reach_join graph from left to r last
     ]

@@ -1,5 +1,5 @@
 -- The nodes that are done, over the steps of a walk.
-use Rattle.std.proofs.Common.{◌≡◌, ℕ, ◌+◌, ◌-◌, ◌<◌, ◌≤◌, ◌⊎◌, List, [], ◌∷◌, ◌++◌, length, set, take, drop, get_or, min, Option, Some, None, refl, sym, ap, subst, ◌∙◌, inl, inr, arith, length-append, get_or-set_same, get_or-set_other}
+use Rattle.std.proofs.Common.{◌≡◌, ℕ, ◌+◌, ◌-◌, ◌<◌, ◌≤◌, ◌⊎◌, List, [], ◌∷◌, ◌++◌, length, set, get_or, min, Option, Some, None, refl, sym, ap, subst, ◌∙◌, inl, inr, arith, length-append, get_or-set_same, get_or-set_other}
 use Rattle.std.specs.List.{Contains, slice_get, fold}
 use Rattle.std.proofs.lemmas.List.{get_or-append_right, get_or_append_left, take-append-le, take_at}
 use Rattle.std.proofs.lemmas.List.Elements.{Contains-append_right, Contains-append_cases}
@@ -8,9 +8,9 @@ use Rattle.std.proofs.lemmas.Bool.{cases_lt, cases_eq}
 use Rattle.topological_order.specs.Graphs.{Graph, HasEdge, Reaches, by_edge, by_walk}
 use Rattle.topological_order.specs.declared.walk.Mark.{Mark}
 use Rattle.topological_order.specs.declared.walk.Mark.TheVariants.{New, Open, Done}
-use Rattle.topological_order.specs.Walks.{mark_of, row_of, lesser, IsAtMost, AreMarked, AreEnded}
+use Rattle.topological_order.specs.Walks.{mark_of, row_of, lesser, IsAtMost, AreEnded}
 use Rattle.topological_order.proofs.Marks.{mark_other, mark_cases, at_head, only, AreDone}
-use Rattle.topological_order.proofs.Stacks.{at_place, place_of}
+use Rattle.topological_order.proofs.Stacks.{place_of}
 use Rattle.topological_order.proofs.Edges.{edge_at}
 
 -- what nodes that are done reach is done
@@ -23,9 +23,9 @@ opened_ending graph marks looked order first node place h within fresh =
     let was : (n : ℕ) → mark_of (set marks node (Open place)) n ≡ Done → mark_of marks n ≡ Done = λ n is. elim (mark_cases marks node n (Open place) Done within is) [ inl e ↦ (cc (e.1)) | inr o ↦ o.1 ] in
     record {
       closed = λ n next is e.
-        let done : mark_of marks next ≡ Done = h.closed n next (was n is) e in
-        let ne : next ≡ node → ⊥ = λ q. let other : mark_of marks next ≡ New = ap (mark_of marks) q ∙ fresh in cc in
-        mark_other marks node next (Open place) ne ∙ done;
+          let done : mark_of marks next ≡ Done = h.closed n next (was n is) e in
+          let ne : next ≡ node → ⊥ = λ q. let other : mark_of marks next ≡ New = ap (mark_of marks) q ∙ fresh in cc in
+          mark_other marks node next (Open place) ne ∙ done;
       sound = h.sound;
       found = λ n is. h.found n (was n is);
       looped = h.looped;
@@ -34,26 +34,26 @@ opened_ending graph marks looked order first node place h within fresh =
 
 pub looked_ending : (graph : Graph) (marks : List Mark) (looked order : List ℕ) (first : Option ℕ) (node to : ℕ) → AreEnded graph marks looked order first → node < length looked → slice_get (row_of graph node) (get_or looked node 0) ≡ Some to → (to ≡ node → IsAtMost first node) → AreEnded graph marks (set looked node (get_or looked node 0 + 1)) order first
 looked_ending graph marks looked order first node to h within edge loop = record {
-    closed = h.closed;
-    sound = h.sound;
-    found = h.found;
-    looped = λ n k below is. elim (cases_eq n node) [
-      | inl e ↦
-          let count = get_or looked node 0 in
-          let now : get_or (set looked node (count + 1)) n 0 ≡ count + 1 = ap (λ x. get_or (set looked node (count + 1)) x 0) e ∙ get_or-set_same looked node (count + 1) 0 within in
-          let P : ℕ → Type 0 = IsAtMost first in
-          elim (cases_lt k count) [
+  closed = h.closed;
+  sound = h.sound;
+  found = h.found;
+  looped = λ n k below is. elim (cases_eq n node) [
+    | inl e ↦
+        let count = get_or looked node 0 in
+        let now : get_or (set looked node (count + 1)) n 0 ≡ count + 1 = ap (λ x. get_or (set looked node (count + 1)) x 0) e ∙ get_or-set_same looked node (count + 1) 0 within in
+        let P : ℕ → Type 0 = IsAtMost first in
+        elim (cases_lt k count) [
           | inl a ↦ h.looped n k (omega (arith, ap (λ x. get_or looked x 0) e)) is
           | inr b ↦
               let here : count ≡ k = omega arith in
               let there : slice_get (row_of graph n) k ≡ Some to = ap (λ x. slice_get (row_of graph x) k) e ∙ ap (slice_get (row_of graph node)) (sym here) ∙ edge in
               let same : to ≡ n = cc in
               subst P (sym e) (loop (same ∙ e))
-          ]
-      | inr ne ↦ h.looped n k (omega (arith, get_or-set_other looked node n (get_or looked node 0 + 1) 0 ne)) is
-      ];
-    sorted = h.sorted;
-  }
+        ]
+    | inr ne ↦ h.looped n k (omega (arith, get_or-set_other looked node n (get_or looked node 0 + 1) 0 ne)) is
+  ];
+  sorted = h.sorted;
+}
 
 -- the node that was found, before and after the nodes of a part were noted
 pub record AreNoted (graph : Graph) (first after : Option ℕ) : Type 0 where
@@ -74,8 +74,8 @@ lesser_either : (first : Option ℕ) (node which : ℕ) → lesser first node �
 lesser_either None node which is = inr (cc)
 lesser_either (Some least) node which is =
     elim (cases_lt least node) [
-    | inl a ↦ let e : min least node ≡ which = cc in let low : least ≡ which = omega arith in inl (ap Some low)
-    | inr b ↦ let e : min least node ≡ which = cc in inr (omega arith)
+      | inl a ↦ let e : min least node ≡ which = cc in let low : least ≡ which = omega arith in inl (ap Some low)
+      | inr b ↦ let e : min least node ≡ which = cc in inr (omega arith)
     ]
 
 lesser_none : (first : Option ℕ) (node : ℕ) → lesser first node ≡ None → first ≡ None
@@ -84,13 +84,13 @@ lesser_none (Some least) node is = (cc)
 
 pub noted : (graph : Graph) (first : Option ℕ) (node : ℕ) → ((n : ℕ) → first ≡ Some n → Reaches graph n n) → Reaches graph node node → AreNoted graph first (lesser first node)
 noted graph first node sound r = record {
-    sound = λ n is. elim (lesser_either first node n is) [
-      | inl old ↦ sound n old
-      | inr e ↦ let P : ℕ → Type 0 = λ x. Reaches graph x x in subst P e r
-      ];
-    weaker = λ n h. lesser_weaker first node n h;
-    none = λ is. lesser_none first node is;
-  }
+  sound = λ n is. elim (lesser_either first node n is) [
+    | inl old ↦ sound n old
+    | inr e ↦ let P : ℕ → Type 0 = λ x. Reaches graph x x in subst P e r
+  ];
+  weaker = λ n h. lesser_weaker first node n h;
+  none = λ is. lesser_none first node is;
+}
 
 pub noted_same : (graph : Graph) (first : Option ℕ) → ((n : ℕ) → first ≡ Some n → Reaches graph n n) → AreNoted graph first first
 noted_same graph first sound = record { sound = sound; weaker = λ n h. h; none = λ is. is }
@@ -103,24 +103,24 @@ pub all_noted : (graph : Graph) (nodes : List ℕ) (first : Option ℕ) → ((n 
 all_noted graph [] first sound r = (noted_same graph first sound, λ n c. absurd (omega (arith, c.1)))
 all_noted graph (node ∷ nodes) first sound r =
     let one = noted graph first node sound (r node (at_head node nodes)) in
-    let rest = all_noted graph nodes (lesser first node) one.sound (λ n c. r n (Contains-append_right (node ∷ []) nodes n c)) in
-    ( noted_then graph first (lesser first node) (fold lesser (lesser first node) nodes) one rest.0
-    , λ n c. elim (Contains-append_cases (node ∷ []) nodes n c) [
-      | inl here ↦
-          let P : ℕ → Type 0 = IsAtMost (lesser first node) in
-          rest.0.weaker n (subst P (only node n here) (lesser_here first node))
-      | inr later ↦ rest.1 n later
-      ]
+    let rest = all_noted graph nodes (lesser first node) one.sound (λ n c. r n (Contains-append_right (node ∷ []) nodes n c)) in (
+      noted_then graph first (lesser first node) (fold lesser (lesser first node) nodes) one rest.0,
+      λ n c. elim (Contains-append_cases (node ∷ []) nodes n c) [
+        | inl here ↦
+            let P : ℕ → Type 0 = IsAtMost (lesser first node) in
+            rest.0.weaker n (subst P (only node n here) (lesser_here first node))
+        | inr later ↦ rest.1 n later
+      ],
     )
 
 pub noted_ending : (graph : Graph) (marks : List Mark) (looked order : List ℕ) (first after : Option ℕ) → AreEnded graph marks looked order first → AreNoted graph first after → AreEnded graph marks looked order after
 noted_ending graph marks looked order first after h n = record {
-    closed = h.closed;
-    sound = n.sound;
-    found = λ node is r. n.weaker node (h.found node is r);
-    looped = λ node k below is. n.weaker node (h.looped node k below is);
-    sorted = λ is. h.sorted (n.none is);
-  }
+  closed = h.closed;
+  sound = n.sound;
+  found = λ node is r. n.weaker node (h.found node is r);
+  looped = λ node k below is. n.weaker node (h.looped node k below is);
+  sorted = λ is. h.sorted (n.none is);
+}
 
 -- what is known of a part before its nodes are done
 pub record IsPart (graph : Graph) (marks : List Mark) (looked order part : List ℕ) (first : Option ℕ) : Type 0 where
@@ -151,45 +151,45 @@ pub closed_ending : (graph : Graph) (marks after : List Mark) (looked order part
 closed_ending graph marks after looked order part first h p d =
     let later : (n : ℕ) → mark_of marks n ≡ Done → mark_of after n ≡ Done = λ n is. elim (d.cases n) [ inl c ↦ d.done n c | inr same ↦ same ∙ is ] in
     let loop : (n : ℕ) → Contains part n → HasEdge graph n n → IsAtMost first n =
-      λ n c e. let k = edge_at graph n n e in h.looped n k.0 (omega (arith, k.1, p.whole n c)) k.2 in
+    λ n c e. let k = edge_at graph n n e in h.looped n k.0 (omega (arith, k.1, p.whole n c)) k.2 in
     let loop_by : (n next : ℕ) → length part ≤ 1 → Contains part n → Contains part next → HasEdge graph n next → IsAtMost first n =
-      λ n next short c there e. let P : ℕ → Type 0 = HasEdge graph n in loop n c (subst P (only_one part next n short there c) e) in
+    λ n next short c there e. let P : ℕ → Type 0 = HasEdge graph n in loop n c (subst P (only_one part next n short there c) e) in
     let cyclic : (n : ℕ) → Contains part n → Reaches graph n n → IsAtMost first n =
-      λ n c r. elim (cases_lt 1 (length part)) [
+    λ n c r. elim (cases_lt 1 (length part)) [
       | inl several ↦ p.many several n c
       | inr short ↦ elim (first_edge graph n n r) [
         | inl e ↦ loop n c e
         | inr (next, e, rest) ↦ elim (p.leads n next c e) [
           | inl done ↦ absurd (p.pending n c (done_reached graph marks next n h.closed done rest))
           | inr there ↦ loop_by n next short c there e
-          ]
         ]
-      ] in
+      ]
+    ] in
     record {
       closed = λ n next is e. elim (d.cases n) [
         | inl c ↦ elim (p.leads n next c e) [ inl done ↦ later next done | inr there ↦ d.done next there ]
         | inr same ↦ later next (h.closed n next (sym same ∙ is) e)
-        ];
+      ];
       sound = h.sound;
       found = λ n is r. elim (d.cases n) [ inl c ↦ cyclic n c r | inr same ↦ h.found n (sym same ∙ is) r ];
       looped = h.looped;
       sorted = λ none place n next is e.
-        let all : get_or (order ++ part) place n ≡ n = get_or_from_slice_get (order ++ part) place n n is in
-        let within : place < length (order ++ part) = slice_get_within (order ++ part) place n is in
-        let long : length (order ++ part) ≡ length order + length part = length-append order part in
-        let P : List ℕ → Type 0 = λ l. Contains l next in
-        elim (cases_lt place (length order)) [
-        | inl a ↦
-            let was : slice_get order place ≡ Some n = slice_get-get_or order place n a ∙ ap Some (sym (get_or_append_left order part n place a) ∙ all) in
-            subst P (sym (take-append-le place order part (omega arith))) (h.sorted none place n next was e)
-        | inr b ↦
-            let c : Contains part n = (place - length order, omega arith, sym (get_or-append_right order part (length order) place n refl b) ∙ all) in
-            elim (cases_lt 1 (length part)) [
-            | inl several ↦ absurd (at_most_none first n none (p.many several n c))
-            | inr short ↦ subst P (sym (take_at order part place (omega arith))) (elim (p.leads n next c e) [
-              | inl done ↦ p.ordered next done
-              | inr there ↦ absurd (at_most_none first n none (loop_by n next short c there e))
-              ])
-            ]
-        ];
+          let all : get_or (order ++ part) place n ≡ n = get_or_from_slice_get (order ++ part) place n n is in
+          let within : place < length (order ++ part) = slice_get_within (order ++ part) place n is in
+          let long : length (order ++ part) ≡ length order + length part = length-append order part in
+          let P : List ℕ → Type 0 = λ l. Contains l next in
+          elim (cases_lt place (length order)) [
+            | inl a ↦
+                let was : slice_get order place ≡ Some n = slice_get-get_or order place n a ∙ ap Some (sym (get_or_append_left order part n place a) ∙ all) in
+                subst P (sym (take-append-le place order part (omega arith))) (h.sorted none place n next was e)
+            | inr b ↦
+                let c : Contains part n = (place - length order, omega arith, sym (get_or-append_right order part (length order) place n refl b) ∙ all) in
+                elim (cases_lt 1 (length part)) [
+                  | inl several ↦ absurd (at_most_none first n none (p.many several n c))
+                  | inr short ↦ subst P (sym (take_at order part place (omega arith))) (elim (p.leads n next c e) [
+                    | inl done ↦ p.ordered next done
+                    | inr there ↦ absurd (at_most_none first n none (loop_by n next short c there e))
+                  ])
+                ]
+          ];
     }

@@ -1,7 +1,7 @@
 -- The mark of a node after a write.
-use Rattle.std.proofs.Common.{◌≡◌, ℕ, ◌+◌, ◌-◌, ◌<◌, ◌≤◌, ◌⊎◌, Bool, true, false, cond, List, [], ◌∷◌, ◌++◌, length, set, get_or, Some, refl, sym, ap, subst, ◌∙◌, inl, inr, ⊎_elim, arith, get_or-set_same, get_or-set_other}
-use Rattle.std.specs.List.{Contains, slice_get, count_by}
-use Rattle.std.proofs.lemmas.Bool.{cases_lt, cases_eq}
+use Rattle.std.proofs.Common.{◌≡◌, ℕ, ◌+◌, ◌<◌, ◌⊎◌, true, false, cond, List, [], ◌∷◌, length, set, refl, sym, ap, subst, ◌∙◌, inl, inr, arith, get_or-set_same, get_or-set_other}
+use Rattle.std.specs.List.{Contains, count_by}
+use Rattle.std.proofs.lemmas.Bool.{cases_eq}
 use Rattle.std.proofs.lemmas.List.Sums.{sum_by-set}
 use Rattle.std.proofs.lemmas.List.{length-set}
 use Rattle.std.proofs.lemmas.List.Elements.{Contains-append_right, Contains-append_cases, Contains-push_cases}
@@ -27,8 +27,8 @@ is_fresh mark is = ap is_new is
 pub mark_cases : (marks : List Mark) (node other : ℕ) (mark now : Mark) → node < length marks → mark_of (set marks node mark) other ≡ now → ((other ≡ node) × (mark ≡ now)) ⊎ ((other ≡ node → ⊥) × (mark_of marks other ≡ now))
 mark_cases marks node other mark now l is =
     elim (cases_eq other node) [
-    | inl e ↦ inl (e, sym (mark_set marks node mark l) ∙ ap (λ o. mark_of (set marks node mark) o) (sym e) ∙ is)
-    | inr ne ↦ inr (ne, sym (mark_other marks node other mark ne) ∙ is)
+      | inl e ↦ inl (e, sym (mark_set marks node mark l) ∙ ap (λ o. mark_of (set marks node mark) o) (sym e) ∙ is)
+      | inr ne ↦ inr (ne, sym (mark_other marks node other mark ne) ∙ is)
     ]
 
 -- one node fewer is new
@@ -58,19 +58,19 @@ pub record AreDone (nodes : List ℕ) (marks after : List Mark) : Type 0 where
 
 pub all_done : (nodes : List ℕ) (marks : List Mark) → ((node : ℕ) → Contains nodes node → (node < length marks) × (is_new (mark_of marks node) ≡ false)) → AreDone nodes marks (done_all nodes marks)
 all_done [] marks h = record {
-    same_length = refl;
-    done = λ node c. absurd (omega (arith, c.1));
-    cases = λ node. inr refl;
-    counted = refl;
-  }
+  same_length = refl;
+  done = λ node c. absurd (omega (arith, c.1));
+  cases = λ node. inr refl;
+  counted = refl;
+}
 all_done (node ∷ nodes) marks h =
     let after = set marks node Done in
     let here = h node (at_head node nodes) in
     let rest : (n : ℕ) → Contains nodes n → (n < length after) × (is_new (mark_of after n) ≡ false) =
-      λ n c.
-      let old = h n (Contains-append_right (node ∷ []) nodes n c) in
-      let long : length after ≡ length marks = length-set marks node Done in
-      (omega (arith, old.0), elim (cases_eq n node) [ inl e ↦ ap (λ o. is_new (mark_of after o)) e ∙ ap is_new (mark_set marks node Done here.0) | inr ne ↦ ap is_new (mark_other marks node n Done ne) ∙ old.1 ]) in
+    λ n c.
+    let old = h n (Contains-append_right (node ∷ []) nodes n c) in
+    let long : length after ≡ length marks = length-set marks node Done in
+    (omega (arith, old.0), elim (cases_eq n node) [ inl e ↦ ap (λ o. is_new (mark_of after o)) e ∙ ap is_new (mark_set marks node Done here.0) | inr ne ↦ ap is_new (mark_other marks node n Done ne) ∙ old.1 ]) in
     let r = all_done nodes after rest in
     record {
       same_length = r.same_length ∙ length-set marks node Done;
@@ -79,13 +79,13 @@ all_done (node ∷ nodes) marks h =
             ap (λ o. mark_of (done_all nodes after) o) (sym (only node n one))
             ∙ elim (r.cases node) [ inl d ↦ r.done node d | inr same ↦ same ∙ mark_set marks node Done here.0 ]
         | inr d ↦ r.done n d
-        ];
+      ];
       cases = λ n. elim (r.cases n) [
         | inl d ↦ inl (Contains-append_right (node ∷ []) nodes n d)
         | inr same ↦ elim (cases_eq n node) [
           | inl e ↦ inl (let P : ℕ → Type 0 = λ o. Contains (node ∷ nodes) o in subst P (sym e) (at_head node nodes))
           | inr ne ↦ inr (same ∙ mark_other marks node n Done ne)
-          ]
-        ];
+        ]
+      ];
       counted = r.counted ∙ new_count_done marks node here.0 here.1;
     }

@@ -1,9 +1,9 @@
 -- The begin and the end of a walk.
-use Rattle.std.proofs.Common.{◌≡◌, ℕ, zero, suc, ◌+◌, ◌-◌, ◌<◌, ◌≤◌, ◌⊎◌, List, [], ◌∷◌, ◌++◌, length, take, get_or, Option, Some, None, refl, sym, ap, subst, ◌∙◌, inl, inr, arith, get_or-take}
-use Rattle.std.specs.List.{Contains, slice_get, count_by}
+use Rattle.std.proofs.Common.{◌≡◌, ℕ, zero, suc, ◌+◌, ◌<◌, ◌≤◌, ◌⊎◌, List, length, take, get_or, Option, Some, None, refl, sym, ap, subst, ◌∙◌, inl, inr, arith, get_or-take}
+use Rattle.std.specs.List.{Contains, slice_get}
 use Rattle.std.proofs.lemmas.List.{length-take-le}
 use Rattle.std.proofs.lemmas.Option.{slice_get_within, slice_get_read}
-use Rattle.topological_order.specs.Graphs.{Graph, graph_of, HasEdge, IsClosed, Reaches, by_edge, by_walk}
+use Rattle.topological_order.specs.Graphs.{Graph, graph_of, HasEdge, Reaches, by_edge, by_walk}
 use Rattle.topological_order.specs.Orders.{IsOrder, IsFirstCyclic}
 use Rattle.std.specs.declared.alloc.Global.{Global}
 use Rattle.std.specs.declared.vec.Vec.{Vec}
@@ -11,18 +11,18 @@ use Rattle.std.proofs.lemmas.Bool.{cases_eq}
 use Rattle.topological_order.specs.declared.walk.Walk.{Walk}
 use Rattle.topological_order.specs.declared.walk.Mark.{Mark}
 use Rattle.topological_order.specs.declared.walk.Mark.TheVariants.{New, Open, Done}
-use Rattle.topological_order.specs.Walks.{Trail, trail_of, mark_of, is_new, opened, effort, IsAtMost, IsWalk, Follows}
+use Rattle.topological_order.specs.Walks.{Trail, trail_of, mark_of, opened, IsAtMost, IsWalk, Follows}
 use Rattle.topological_order.proofs.Edges.{from_within, graph_length}
 use Rattle.topological_order.proofs.Efforts.{none_new}
 use Rattle.topological_order.proofs.Steps.{opened_walk, opened_kept, opened_less}
 
 pub follows_then : (s t u : Trail) → Follows s t → Follows t u → Follows s u
 follows_then s t u a b = record {
-    graph = b.graph ∙ a.graph;
-    walk = b.walk;
-    kept = λ n is. a.kept n (b.kept n is);
-    less = omega (arith, a.less, b.less);
-  }
+  graph = b.graph ∙ a.graph;
+  walk = b.walk;
+  kept = λ n is. a.kept n (b.kept n is);
+  less = omega (arith, a.less, b.less);
+}
 
 -- a walk from a new node
 pub rooted : (s : Trail) (root : ℕ) → IsWalk s → length s.path ≡ 0 → root < length s.graph → mark_of s.marks root ≡ New → Follows s (opened s root)
@@ -60,11 +60,11 @@ more_met marks root below here node l is =
 -- from one root to the next
 pub up_walked : (graph : List (Vec ℕ Global)) (walk next : Walk) (root : ℕ) → IsUpTo graph walk root → Follows (trail_of walk) (trail_of next) → length next.path.items ≡ 0 → (mark_of next.marks.items root ≡ New → ⊥) → IsUpTo graph next (root + 1)
 up_walked graph walk next root h f none met = record {
-    same = f.graph ∙ h.same;
-    proper = f.walk;
-    path = none;
-    met = more_met next.marks.items root (λ n l is. h.met n l (f.kept n is)) met;
-  }
+  same = f.graph ∙ h.same;
+  proper = f.walk;
+  path = none;
+  met = more_met next.marks.items root (λ n l is. h.met n l (f.kept n is)) met;
+}
 
 pub up_passed : (graph : List (Vec ℕ Global)) (walk : Walk) (root : ℕ) → IsUpTo graph walk root → (mark_of walk.marks.items root ≡ New → ⊥) → IsUpTo graph walk (root + 1)
 up_passed graph walk root h met = record { same = h.same; proper = h.proper; path = h.path; met = more_met walk.marks.items root h.met met }
@@ -77,10 +77,10 @@ pub record IsOver (s : Trail) : Type 0 where
 
 all_over : (s : Trail) → IsOver s → (node : ℕ) → node < length s.graph → mark_of s.marks node ≡ Done
 all_over s a node l = elim (mark_kinds (mark_of s.marks node)) [
-    | inl is ↦ absurd (a.met node l is)
-    | inr (inl (place, is)) ↦ absurd (omega (arith, (a.walk.marking.placed node place is).0, a.path))
-    | inr (inr is) ↦ is
-    ]
+  | inl is ↦ absurd (a.met node l is)
+  | inr (inl (place, is)) ↦ absurd (omega (arith, (a.walk.marking.placed node place is).0, a.path))
+  | inr (inr is) ↦ is
+]
 
 reach_within : (graph : Graph) (from to : ℕ) → Reaches graph from to → from < length graph
 reach_within graph _ _ (by_edge from to e) = from_within graph from to e
@@ -93,8 +93,8 @@ cycle_found s node a is =
     record {
       cyclic = ending.sound node is;
       first = λ other less r.
-        let found : node ≤ other = subst (P other) is (ending.found other (all_over s a other (reach_within s.graph other other r)) r) in
-        omega arith;
+          let found : node ≤ other = subst (P other) is (ending.found other (all_over s a other (reach_within s.graph other other r)) r) in
+          omega arith;
     }
 
 pub order_found : (s : Trail) → IsOver s → s.first ≡ None → IsOrder s.graph s.order
@@ -143,10 +143,10 @@ orders_exclude graph order node o r =
 -- the end of the last walk
 pub up_all : (graph : List (Vec ℕ Global)) (walk : Walk) (root : ℕ) → IsUpTo graph walk root → length graph ≤ root → IsOver (trail_of walk)
 up_all graph walk root h all = record {
-    walk = h.proper;
-    path = h.path;
-    met = λ n l. h.met n (omega (arith, l, ap (λ g. length g) h.same, graph_length graph));
-  }
+  walk = h.proper;
+  path = h.path;
+  met = λ n l. h.met n (omega (arith, l, ap (λ g. length g) h.same, graph_length graph));
+}
 
 pub up_within : (graph : List (Vec ℕ Global)) (walk : Walk) (root : ℕ) → IsUpTo graph walk root → root < length graph → (root < length walk.marks.items) × (root < length walk.graph.now)
 up_within graph walk root h l =

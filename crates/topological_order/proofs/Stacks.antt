@@ -1,10 +1,10 @@
 -- Lists that grow and shrink at their end.
-use Rattle.std.proofs.Common.{◌≡◌, ℕ, ◌+◌, ◌-◌, ◌<◌, ◌≤◌, ◌⊎◌, List, [], ◌∷◌, ◌++◌, length, take, get_or, Some, refl, sym, ap, subst, ◌∙◌, inl, inr, ⊎_elim, arith, length-append}
+use Rattle.std.proofs.Common.{◌≡◌, ℕ, ◌+◌, ◌-◌, ◌<◌, ◌≤◌, ◌⊎◌, List, [], ◌∷◌, ◌++◌, length, take, get_or, Some, refl, sym, ap, subst, ◌∙◌, inl, inr, arith}
 use Rattle.std.specs.List.{Contains, slice_get}
-use Rattle.std.proofs.lemmas.List.{get_or_append_left, get_or_default, take_more, take_all, get_or_push, length_push, length-take-le, get_or-take}
+use Rattle.std.proofs.lemmas.List.{get_or_append_left, get_or_default, take_more, take_all, get_or_push, length_push}
 use Rattle.std.proofs.lemmas.List.Elements.{Contains-append_left, Contains-push, Contains-push_cases}
 use Rattle.std.proofs.lemmas.Option.{slice_get_within, get_or_from_slice_get}
-use Rattle.std.proofs.lemmas.Bool.{cases_lt, cases_eq}
+use Rattle.std.proofs.lemmas.Bool.{cases_lt}
 use Rattle.topological_order.specs.Walks.{Rises, IsJoined}
 
 -- a list is all but its last element, and that
@@ -29,12 +29,12 @@ rises_pushed xs x rise below i j l m =
     let long : length (xs ++ x ∷ []) ≡ length xs + 1 = length_push xs x in
     let ei : get_or (xs ++ x ∷ []) i 0 ≡ get_or xs i 0 = get_or_append_left xs (x ∷ []) 0 i (omega arith) in
     elim (cases_lt j (length xs)) [
-    | inl a ↦
-        let ej : get_or (xs ++ x ∷ []) j 0 ≡ get_or xs j 0 = get_or_append_left xs (x ∷ []) 0 j a in
-        omega (arith, rise i j l a)
-    | inr b ↦
-        let ej : get_or (xs ++ x ∷ []) j 0 ≡ x = get_or_push xs x 0 j (omega arith) in
-        omega (arith, below (get_or xs i 0) (at_place xs i (get_or xs i 0) (omega arith) refl))
+      | inl a ↦
+          let ej : get_or (xs ++ x ∷ []) j 0 ≡ get_or xs j 0 = get_or_append_left xs (x ∷ []) 0 j a in
+          omega (arith, rise i j l a)
+      | inr b ↦
+          let ej : get_or (xs ++ x ∷ []) j 0 ≡ x = get_or_push xs x 0 j (omega arith) in
+          omega (arith, below (get_or xs i 0) (at_place xs i (get_or xs i 0) (omega arith) refl))
     ]
 
 pub rises_front : (xs : List ℕ) (x : ℕ) → Rises (xs ++ x ∷ []) → Rises xs

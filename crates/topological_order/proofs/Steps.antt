@@ -1,14 +1,13 @@
 -- The steps of a walk along an edge.
-use Rattle.std.proofs.Common.{◌≡◌, ℕ, ◌+◌, ◌-◌, ◌<◌, ◌≤◌, ◌⊎◌, List, [], ◌∷◌, ◌++◌, length, set, take, drop, get_or, Option, Some, None, refl, sym, ap, subst, ◌∙◌, inl, inr, arith}
-use Rattle.std.specs.List.{Contains, slice_get, count_by}
+use Rattle.std.proofs.Common.{◌≡◌, ℕ, ◌+◌, ◌-◌, ◌<◌, ◌≤◌, List, [], ◌∷◌, length, set, take, get_or, Option, Some, None, refl, sym, ap, subst, ◌∙◌, inl, inr, arith}
+use Rattle.std.specs.List.{Contains, slice_get}
 use Rattle.std.proofs.lemmas.List.{get_or_past, get_or_append_left, length_push, length-take-le}
-use Rattle.std.proofs.lemmas.List.Elements.{Contains-push_cases}
 use Rattle.std.proofs.lemmas.Option.{slice_get_within, slice_get-get_or}
 use Rattle.std.proofs.lemmas.Bool.{cases_lt, cases_order}
 use Rattle.topological_order.specs.Graphs.{Graph, HasEdge, Reaches, by_edge}
 use Rattle.topological_order.specs.declared.walk.Mark.{Mark}
 use Rattle.topological_order.specs.declared.walk.Mark.TheVariants.{New, Open, Done}
-use Rattle.topological_order.specs.Walks.{Trail, mark_of, row_of, is_new, opened, effort, IsAtMost, IsWalk, IsJoined, lesser, IsAtEdge, IsMet, IsAtEnd, Follows}
+use Rattle.topological_order.specs.Walks.{Trail, mark_of, row_of, opened, effort, IsAtMost, IsWalk, IsJoined, lesser, IsAtEdge, IsMet, IsAtEnd, Follows}
 use Rattle.topological_order.proofs.Stacks.{popped}
 use Rattle.topological_order.proofs.Marks.{mark_set, mark_cases, new_count_open}
 use Rattle.topological_order.proofs.Edges.{has_edge, to_within, reach_over, Joins}
@@ -85,24 +84,24 @@ met_new s place to a fresh =
     let within : to < length s.graph = to_within s.graph node (get_or s.looked node 0) to w.whole here.node a.edge in
     let inside : to < length s.marks = omega (arith, w.marking.all_marked) in
     let reach : (i : ℕ) → i < end → Reaches s.graph (get_or s.path i 0) to =
-      λ i l.
-      let up : Joins s.graph (get_or s.path i 0) node = elim (cases_order i place) [
-        | inl e ↦ inl (ap (λ k. get_or s.path k 0) e)
-        | inr (inl less) ↦ inr (w.linking.forth i place less here.within)
-        | inr (inr more) ↦ inr (w.linking.back place i more l (λ start c low high. omega (arith, here.most start c)))
-        ] in
-      reach_over s.graph (get_or s.path i 0) node to to up (edge_here s place to a) (inl refl) in
+    λ i l.
+    let up : Joins s.graph (get_or s.path i 0) node = elim (cases_order i place) [
+      | inl e ↦ inl (ap (λ k. get_or s.path k 0) e)
+      | inr (inl less) ↦ inr (w.linking.forth i place less here.within)
+      | inr (inr more) ↦ inr (w.linking.back place i more l (λ start c low high. omega (arith, here.most start c)))
+    ] in
+    reach_over s.graph (get_or s.path i 0) node to to up (edge_here s place to a) (inl refl) in
     record {
       graph = refl;
       walk = opened_walk s to w within fresh reach;
       looked = refl;
       within = omega (arith, here.within, length_push s.path to);
       here = get_or_append_left s.path (to ∷ []) 0 place here.within;
-      leads = inr
-        ( end
-        , mark_set s.marks to (Open end) inside
-        , λ start c low. omega (arith, here.within)
-        );
+      leads = inr (
+        end,
+        mark_set s.marks to (Open end) inside,
+        λ start c low. omega (arith, here.within),
+      );
       looped = λ e. let other : mark_of s.marks to ≡ Open place = ap (mark_of s.marks) (sym e) ∙ here.mark in (cc);
       kept = λ n is. opened_kept s to n inside is;
       less = omega (arith, opened_less s to inside fresh);
@@ -146,10 +145,10 @@ pub met_other : (s : Trail) (place to at : ℕ) (left : List ℕ) → IsAtEdge s
 met_other s place to at left a mark joined ne =
     let here = is_here s place a.walk a.top in
     let apart : get_or s.path place 0 ≡ to → IsAtMost s.first to =
-      λ e.
-      let other : mark_of s.marks to ≡ Open place = ap (mark_of s.marks) (sym e) ∙ here.mark in
-      let same : at ≡ place = cc in
-      absurd (ne same) in
+    λ e.
+    let other : mark_of s.marks to ≡ Open place = ap (mark_of s.marks) (sym e) ∙ here.mark in
+    let same : at ≡ place = cc in
+    absurd (ne same) in
     met_open s place to at left s.first a mark joined (noted_same s.graph s.first a.walk.ending.sound) apart
 
 pub met_done : (s : Trail) (place to : ℕ) → IsAtEdge s place to → mark_of s.marks to ≡ Done → IsMet s s place to
@@ -172,10 +171,10 @@ looked_follows s t place to node a m is =
     let w = m.walk in
     let was : get_or s.path place 0 ≡ node = sym m.here ∙ is in
     let edge : slice_get (row_of t.graph node) (get_or t.looked node 0) ≡ Some to =
-      ap (λ g. slice_get (row_of g node) (get_or t.looked node 0)) m.graph
-      ∙ ap (λ l. slice_get (row_of s.graph node) (get_or l node 0)) m.looked
-      ∙ ap (λ n. slice_get (row_of s.graph n) (get_or s.looked n 0)) (sym was)
-      ∙ a.edge in
+    ap (λ g. slice_get (row_of g node) (get_or t.looked node 0)) m.graph
+    ∙ ap (λ l. slice_get (row_of s.graph node) (get_or l node 0)) m.looked
+    ∙ ap (λ n. slice_get (row_of s.graph n) (get_or s.looked n 0)) (sym was)
+    ∙ a.edge in
     let mark : mark_of t.marks node ≡ Open place = w.marking.marked place node m.within is in
     let inside : node < length t.marks = marked_within t.marks node (λ no. (cc)) in
     let within : node < length t.graph = omega (arith, w.marking.all_marked) in
