@@ -46,6 +46,7 @@ part_cycles s start a several node c =
           reach_join s.graph _ _ _ (w.linking.forth p.0 (start + 1) next high) (round p.0 (start + 1) p.1 next high)
     ])
 
+-- what is noted when a part ends
 noted_of : (s : Trail) (start : ℕ) → IsEnding s start → AreNoted s.graph s.first (closed s start).first × (1 < length (drop start s.path) → (node : ℕ) → Contains (drop start s.path) node → IsAtMost (closed s start).first node)
 noted_of s start a =
     let part = drop start s.path in
@@ -66,6 +67,7 @@ noted_of s start a =
           subst P same there
     ]
 
+-- the last part, when its first node has no further edge
 part_of : (s : Trail) (start : ℕ) → IsEnding s start → IsPart s.graph s.marks s.looked s.order (drop start s.path) (closed s start).first
 part_of s start a =
     let w = a.end.walk in
@@ -100,6 +102,7 @@ part_of s start a =
       many = (noted_of s start a).1;
     }
 
+-- the end of a part is a step
 pub closed_follows : (s : Trail) (start : ℕ) → IsEnding s start → Follows s (closed s start)
 closed_follows s start a =
     let w = a.end.walk in

@@ -37,6 +37,7 @@ to_within graph node edge to whole l is =
     let P : ℕ → Type 0 = λ t. t < length graph in
     subst P (get_or_from_slice_get row edge to to is) (whole node [] l edge to (slice_get_within row edge to is))
 
+-- the code's graph has as many nodes
 pub graph_length : (rows : List (Vec ℕ Global)) → length (graph_of rows) ≡ length rows
 graph_length rows = length-map rows (λ row. row.items)
 
@@ -46,6 +47,7 @@ row_small [] node = omega arith
 row_small (v ∷ rows) zero = omega (arith, v.ok.0, v.ok.1, v.small)
 row_small (v ∷ rows) (suc node) = row_small rows node
 
+-- one walk behind another
 pub reach_join : (graph : Graph) (from over to : ℕ) → Reaches graph from over → Reaches graph over to → Reaches graph from to
 reach_join graph _ _ to (by_edge from over e) r = by_walk from over to e r
 reach_join graph _ _ to (by_walk from next over e s) r = by_walk from next to e (reach_join graph next over to s r)

@@ -18,6 +18,7 @@ done_reached : (graph : Graph) (marks : List Mark) (node to : ℕ) → ((n next 
 done_reached graph marks _ _ closed is (by_edge from to e) = closed from to is e
 done_reached graph marks _ _ closed is (by_walk from next to e r) = done_reached graph marks next to closed (closed from next is e) r
 
+-- a new node is put on the path
 pub opened_ending : (graph : Graph) (marks : List Mark) (looked order : List ℕ) (first : Option ℕ) (node place : ℕ) → AreEnded graph marks looked order first → node < length marks → mark_of marks node ≡ New → AreEnded graph (set marks node (Open place)) looked order first
 opened_ending graph marks looked order first node place h within fresh =
     let was : (n : ℕ) → mark_of (set marks node (Open place)) n ≡ Done → mark_of marks n ≡ Done = λ n is. elim (mark_cases marks node n (Open place) Done within is) [ inl e ↦ (cc (e.1)) | inr o ↦ o.1 ] in
@@ -32,6 +33,7 @@ opened_ending graph marks looked order first node place h within fresh =
       sorted = h.sorted;
     }
 
+-- one more edge was looked at
 pub looked_ending : (graph : Graph) (marks : List Mark) (looked order : List ℕ) (first : Option ℕ) (node to : ℕ) → AreEnded graph marks looked order first → node < length looked → slice_get (row_of graph node) (get_or looked node 0) ≡ Some to → (to ≡ node → IsAtMost first node) → AreEnded graph marks (set looked node (get_or looked node 0 + 1)) order first
 looked_ending graph marks looked order first node to h within edge loop = record {
   closed = h.closed;
@@ -61,10 +63,12 @@ pub record AreNoted (graph : Graph) (first after : Option ℕ) : Type 0 where
   pub weaker : (node : ℕ) → IsAtMost first node → IsAtMost after node
   pub none : after ≡ None → first ≡ None
 
+-- the lesser of two nodes is above nothing that the first was not above
 lesser_weaker : (first : Option ℕ) (node other : ℕ) → IsAtMost first other → IsAtMost (lesser first node) other
 lesser_weaker None node other h = absurd h
 lesser_weaker (Some least) node other h = omega arith
 
+-- the lesser of two nodes is at most the second
 pub lesser_here : (first : Option ℕ) (node : ℕ) → IsAtMost (lesser first node) node
 lesser_here None node = omega arith
 lesser_here (Some least) node = omega arith
@@ -78,10 +82,12 @@ lesser_either (Some least) node which is =
       | inr b ↦ let e : min least node ≡ which = cc in inr (omega arith)
     ]
 
+-- there is a lesser of two nodes
 lesser_none : (first : Option ℕ) (node : ℕ) → lesser first node ≡ None → first ≡ None
 lesser_none None node is = refl
 lesser_none (Some least) node is = (cc)
 
+-- a node that reaches itself is noted
 pub noted : (graph : Graph) (first : Option ℕ) (node : ℕ) → ((n : ℕ) → first ≡ Some n → Reaches graph n n) → Reaches graph node node → AreNoted graph first (lesser first node)
 noted graph first node sound r = record {
   sound = λ n is. elim (lesser_either first node n is) [
@@ -92,9 +98,11 @@ noted graph first node sound r = record {
   none = λ is. lesser_none first node is;
 }
 
+-- nothing is noted
 pub noted_same : (graph : Graph) (first : Option ℕ) → ((n : ℕ) → first ≡ Some n → Reaches graph n n) → AreNoted graph first first
 noted_same graph first sound = record { sound = sound; weaker = λ n h. h; none = λ is. is }
 
+-- nodes are noted one after another
 noted_then : (graph : Graph) (first next last : Option ℕ) → AreNoted graph first next → AreNoted graph next last → AreNoted graph first last
 noted_then graph first next last a b = record { sound = b.sound; weaker = λ n h. b.weaker n (a.weaker n h); none = λ is. a.none (b.none is) }
 
@@ -113,6 +121,7 @@ all_noted graph (node ∷ nodes) first sound r =
       ],
     )
 
+-- nodes that reach themselves are noted
 pub noted_ending : (graph : Graph) (marks : List Mark) (looked order : List ℕ) (first after : Option ℕ) → AreEnded graph marks looked order first → AreNoted graph first after → AreEnded graph marks looked order after
 noted_ending graph marks looked order first after h n = record {
   closed = h.closed;
@@ -138,6 +147,7 @@ only_one xs x y short a b =
     let same : p.0 ≡ q.0 = omega (arith, p.1, q.1) in
     sym p.2 ∙ ap (λ k. get_or xs k 0) same ∙ q.2
 
+-- where none was found, none is at most a node
 at_most_none : (first : Option ℕ) (node : ℕ) → first ≡ None → IsAtMost first node → ⊥
 at_most_none None node is h = h
 at_most_none (Some least) node is h = (cc)
@@ -147,6 +157,7 @@ first_edge : (graph : Graph) (from to : ℕ) → Reaches graph from to → HasEd
 first_edge graph _ _ (by_edge from to e) = inl e
 first_edge graph _ _ (by_walk from next to e r) = inr (next, e, r)
 
+-- the nodes of a part are done
 pub closed_ending : (graph : Graph) (marks after : List Mark) (looked order part : List ℕ) (first : Option ℕ) → AreEnded graph marks looked order first → IsPart graph marks looked order part first → AreDone part marks after → AreEnded graph after looked (order ++ part) first
 closed_ending graph marks after looked order part first h p d =
     let later : (n : ℕ) → mark_of marks n ≡ Done → mark_of after n ≡ Done = λ n is. elim (d.cases n) [ inl c ↦ d.done n c | inr same ↦ same ∙ is ] in

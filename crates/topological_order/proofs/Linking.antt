@@ -8,6 +8,7 @@ use Rattle.topological_order.specs.Graphs.{Graph, HasEdge, Reaches}
 use Rattle.topological_order.specs.Walks.{AreLinked, IsJoined}
 use Rattle.topological_order.proofs.Edges.{reach_same, reach_over, Joins}
 
+-- a node that the whole path reaches is put on it
 pub opened_linking : (graph : Graph) (path starts : List ℕ) (node : ℕ) → AreLinked graph path starts → ((i : ℕ) → i < length path → Reaches graph (get_or path i 0) node) → AreLinked graph (path ++ node ∷ []) (starts ++ length path ∷ [])
 opened_linking graph path starts node h reach =
     let end = length path in
@@ -34,6 +35,7 @@ opened_linking graph path starts node h reach =
           ];
     }
 
+-- an edge back joins the parts behind its end
 pub joined_linking : (graph : Graph) (path starts left : List ℕ) (place at : ℕ) → AreLinked graph path starts → place < length path → at < length path → HasEdge graph (get_or path place 0) (get_or path at 0) → ((start : ℕ) → Contains starts start → start ≤ place) → IsJoined at starts left → AreLinked graph path left
 joined_linking graph path starts left place at h placed there edge most joined = record {
   forth = h.forth;
@@ -55,6 +57,7 @@ joined_linking graph path starts left place at h placed there edge most joined =
       ];
 }
 
+-- the last part is taken off the path
 pub closed_linking : (graph : Graph) (path starts left : List ℕ) (start : ℕ) → AreLinked graph path starts → start ≤ length path → ((s : ℕ) → Contains starts s → Contains left s ⊎ (start ≡ s)) → AreLinked graph (take start path) left
 closed_linking graph path starts left start h fits cases =
     let short : length (take start path) ≡ start = length-take-le start path fits in

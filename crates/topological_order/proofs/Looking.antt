@@ -12,6 +12,7 @@ use Rattle.topological_order.specs.Walks.{mark_of, row_of, AreMarked, AreLooked,
 use Rattle.topological_order.proofs.Marks.{mark_other, AreDone}
 use Rattle.topological_order.proofs.Stacks.{IsPopped}
 
+-- what led on still does, when a node is put on the path
 opened_leads : (marks : List Mark) (starts : List ℕ) (node place to end : ℕ) → mark_of marks node ≡ New → place < end → LeadsOn marks starts place to → LeadsOn (set marks node (Open end)) (starts ++ end ∷ []) place to
 opened_leads marks starts node place to end fresh before (inl is) =
     let ne : to ≡ node → ⊥ = λ e. let other : mark_of marks to ≡ New = ap (mark_of marks) e ∙ fresh in cc in
@@ -20,6 +21,7 @@ opened_leads marks starts node place to end fresh before (inr (at, is, all)) =
     let ne : to ≡ node → ⊥ = λ e. let other : mark_of marks to ≡ New = ap (mark_of marks) e ∙ fresh in cc in
     inr (at, mark_other marks node to (Open end) ne ∙ is, λ s c low. elim (Contains-push_cases starts end s c) [ inl old ↦ all s old low | inr e ↦ absurd (omega arith) ])
 
+-- a node is put on the path, with no edge looked at
 pub opened_looking : (graph : Graph) (marks : List Mark) (looked path order starts frames : List ℕ) (node : ℕ) → AreMarked graph marks looked path order → AreLooked graph marks looked path starts frames → mark_of marks node ≡ New → AreLooked graph (set marks node (Open (length path))) looked (path ++ node ∷ []) (starts ++ length path ∷ []) (frames ++ length path ∷ [])
 opened_looking graph marks looked path order starts frames node m h fresh =
     let end = length path in
@@ -41,16 +43,19 @@ opened_looking graph marks looked path order starts frames node m h fresh =
       ];
     }
 
+-- what led on still does, when there are fewer starts
 fewer_leads : (marks after : List Mark) (starts left : List ℕ) (place to : ℕ) → ((s : ℕ) → Contains left s → Contains starts s) → LeadsOn marks starts place to → LeadsOn marks left place to
 fewer_leads marks after starts left place to were (inl is) = inl is
 fewer_leads marks after starts left place to were (inr (at, is, all)) = inr (at, is, λ s c low. all s (were s c) low)
 
+-- parts are joined
 pub joined_looking : (graph : Graph) (marks : List Mark) (looked path starts frames left : List ℕ) (at : ℕ) → AreLooked graph marks looked path starts frames → IsJoined at starts left → AreLooked graph marks looked path left frames
 joined_looking graph marks looked path starts frames left at h joined = record {
   leads = λ p n edge l is k. fewer_leads marks marks starts left p (get_or (row_of graph n) edge 0) joined.were (h.leads p n edge l is k);
   ended = h.ended;
 }
 
+-- one more edge was looked at, and leads on
 pub looked_looking : (graph : Graph) (marks : List Mark) (looked path order starts frames : List ℕ) (place node to : ℕ) → AreMarked graph marks looked path order → AreLooked graph marks looked path starts frames → node < length graph → mark_of marks node ≡ Open place → slice_get (row_of graph node) (get_or looked node 0) ≡ Some to → LeadsOn marks starts place to → AreLooked graph marks (set looked node (get_or looked node 0 + 1)) path starts frames
 looked_looking graph marks looked path order starts frames place node to m h within mark edge lead =
     let count = get_or looked node 0 in
@@ -83,6 +88,7 @@ looked_looking graph marks looked path order starts frames place node to m h wit
       ];
     }
 
+-- the last frame is taken off, whose node has no further edge
 pub left_looking : (graph : Graph) (marks : List Mark) (looked path starts frames left : List ℕ) (place : ℕ) → AreLooked graph marks looked path starts frames → IsPopped frames left place → length (row_of graph (get_or path place 0)) ≤ get_or looked (get_or path place 0) 0 → AreLooked graph marks looked path starts left
 left_looking graph marks looked path starts frames left place h f all = record {
   leads = h.leads;
@@ -94,6 +100,7 @@ left_looking graph marks looked path starts frames left place h f all = record {
   ];
 }
 
+-- what led on still does, when the nodes of a part are done
 closed_leads : (marks after : List Mark) (starts left part : List ℕ) (place to : ℕ) → AreDone part marks after → ((s : ℕ) → Contains left s → Contains starts s) → LeadsOn marks starts place to → LeadsOn after left place to
 closed_leads marks after starts left part place to d were lead =
     elim (d.cases to) [
@@ -104,6 +111,7 @@ closed_leads marks after starts left part place to d were lead =
       ]
     ]
 
+-- the last part is taken off the path, and its frame
 pub closed_looking : (graph : Graph) (marks after : List Mark) (looked path starts frames fewer left : List ℕ) (start : ℕ) → AreLooked graph marks looked path starts frames → start ≤ length path → AreDone (drop start path) marks after → ((s : ℕ) → Contains fewer s → Contains starts s) → IsPopped frames left start → AreLooked graph after looked (take start path) fewer left
 closed_looking graph marks after looked path starts frames fewer left start h fits d were f =
     let short : length (take start path) ≡ start = length-take-le start path fits in

@@ -11,6 +11,7 @@ use Rattle.topological_order.specs.Walks.{mark_of, AreMarked}
 use Rattle.topological_order.proofs.Stacks.{at_place, place_of}
 use Rattle.topological_order.proofs.Marks.{mark_set, mark_other, mark_cases, new_count_open, AreDone}
 
+-- a new node is put on the path
 pub opened_marking : (graph : Graph) (marks : List Mark) (looked path order : List ℕ) (node : ℕ) → AreMarked graph marks looked path order → node < length graph → mark_of marks node ≡ New → AreMarked graph (set marks node (Open (length path))) looked (path ++ node ∷ []) order
 opened_marking graph marks looked path order node h l fresh =
     let end = length path in
@@ -56,6 +57,7 @@ part_place path start node c =
     let long : length (drop start path) ≡ length path - start = length-drop start path in
     (start + p.0, omega arith, omega (arith, p.1), sym (get_or-drop start path p.0 0) ∙ p.2)
 
+-- the nodes of the last part are taken off the path, and are done
 pub closed_marking : (graph : Graph) (marks after : List Mark) (looked path order : List ℕ) (start : ℕ) → AreMarked graph marks looked path order → start ≤ length path → AreDone (drop start path) marks after → AreMarked graph after looked (take start path) (order ++ drop start path)
 closed_marking graph marks after looked path order start h l d =
     let part = drop start path in
@@ -94,6 +96,7 @@ closed_marking graph marks after looked path order start h l d =
       counted = omega (arith, h.counted, d.counted, length-append order part, length-drop start path);
     }
 
+-- the count of edges of a node that was met may change
 pub looked_marking : (graph : Graph) (marks : List Mark) (looked path order : List ℕ) (node count : ℕ) → AreMarked graph marks looked path order → (mark_of marks node ≡ New → ⊥) → AreMarked graph marks (set looked node count) path order
 looked_marking graph marks looked path order node count h met = record {
   all_marked = h.all_marked;

@@ -9,17 +9,21 @@ use Rattle.topological_order.specs.declared.walk.Mark.{Mark}
 use Rattle.topological_order.specs.declared.walk.Mark.TheVariants.{New, Open, Done}
 use Rattle.topological_order.specs.Walks.{mark_of, is_new, done_all}
 
+-- the mark that was written
 pub mark_set : (marks : List Mark) (node : ℕ) (mark : Mark) → node < length marks → mark_of (set marks node mark) node ≡ mark
 mark_set marks node mark l = get_or-set_same marks node mark New l
 
+-- the mark of another node
 pub mark_other : (marks : List Mark) (node other : ℕ) (mark : Mark) → (other ≡ node → ⊥) → mark_of (set marks node mark) other ≡ mark_of marks other
 mark_other marks node other mark ne = get_or-set_other marks node other mark New ne
 
+-- only a new node counts as new
 pub new_mark : (mark : Mark) → is_new mark ≡ true → mark ≡ New
 new_mark New is = refl
 new_mark (Open place) is = (cc)
 new_mark Done is = (cc)
 
+-- a new node counts as new
 pub is_fresh : (mark : Mark) → mark ≡ New → is_new mark ≡ true
 is_fresh mark is = ap is_new is
 
@@ -37,15 +41,18 @@ new_count_open marks node place l is =
     let f : Mark → ℕ = λ m. cond (is_new m) 1 0 in
     omega (arith, sum_by-set f marks node (Open place) New l, ap f is)
 
+-- a node that was met and is done changes no count of new ones
 pub new_count_done : (marks : List Mark) (node : ℕ) → node < length marks → is_new (mark_of marks node) ≡ false → count_by is_new (set marks node Done) ≡ count_by is_new marks
 new_count_done marks node l is =
     let f : Mark → ℕ = λ m. cond (is_new m) 1 0 in
     let none : f (mark_of marks node) ≡ 0 = ap (λ b. cond b 1 0) is in
     omega (arith, sum_by-set f marks node Done New l)
 
+-- the first element is in the list
 pub at_head : (node : ℕ) (nodes : List ℕ) → Contains (node ∷ nodes) node
 at_head node nodes = (0, omega arith, refl)
 
+-- a list of one element has no other
 pub only : (node other : ℕ) → Contains (node ∷ []) other → node ≡ other
 only node other h = elim (Contains-push_cases [] node other h) [ inl none ↦ absurd (omega (arith, none.1)) | inr e ↦ e ]
 
@@ -56,6 +63,7 @@ pub record AreDone (nodes : List ℕ) (marks after : List Mark) : Type 0 where
   pub cases : (node : ℕ) → Contains nodes node ⊎ (mark_of after node ≡ mark_of marks node)
   pub counted : count_by is_new after ≡ count_by is_new marks
 
+-- the marks after a part is done
 pub all_done : (nodes : List ℕ) (marks : List Mark) → ((node : ℕ) → Contains nodes node → (node < length marks) × (is_new (mark_of marks node) ≡ false)) → AreDone nodes marks (done_all nodes marks)
 all_done [] marks h = record {
   same_length = refl;

@@ -7,6 +7,7 @@ use Rattle.std.proofs.lemmas.Bool.{cases_lt}
 use Rattle.topological_order.specs.Walks.{AreStacked, IsJoined}
 use Rattle.topological_order.proofs.Stacks.{rises_pushed, popped}
 
+-- a node is put on the path, with a start and a frame
 pub opened_stacking : (path starts frames : List ℕ) (node : ℕ) → AreStacked path starts frames → AreStacked (path ++ node ∷ []) (starts ++ length path ∷ []) (frames ++ length path ∷ [])
 opened_stacking path starts frames node h =
     let end = length path in
@@ -27,6 +28,7 @@ opened_stacking path starts frames node h =
       ];
     }
 
+-- parts are joined
 pub joined_stacking : (path starts frames left : List ℕ) (at : ℕ) → AreStacked path starts frames → IsJoined at starts left → AreStacked path left frames
 joined_stacking path starts frames left at h joined = record {
   frames_rise = h.frames_rise;
@@ -36,6 +38,7 @@ joined_stacking path starts frames left at h joined = record {
   begun = λ some. joined.stay 0 (h.begun some) (omega arith);
 }
 
+-- the last frame is taken off, where no part begins
 pub left_stacking : (path starts frames : List ℕ) (place : ℕ) → AreStacked path starts frames → slice_get frames (length frames - 1) ≡ Some place → (Contains starts place → ⊥) → AreStacked path starts (take (length frames - 1) frames)
 left_stacking path starts frames place h top free =
     let f = popped frames place top h.frames_rise in
@@ -50,6 +53,7 @@ left_stacking path starts frames place h top free =
       ];
     }
 
+-- the last part is taken off, with its start and its frame
 pub closed_stacking : (path starts frames : List ℕ) (place : ℕ) → AreStacked path starts frames → slice_get frames (length frames - 1) ≡ Some place → slice_get starts (length starts - 1) ≡ Some place → AreStacked (take place path) (take (length starts - 1) starts) (take (length frames - 1) frames)
 closed_stacking path starts frames place h top last =
     let f = popped frames place top h.frames_rise in

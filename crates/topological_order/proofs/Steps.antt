@@ -22,6 +22,7 @@ use Rattle.topological_order.proofs.Efforts.{edges_less}
 pub marked_within : (marks : List Mark) (node : ℕ) → (mark_of marks node ≡ New → ⊥) → node < length marks
 marked_within marks node met = elim (cases_lt node (length marks)) [ inl l ↦ l | inr past ↦ absurd (met (get_or_past marks node New past)) ]
 
+-- a node that the whole path reaches is put on it
 pub opened_walk : (s : Trail) (node : ℕ) → IsWalk s → node < length s.graph → mark_of s.marks node ≡ New → ((i : ℕ) → i < length s.path → Reaches s.graph (get_or s.path i 0) node) → IsWalk (opened s node)
 opened_walk s node w l fresh reach =
     let within : node < length s.marks = omega (arith, w.marking.all_marked) in
@@ -34,9 +35,11 @@ opened_walk s node w l fresh reach =
       ending = opened_ending s.graph s.marks s.looked s.order s.first node (length s.path) w.ending within fresh;
     }
 
+-- a node that is new later was new before
 pub opened_kept : (s : Trail) (node n : ℕ) → node < length s.marks → mark_of (opened s node).marks n ≡ New → mark_of s.marks n ≡ New
 opened_kept s node n l is = elim (mark_cases s.marks node n (Open (length s.path)) New l is) [ inl e ↦ (cc (e.1)) | inr o ↦ o.1 ]
 
+-- less is left to be done, when a new node is put on the path
 pub opened_less : (s : Trail) (node : ℕ) → node < length s.marks → mark_of s.marks node ≡ New → effort (opened s node) < effort s
 opened_less s node l fresh = omega (arith, new_count_open s.marks node (length s.path) l fresh, length_push s.frames (length s.path))
 
@@ -48,6 +51,7 @@ pub record IsHere (s : Trail) (place : ℕ) : Type 0 where
   pub mark : mark_of s.marks (get_or s.path place 0) ≡ Open place
   pub node : get_or s.path place 0 < length s.graph
 
+-- the node at the last frame
 pub is_here : (s : Trail) (place : ℕ) → IsWalk s → slice_get s.frames (length s.frames - 1) ≡ Some place → IsHere s place
 is_here s place w top =
     let f = popped s.frames place top w.stacking.frames_rise in
@@ -75,6 +79,7 @@ edge_in s place to a =
     let within = to_within s.graph node (get_or s.looked node 0) to a.walk.whole (is_here s place a.walk a.top).node a.edge in
     omega (arith, within, a.walk.marking.all_marked)
 
+-- the edge leads to a new node
 pub met_new : (s : Trail) (place to : ℕ) → IsAtEdge s place to → mark_of s.marks to ≡ New → IsMet s (opened s to) place to
 met_new s place to a fresh =
     let w = a.walk in
@@ -107,6 +112,7 @@ met_new s place to a fresh =
       less = omega (arith, opened_less s to inside fresh);
     }
 
+-- the edge leads to an open node
 met_open : (s : Trail) (place to at : ℕ) (left : List ℕ) (after : Option ℕ) → IsAtEdge s place to → mark_of s.marks to ≡ Open at → IsJoined at s.starts left → AreNoted s.graph s.first after → (get_or s.path place 0 ≡ to → IsAtMost after to) → IsMet s (record s { starts = left; first = after }) place to
 met_open s place to at left after a mark joined notes loop =
     let w = a.walk in
@@ -133,6 +139,7 @@ met_open s place to at left after a mark joined notes loop =
       less = omega arith;
     }
 
+-- the edge leads to its own node
 pub met_self : (s : Trail) (place to at : ℕ) (left : List ℕ) → IsAtEdge s place to → mark_of s.marks to ≡ Open at → IsJoined at s.starts left → at ≡ place → IsMet s (record s { starts = left; first = lesser s.first to }) place to
 met_self s place to at left a mark joined e =
     let there = a.walk.marking.placed to at mark in
@@ -141,6 +148,7 @@ met_self s place to at left a mark joined e =
     let cycle : Reaches s.graph to to = by_edge to to (subst P same (edge_here s place to a)) in
     met_open s place to at left (lesser s.first to) a mark joined (noted s.graph s.first to a.walk.ending.sound cycle) (λ q. lesser_here s.first to)
 
+-- the edge leads to another open node
 pub met_other : (s : Trail) (place to at : ℕ) (left : List ℕ) → IsAtEdge s place to → mark_of s.marks to ≡ Open at → IsJoined at s.starts left → (at ≡ place → ⊥) → IsMet s (record s { starts = left }) place to
 met_other s place to at left a mark joined ne =
     let here = is_here s place a.walk a.top in
@@ -151,6 +159,7 @@ met_other s place to at left a mark joined ne =
     absurd (ne same) in
     met_open s place to at left s.first a mark joined (noted_same s.graph s.first a.walk.ending.sound) apart
 
+-- the edge leads to a node that is done
 pub met_done : (s : Trail) (place to : ℕ) → IsAtEdge s place to → mark_of s.marks to ≡ Done → IsMet s s place to
 met_done s place to a done =
     let here = is_here s place a.walk a.top in
@@ -166,6 +175,7 @@ met_done s place to a done =
       less = omega arith;
     }
 
+-- the next edge was looked at
 pub looked_follows : (s t : Trail) (place to node : ℕ) → IsAtEdge s place to → IsMet s t place to → get_or t.path place 0 ≡ node → Follows s (record t { looked = set t.looked node (get_or t.looked node 0 + 1) })
 looked_follows s t place to node a m is =
     let w = m.walk in
@@ -199,6 +209,7 @@ looked_follows s t place to node a m is =
 pub none_past : (xs : List ℕ) (k : ℕ) → slice_get xs k ≡ None → length xs ≤ k
 none_past xs k is = elim (cases_lt k (length xs)) [ inl l ↦ let some = slice_get-get_or xs k 0 l in (cc) | inr past ↦ past ]
 
+-- the last frame is taken off, where no part begins
 pub left_follows : (s : Trail) (place : ℕ) → IsAtEnd s place → (Contains s.starts place → ⊥) → Follows s (record s { frames = take (length s.frames - 1) s.frames })
 left_follows s place a free =
     let w = a.walk in
@@ -239,18 +250,21 @@ pub record IsCounted (s t : Trail) (place to node count : ℕ) : Type 0 where
   pub here : get_or t.path place 0 ≡ node
   pub counted : get_or t.looked node 0 ≡ count
 
+-- the node has a count
 pub counted_in : (s t : Trail) (place to node : ℕ) → IsAtEdge s place to → IsMet s t place to → get_or t.path place 0 ≡ node → node < length t.looked
 counted_in s t place to node a m is =
     let h = is_here s place a.walk a.top in
     let was : get_or s.path place 0 ≡ node = sym m.here ∙ is in
     omega (arith, h.node, ap (λ g. length g) m.graph, m.walk.marking.all_looked)
 
+-- the count is below the length of the row
 pub counted_less : (s t : Trail) (place to node count : ℕ) → IsCounted s t place to node count → count < length (row_of s.graph node)
 counted_less s t place to node count h =
     let was : get_or s.path place 0 ≡ node = sym h.met.here ∙ h.here in
     let less = slice_get_within (row_of s.graph (get_or s.path place 0)) (get_or s.looked (get_or s.path place 0) 0) to h.edge.edge in
     omega (arith, less, ap (λ n. length (row_of s.graph n)) was, ap (λ n. get_or s.looked n 0) was, ap (λ l. get_or l node 0) h.met.looked, h.counted)
 
+-- one more edge is counted
 pub counted_follows : (s t : Trail) (place to node count : ℕ) → IsCounted s t place to node count → Follows s (record t { looked = set t.looked node (count + 1) })
 counted_follows s t place to node count h =
     let P : ℕ → Type 0 = λ k. Follows s (record t { looked = set t.looked node (k + 1) }) in

@@ -90,7 +90,7 @@ pub record AreLooked (graph : Graph) (marks : List Mark) (looked path starts fra
   pub leads : (place node edge : ℕ) → place < length path → slice_index path place ≡ node → edge < slice_index looked node → LeadsOn marks starts place (slice_index (row_of graph node) edge)
   pub ended : (place node : ℕ) → place < length path → slice_index path place ≡ node → (Contains frames place → ⊥) → length (row_of graph node) ≤ slice_index looked node
 
--- Nodes that are done lead to such nodes. The node that was found reaches itself, and is the least of those that are done and do.
+-- Nodes that are done lead to such nodes. The node that was found reaches itself, and isn't above one that is done and does, or one whose edge to itself was looked at. Where none was found, each node stands in the order behind those that its edges lead to.
 pub record AreEnded (graph : Graph) (marks : List Mark) (looked order : List ℕ) (first : Option ℕ) : Type 0 where
   pub closed : (node next : ℕ) → mark_of marks node ≡ Done → HasEdge graph node next → mark_of marks next ≡ Done
   pub sound : (node : ℕ) → first ≡ Some node → Reaches graph node node
