@@ -1,8 +1,8 @@
 -- Edges of a graph, and what they reach.
-use Rattle.std.proofs.Common.{◌≡◌, ℕ, zero, suc, ◌^◌, ◌<◌, ◌≤◌, ◌⊎◌, List, [], ◌∷◌, length, get_or, Some, refl, sym, subst, ap, ◌∙◌, inl, inr, arith}
+use Rattle.std.proofs.Common.{◌≡◌, ℕ, zero, suc, ◌^◌, ◌<◌, ◌⊎◌, List, [], ◌∷◌, length, Some, refl, sym, subst, inl, inr, arith}
 use Rattle.std.specs.declared.alloc.Global.{Global}
 use Rattle.std.specs.declared.vec.Vec.{Vec}
-use Rattle.std.specs.List.{All, Contains, slice_get}
+use Rattle.std.specs.List.{slice_get}
 use Rattle.std.proofs.lemmas.List.{length-map}
 use Rattle.std.proofs.lemmas.Option.{slice_get-get_or, slice_get_within, get_or_from_slice_get, slice_get_read}
 use Rattle.topological_order.specs.Graphs.{Graph, graph_of, HasEdge, IsClosed, Reaches, by_edge, by_walk}
@@ -37,6 +37,7 @@ to_within graph node edge to whole l is =
     let P : ℕ → Type 0 = λ t. t < length graph in
     subst P (get_or_from_slice_get row edge to to is) (whole node [] l edge to (slice_get_within row edge to is))
 
+-- the code's graph has as many nodes
 pub graph_length : (rows : List (Vec ℕ Global)) → length (graph_of rows) ≡ length rows
 graph_length rows = length-map rows (λ row. row.items)
 
@@ -46,6 +47,7 @@ row_small [] node = omega arith
 row_small (v ∷ rows) zero = omega (arith, v.ok.0, v.ok.1, v.small)
 row_small (v ∷ rows) (suc node) = row_small rows node
 
+-- one walk behind another
 pub reach_join : (graph : Graph) (from over to : ℕ) → Reaches graph from over → Reaches graph over to → Reaches graph from to
 reach_join graph _ _ to (by_edge from over e) r = by_walk from over to e r
 reach_join graph _ _ to (by_walk from next over e s) r = by_walk from next to e (reach_join graph next over to s r)
@@ -67,8 +69,8 @@ reach_over graph from left right to a e b =
     let last : Reaches graph left to = elim b [
       | inl same ↦ let P : ℕ → Type 0 = λ x. HasEdge graph left x in by_edge left to (subst P same e)
       | inr r ↦ by_walk left right to e r
-      ] in
+    ] in
     elim a [
-    | inl same ↦ reach_same graph from to left to same refl last
-    | inr r ↦ reach_join graph from left to r last
+      | inl same ↦ reach_same graph from to left to same refl last
+      | inr r ↦ reach_join graph from left to r last
     ]

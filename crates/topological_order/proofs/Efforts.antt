@@ -1,5 +1,5 @@
 -- What is left to be done.
-use Rattle.std.proofs.Common.{◌≡◌, ℕ, zero, suc, ◌+◌, ◌-◌, ◌<◌, ◌≤◌, List, [], ◌∷◌, length, set, get_or, refl, sym, ap, ◌∙◌, arith}
+use Rattle.std.proofs.Common.{◌≡◌, ℕ, zero, suc, ◌+◌, ◌<◌, List, [], ◌∷◌, length, set, get_or, refl, arith}
 use Rattle.std.specs.List.{count_by}
 use Rattle.topological_order.specs.Graphs.{Graph}
 use Rattle.topological_order.specs.declared.walk.Mark.{Mark}

@@ -1,9 +1,9 @@
 -- The begin and the end of a walk.
-use Rattle.std.proofs.Common.{◌≡◌, ℕ, zero, suc, ◌+◌, ◌-◌, ◌<◌, ◌≤◌, ◌⊎◌, List, [], ◌∷◌, ◌++◌, length, take, get_or, Option, Some, None, refl, sym, ap, subst, ◌∙◌, inl, inr, arith, get_or-take}
-use Rattle.std.specs.List.{Contains, slice_get, count_by}
+use Rattle.std.proofs.Common.{◌≡◌, ℕ, zero, suc, ◌+◌, ◌<◌, ◌≤◌, ◌⊎◌, List, length, take, get_or, Option, Some, None, refl, sym, ap, subst, ◌∙◌, inl, inr, arith, get_or-take}
+use Rattle.std.specs.List.{Contains, slice_get}
 use Rattle.std.proofs.lemmas.List.{length-take-le}
 use Rattle.std.proofs.lemmas.Option.{slice_get_within, slice_get_read}
-use Rattle.topological_order.specs.Graphs.{Graph, graph_of, HasEdge, IsClosed, Reaches, by_edge, by_walk}
+use Rattle.topological_order.specs.Graphs.{Graph, graph_of, HasEdge, Reaches, by_edge, by_walk}
 use Rattle.topological_order.specs.Orders.{IsOrder, IsFirstCyclic}
 use Rattle.std.specs.declared.alloc.Global.{Global}
 use Rattle.std.specs.declared.vec.Vec.{Vec}
@@ -11,18 +11,10 @@ use Rattle.std.proofs.lemmas.Bool.{cases_eq}
 use Rattle.topological_order.specs.declared.walk.Walk.{Walk}
 use Rattle.topological_order.specs.declared.walk.Mark.{Mark}
 use Rattle.topological_order.specs.declared.walk.Mark.TheVariants.{New, Open, Done}
-use Rattle.topological_order.specs.Walks.{Trail, trail_of, mark_of, is_new, opened, effort, IsAtMost, IsWalk, Follows}
+use Rattle.topological_order.specs.Walks.{Trail, trail_of, mark_of, opened, IsAtMost, IsWalk, Follows}
 use Rattle.topological_order.proofs.Edges.{from_within, graph_length}
 use Rattle.topological_order.proofs.Efforts.{none_new}
 use Rattle.topological_order.proofs.Steps.{opened_walk, opened_kept, opened_less}
-
-pub follows_then : (s t u : Trail) → Follows s t → Follows t u → Follows s u
-follows_then s t u a b = record {
-    graph = b.graph ∙ a.graph;
-    walk = b.walk;
-    kept = λ n is. a.kept n (b.kept n is);
-    less = omega (arith, a.less, b.less);
-  }
 
 -- a walk from a new node
 pub rooted : (s : Trail) (root : ℕ) → IsWalk s → length s.path ≡ 0 → root < length s.graph → mark_of s.marks root ≡ New → Follows s (opened s root)
@@ -41,6 +33,7 @@ all_left s w none =
     let some : 0 < length s.path → ⊥ = λ less. let c = w.stacking.framed 0 (w.stacking.begun less) in omega (arith, c.1) in
     omega arith
 
+-- a mark is one of three
 mark_kinds : (mark : Mark) → (mark ≡ New) ⊎ (((place : ℕ) × (mark ≡ Open place)) ⊎ (mark ≡ Done))
 mark_kinds New = inl refl
 mark_kinds (Open place) = inr (inl (place, refl))
@@ -53,6 +46,7 @@ pub record IsUpTo (graph : List (Vec ℕ Global)) (walk : Walk) (root : ℕ) : T
   pub path : length walk.path.items ≡ 0
   pub met : (node : ℕ) → node < root → mark_of walk.marks.items node ≡ New → ⊥
 
+-- one more node was met
 more_met : (marks : List Mark) (root : ℕ) → ((node : ℕ) → node < root → mark_of marks node ≡ New → ⊥) → (mark_of marks root ≡ New → ⊥) → (node : ℕ) → node < root + 1 → mark_of marks node ≡ New → ⊥
 more_met marks root below here node l is =
     elim (cases_eq node root) [ inl e ↦ here (ap (mark_of marks) (sym e) ∙ is) | inr ne ↦ below node (omega arith) is ]
@@ -60,12 +54,13 @@ more_met marks root below here node l is =
 -- from one root to the next
 pub up_walked : (graph : List (Vec ℕ Global)) (walk next : Walk) (root : ℕ) → IsUpTo graph walk root → Follows (trail_of walk) (trail_of next) → length next.path.items ≡ 0 → (mark_of next.marks.items root ≡ New → ⊥) → IsUpTo graph next (root + 1)
 up_walked graph walk next root h f none met = record {
-    same = f.graph ∙ h.same;
-    proper = f.walk;
-    path = none;
-    met = more_met next.marks.items root (λ n l is. h.met n l (f.kept n is)) met;
-  }
+  same = f.graph ∙ h.same;
+  proper = f.walk;
+  path = none;
+  met = more_met next.marks.items root (λ n l is. h.met n l (f.kept n is)) met;
+}
 
+-- past a root that was met before
 pub up_passed : (graph : List (Vec ℕ Global)) (walk : Walk) (root : ℕ) → IsUpTo graph walk root → (mark_of walk.marks.items root ≡ New → ⊥) → IsUpTo graph walk (root + 1)
 up_passed graph walk root h met = record { same = h.same; proper = h.proper; path = h.path; met = more_met walk.marks.items root h.met met }
 
@@ -75,17 +70,20 @@ pub record IsOver (s : Trail) : Type 0 where
   pub path : length s.path ≡ 0
   pub met : (node : ℕ) → node < length s.graph → mark_of s.marks node ≡ New → ⊥
 
+-- at the end each node is done
 all_over : (s : Trail) → IsOver s → (node : ℕ) → node < length s.graph → mark_of s.marks node ≡ Done
 all_over s a node l = elim (mark_kinds (mark_of s.marks node)) [
-    | inl is ↦ absurd (a.met node l is)
-    | inr (inl (place, is)) ↦ absurd (omega (arith, (a.walk.marking.placed node place is).0, a.path))
-    | inr (inr is) ↦ is
-    ]
+  | inl is ↦ absurd (a.met node l is)
+  | inr (inl (place, is)) ↦ absurd (omega (arith, (a.walk.marking.placed node place is).0, a.path))
+  | inr (inr is) ↦ is
+]
 
+-- a walk begins at a node
 reach_within : (graph : Graph) (from to : ℕ) → Reaches graph from to → from < length graph
 reach_within graph _ _ (by_edge from to e) = from_within graph from to e
 reach_within graph _ _ (by_walk from next to e r) = from_within graph from next e
 
+-- the node that was found is the first that reaches itself
 pub cycle_found : (s : Trail) (node : ℕ) → IsOver s → s.first ≡ Some node → IsFirstCyclic s.graph node
 cycle_found s node a is =
     let ending = a.walk.ending in
@@ -93,10 +91,11 @@ cycle_found s node a is =
     record {
       cyclic = ending.sound node is;
       first = λ other less r.
-        let found : node ≤ other = subst (P other) is (ending.found other (all_over s a other (reach_within s.graph other other r)) r) in
-        omega arith;
+          let found : node ≤ other = subst (P other) is (ending.found other (all_over s a other (reach_within s.graph other other r)) r) in
+          omega arith;
     }
 
+-- where no node was found, there is an order
 pub order_found : (s : Trail) → IsOver s → s.first ≡ None → IsOrder s.graph s.order
 order_found s a none =
     let m = a.walk.marking in
@@ -107,6 +106,7 @@ order_found s a none =
       behind = a.walk.ending.sorted none;
     }
 
+-- an element stands at its place
 got : (xs : List ℕ) (node : ℕ) (c : Contains xs node) → slice_get xs c.0 ≡ Some node
 got xs node c = slice_get_read xs (length xs) c.0 node refl c.1 (sym c.2)
 
@@ -128,6 +128,7 @@ reached_before graph order _ _ place o is (by_walk from next to e r) =
     let more = reached_before graph order next to one.0 o one.2 r in
     (more.0, omega (arith, more.1, one.1), more.2)
 
+-- a node of an order does not stand before itself
 never_again : (graph : Graph) (order : List ℕ) (node bound place : ℕ) → IsOrder graph order → Reaches graph node node → place < bound → slice_get order place ≡ Some node → ⊥
 never_again graph order node zero place o r l is = omega arith
 never_again graph order node (suc bound) place o r l is =
@@ -143,11 +144,12 @@ orders_exclude graph order node o r =
 -- the end of the last walk
 pub up_all : (graph : List (Vec ℕ Global)) (walk : Walk) (root : ℕ) → IsUpTo graph walk root → length graph ≤ root → IsOver (trail_of walk)
 up_all graph walk root h all = record {
-    walk = h.proper;
-    path = h.path;
-    met = λ n l. h.met n (omega (arith, l, ap (λ g. length g) h.same, graph_length graph));
-  }
+  walk = h.proper;
+  path = h.path;
+  met = λ n l. h.met n (omega (arith, l, ap (λ g. length g) h.same, graph_length graph));
+}
 
+-- a root below the end is a node
 pub up_within : (graph : List (Vec ℕ Global)) (walk : Walk) (root : ℕ) → IsUpTo graph walk root → root < length graph → (root < length walk.marks.items) × (root < length walk.graph.now)
 up_within graph walk root h l =
     let long = ap (λ g. length g) h.same in

@@ -1,5 +1,5 @@
 -- The starts and the frames, over the steps of a walk.
-use Rattle.std.proofs.Common.{◌≡◌, ℕ, ◌+◌, ◌-◌, ◌<◌, ◌≤◌, ◌⊎◌, List, [], ◌∷◌, ◌++◌, length, take, Some, refl, sym, subst, ◌∙◌, inl, inr, arith}
+use Rattle.std.proofs.Common.{◌≡◌, ℕ, ◌+◌, ◌-◌, ◌<◌, List, [], ◌∷◌, ◌++◌, length, take, Some, sym, subst, inl, inr, arith}
 use Rattle.std.specs.List.{Contains, slice_get}
 use Rattle.std.proofs.lemmas.List.{length_push, length-take-le}
 use Rattle.std.proofs.lemmas.List.Elements.{Contains-append_left, Contains-push, Contains-push_cases}
@@ -7,6 +7,7 @@ use Rattle.std.proofs.lemmas.Bool.{cases_lt}
 use Rattle.topological_order.specs.Walks.{AreStacked, IsJoined}
 use Rattle.topological_order.proofs.Stacks.{rises_pushed, popped}
 
+-- a node is put on the path, with a start and a frame
 pub opened_stacking : (path starts frames : List ℕ) (node : ℕ) → AreStacked path starts frames → AreStacked (path ++ node ∷ []) (starts ++ length path ∷ []) (frames ++ length path ∷ [])
 opened_stacking path starts frames node h =
     let end = length path in
@@ -18,24 +19,26 @@ opened_stacking path starts frames node h =
       framed = λ s c. elim (Contains-push_cases starts end s c) [
         | inl old ↦ Contains-append_left frames (end ∷ []) s (h.framed s old)
         | inr e ↦ let P : ℕ → Type 0 = λ k. Contains (frames ++ end ∷ []) k in subst P e (Contains-push frames end)
-        ];
+      ];
       begun = λ some. elim (cases_lt 0 end) [
         | inl a ↦ Contains-append_left starts (end ∷ []) 0 (h.begun a)
         | inr b ↦
             let none : end ≡ 0 = omega arith in
             let P : ℕ → Type 0 = λ k. Contains (starts ++ end ∷ []) k in subst P none (Contains-push starts end)
-        ];
+      ];
     }
 
+-- parts are joined
 pub joined_stacking : (path starts frames left : List ℕ) (at : ℕ) → AreStacked path starts frames → IsJoined at starts left → AreStacked path left frames
 joined_stacking path starts frames left at h joined = record {
-    frames_rise = h.frames_rise;
-    on_path = h.on_path;
-    starts_rise = joined.rise;
-    framed = λ s c. h.framed s (joined.were s c);
-    begun = λ some. joined.stay 0 (h.begun some) (omega arith);
-  }
+  frames_rise = h.frames_rise;
+  on_path = h.on_path;
+  starts_rise = joined.rise;
+  framed = λ s c. h.framed s (joined.were s c);
+  begun = λ some. joined.stay 0 (h.begun some) (omega arith);
+}
 
+-- the last frame is taken off, where no part begins
 pub left_stacking : (path starts frames : List ℕ) (place : ℕ) → AreStacked path starts frames → slice_get frames (length frames - 1) ≡ Some place → (Contains starts place → ⊥) → AreStacked path starts (take (length frames - 1) frames)
 left_stacking path starts frames place h top free =
     let f = popped frames place top h.frames_rise in
@@ -47,9 +50,10 @@ left_stacking path starts frames place h top free =
       framed = λ s c. elim (f.cases s (h.framed s c)) [
         | inl old ↦ old
         | inr e ↦ let P : ℕ → Type 0 = λ k. Contains starts k in absurd (free (subst P (sym e) c))
-        ];
+      ];
     }
 
+-- the last part is taken off, with its start and its frame
 pub closed_stacking : (path starts frames : List ℕ) (place : ℕ) → AreStacked path starts frames → slice_get frames (length frames - 1) ≡ Some place → slice_get starts (length starts - 1) ≡ Some place → AreStacked (take place path) (take (length starts - 1) starts) (take (length frames - 1) frames)
 closed_stacking path starts frames place h top last =
     let f = popped frames place top h.frames_rise in

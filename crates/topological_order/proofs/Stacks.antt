@@ -1,11 +1,11 @@
 -- Lists that grow and shrink at their end.
-use Rattle.std.proofs.Common.{◌≡◌, ℕ, ◌+◌, ◌-◌, ◌<◌, ◌≤◌, ◌⊎◌, List, [], ◌∷◌, ◌++◌, length, take, get_or, Some, refl, sym, ap, subst, ◌∙◌, inl, inr, ⊎_elim, arith, length-append}
+use Rattle.std.proofs.Common.{◌≡◌, ℕ, ◌+◌, ◌-◌, ◌<◌, ◌≤◌, ◌⊎◌, List, [], ◌∷◌, ◌++◌, length, take, get_or, Some, refl, sym, ap, subst, ◌∙◌, inl, inr, arith}
 use Rattle.std.specs.List.{Contains, slice_get}
-use Rattle.std.proofs.lemmas.List.{get_or_append_left, get_or_default, take_more, take_all, get_or_push, length_push, length-take-le, get_or-take}
+use Rattle.std.proofs.lemmas.List.{get_or_append_left, get_or_default, take_more, take_all, get_or_push, length_push}
 use Rattle.std.proofs.lemmas.List.Elements.{Contains-append_left, Contains-push, Contains-push_cases}
 use Rattle.std.proofs.lemmas.Option.{slice_get_within, get_or_from_slice_get}
-use Rattle.std.proofs.lemmas.Bool.{cases_lt, cases_eq}
-use Rattle.topological_order.specs.Walks.{Rises, IsJoined}
+use Rattle.std.proofs.lemmas.Bool.{cases_lt}
+use Rattle.topological_order.specs.Walks.{Rises}
 
 -- a list is all but its last element, and that
 pub top_split : {X : Type 0} (xs : List X) (x : X) → slice_get xs (length xs - 1) ≡ Some x → xs ≡ take (length xs - 1) xs ++ x ∷ []
@@ -24,19 +24,21 @@ at_place xs k y l e = (k, l, get_or_default xs k y 0 l ∙ e)
 pub place_of : (xs : List ℕ) (y : ℕ) → Contains xs y → (k : ℕ) × (k < length xs) × (get_or xs k 0 ≡ y)
 place_of xs y h = (h.0, h.1, get_or_default xs h.0 0 y h.1 ∙ h.2)
 
+-- a list rises on by a greater number
 pub rises_pushed : (xs : List ℕ) (x : ℕ) → Rises xs → ((y : ℕ) → Contains xs y → y < x) → Rises (xs ++ x ∷ [])
 rises_pushed xs x rise below i j l m =
     let long : length (xs ++ x ∷ []) ≡ length xs + 1 = length_push xs x in
     let ei : get_or (xs ++ x ∷ []) i 0 ≡ get_or xs i 0 = get_or_append_left xs (x ∷ []) 0 i (omega arith) in
     elim (cases_lt j (length xs)) [
-    | inl a ↦
-        let ej : get_or (xs ++ x ∷ []) j 0 ≡ get_or xs j 0 = get_or_append_left xs (x ∷ []) 0 j a in
-        omega (arith, rise i j l a)
-    | inr b ↦
-        let ej : get_or (xs ++ x ∷ []) j 0 ≡ x = get_or_push xs x 0 j (omega arith) in
-        omega (arith, below (get_or xs i 0) (at_place xs i (get_or xs i 0) (omega arith) refl))
+      | inl a ↦
+          let ej : get_or (xs ++ x ∷ []) j 0 ≡ get_or xs j 0 = get_or_append_left xs (x ∷ []) 0 j a in
+          omega (arith, rise i j l a)
+      | inr b ↦
+          let ej : get_or (xs ++ x ∷ []) j 0 ≡ x = get_or_push xs x 0 j (omega arith) in
+          omega (arith, below (get_or xs i 0) (at_place xs i (get_or xs i 0) (omega arith) refl))
     ]
 
+-- the front of a list that rises does
 pub rises_front : (xs : List ℕ) (x : ℕ) → Rises (xs ++ x ∷ []) → Rises xs
 rises_front xs x rise i j l m =
     let long : length (xs ++ x ∷ []) ≡ length xs + 1 = length_push xs x in
@@ -44,6 +46,7 @@ rises_front xs x rise i j l m =
     let ej : get_or (xs ++ x ∷ []) j 0 ≡ get_or xs j 0 = get_or_append_left xs (x ∷ []) 0 j m in
     omega (arith, rise i j l (omega arith))
 
+-- the last of a list that rises is the greatest
 pub below_last : (xs : List ℕ) (x y : ℕ) → Rises (xs ++ x ∷ []) → Contains xs y → y < x
 below_last xs x y rise h =
     let p = place_of xs y h in
@@ -61,6 +64,7 @@ pub record IsPopped (xs ys : List ℕ) (x : ℕ) : Type 0 where
   pub cases : (y : ℕ) → Contains xs y → Contains ys y ⊎ (x ≡ y)
   pub most : (y : ℕ) → Contains xs y → y ≤ x
 
+-- a list that rises, without its last
 pub popped : (xs : List ℕ) (x : ℕ) → slice_get xs (length xs - 1) ≡ Some x → Rises xs → IsPopped xs (take (length xs - 1) xs) x
 popped xs x top rise =
     let ys = take (length xs - 1) xs in
@@ -98,9 +102,3 @@ joined_more all starts left at start top high e h =
       stay = λ s c low. elim (p.cases s (h.stay s c low)) [ inl old ↦ old | inr same ↦ absurd (omega arith) ];
     } in
     subst P (sym e) there
-
--- where the last start is at most the place, all are
-pub joined_end : (all starts : List ℕ) (at start : ℕ) → slice_get starts (length starts - 1) ≡ Some start → start ≤ at → AreAbove at all starts → IsJoined at all starts
-joined_end all starts at start top low h =
-    let p = popped starts start top h.rise in
-    record { rise = h.rise; were = h.were; stay = h.stay; low = λ s c. omega (arith, p.most s c) }

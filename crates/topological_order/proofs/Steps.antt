@@ -1,14 +1,13 @@
 -- The steps of a walk along an edge.
-use Rattle.std.proofs.Common.{◌≡◌, ℕ, ◌+◌, ◌-◌, ◌<◌, ◌≤◌, ◌⊎◌, List, [], ◌∷◌, ◌++◌, length, set, take, drop, get_or, Option, Some, None, refl, sym, ap, subst, ◌∙◌, inl, inr, arith}
-use Rattle.std.specs.List.{Contains, slice_get, count_by}
+use Rattle.std.proofs.Common.{◌≡◌, ℕ, ◌+◌, ◌-◌, ◌<◌, ◌≤◌, List, [], ◌∷◌, length, set, take, get_or, Option, Some, None, refl, sym, ap, subst, ◌∙◌, inl, inr, arith}
+use Rattle.std.specs.List.{Contains, slice_get}
 use Rattle.std.proofs.lemmas.List.{get_or_past, get_or_append_left, length_push, length-take-le}
-use Rattle.std.proofs.lemmas.List.Elements.{Contains-push_cases}
 use Rattle.std.proofs.lemmas.Option.{slice_get_within, slice_get-get_or}
 use Rattle.std.proofs.lemmas.Bool.{cases_lt, cases_order}
 use Rattle.topological_order.specs.Graphs.{Graph, HasEdge, Reaches, by_edge}
 use Rattle.topological_order.specs.declared.walk.Mark.{Mark}
 use Rattle.topological_order.specs.declared.walk.Mark.TheVariants.{New, Open, Done}
-use Rattle.topological_order.specs.Walks.{Trail, mark_of, row_of, is_new, opened, effort, IsAtMost, IsWalk, IsJoined, lesser, IsAtEdge, IsMet, IsAtEnd, Follows}
+use Rattle.topological_order.specs.Walks.{Trail, mark_of, row_of, opened, effort, IsAtMost, IsWalk, IsJoined, lesser, IsAtEdge, IsMet, IsAtEnd, Follows}
 use Rattle.topological_order.proofs.Stacks.{popped}
 use Rattle.topological_order.proofs.Marks.{mark_set, mark_cases, new_count_open}
 use Rattle.topological_order.proofs.Edges.{has_edge, to_within, reach_over, Joins}
@@ -23,6 +22,7 @@ use Rattle.topological_order.proofs.Efforts.{edges_less}
 pub marked_within : (marks : List Mark) (node : ℕ) → (mark_of marks node ≡ New → ⊥) → node < length marks
 marked_within marks node met = elim (cases_lt node (length marks)) [ inl l ↦ l | inr past ↦ absurd (met (get_or_past marks node New past)) ]
 
+-- a node that the whole path reaches is put on it
 pub opened_walk : (s : Trail) (node : ℕ) → IsWalk s → node < length s.graph → mark_of s.marks node ≡ New → ((i : ℕ) → i < length s.path → Reaches s.graph (get_or s.path i 0) node) → IsWalk (opened s node)
 opened_walk s node w l fresh reach =
     let within : node < length s.marks = omega (arith, w.marking.all_marked) in
@@ -35,9 +35,11 @@ opened_walk s node w l fresh reach =
       ending = opened_ending s.graph s.marks s.looked s.order s.first node (length s.path) w.ending within fresh;
     }
 
+-- a node that is new later was new before
 pub opened_kept : (s : Trail) (node n : ℕ) → node < length s.marks → mark_of (opened s node).marks n ≡ New → mark_of s.marks n ≡ New
 opened_kept s node n l is = elim (mark_cases s.marks node n (Open (length s.path)) New l is) [ inl e ↦ (cc (e.1)) | inr o ↦ o.1 ]
 
+-- less is left to be done, when a new node is put on the path
 pub opened_less : (s : Trail) (node : ℕ) → node < length s.marks → mark_of s.marks node ≡ New → effort (opened s node) < effort s
 opened_less s node l fresh = omega (arith, new_count_open s.marks node (length s.path) l fresh, length_push s.frames (length s.path))
 
@@ -49,6 +51,7 @@ pub record IsHere (s : Trail) (place : ℕ) : Type 0 where
   pub mark : mark_of s.marks (get_or s.path place 0) ≡ Open place
   pub node : get_or s.path place 0 < length s.graph
 
+-- the node at the last frame
 pub is_here : (s : Trail) (place : ℕ) → IsWalk s → slice_get s.frames (length s.frames - 1) ≡ Some place → IsHere s place
 is_here s place w top =
     let f = popped s.frames place top w.stacking.frames_rise in
@@ -76,6 +79,7 @@ edge_in s place to a =
     let within = to_within s.graph node (get_or s.looked node 0) to a.walk.whole (is_here s place a.walk a.top).node a.edge in
     omega (arith, within, a.walk.marking.all_marked)
 
+-- the edge leads to a new node
 pub met_new : (s : Trail) (place to : ℕ) → IsAtEdge s place to → mark_of s.marks to ≡ New → IsMet s (opened s to) place to
 met_new s place to a fresh =
     let w = a.walk in
@@ -85,29 +89,30 @@ met_new s place to a fresh =
     let within : to < length s.graph = to_within s.graph node (get_or s.looked node 0) to w.whole here.node a.edge in
     let inside : to < length s.marks = omega (arith, w.marking.all_marked) in
     let reach : (i : ℕ) → i < end → Reaches s.graph (get_or s.path i 0) to =
-      λ i l.
-      let up : Joins s.graph (get_or s.path i 0) node = elim (cases_order i place) [
-        | inl e ↦ inl (ap (λ k. get_or s.path k 0) e)
-        | inr (inl less) ↦ inr (w.linking.forth i place less here.within)
-        | inr (inr more) ↦ inr (w.linking.back place i more l (λ start c low high. omega (arith, here.most start c)))
-        ] in
-      reach_over s.graph (get_or s.path i 0) node to to up (edge_here s place to a) (inl refl) in
+    λ i l.
+    let up : Joins s.graph (get_or s.path i 0) node = elim (cases_order i place) [
+      | inl e ↦ inl (ap (λ k. get_or s.path k 0) e)
+      | inr (inl less) ↦ inr (w.linking.forth i place less here.within)
+      | inr (inr more) ↦ inr (w.linking.back place i more l (λ start c low high. omega (arith, here.most start c)))
+    ] in
+    reach_over s.graph (get_or s.path i 0) node to to up (edge_here s place to a) (inl refl) in
     record {
       graph = refl;
       walk = opened_walk s to w within fresh reach;
       looked = refl;
       within = omega (arith, here.within, length_push s.path to);
       here = get_or_append_left s.path (to ∷ []) 0 place here.within;
-      leads = inr
-        ( end
-        , mark_set s.marks to (Open end) inside
-        , λ start c low. omega (arith, here.within)
-        );
+      leads = inr (
+        end,
+        mark_set s.marks to (Open end) inside,
+        λ start c low. omega (arith, here.within),
+      );
       looped = λ e. let other : mark_of s.marks to ≡ Open place = ap (mark_of s.marks) (sym e) ∙ here.mark in (cc);
       kept = λ n is. opened_kept s to n inside is;
       less = omega (arith, opened_less s to inside fresh);
     }
 
+-- the edge leads to an open node
 met_open : (s : Trail) (place to at : ℕ) (left : List ℕ) (after : Option ℕ) → IsAtEdge s place to → mark_of s.marks to ≡ Open at → IsJoined at s.starts left → AreNoted s.graph s.first after → (get_or s.path place 0 ≡ to → IsAtMost after to) → IsMet s (record s { starts = left; first = after }) place to
 met_open s place to at left after a mark joined notes loop =
     let w = a.walk in
@@ -134,6 +139,7 @@ met_open s place to at left after a mark joined notes loop =
       less = omega arith;
     }
 
+-- the edge leads to its own node
 pub met_self : (s : Trail) (place to at : ℕ) (left : List ℕ) → IsAtEdge s place to → mark_of s.marks to ≡ Open at → IsJoined at s.starts left → at ≡ place → IsMet s (record s { starts = left; first = lesser s.first to }) place to
 met_self s place to at left a mark joined e =
     let there = a.walk.marking.placed to at mark in
@@ -142,16 +148,18 @@ met_self s place to at left a mark joined e =
     let cycle : Reaches s.graph to to = by_edge to to (subst P same (edge_here s place to a)) in
     met_open s place to at left (lesser s.first to) a mark joined (noted s.graph s.first to a.walk.ending.sound cycle) (λ q. lesser_here s.first to)
 
+-- the edge leads to another open node
 pub met_other : (s : Trail) (place to at : ℕ) (left : List ℕ) → IsAtEdge s place to → mark_of s.marks to ≡ Open at → IsJoined at s.starts left → (at ≡ place → ⊥) → IsMet s (record s { starts = left }) place to
 met_other s place to at left a mark joined ne =
     let here = is_here s place a.walk a.top in
     let apart : get_or s.path place 0 ≡ to → IsAtMost s.first to =
-      λ e.
-      let other : mark_of s.marks to ≡ Open place = ap (mark_of s.marks) (sym e) ∙ here.mark in
-      let same : at ≡ place = cc in
-      absurd (ne same) in
+    λ e.
+    let other : mark_of s.marks to ≡ Open place = ap (mark_of s.marks) (sym e) ∙ here.mark in
+    let same : at ≡ place = cc in
+    absurd (ne same) in
     met_open s place to at left s.first a mark joined (noted_same s.graph s.first a.walk.ending.sound) apart
 
+-- the edge leads to a node that is done
 pub met_done : (s : Trail) (place to : ℕ) → IsAtEdge s place to → mark_of s.marks to ≡ Done → IsMet s s place to
 met_done s place to a done =
     let here = is_here s place a.walk a.top in
@@ -167,15 +175,16 @@ met_done s place to a done =
       less = omega arith;
     }
 
+-- the next edge was looked at
 pub looked_follows : (s t : Trail) (place to node : ℕ) → IsAtEdge s place to → IsMet s t place to → get_or t.path place 0 ≡ node → Follows s (record t { looked = set t.looked node (get_or t.looked node 0 + 1) })
 looked_follows s t place to node a m is =
     let w = m.walk in
     let was : get_or s.path place 0 ≡ node = sym m.here ∙ is in
     let edge : slice_get (row_of t.graph node) (get_or t.looked node 0) ≡ Some to =
-      ap (λ g. slice_get (row_of g node) (get_or t.looked node 0)) m.graph
-      ∙ ap (λ l. slice_get (row_of s.graph node) (get_or l node 0)) m.looked
-      ∙ ap (λ n. slice_get (row_of s.graph n) (get_or s.looked n 0)) (sym was)
-      ∙ a.edge in
+    ap (λ g. slice_get (row_of g node) (get_or t.looked node 0)) m.graph
+    ∙ ap (λ l. slice_get (row_of s.graph node) (get_or l node 0)) m.looked
+    ∙ ap (λ n. slice_get (row_of s.graph n) (get_or s.looked n 0)) (sym was)
+    ∙ a.edge in
     let mark : mark_of t.marks node ≡ Open place = w.marking.marked place node m.within is in
     let inside : node < length t.marks = marked_within t.marks node (λ no. (cc)) in
     let within : node < length t.graph = omega (arith, w.marking.all_marked) in
@@ -200,6 +209,7 @@ looked_follows s t place to node a m is =
 pub none_past : (xs : List ℕ) (k : ℕ) → slice_get xs k ≡ None → length xs ≤ k
 none_past xs k is = elim (cases_lt k (length xs)) [ inl l ↦ let some = slice_get-get_or xs k 0 l in (cc) | inr past ↦ past ]
 
+-- the last frame is taken off, where no part begins
 pub left_follows : (s : Trail) (place : ℕ) → IsAtEnd s place → (Contains s.starts place → ⊥) → Follows s (record s { frames = take (length s.frames - 1) s.frames })
 left_follows s place a free =
     let w = a.walk in
@@ -240,18 +250,21 @@ pub record IsCounted (s t : Trail) (place to node count : ℕ) : Type 0 where
   pub here : get_or t.path place 0 ≡ node
   pub counted : get_or t.looked node 0 ≡ count
 
+-- the node has a count
 pub counted_in : (s t : Trail) (place to node : ℕ) → IsAtEdge s place to → IsMet s t place to → get_or t.path place 0 ≡ node → node < length t.looked
 counted_in s t place to node a m is =
     let h = is_here s place a.walk a.top in
     let was : get_or s.path place 0 ≡ node = sym m.here ∙ is in
     omega (arith, h.node, ap (λ g. length g) m.graph, m.walk.marking.all_looked)
 
+-- the count is below the length of the row
 pub counted_less : (s t : Trail) (place to node count : ℕ) → IsCounted s t place to node count → count < length (row_of s.graph node)
 counted_less s t place to node count h =
     let was : get_or s.path place 0 ≡ node = sym h.met.here ∙ h.here in
     let less = slice_get_within (row_of s.graph (get_or s.path place 0)) (get_or s.looked (get_or s.path place 0) 0) to h.edge.edge in
     omega (arith, less, ap (λ n. length (row_of s.graph n)) was, ap (λ n. get_or s.looked n 0) was, ap (λ l. get_or l node 0) h.met.looked, h.counted)
 
+-- one more edge is counted
 pub counted_follows : (s t : Trail) (place to node count : ℕ) → IsCounted s t place to node count → Follows s (record t { looked = set t.looked node (count + 1) })
 counted_follows s t place to node count h =
     let P : ℕ → Type 0 = λ k. Follows s (record t { looked = set t.looked node (k + 1) }) in

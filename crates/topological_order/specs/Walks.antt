@@ -20,15 +20,15 @@ pub record Trail : Type 0 where
 -- The same of the code's walk.
 abbrev pub trail_of : Walk → Trail
 trail_of w = record {
-    graph = graph_of w.graph.now;
-    marks = w.marks.items;
-    looked = w.looked.items;
-    path = w.path.items;
-    starts = w.starts.items;
-    frames = w.frames.items;
-    order = w.order.items;
-    first = w.first;
-  }
+  graph = graph_of w.graph.now;
+  marks = w.marks.items;
+  looked = w.looked.items;
+  path = w.path.items;
+  starts = w.starts.items;
+  frames = w.frames.items;
+  order = w.order.items;
+  first = w.first;
+}
 
 -- The nodes to which a node's edges lead.
 abbrev pub row_of : Graph → ℕ → List ℕ
@@ -90,7 +90,7 @@ pub record AreLooked (graph : Graph) (marks : List Mark) (looked path starts fra
   pub leads : (place node edge : ℕ) → place < length path → slice_index path place ≡ node → edge < slice_index looked node → LeadsOn marks starts place (slice_index (row_of graph node) edge)
   pub ended : (place node : ℕ) → place < length path → slice_index path place ≡ node → (Contains frames place → ⊥) → length (row_of graph node) ≤ slice_index looked node
 
--- Nodes that are done lead to such nodes. The node that was found reaches itself, and is the least of those that are done and do.
+-- Nodes that are done lead to such nodes. The node that was found reaches itself, and isn't above one that is done and does, or one whose edge to itself was looked at. Where none was found, each node stands in the order behind those that its edges lead to.
 pub record AreEnded (graph : Graph) (marks : List Mark) (looked order : List ℕ) (first : Option ℕ) : Type 0 where
   pub closed : (node next : ℕ) → mark_of marks node ≡ Done → HasEdge graph node next → mark_of marks next ≡ Done
   pub sound : (node : ℕ) → first ≡ Some node → Reaches graph node node
@@ -110,11 +110,11 @@ pub record IsWalk (s : Trail) : Type 0 where
 -- A node is put on the path.
 abbrev pub opened : Trail → ℕ → Trail
 opened s node = record s {
-    marks = slice_set s.marks node (Open (length s.path));
-    path = s.path ++ node ∷ [];
-    starts = s.starts ++ length s.path ∷ [];
-    frames = s.frames ++ length s.path ∷ [];
-  }
+  marks = slice_set s.marks node (Open (length s.path));
+  path = s.path ++ node ∷ [];
+  starts = s.starts ++ length s.path ∷ [];
+  frames = s.frames ++ length s.path ∷ [];
+}
 
 -- Nodes are done.
 abbrev pub done_all : List ℕ → List Mark → List Mark
@@ -123,13 +123,13 @@ done_all nodes marks = fold (λ done node. slice_set done node Done) marks nodes
 -- The last part, from that place on, is taken off the path. Where it has several nodes, all of them reach themselves.
 abbrev pub closed : Trail → ℕ → Trail
 closed s start = record s {
-    marks = done_all (drop start s.path) s.marks;
-    path = take start s.path;
-    starts = take (length s.starts - 1) s.starts;
-    frames = take (length s.frames - 1) s.frames;
-    order = s.order ++ drop start s.path;
-    first = if nat_lt 1 (length (drop start s.path)) then fold lesser s.first (drop start s.path) else s.first;
-  }
+  marks = done_all (drop start s.path) s.marks;
+  path = take start s.path;
+  starts = take (length s.starts - 1) s.starts;
+  frames = take (length s.frames - 1) s.frames;
+  order = s.order ++ drop start s.path;
+  first = if nat_lt 1 (length (drop start s.path)) then fold lesser s.first (drop start s.path) else s.first;
+}
 
 -- Of the starts those up to that place are left.
 pub record IsJoined (at : ℕ) (starts left : List ℕ) : Type 0 where

@@ -1,6 +1,6 @@
 //! Graphs with an order, and graphs with nodes that reach themselves.
 
-ghost use Rattle.std.specs.Prelude.{IsTrue};
+ghost use Rattle.std.specs.Prelude.{◌<◌, All, IsTrue};
 ghost use Rattle.topological_order.specs.Graphs.{graph_of, IsClosed};
 
 use crate::{Sorted, laws, topological_order};
@@ -39,12 +39,21 @@ fn graph(alloc: Global, rows: &[&[usize]]) -> Result<Vec<Vec<usize>>, Memory> {
     Ok(graph)
 }
 
+fn is_within(row: &[usize], len: usize) -> bool
+    ensures { IsTrue result → All (λ to. to < len) row.now }
+{
+    row.iter().all(|to| *to < len)
+}
+
 fn is_closed(graph: &[Vec<usize>]) -> bool
     ensures { IsTrue result → IsClosed (graph_of graph.now) }
 {
-    graph
-        .iter()
-        .all(|row| row.iter().all(|to| *to < graph.len()))
+    for row in graph {
+        if !is_within(row, graph.len()) {
+            return false;
+        }
+    }
+    true
 }
 
 fn sorted(alloc: Global, graph: &[Vec<usize>]) -> Result<Sorted, Fail> {
@@ -70,10 +79,8 @@ fn first_cyclic_nodes(rt: HostRuntime) -> Result<(), Fail> {
     Ok(())
 }
 
-/// A chain of so many nodes, from the first to the last.
-fn chain(alloc: Global, len: usize) -> Result<Vec<Vec<usize>>, Memory>
-    requires { 0 < len }
-{
+/// A chain of so many nodes, from the first to the last: one at least.
+fn chain(alloc: Global, len: usize) -> Result<Vec<Vec<usize>>, Memory> {
     let mut graph = Vec::new(alloc);
     for to in 1..len {
         graph.push(vec![in alloc; to]?)?;

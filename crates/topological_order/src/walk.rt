@@ -32,7 +32,7 @@ pub(crate) struct Walk<'a> {
     frames: Vec<usize>,
     /// The nodes that are done, each behind those that its edges lead to, unless one reaches itself.
     pub order: Vec<usize>,
-    /// The least node of those that are done and reach themselves.
+    /// The least node of those that were found to reach themselves.
     pub first: Option<usize>,
 }
 

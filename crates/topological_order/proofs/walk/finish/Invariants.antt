@@ -4,7 +4,7 @@ use Rattle.topological_order.proofs.walk.finish.Given as goal
 
 abbrev pub invariant-loop-node : goal.invariant-loop-node
 invariant-loop-node l = record {
-    many : length l.marks.items ≡ length l.initial.marks.items;
-    marks : l.marks.items ≡ done_all (take l.node-index l.part) l.initial.marks.items;
-    order : l.order.items ≡ l.initial.order.items ++ take l.node-index l.part;
-  }
+  many : length l.marks.items ≡ length l.initial.marks.items;
+  marks : l.marks.items ≡ done_all (take l.node-index l.part) l.initial.marks.items;
+  order : l.order.items ≡ l.initial.order.items ++ take l.node-index l.part;
+}

@@ -1,6 +1,6 @@
 use Rattle.std.proofs.Common.{◌≡◌, ◌-◌, length, take, Some, ap, ◌∙◌, arith}
 use Rattle.std.specs.List.{slice_get}
-use Rattle.topological_order.proofs.Stacks.{joined_more, joined_end}
+use Rattle.topological_order.proofs.Stacks.{joined_more}
 use Rattle.topological_order.proofs.walk.join.Goals as goal
 
 pub loop-start-preserved : goal.loop-start-preserved

@@ -4,7 +4,7 @@ use Rattle.std.proofs.lemmas.Bool.{iff_false}
 use Rattle.std.proofs.lemmas.Result.{on_ok_weaker}
 use Rattle.topological_order.specs.Walks.{Trail, trail_of, closed, Follows}
 use Rattle.topological_order.proofs.Steps.{is_here, begins_none, left_follows}
-use Rattle.topological_order.proofs.Closing.{IsEnding, path_marked, closed_follows}
+use Rattle.topological_order.proofs.Closing.{path_marked, closed_follows}
 use Rattle.topological_order.proofs.walk.Walk.leave.Goals as goal
 
 pub close-requires-clause-within : goal.close-requires-clause-within

@@ -1,4 +1,4 @@
-use Rattle.std.proofs.Common.{◌≡◌, ◌<◌, length, get_or, arith}
+use Rattle.std.proofs.Common.{◌≡◌, get_or, arith}
 use Rattle.topological_order.specs.Walks.{trail_of}
 use Rattle.topological_order.proofs.Stacks.{read}
 use Rattle.topological_order.proofs.Edges.{row_small}

@@ -1,6 +1,5 @@
 use Rattle.std.proofs.Common.{◌≡◌, Option, ℕ, sym, subst, ◌∙◌, arith}
 use Rattle.std.proofs.lemmas.List.{get_or_read}
-use Rattle.topological_order.specs.declared.walk.Mark.{Mark}
 use Rattle.topological_order.specs.declared.walk.Mark.TheVariants.{New, Open, Done}
 use Rattle.topological_order.specs.Walks.{Trail, trail_of, mark_of, IsMet}
 use Rattle.topological_order.proofs.Steps.{edge_in, met_new, met_self, met_other, met_done}

@@ -1,4 +1,4 @@
-use Rattle.std.proofs.Common.{◌≡◌, ℕ, length, get_or, sym, subst, ◌∙◌, arith}
+use Rattle.std.proofs.Common.{◌≡◌, get_or, ◌∙◌, arith}
 use Rattle.topological_order.specs.Walks.{trail_of}
 use Rattle.topological_order.proofs.Stacks.{read}
 use Rattle.topological_order.proofs.Edges.{graph_length}

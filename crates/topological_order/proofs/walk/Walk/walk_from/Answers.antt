@@ -1,4 +1,4 @@
-use Rattle.std.proofs.Common.{◌≡◌, ◌<◌, length, sym, subst, ap, ◌∙◌, arith}
+use Rattle.std.proofs.Common.{◌≡◌, ◌<◌, length, sym, subst, ap, arith}
 use Rattle.topological_order.specs.declared.walk.Mark.TheVariants.{New, Open}
 use Rattle.topological_order.specs.Walks.{Trail, trail_of, mark_of, opened, Follows}
 use Rattle.topological_order.proofs.Edges.{graph_length}
