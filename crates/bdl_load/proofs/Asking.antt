@@ -36,6 +36,10 @@ other_first name x xs e = from (bytes_eq name x) refl
     from false is = (is, sym (ap (λ b. b || is_among name xs) is) ∙ e)
     from true is = absurd (cc (is, e))
 
+pub distinct_none : IsDistinct bytes_eq []
+unfolding IsDistinct
+distinct_none = tt
+
 -- a new name is different from those before it
 pub distinct_snoc : (names : List (List ℕ)) (name : List ℕ) → IsDistinct bytes_eq names → is_among name names ≡ false → IsDistinct bytes_eq (names ++ name ∷ [])
 unfolding IsDistinct

@@ -34,14 +34,14 @@ known_import files taking from loaded import rest d chosen =
     loaded_nothing files loaded (λ held. Passes held taking from loaded (import ∷ rest) loaded rest) d (λ held outcome t. Takes.known taking loaded from import rest outcome chosen.0 chosen.1 t)
 
 -- the file of an import, under the name that it was fetched by
-enters_read : (held : Holding) (taking : List (List ℕ)) (loaded : List LoadedFile) (files : Files) (name : List ℕ) (file : LoadedFile) (r : IsRead files name file) (outcome : Loading)
+pub enters_read : (held : Holding) (taking : List (List ℕ)) (loaded : List LoadedFile) (files : Files) (name : List ℕ) (file : LoadedFile) (r : IsRead files name file) (outcome : Loading)
     → Takes held (taking ++ file.name ∷ []) (loaded ++ file ∷ []) file.name file.«module».imports outcome → Enters held taking loaded name r.source outcome
 enters_read held taking loaded files name file r outcome t =
     Enters.read taking loaded name r.source r.module_ outcome r.says
     (subst (λ (file : LoadedFile). Takes held (taking ++ file.name ∷ []) (loaded ++ file ∷ []) file.name file.«module».imports outcome) r.is t)
 
 -- it is held under that name
-begun_file : (files : Files) (loaded : List LoadedFile) (name : List ℕ) (file : LoadedFile) (r : IsRead files name file) → IsDistinct bytes_eq (names_of loaded) → is_among name (names_of loaded) ≡ false
+pub begun_file : (files : Files) (loaded : List LoadedFile) (name : List ℕ) (file : LoadedFile) (r : IsRead files name file) → IsDistinct bytes_eq (names_of loaded) → is_among name (names_of loaded) ≡ false
     → Loaded files loaded (loaded ++ file ∷ []) (λ held. held name ≡ Some r.source)
 begun_file files loaded name file r d fresh =
     subst (λ (other : LoadedFile). Loaded files loaded (loaded ++ other ∷ []) (λ held. held name ≡ Some r.source)) (sym r.is)
@@ -148,33 +148,33 @@ all_taken files loaded later taking from number all l =
 -- ---- a file that was just added
 
 -- what comes of the imports of the last file comes of those of the file that was added
-added : (held : Holding) (loaded begun : List LoadedFile) (file : LoadedFile) (taking now : List ℕ) (outcome : Loading) → All (λ number. number < length loaded) taking
+added : (held : Holding) (loaded begun : List LoadedFile) (file : LoadedFile) (taking now : List ℕ) (from : ℕ) (outcome : Loading) → from ≡ length loaded → All (λ number. number < length loaded) taking
     → begun ≡ loaded ++ file ∷ [] → now ≡ taking ++ length loaded ∷ []
-    → Takes held (names_at begun now) begun (file_at begun (length loaded)).name (file_at begun (length loaded)).«module».imports outcome
+    → Takes held (names_at begun now) begun (file_at begun from).name (file_at begun from).«module».imports outcome
     → Takes held (names_at loaded taking ++ file.name ∷ []) (loaded ++ file ∷ []) file.name file.«module».imports outcome
-added held loaded begun file taking now outcome all files numbers t =
-    let last = ap (λ files. file_at files (length loaded)) files ∙ file_added loaded file in
+added held loaded begun file taking now from outcome place all files numbers t =
+    let last = ap (file_at begun) place ∙ ap (λ files. file_at files (length loaded)) files ∙ file_added loaded file in
     let names = ap (names_at begun) numbers ∙ ap (λ files. names_at files (taking ++ length loaded ∷ [])) files ∙ names_added loaded file taking all in
     subst (λ names. Takes held names (loaded ++ file ∷ []) file.name file.«module».imports outcome) names
     (subst (λ files. Takes held (names_at begun now) files file.name file.«module».imports outcome) files
         (subst (λ (file : LoadedFile). Takes held (names_at begun now) begun file.name file.«module».imports outcome) last t))
 
-pub added_loaded : (files : Files) (loaded begun later : List LoadedFile) (file : LoadedFile) (taking now : List ℕ) → AreSound loaded taking → begun ≡ loaded ++ file ∷ [] → now ≡ taking ++ length loaded ∷ []
-    → Loaded files begun later (λ held. Takes held (names_at begun now) begun (file_at begun (length loaded)).name (file_at begun (length loaded)).«module».imports (all_loaded later))
+pub added_loaded : (files : Files) (loaded begun later : List LoadedFile) (file : LoadedFile) (taking now : List ℕ) (from : ℕ) → from ≡ length loaded → AreSound loaded taking → begun ≡ loaded ++ file ∷ [] → now ≡ taking ++ length loaded ∷ []
+    → Loaded files begun later (λ held. Takes held (names_at begun now) begun (file_at begun from).name (file_at begun from).«module».imports (all_loaded later))
     → Loaded files (loaded ++ file ∷ []) later (λ held. Takes held (names_at loaded taking ++ file.name ∷ []) (loaded ++ file ∷ []) file.name file.«module».imports (all_loaded later))
-added_loaded files loaded begun later file taking now sound is numbers l =
+added_loaded files loaded begun later file taking now from place sound is numbers l =
     subst (λ begun. Loaded files begun later (λ held. Takes held (names_at loaded taking ++ file.name ∷ []) (loaded ++ file ∷ []) file.name file.«module».imports (all_loaded later))) is
     (loaded_so files begun later
-        (λ held. Takes held (names_at begun now) begun (file_at begun (length loaded)).name (file_at begun (length loaded)).«module».imports (all_loaded later))
+        (λ held. Takes held (names_at begun now) begun (file_at begun from).name (file_at begun from).«module».imports (all_loaded later))
         (λ held. Takes held (names_at loaded taking ++ file.name ∷ []) (loaded ++ file ∷ []) file.name file.«module».imports (all_loaded later))
-        l (λ held. added held loaded begun file taking now (all_loaded later) sound.taken is numbers))
+        l (λ held. added held loaded begun file taking now from (all_loaded later) place sound.taken is numbers))
 
-pub added_stopped : (files : Files) (loaded begun : List LoadedFile) (file : LoadedFile) (taking now : List ℕ) (fault : Fault) → AreSound loaded taking → begun ≡ loaded ++ file ∷ [] → now ≡ taking ++ length loaded ∷ []
-    → Stopped files begun (λ held. Takes held (names_at begun now) begun (file_at begun (length loaded)).name (file_at begun (length loaded)).«module».imports (stopped fault))
+pub added_stopped : (files : Files) (loaded begun : List LoadedFile) (file : LoadedFile) (taking now : List ℕ) (from : ℕ) (fault : Fault) → from ≡ length loaded → AreSound loaded taking → begun ≡ loaded ++ file ∷ [] → now ≡ taking ++ length loaded ∷ []
+    → Stopped files begun (λ held. Takes held (names_at begun now) begun (file_at begun from).name (file_at begun from).«module».imports (stopped fault))
     → Stopped files (loaded ++ file ∷ []) (λ held. Takes held (names_at loaded taking ++ file.name ∷ []) (loaded ++ file ∷ []) file.name file.«module».imports (stopped fault))
-added_stopped files loaded begun file taking now fault sound is numbers s =
+added_stopped files loaded begun file taking now from fault place sound is numbers s =
     subst (λ begun. Stopped files begun (λ held. Takes held (names_at loaded taking ++ file.name ∷ []) (loaded ++ file ∷ []) file.name file.«module».imports (stopped fault))) is
     (stopped_so files begun
-        (λ held. Takes held (names_at begun now) begun (file_at begun (length loaded)).name (file_at begun (length loaded)).«module».imports (stopped fault))
+        (λ held. Takes held (names_at begun now) begun (file_at begun from).name (file_at begun from).«module».imports (stopped fault))
         (λ held. Takes held (names_at loaded taking ++ file.name ∷ []) (loaded ++ file ∷ []) file.name file.«module».imports (stopped fault))
-        s (λ held. added held loaded begun file taking now (stopped fault) sound.taken is numbers))
+        s (λ held. added held loaded begun file taking now from (stopped fault) place sound.taken is numbers))
