@@ -149,7 +149,10 @@ stopped_file files earlier name content d fresh told = record { answers = record
 -- what comes of it comes of it in other words
 pub loaded_so : (files : Files) (earlier later : List LoadedFile) (C D : Holding → Type 0) → Loaded files earlier later C → ((held : Holding) → C held → D held) → Loaded files earlier later D
 loaded_so files earlier later C D l so = record {
-  more = l.more; answers = l.answers; grown = l.grown; names = l.names;
+  more = l.more;
+  answers = l.answers;
+  grown = l.grown;
+  names = l.names;
   given = record { told = l.given.told; distinct = l.given.distinct; comes = λ held g. so held (l.given.comes held g) };
 }
 

@@ -50,8 +50,8 @@ pub fetched_step : (files now : Files) (loaded later : List LoadedFile) (taking 
 fetched_step files now loaded later taking from number import name file next d fetched named told read l =
     subst (λ those. Loaded files loaded later (λ held. Passes held (names_at loaded taking) (file_at loaded from).name loaded those later (drop (number + 1) (imports_at loaded from)))) (sym next)
     (fetched_import files (names_at loaded taking) (file_at loaded from).name loaded later import (drop (number + 1) (imports_at loaded from)) file d fetched
-        (subst (λ name. IsRead files name file) named read)
-        (subst (λ files. Loaded files (loaded ++ file ∷ []) later (λ held. Takes held (names_at loaded taking ++ file.name ∷ []) (loaded ++ file ∷ []) file.name file.«module».imports (all_loaded later))) told l))
+    (subst (λ name. IsRead files name file) named read)
+    (subst (λ files. Loaded files (loaded ++ file ∷ []) later (λ held. Takes held (names_at loaded taking ++ file.name ∷ []) (loaded ++ file ∷ []) file.name file.«module».imports (all_loaded later))) told l))
 
 -- loading stops at the import of that number
 stops : (files : Files) (loaded : List LoadedFile) (taking : List ℕ) (from number : ℕ) (import : Import) (fault : Fault) → IsNext loaded from number import
@@ -66,15 +66,15 @@ pub stopped_step : (files now : Files) (loaded : List LoadedFile) (taking : List
 stopped_step files now loaded taking from number import name file fault next d fetched named told read s =
     stops files loaded taking from number import fault next
     (stopped_import files (names_at loaded taking) (file_at loaded from).name loaded import (drop (number + 1) (imports_at loaded from)) file fault d fetched
-        (subst (λ name. IsRead files name file) named read)
-        (subst (λ files. Stopped files (loaded ++ file ∷ []) (λ held. Takes held (names_at loaded taking ++ file.name ∷ []) (loaded ++ file ∷ []) file.name file.«module».imports (stopped fault))) told s))
+    (subst (λ name. IsRead files name file) named read)
+    (subst (λ files. Stopped files (loaded ++ file ∷ []) (λ held. Takes held (names_at loaded taking ++ file.name ∷ []) (loaded ++ file ∷ []) file.name file.«module».imports (stopped fault))) told s))
 
 pub chosen_step : (files : Files) (loaded : List LoadedFile) (taking : List ℕ) (from number : ℕ) (import : Import) (text : List ℕ) (fault : Fault) → IsNext loaded from number import → IsDistinct bytes_eq (names_of loaded)
     → text ≡ (file_at loaded from).name → ((held : Holding) → (rest : List Import) → Takes held (names_at loaded taking) loaded text (import ∷ rest) (stopped fault)) → Stopped files loaded (StopsAt loaded taking from number fault)
 chosen_step files loaded taking from number import text fault next d same t =
     stops files loaded taking from number import fault next
     (stopped_nothing files loaded (λ held. Takes held (names_at loaded taking) loaded (file_at loaded from).name (import ∷ drop (number + 1) (imports_at loaded from)) (stopped fault)) d
-        (λ held. subst (λ text. Takes held (names_at loaded taking) loaded text (import ∷ drop (number + 1) (imports_at loaded from)) (stopped fault)) same (t held (drop (number + 1) (imports_at loaded from)))))
+    (λ held. subst (λ text. Takes held (names_at loaded taking) loaded text (import ∷ drop (number + 1) (imports_at loaded from)) (stopped fault)) same (t held (drop (number + 1) (imports_at loaded from)))))
 
 pub broken_step : (files : Files) (loaded : List LoadedFile) (taking : List ℕ) (from number : ℕ) (import : Import) (name : List ℕ) (fault : Fault) → IsNext loaded from number import → IsDistinct bytes_eq (names_of loaded)
     → IsFetched (names_at loaded taking) loaded import.file → name ≡ import.file → IsBroken files name fault → Stopped files loaded (StopsAt loaded taking from number fault)
@@ -88,7 +88,7 @@ pub missing_step : (files : Files) (loaded : List LoadedFile) (taking : List ℕ
 missing_step files loaded taking from number import name text fault next d fetched named told same is =
     stops files loaded taking from number import fault next
     (missing_import files (names_at loaded taking) (file_at loaded from).name loaded import (drop (number + 1) (imports_at loaded from)) fault d fetched
-        (subst (λ name. Tells files name None) named told) (is ∙ ap (λ text. fault_in text (found import.at ImportMissing)) same))
+    (subst (λ name. Tells files name None) named told) (is ∙ ap (λ text. fault_in text (found import.at ImportMissing)) same))
 
 -- ---- the root
 
@@ -99,13 +99,13 @@ pub root_missing : (files : Files) (root : List ℕ) (fault : Fault) → Tells f
 root_missing files root fault told is =
     of_answers files (λ held. Loads held root (stopped fault))
     (stopped_so files [] (λ held. held root ≡ None) (λ held. Loads held root (stopped fault)) (stopped_file files [] root None distinct_none refl told)
-        (λ held none. Loads.no_root none (ap stopped is)))
+    (λ held none. Loads.no_root none (ap stopped is)))
 
 pub root_broken : (files : Files) (root : List ℕ) (fault : Fault) → IsBroken files root fault → RootComes files root (stopped fault)
 root_broken files root fault b =
     of_answers files (λ held. Loads held root (stopped fault))
     (stopped_so files [] (λ held. held root ≡ Some b.source) (λ held. Loads held root (stopped fault)) (stopped_file files [] root (Some b.source) distinct_none refl b.told)
-        (λ held some. Loads.from_root b.source some (subst (λ fault. Enters held [] [] root b.source (stopped fault)) (sym b.is) (Enters.broken [] [] root b.source b.finding b.first))))
+    (λ held some. Loads.from_root b.source some (subst (λ fault. Enters held [] [] root b.source (stopped fault)) (sym b.is) (Enters.broken [] [] root b.source b.finding b.first))))
 
 pub root_stopped : (files now : Files) (loaded : List LoadedFile) (taking : List ℕ) (root : List ℕ) (file : LoadedFile) (fault : Fault) → loaded ≡ [] → taking ≡ [] → now ≡ files → IsRead files root file
     → Stopped now (loaded ++ file ∷ []) (λ held. Takes held (names_at loaded taking ++ file.name ∷ []) (loaded ++ file ∷ []) file.name file.«module».imports (stopped fault)) → RootComes files root (stopped fault)
@@ -115,8 +115,8 @@ root_stopped files now loaded taking root file fault none zero told read s =
     let begun = subst (λ files. Stopped files (file ∷ []) (λ held. Takes held (file.name ∷ []) (file ∷ []) file.name file.«module».imports (stopped fault))) told from_zero in
     of_answers files (λ held. Loads held root (stopped fault))
     (stopped_then files [] (file ∷ []) (λ held. held root ≡ Some read.source) (λ held. Takes held (file.name ∷ []) (file ∷ []) file.name file.«module».imports (stopped fault)) (λ held. Loads held root (stopped fault))
-        (begun_file files [] root file read distinct_none refl) begun
-        (λ held some t. Loads.from_root read.source some (enters_read held [] [] files root file read (stopped fault) t)))
+    (begun_file files [] root file read distinct_none refl) begun
+    (λ held some t. Loads.from_root read.source some (enters_read held [] [] files root file read (stopped fault) t)))
 
 pub root_loaded : (files now : Files) (loaded later : List LoadedFile) (taking : List ℕ) (root : List ℕ) (file : LoadedFile) → loaded ≡ [] → taking ≡ [] → now ≡ files → IsRead files root file
     → Loaded now (loaded ++ file ∷ []) later (λ held. Takes held (names_at loaded taking ++ file.name ∷ []) (loaded ++ file ∷ []) file.name file.«module».imports (all_loaded later)) → RootComes files root (all_loaded later)
@@ -126,5 +126,5 @@ root_loaded files now loaded later taking root file none zero told read l =
     let begun = subst (λ files. Loaded files (file ∷ []) later (λ held. Takes held (file.name ∷ []) (file ∷ []) file.name file.«module».imports (all_loaded later))) told from_zero in
     of_loaded files later (λ held. Loads held root (all_loaded later))
     (loaded_then files [] (file ∷ []) later (λ held. held root ≡ Some read.source) (λ held. Takes held (file.name ∷ []) (file ∷ []) file.name file.«module».imports (all_loaded later)) (λ held. Loads held root (all_loaded later))
-        (begun_file files [] root file read distinct_none refl) begun
-        (λ held some t. Loads.from_root read.source some (enters_read held [] [] files root file read (all_loaded later) t)))
+    (begun_file files [] root file read distinct_none refl) begun
+    (λ held some t. Loads.from_root read.source some (enters_read held [] [] files root file read (all_loaded later) t)))

@@ -39,10 +39,10 @@ returns-in_err-enter-clause-fault g c =
     let refusal = c.in_err-enter.field-0.0 in
     exit_err {E = DefFault} _ _ refusal c.from_residual-in_err-enter.ensures.1
     (blames_so
-        (λ (fault : Fault). Stopped told (loaded ++ file ∷ []) (λ held. Takes held (names_at loaded taking ++ file.name ∷ []) (loaded ++ file ∷ []) file.name file.«module».imports (stopped fault)))
-        (λ (fault : Fault). RootComes files root (stopped fault)) refusal
-        (λ fault s. root_stopped files told loaded taking root file fault c.new.ensures.items c.new-2.ensures.items c.in_ok-file.ensures.same read s)
-        c.in_err-enter.ensures.fault)
+    (λ (fault : Fault). Stopped told (loaded ++ file ∷ []) (λ held. Takes held (names_at loaded taking ++ file.name ∷ []) (loaded ++ file ∷ []) file.name file.«module».imports (stopped fault)))
+    (λ (fault : Fault). RootComes files root (stopped fault)) refusal
+    (λ fault s. root_stopped files told loaded taking root file fault c.new.ensures.items c.new-2.ensures.items c.in_ok-file.ensures.same read s)
+    c.in_err-enter.ensures.fault)
 
 pub returns-clause-loaded : goal.returns-clause-loaded
 returns-clause-loaded g c =

@@ -34,11 +34,11 @@ enter-returns-in_err-take_imports-clause-fault g t c =
     let refusal = c.in_err-take_imports.field-0.0 in
     exit_err {E = DefFault} _ _ refusal c.from_residual-in_err-take_imports.ensures.1
     (blames_so
-        (λ (fault : Fault). Stopped files begun (λ held. Takes held (names_at begun now) begun (file_at begun from).name (file_at begun from).«module».imports (stopped fault)))
-        (λ (fault : Fault). Stopped files (loaded ++ file ∷ []) (λ held. Takes held (names_at loaded taking ++ file.name ∷ []) (loaded ++ file ∷ []) file.name file.«module».imports (stopped fault)))
-        refusal
-        (λ fault s. added_stopped files loaded begun file taking now from fault place c.requires.sound c.in_ok-begin.ensures.files c.in_ok-begin.ensures.taking s)
-        c.in_err-take_imports.ensures.fault)
+    (λ (fault : Fault). Stopped files begun (λ held. Takes held (names_at begun now) begun (file_at begun from).name (file_at begun from).«module».imports (stopped fault)))
+    (λ (fault : Fault). Stopped files (loaded ++ file ∷ []) (λ held. Takes held (names_at loaded taking ++ file.name ∷ []) (loaded ++ file ∷ []) file.name file.«module».imports (stopped fault)))
+    refusal
+    (λ fault s. added_stopped files loaded begun file taking now from fault place c.requires.sound c.in_ok-begin.ensures.files c.in_ok-begin.ensures.taking s)
+    c.in_err-take_imports.ensures.fault)
 
 pub enter-returns-clause-sound : goal.enter-returns-clause-sound
 enter-returns-clause-sound g t c =
@@ -68,8 +68,8 @@ take_import-returns-in_err-is_to_fetch-clause-fault g t c =
     let refusal = c.in_err-is_to_fetch.field-0.0 in
     exit_err {E = DefFault} _ _ refusal c.from_residual.ensures.1
     (blames_so _ (λ (fault : Fault). Stopped files loaded (StopsAt loaded taking from c.args.number fault)) refusal
-        (λ fault t. chosen_step files loaded taking from c.args.number import c.as_str.result.now fault next c.requires.sound.distinct name t)
-        c.in_err-is_to_fetch.ensures.fault)
+    (λ fault t. chosen_step files loaded taking from c.args.number import c.as_str.result.now fault next c.requires.sound.distinct name t)
+    c.in_err-is_to_fetch.ensures.fault)
 
 pub take_import-returns-then-not-branch-clause-loaded : goal.take_import-returns-then-not-branch-clause-loaded
 take_import-returns-then-not-branch-clause-loaded g t c =
@@ -92,8 +92,8 @@ take_import-returns-in_err-file-clause-fault g t c =
     let refusal = c.in_err-file.field-0.0 in
     exit_err {E = DefFault} _ _ refusal c.from_residual-in_err-file.ensures.1
     (blames_so (IsBroken files c.as_str-2.result.now) (λ (fault : Fault). Stopped files loaded (StopsAt loaded taking from c.args.number fault)) refusal
-        (λ fault b. broken_step files loaded taking from c.args.number import c.as_str-2.result.now fault next c.requires.sound.distinct chosen c.as_str-2.ensures.value b)
-        c.in_err-file.ensures.fault)
+    (λ fault b. broken_step files loaded taking from c.args.number import c.as_str-2.result.now fault next c.requires.sound.distinct chosen c.as_str-2.ensures.value b)
+    c.in_err-file.ensures.fault)
 
 pub take_import-returns-in-Some-clause-loaded : goal.take_import-returns-in-Some-clause-loaded
 take_import-returns-in-Some-clause-loaded g t c =
@@ -131,7 +131,7 @@ take_import-returns-in-Some-clause-fault g t c =
     let There = λ (fault : Fault). Stopped files loaded (StopsAt loaded taking from c.args.number fault) in
     err_so _ _ c.enter.result
     (λ refusal b. blames_so Within There refusal
-        (λ fault s. stopped_step files told loaded taking from c.args.number import c.as_str-2.result.now file fault next c.requires.sound.distinct chosen c.as_str-2.ensures.value c.in_ok-file.ensures.same read s) b)
+    (λ fault s. stopped_step files told loaded taking from c.args.number import c.as_str-2.result.now file fault next c.requires.sound.distinct chosen c.as_str-2.ensures.value c.in_ok-file.ensures.same read s) b)
     c.enter.ensures.fault
 
 pub take_import-returns-in-None-clause-fault : goal.take_import-returns-in-None-clause-fault
@@ -172,11 +172,11 @@ take_imports-returns-in_err-take_import-clause-fault g t c =
     let refusal = c.in_err-take_import.field-0.0 in
     exit_err {E = DefFault} _ _ refusal c.from_residual.ensures.1
     (blames_so
-        (λ (fault : Fault). Stopped told between (StopsAt between same from number fault))
-        (λ (fault : Fault). Stopped files loaded (λ held. Takes held (names_at loaded taking) loaded (file_at loaded from).name (file_at loaded from).«module».imports (stopped fault)))
-        refusal
-        (λ fault s. one_stopped files told loaded between taking same from number fault c.loop-number.invariant.same c.requires.sound c.requires.within c.loop-number.invariant.taking c.loop-number.invariant.loaded s)
-        c.in_err-take_import.ensures.fault)
+    (λ (fault : Fault). Stopped told between (StopsAt between same from number fault))
+    (λ (fault : Fault). Stopped files loaded (λ held. Takes held (names_at loaded taking) loaded (file_at loaded from).name (file_at loaded from).«module».imports (stopped fault)))
+    refusal
+    (λ fault s. one_stopped files told loaded between taking same from number fault c.loop-number.invariant.same c.requires.sound c.requires.within c.loop-number.invariant.taking c.loop-number.invariant.loaded s)
+    c.in_err-take_import.ensures.fault)
 
 pub take_imports-loop-number-preserved : goal.take_imports-loop-number-preserved
 take_imports-loop-number-preserved g t c =
