@@ -5,91 +5,62 @@ use std::test::Fail;
 
 type File = (&'static str, &'static str);
 
-type LoadedRow = ([File; 5], [&'static str; 5], usize);
+type LoadedRow = (&'static [File], &'static [&'static str]);
 
-const NONE: File = ("-", "");
-
-// The root and other files, and the names of the first files in the order of fetching, with their count.
+// The root `a` and other files, and the names of those that are loaded, in the order of fetching.
 static LOADED: [LoadedRow; 6] = [
+    (&[("a", ""), ("b", "")], &["a"]),
     (
-        [("a", ""), NONE, NONE, NONE, NONE],
-        ["a", "", "", "", ""],
-        1,
-    ),
-    (
-        [
+        &[
             ("a", "import \"b\"; import \"c\";"),
             ("b", "import \"d\";"),
             ("c", "import \"d\";"),
             ("d", "bag D { bool a = 1; }"),
-            NONE,
         ],
-        ["a", "b", "d", "c", ""],
-        4,
+        &["a", "b", "d", "c"],
     ),
     (
-        [
+        &[
             ("a", "import \"b\"; import \"b\"; bag A { }"),
             ("b", "bag B { }"),
-            NONE,
-            NONE,
-            NONE,
         ],
-        ["a", "b", "", "", ""],
-        2,
+        &["a", "b"],
     ),
     (
-        [
+        &[
             ("a", "import \"b\"; import \"e\";"),
             ("b", "import \"c\"; import \"d\";"),
             ("c", ""),
             ("d", ""),
             ("e", ""),
         ],
-        ["a", "b", "c", "d", "e"],
-        5,
+        &["a", "b", "c", "d", "e"],
     ),
     (
-        [
+        &[
             ("a", "import \"c\"; import \"b\";"),
             ("b", ""),
             ("c", "import \"b\";"),
             ("d", ""),
-            NONE,
         ],
-        ["a", "c", "b", "", ""],
-        3,
+        &["a", "c", "b"],
     ),
     (
-        [
-            ("a", "import \"\";"),
-            ("", "import \"a.\";"),
-            ("a.", ""),
-            NONE,
-            NONE,
-        ],
-        ["a", "", "a.", "", ""],
-        3,
+        &[("a", "import \"\";"), ("", "import \"a.\";"), ("a.", "")],
+        &["a", "", "a."],
     ),
 ];
 
-type FaultRow = ([File; 4], &'static str, u32, u32, DefCode);
+type FaultRow = (&'static [File], &'static str, u32, u32, DefCode);
 
-// The root and other files, and the first fault.
+// The root `a` and other files, and the first fault.
 static FAULTS: [FaultRow; 12] = [
+    (&[("a", "import \"a\";")], "a", 1, 8, DefCode::ImportCycle),
     (
-        [("a", "import \"a\";"), NONE, NONE, NONE],
-        "a",
-        1,
-        8,
-        DefCode::ImportCycle,
-    ),
-    (
-        [
+        &[
             ("a", "import \"b\";"),
             ("b", "import \"c\";"),
             ("c", "import \"a\";"),
-            NONE,
         ],
         "c",
         1,
@@ -97,11 +68,10 @@ static FAULTS: [FaultRow; 12] = [
         DefCode::ImportCycle,
     ),
     (
-        [
+        &[
             ("a", "import \"d\";\nimport \"b\";"),
             ("b", "import \"d\";\nimport \"a\";"),
             ("d", ""),
-            NONE,
         ],
         "b",
         2,
@@ -109,51 +79,43 @@ static FAULTS: [FaultRow; 12] = [
         DefCode::ImportCycle,
     ),
     (
-        [
+        &[
             ("a", "import \"b\";"),
             ("b", "import \"c\"; import \"b\";"),
             ("c", "import \"b\"; import \"x\";"),
-            NONE,
         ],
         "c",
         1,
         8,
         DefCode::ImportCycle,
     ),
+    (&[("a", "import \"x\"; ?")], "a", 1, 13, DefCode::BadByte),
     (
-        [("a", "import \"x\"; ?"), NONE, NONE, NONE],
-        "a",
-        1,
-        13,
-        DefCode::BadByte,
-    ),
-    (
-        [("a", "import \"x\"; import \"b\";"), ("b", "?"), NONE, NONE],
+        &[("a", "import \"x\"; import \"b\";"), ("b", "?")],
         "a",
         1,
         8,
         DefCode::ImportMissing,
     ),
     (
-        [("a", "import \"b\"; import \"x\";"), ("b", "?"), NONE, NONE],
+        &[("a", "import \"b\"; import \"x\";"), ("b", "?")],
         "b",
         1,
         1,
         DefCode::BadByte,
     ),
     (
-        [("a", "import \"b\";"), ("b", "import \"x\";"), NONE, NONE],
+        &[("a", "import \"b\";"), ("b", "import \"x\";")],
         "b",
         1,
         8,
         DefCode::ImportMissing,
     ),
     (
-        [
+        &[
             ("a", "import \"b\"; import \"c\"; import \"x\";"),
             ("b", ""),
             ("c", "import \"b\"; bag"),
-            NONE,
         ],
         "c",
         1,
@@ -161,18 +123,17 @@ static FAULTS: [FaultRow; 12] = [
         DefCode::Expected,
     ),
     (
-        [("a", "import \"b\"; import \"a\"; bag"), NONE, NONE, NONE],
+        &[("a", "import \"b\"; import \"a\"; bag")],
         "a",
         1,
         25,
         DefCode::Expected,
     ),
     (
-        [
+        &[
             ("a", "import \"b\"; import \"c\";"),
             ("b", "import \"c\";"),
             ("c", "bag C { bool c = 65536; }"),
-            NONE,
         ],
         "c",
         1,
@@ -180,7 +141,7 @@ static FAULTS: [FaultRow; 12] = [
         DefCode::NumberRange,
     ),
     (
-        [("a", "import \"b\"; import \"x\";"), ("b", ""), NONE, NONE],
+        &[("a", "import \"b\"; import \"x\";"), ("b", "")],
         "a",
         1,
         20,
@@ -248,13 +209,12 @@ fn count_loaded(alloc: Global, library: &mut MemoryLibrary, root: &str) -> Optio
 #[test]
 fn loaded_files(rt: HostRuntime) -> Result<(), Fail> {
     let alloc = rt.alloc();
-    for (files, names, count) in &LOADED {
+    for (files, names) in &LOADED {
         let mut library = library_of(alloc, files)?;
-        let Ok(loaded) = load(alloc, &mut library, files[0].0) else {
-            return Err(Fail::from(files[0].1));
+        let Ok(loaded) = load(alloc, &mut library, "a") else {
+            return Err(Fail::from("a fault"));
         };
-        let count = (*count).min(5);
-        assert!(rt; have_names(&loaded, &names[..count]));
+        assert!(rt; have_names(&loaded, names));
     }
     Ok(())
 }
@@ -265,7 +225,7 @@ fn first_faults(rt: HostRuntime) -> Result<(), Fail> {
     for (files, name, line, column, code) in &FAULTS {
         let mut library = library_of(alloc, files)?;
         let fault = (*name, *line, *column, *code);
-        assert!(rt; is_refused(alloc, &mut library, files[0].0, fault));
+        assert!(rt; is_refused(alloc, &mut library, "a", fault));
     }
     Ok(())
 }
