@@ -1,5 +1,5 @@
 -- What one import of a file comes to, and what the root comes to.
-use Rattle.std.proofs.Common.{◌≡◌, ℕ, ◌+◌, ◌<◌, ◌≤◌, true, false, Option, None, Some, List, [], ◌∷◌, ◌++◌, length, drop, get_or, refl, sym, ◌∙◌, ap, subst, arith}
+use Rattle.std.proofs.Common.{◌≡◌, ℕ, ◌+◌, ◌<◌, ◌≤◌, false, None, Some, List, [], ◌∷◌, ◌++◌, length, drop, get_or, refl, sym, ◌∙◌, ap, subst, arith}
 use Rattle.std.specs.List.{IsDistinct}
 use Rattle.std.specs.Str.{bytes_eq}
 use Rattle.outside.specs.Told.{Files}
@@ -7,9 +7,9 @@ use Rattle.bdl_parser.specs.declared.trees.Import.{Import}
 use Rattle.bdl_load.specs.declared.faults.DefCode.TheVariants.{NoFile, ImportMissing}
 use Rattle.bdl_load.specs.declared.faults.Fault.{Fault}
 use Rattle.bdl_load.specs.declared.files.LoadedFile.{LoadedFile}
-use Rattle.bdl_load.specs.Asked.{Tells, IsRead, IsBroken, IsFound, file_at, names_at, AreSound, IsChosen, Passes, Stopped, Loaded}
+use Rattle.bdl_load.specs.Asked.{Tells, IsRead, IsBroken, file_at, names_at, IsChosen, Passes, Stopped, Loaded}
 use Rattle.bdl_load.specs.Faults.{first_spot, found, fault_in}
-use Rattle.bdl_load.specs.Loading.{Holding, Loading, OfFiles, all_loaded, stopped, IsFetched, is_among, names_of, Takes, Enters, Loads}
+use Rattle.bdl_load.specs.Loading.{Holding, Loading, OfFiles, all_loaded, stopped, IsFetched, names_of, Takes, Enters, Loads}
 use Rattle.bdl_load.proofs.Asking.{distinct_none, stopped_file, stopped_nothing, stopped_so, stopped_then, loaded_then, of_answers, of_loaded}
 use Rattle.bdl_load.proofs.FilesSoFar.{file_is}
 use Rattle.bdl_load.proofs.Taking.{first_left, Steps, StopsAt, known_import, fetched_import, stopped_import, broken_import, missing_import, begun_file, enters_read}

@@ -1,5 +1,5 @@
 -- What comes of the imports of a file, from what comes of each.
-use Rattle.std.proofs.Common.{◌≡◌, ℕ, zero, suc, ◌+◌, ◌-◌, ◌<◌, ◌≤◌, Bool, true, false, Option, None, Some, List, [], ◌∷◌, ◌++◌, length, take, drop, get_or, refl, sym, ◌∙◌, ap, subst, arith, add-one, drop-cons}
+use Rattle.std.proofs.Common.{◌≡◌, ℕ, suc, ◌+◌, ◌<◌, ◌≤◌, false, None, Some, List, [], ◌∷◌, ◌++◌, length, drop, get_or, sym, ◌∙◌, ap, subst, add-one, drop-cons}
 use Rattle.std.specs.List.{All, IsDistinct}
 use Rattle.std.specs.Str.{bytes_eq}
 use Rattle.std.proofs.lemmas.List.{drop_all}
@@ -10,7 +10,7 @@ use Rattle.bdl_load.specs.declared.faults.DefFault.{DefFault}
 use Rattle.bdl_load.specs.declared.faults.DefFault.TheVariants.{At, Failed, Memory}
 use Rattle.bdl_load.specs.declared.faults.Fault.{Fault}
 use Rattle.bdl_load.specs.declared.files.LoadedFile.{LoadedFile}
-use Rattle.bdl_load.specs.Asked.{Tells, IsRead, IsBroken, file_at, names_at, IsSpelledFile, AreSound, IsChosen, Passes, Stopped, Loaded}
+use Rattle.bdl_load.specs.Asked.{Tells, IsRead, IsBroken, file_at, names_at, AreSound, IsChosen, Passes, Stopped, Loaded}
 use Rattle.bdl_load.specs.Faults.{Blames, found, fault_in}
 use Rattle.bdl_load.specs.Loading.{Holding, Loading, all_loaded, stopped, IsFetched, is_among, names_of, loaded_as, Takes, Enters}
 use Rattle.bdl_load.proofs.Asking.{loaded_then, stopped_then, loaded_nothing, loaded_file, stopped_file, loaded_so, stopped_so}

@@ -1,10 +1,8 @@
-use Rattle.std.proofs.Common.{rules, ◌≡◌, ◌+◌, ◌<◌, ◌≤◌, ℕ, List, [], ◌∷◌, ◌++◌, Some, None, true, false, length, take, vec_len, refl, sym, ◌∙◌, ap, subst, arith}
+use Rattle.std.proofs.Common.{rules, ◌≡◌, ◌+◌, [], ◌∷◌, ◌++◌, length, vec_len, refl, sym, ◌∙◌, ap, subst, arith}
 use Rattle.std.proofs.lemmas.List.{length-append}
 use Rattle.bdl_load.specs.declared.faults.DefFault.{DefFault}
 use Rattle.bdl_load.specs.declared.faults.Fault.{Fault}
-use Rattle.bdl_load.specs.declared.files.LoadedFile.{LoadedFile}
 use Rattle.bdl_load.specs.Asked.{IsBroken, IsFound, IsChosen, AreSound, Stopped, Loaded, file_at, names_at}
-use Rattle.bdl_load.specs.Faults.{found, fault_in}
 use Rattle.bdl_load.specs.Loading.{Takes, all_loaded, stopped}
 use Rattle.bdl_load.proofs.Exits.{exit_err, err_so, ok_so}
 use Rattle.bdl_load.proofs.FilesSoFar.{sound_begun, sound_without_last, last_taken}

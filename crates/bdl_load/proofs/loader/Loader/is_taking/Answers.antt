@@ -1,4 +1,4 @@
-use Rattle.std.proofs.Common.{◌≡◌, ◌<◌, true, ℕ, List, length, get_or, arith, sym, ◌∙◌, ap, subst}
+use Rattle.std.proofs.Common.{◌<◌, ℕ, List, length, sym, ◌∙◌, ap, subst}
 use Rattle.std.specs.Str.{bytes_eq}
 use Rattle.bdl_load.proofs.FilesSoFar.{among_taking}
 use Rattle.bdl_load.proofs.loader.Loader.is_taking.Goals as goal
