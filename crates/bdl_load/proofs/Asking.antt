@@ -1,7 +1,7 @@
 -- What comes of all answers of a library, from what comes of each.
-use Rattle.std.proofs.Common.{◌≡◌, ℕ, Bool, true, false, cond, ◌||◌, Option, None, Some, List, [], ◌∷◌, ◌++◌, map, refl, sym, ◌∙◌, ap, subst, append_assoc}
+use Rattle.std.proofs.Common.{◌≡◌, ℕ, Bool, true, false, cond, ◌||◌, Option, None, Some, List, [], ◌∷◌, ◌++◌, refl, sym, ◌∙◌, ap, subst, append_assoc}
 use Rattle.std.specs.Prelude.{IfSome}
-use Rattle.std.specs.List.{AllByRecursion, IsDistinct, list_any}
+use Rattle.std.specs.List.{AllByRecursion, IsDistinct}
 use Rattle.std.specs.Str.{bytes_eq}
 use Rattle.std.proofs.lemmas.List.{map-append, append-nil}
 use Rattle.std.proofs.lemmas.Slice.Eq.{bytes_eq-Decides}
@@ -35,6 +35,10 @@ other_first name x xs e = from (bytes_eq name x) refl
     from : (b : Bool) → bytes_eq name x ≡ b → (bytes_eq name x ≡ false) × (is_among name xs ≡ false)
     from false is = (is, sym (ap (λ b. b || is_among name xs) is) ∙ e)
     from true is = absurd (cc (is, e))
+
+pub distinct_none : IsDistinct bytes_eq []
+unfolding IsDistinct
+distinct_none = tt
 
 -- a new name is different from those before it
 pub distinct_snoc : (names : List (List ℕ)) (name : List ℕ) → IsDistinct bytes_eq names → is_among name names ≡ false → IsDistinct bytes_eq (names ++ name ∷ [])
@@ -145,7 +149,10 @@ stopped_file files earlier name content d fresh told = record { answers = record
 -- what comes of it comes of it in other words
 pub loaded_so : (files : Files) (earlier later : List LoadedFile) (C D : Holding → Type 0) → Loaded files earlier later C → ((held : Holding) → C held → D held) → Loaded files earlier later D
 loaded_so files earlier later C D l so = record {
-  more = l.more; answers = l.answers; grown = l.grown; names = l.names;
+  more = l.more;
+  answers = l.answers;
+  grown = l.grown;
+  names = l.names;
   given = record { told = l.given.told; distinct = l.given.distinct; comes = λ held g. so held (l.given.comes held g) };
 }
 

@@ -7,3 +7,5 @@ mod Asking
 mod Fetched
 mod FilesSoFar
 mod Taking
+mod Exits
+mod Steps

@@ -10,7 +10,6 @@ use Rattle.bdl_lexer.specs.declared.TokenClass.TheVariants.{Word, Number, Text, 
 use Rattle.bdl_lexer.specs.Pieces.{HasForm, IsInRange}
 use Rattle.bdl_lexer.specs.Spans.{LiesIn, token_text}
 use Rattle.bdl_parser.specs.declared.trees.Decl.{Decl}
-use Rattle.bdl_parser.specs.declared.trees.Decl.TheVariants.{Bag, Struct}
 use Rattle.bdl_parser.specs.declared.trees.Import.{Import}
 use Rattle.bdl_parser.specs.declared.trees.Module.{Module}
 use Rattle.bdl_parser.specs.declared.trees.Spot.{Spot}

@@ -1,7 +1,6 @@
 -- Files and the name of the root come to one outcome.
-use Rattle.std.proofs.Common.{◌≡◌, ℕ, ◌<◌, ◌≤◌, Bool, true, false, Option, None, Some, List, [], ◌∷◌, ◌++◌, length, refl, sym, ◌∙◌, ap, subst, arith}
+use Rattle.std.proofs.Common.{◌≡◌, ℕ, ◌≤◌, true, false, None, Some, List, [], ◌∷◌, ◌++◌, length, refl, sym, ◌∙◌, ap, subst, arith}
 use Rattle.bdl_parser.specs.declared.trees.Import.{Import}
-use Rattle.bdl_parser.specs.declared.trees.Module.{Module}
 use Rattle.bdl_load.specs.declared.faults.Fault.{Fault}
 use Rattle.bdl_load.specs.declared.faults.Finding.{Finding}
 use Rattle.bdl_load.specs.declared.files.LoadedFile.{LoadedFile}

@@ -1,5 +1,5 @@
 -- The bytes of a file say one module, or they have one first fault.
-use Rattle.std.proofs.Common.{◌≡◌, ℕ, ◌<◌, List, sym, ◌∙◌, ap, subst, arith}
+use Rattle.std.proofs.Common.{◌≡◌, ℕ, List, sym, ◌∙◌, ap, subst, arith}
 use Rattle.bdl_lexer.specs.declared.LexCode.{LexCode}
 use Rattle.bdl_lexer.specs.declared.Token.{Token}
 use Rattle.bdl_lexer.specs.Faults.{FirstFault}
@@ -11,7 +11,7 @@ use Rattle.bdl_parser.specs.FirstFault.{IsModuleOf, FaultAt}
 use Rattle.bdl_parser.specs.Lexemes.{Lexeme, lexemes_of}
 use Rattle.bdl_load.specs.declared.faults.Finding.{Finding}
 use Rattle.bdl_load.specs.Faults.{found}
-use Rattle.bdl_load.specs.Sources.{of_lexer, of_parser, spot_at, SaysModule, IsLexical, IsSyntactic, IsSourceFault}
+use Rattle.bdl_load.specs.Sources.{of_lexer, SaysModule, IsLexical, IsSyntactic, IsSourceFault}
 
 -- ---- what the layers below promise
 

@@ -1,5 +1,5 @@
 -- What comes of the imports of a file, from what comes of each.
-use Rattle.std.proofs.Common.{◌≡◌, ℕ, zero, suc, ◌+◌, ◌-◌, ◌<◌, ◌≤◌, Bool, true, false, Option, None, Some, List, [], ◌∷◌, ◌++◌, length, take, drop, get_or, refl, sym, ◌∙◌, ap, subst, arith, add-one, drop-cons}
+use Rattle.std.proofs.Common.{◌≡◌, ℕ, suc, ◌+◌, ◌<◌, ◌≤◌, false, None, Some, List, [], ◌∷◌, ◌++◌, length, drop, get_or, sym, ◌∙◌, ap, subst, add-one, drop-cons}
 use Rattle.std.specs.List.{All, IsDistinct}
 use Rattle.std.specs.Str.{bytes_eq}
 use Rattle.std.proofs.lemmas.List.{drop_all}
@@ -10,7 +10,7 @@ use Rattle.bdl_load.specs.declared.faults.DefFault.{DefFault}
 use Rattle.bdl_load.specs.declared.faults.DefFault.TheVariants.{At, Failed, Memory}
 use Rattle.bdl_load.specs.declared.faults.Fault.{Fault}
 use Rattle.bdl_load.specs.declared.files.LoadedFile.{LoadedFile}
-use Rattle.bdl_load.specs.Asked.{Tells, IsRead, IsBroken, file_at, names_at, IsSpelledFile, AreSound, IsChosen, Passes, Stopped, Loaded}
+use Rattle.bdl_load.specs.Asked.{Tells, IsRead, IsBroken, file_at, names_at, AreSound, IsChosen, Passes, Stopped, Loaded}
 use Rattle.bdl_load.specs.Faults.{Blames, found, fault_in}
 use Rattle.bdl_load.specs.Loading.{Holding, Loading, all_loaded, stopped, IsFetched, is_among, names_of, loaded_as, Takes, Enters}
 use Rattle.bdl_load.proofs.Asking.{loaded_then, stopped_then, loaded_nothing, loaded_file, stopped_file, loaded_so, stopped_so}
@@ -34,14 +34,14 @@ known_import files taking from loaded import rest d chosen =
     loaded_nothing files loaded (λ held. Passes held taking from loaded (import ∷ rest) loaded rest) d (λ held outcome t. Takes.known taking loaded from import rest outcome chosen.0 chosen.1 t)
 
 -- the file of an import, under the name that it was fetched by
-enters_read : (held : Holding) (taking : List (List ℕ)) (loaded : List LoadedFile) (files : Files) (name : List ℕ) (file : LoadedFile) (r : IsRead files name file) (outcome : Loading)
+pub enters_read : (held : Holding) (taking : List (List ℕ)) (loaded : List LoadedFile) (files : Files) (name : List ℕ) (file : LoadedFile) (r : IsRead files name file) (outcome : Loading)
     → Takes held (taking ++ file.name ∷ []) (loaded ++ file ∷ []) file.name file.«module».imports outcome → Enters held taking loaded name r.source outcome
 enters_read held taking loaded files name file r outcome t =
     Enters.read taking loaded name r.source r.module_ outcome r.says
     (subst (λ (file : LoadedFile). Takes held (taking ++ file.name ∷ []) (loaded ++ file ∷ []) file.name file.«module».imports outcome) r.is t)
 
 -- it is held under that name
-begun_file : (files : Files) (loaded : List LoadedFile) (name : List ℕ) (file : LoadedFile) (r : IsRead files name file) → IsDistinct bytes_eq (names_of loaded) → is_among name (names_of loaded) ≡ false
+pub begun_file : (files : Files) (loaded : List LoadedFile) (name : List ℕ) (file : LoadedFile) (r : IsRead files name file) → IsDistinct bytes_eq (names_of loaded) → is_among name (names_of loaded) ≡ false
     → Loaded files loaded (loaded ++ file ∷ []) (λ held. held name ≡ Some r.source)
 begun_file files loaded name file r d fresh =
     subst (λ (other : LoadedFile). Loaded files loaded (loaded ++ other ∷ []) (λ held. held name ≡ Some r.source)) (sym r.is)
@@ -77,7 +77,7 @@ broken_import files taking from loaded import rest fault d fetched b =
     stopped_so files loaded (λ held. held import.file ≡ Some b.source) (λ held. Takes held taking loaded from (import ∷ rest) (stopped fault))
     (stopped_file files loaded import.file (Some b.source) d fetched.fresh b.told)
     (λ held is. Takes.within taking loaded from b.source import rest fault fetched is
-        (subst (λ fault. Enters held taking loaded import.file b.source (stopped fault)) (sym b.is) (Enters.broken taking loaded import.file b.source b.finding b.first)))
+    (subst (λ fault. Enters held taking loaded import.file b.source (stopped fault)) (sym b.is) (Enters.broken taking loaded import.file b.source b.finding b.first)))
 
 pub missing_import : (files : Files) (taking : List (List ℕ)) (from : List ℕ) (loaded : List LoadedFile) (import : Import) (rest : List Import) (fault : Fault) → IsDistinct bytes_eq (names_of loaded)
     → IsFetched taking loaded import.file → Tells files import.file None → fault ≡ fault_in from (found import.at ImportMissing) → Stopped files loaded (λ held. Takes held taking loaded from (import ∷ rest) (stopped fault))
@@ -121,9 +121,9 @@ one_taken files now loaded between later taking same from number told sound with
     loaded_then files loaded between later (Taken loaded taking from between number) (Steps between same from number later) (Taken loaded taking from later (number + 1))
     l (subst (λ files. Loaded files between later (Steps between same from number later)) told next)
     (λ held t s outcome u. t outcome (subst (λ names. Takes held names between (file_at loaded from).name (drop number (file_at loaded from).«module».imports) outcome) names
-        (subst (λ (file : LoadedFile). Takes held (names_at between same) between file.name (drop number file.«module».imports) outcome) file
-            (s outcome (subst (λ names. Takes held names later (file_at between from).name (drop (number + 1) (file_at between from).«module».imports) outcome) (sym names)
-                (subst (λ (file : LoadedFile). Takes held (names_at loaded taking) later file.name (drop (number + 1) file.«module».imports) outcome) (sym file) u))))))
+    (subst (λ (file : LoadedFile). Takes held (names_at between same) between file.name (drop number file.«module».imports) outcome) file
+    (s outcome (subst (λ names. Takes held names later (file_at between from).name (drop (number + 1) (file_at between from).«module».imports) outcome) (sym names)
+    (subst (λ (file : LoadedFile). Takes held (names_at loaded taking) later file.name (drop (number + 1) file.«module».imports) outcome) (sym file) u))))))
 
 pub one_stopped : (files now : Files) (loaded between : List LoadedFile) (taking same : List ℕ) (from number : ℕ) (fault : Fault) → now ≡ files → AreSound loaded taking → from < length loaded → same ≡ taking
     → Loaded files loaded between (Taken loaded taking from between number) → Stopped now between (StopsAt between same from number fault)
@@ -135,7 +135,7 @@ one_stopped files now loaded between taking same from number fault told sound wi
     (λ held. Takes held (names_at loaded taking) loaded (file_at loaded from).name (file_at loaded from).«module».imports (stopped fault))
     l (subst (λ files. Stopped files between (StopsAt between same from number fault)) told stop)
     (λ held t s. t (stopped fault) (subst (λ names. Takes held names between (file_at loaded from).name (drop number (file_at loaded from).«module».imports) (stopped fault)) names
-        (subst (λ (file : LoadedFile). Takes held (names_at between same) between file.name (drop number file.«module».imports) (stopped fault)) file s)))
+    (subst (λ (file : LoadedFile). Takes held (names_at between same) between file.name (drop number file.«module».imports) (stopped fault)) file s)))
 
 pub all_taken : (files : Files) (loaded later : List LoadedFile) (taking : List ℕ) (from number : ℕ) → length (file_at loaded from).«module».imports ≤ number
     → Loaded files loaded later (Taken loaded taking from later number)
@@ -143,38 +143,38 @@ pub all_taken : (files : Files) (loaded later : List LoadedFile) (taking : List 
 all_taken files loaded later taking from number all l =
     loaded_so files loaded later (Taken loaded taking from later number) (λ held. Takes held (names_at loaded taking) loaded (file_at loaded from).name (file_at loaded from).«module».imports (all_loaded later)) l
     (λ held t. t (all_loaded later) (subst (λ left. Takes held (names_at loaded taking) later (file_at loaded from).name left (all_loaded later)) (sym (drop_all number (file_at loaded from).«module».imports all))
-        (Takes.none_left (names_at loaded taking) later (file_at loaded from).name)))
+    (Takes.none_left (names_at loaded taking) later (file_at loaded from).name)))
 
 -- ---- a file that was just added
 
 -- what comes of the imports of the last file comes of those of the file that was added
-added : (held : Holding) (loaded begun : List LoadedFile) (file : LoadedFile) (taking now : List ℕ) (outcome : Loading) → All (λ number. number < length loaded) taking
+added : (held : Holding) (loaded begun : List LoadedFile) (file : LoadedFile) (taking now : List ℕ) (from : ℕ) (outcome : Loading) → from ≡ length loaded → All (λ number. number < length loaded) taking
     → begun ≡ loaded ++ file ∷ [] → now ≡ taking ++ length loaded ∷ []
-    → Takes held (names_at begun now) begun (file_at begun (length loaded)).name (file_at begun (length loaded)).«module».imports outcome
+    → Takes held (names_at begun now) begun (file_at begun from).name (file_at begun from).«module».imports outcome
     → Takes held (names_at loaded taking ++ file.name ∷ []) (loaded ++ file ∷ []) file.name file.«module».imports outcome
-added held loaded begun file taking now outcome all files numbers t =
-    let last = ap (λ files. file_at files (length loaded)) files ∙ file_added loaded file in
+added held loaded begun file taking now from outcome place all files numbers t =
+    let last = ap (file_at begun) place ∙ ap (λ files. file_at files (length loaded)) files ∙ file_added loaded file in
     let names = ap (names_at begun) numbers ∙ ap (λ files. names_at files (taking ++ length loaded ∷ [])) files ∙ names_added loaded file taking all in
     subst (λ names. Takes held names (loaded ++ file ∷ []) file.name file.«module».imports outcome) names
     (subst (λ files. Takes held (names_at begun now) files file.name file.«module».imports outcome) files
-        (subst (λ (file : LoadedFile). Takes held (names_at begun now) begun file.name file.«module».imports outcome) last t))
+    (subst (λ (file : LoadedFile). Takes held (names_at begun now) begun file.name file.«module».imports outcome) last t))
 
-pub added_loaded : (files : Files) (loaded begun later : List LoadedFile) (file : LoadedFile) (taking now : List ℕ) → AreSound loaded taking → begun ≡ loaded ++ file ∷ [] → now ≡ taking ++ length loaded ∷ []
-    → Loaded files begun later (λ held. Takes held (names_at begun now) begun (file_at begun (length loaded)).name (file_at begun (length loaded)).«module».imports (all_loaded later))
+pub added_loaded : (files : Files) (loaded begun later : List LoadedFile) (file : LoadedFile) (taking now : List ℕ) (from : ℕ) → from ≡ length loaded → AreSound loaded taking → begun ≡ loaded ++ file ∷ [] → now ≡ taking ++ length loaded ∷ []
+    → Loaded files begun later (λ held. Takes held (names_at begun now) begun (file_at begun from).name (file_at begun from).«module».imports (all_loaded later))
     → Loaded files (loaded ++ file ∷ []) later (λ held. Takes held (names_at loaded taking ++ file.name ∷ []) (loaded ++ file ∷ []) file.name file.«module».imports (all_loaded later))
-added_loaded files loaded begun later file taking now sound is numbers l =
+added_loaded files loaded begun later file taking now from place sound is numbers l =
     subst (λ begun. Loaded files begun later (λ held. Takes held (names_at loaded taking ++ file.name ∷ []) (loaded ++ file ∷ []) file.name file.«module».imports (all_loaded later))) is
     (loaded_so files begun later
-        (λ held. Takes held (names_at begun now) begun (file_at begun (length loaded)).name (file_at begun (length loaded)).«module».imports (all_loaded later))
-        (λ held. Takes held (names_at loaded taking ++ file.name ∷ []) (loaded ++ file ∷ []) file.name file.«module».imports (all_loaded later))
-        l (λ held. added held loaded begun file taking now (all_loaded later) sound.taken is numbers))
+    (λ held. Takes held (names_at begun now) begun (file_at begun from).name (file_at begun from).«module».imports (all_loaded later))
+    (λ held. Takes held (names_at loaded taking ++ file.name ∷ []) (loaded ++ file ∷ []) file.name file.«module».imports (all_loaded later))
+    l (λ held. added held loaded begun file taking now from (all_loaded later) place sound.taken is numbers))
 
-pub added_stopped : (files : Files) (loaded begun : List LoadedFile) (file : LoadedFile) (taking now : List ℕ) (fault : Fault) → AreSound loaded taking → begun ≡ loaded ++ file ∷ [] → now ≡ taking ++ length loaded ∷ []
-    → Stopped files begun (λ held. Takes held (names_at begun now) begun (file_at begun (length loaded)).name (file_at begun (length loaded)).«module».imports (stopped fault))
+pub added_stopped : (files : Files) (loaded begun : List LoadedFile) (file : LoadedFile) (taking now : List ℕ) (from : ℕ) (fault : Fault) → from ≡ length loaded → AreSound loaded taking → begun ≡ loaded ++ file ∷ [] → now ≡ taking ++ length loaded ∷ []
+    → Stopped files begun (λ held. Takes held (names_at begun now) begun (file_at begun from).name (file_at begun from).«module».imports (stopped fault))
     → Stopped files (loaded ++ file ∷ []) (λ held. Takes held (names_at loaded taking ++ file.name ∷ []) (loaded ++ file ∷ []) file.name file.«module».imports (stopped fault))
-added_stopped files loaded begun file taking now fault sound is numbers s =
+added_stopped files loaded begun file taking now from fault place sound is numbers s =
     subst (λ begun. Stopped files begun (λ held. Takes held (names_at loaded taking ++ file.name ∷ []) (loaded ++ file ∷ []) file.name file.«module».imports (stopped fault))) is
     (stopped_so files begun
-        (λ held. Takes held (names_at begun now) begun (file_at begun (length loaded)).name (file_at begun (length loaded)).«module».imports (stopped fault))
-        (λ held. Takes held (names_at loaded taking ++ file.name ∷ []) (loaded ++ file ∷ []) file.name file.«module».imports (stopped fault))
-        s (λ held. added held loaded begun file taking now (stopped fault) sound.taken is numbers))
+    (λ held. Takes held (names_at begun now) begun (file_at begun from).name (file_at begun from).«module».imports (stopped fault))
+    (λ held. Takes held (names_at loaded taking ++ file.name ∷ []) (loaded ++ file ∷ []) file.name file.«module».imports (stopped fault))
+    s (λ held. added held loaded begun file taking now from (stopped fault) place sound.taken is numbers))

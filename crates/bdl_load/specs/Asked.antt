@@ -1,5 +1,5 @@
 -- What a library was asked for, and what comes of its answers.
-use Rattle.std.specs.Prelude.{◌≡◌, ℕ, ◌<◌, ◌≤◌, true, false, Bool, Option, None, Some, IfSome, List, [], ◌∷◌, ◌++◌, length, map}
+use Rattle.std.specs.Prelude.{◌≡◌, ℕ, ◌<◌, ◌≤◌, true, false, Bool, Option, None, Some, IfSome, List, [], ◌++◌, length, map}
 use Rattle.std.specs.List.{All, AllByRecursion, IsDistinct, slice_index_or}
 use Rattle.std.specs.Str.{bytes_eq}
 use Rattle.outside.specs.Told.{Files}

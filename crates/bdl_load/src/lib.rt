@@ -7,6 +7,8 @@ mod files;
 pub mod laws;
 mod loader;
 mod source;
+#[cfg(test)]
+mod tests;
 
 pub use faults::{DefCode, DefFault, FIRST, Fault, Finding};
 pub use files::LoadedFile;

@@ -85,7 +85,12 @@ impl Loader {
     fn is_loaded(&self, name: &str) -> bool
         ensures { result ≡ is_among name.now (names_of self.now.files.items) }
     {
-        self.files.iter().any(|file| name == file.name.as_str())
+        for file in &self.files {
+            if name == file.name.as_str() {
+                return true;
+            }
+        }
+        false
     }
 
     /// Whether the import's file is to be fetched, since it wasn't loaded before.
