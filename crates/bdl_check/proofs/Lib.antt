@@ -5,4 +5,5 @@ pub mod DeclLaws
 pub mod Links
 pub mod FieldLaws
 pub mod PassLaws
+pub mod Soundness
 pub mod Rows

@@ -5,6 +5,7 @@ mod checks;
 mod compiler;
 mod declarations;
 mod fields;
+pub mod laws;
 mod layouts;
 mod recursion;
 mod refusals;
