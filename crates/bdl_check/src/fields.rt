@@ -9,13 +9,13 @@ ghost use Rattle.bdl_check.specs.Lookups.{has_number, has_text, HasNumbers, HasT
 ghost use Rattle.bdl_parser.specs.Trees.{BagFieldTree, StructFieldTree};
 ghost use Rattle.bdl_parser.specs.Views.{bag_field_of, struct_field_of};
 
-use bdl_load::{DefCode, Finding};
 use crate::declarations::Declarations;
 use crate::types::{Role, type_fault};
+use bdl_load::{DefCode, Finding};
 use bdl_parser::{BagField, BagFields, Decl, StructField, StructFields};
+use indexmap::IndexSet;
 use outside::Memory;
 use std::alloc::Global;
-use indexmap::IndexSet;
 
 /// Adds a number, and answers whether it is new.
 fn add_number(numbers: &mut IndexSet<u16>, number: u16) -> Result<bool, Memory>
