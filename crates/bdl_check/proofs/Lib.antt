@@ -5,6 +5,7 @@ pub mod DeclLaws
 pub mod Links
 pub mod FieldLaws
 pub mod PassLaws
+pub mod Soundness
 pub mod Rows
 pub mod OneLayout
 pub mod Compiling

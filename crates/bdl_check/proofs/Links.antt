@@ -1,9 +1,8 @@
 -- The numbers of the declarations that declarations name.
-use Rattle.std.proofs.Common.{◌≡◌, ℕ, ◌+◌, ◌<◌, ◌≤◌, Bool, true, false, cond, List, [], ◌∷◌, ◌++◌, Option, None, Some, All, Bor, length, map, nat_lt, get_or, slice_get, refl, sym, ◌∙◌, ap, subst, append_assoc, append-nil, inl, inr, ◌⊎◌, arith}
+use Rattle.std.proofs.Common.{◌≡◌, ℕ, ◌<◌, ◌≤◌, Bool, true, false, cond, List, [], ◌∷◌, ◌++◌, Option, None, Some, All, Bor, length, map, nat_lt, get_or, slice_get, refl, sym, ◌∙◌, ap, subst, append_assoc, append-nil, inl, inr, ◌⊎◌, arith}
 use Rattle.std.proofs.lemmas.Bool.{ltb-true}
 use Rattle.std.proofs.lemmas.List.{length-map}
-use Rattle.std.proofs.lemmas.List.Concat.{flat_map-cons}
-use Rattle.std.proofs.lemmas.List.Elements.{All-cons, All-nil, All-map, All-weaker, filter_map-append}
+use Rattle.std.proofs.lemmas.List.Elements.{All-cons, All-nil, All-map, filter_map-append}
 use Rattle.std.proofs.lemmas.Option.{slice_get_within, slice_get_cases}
 use Rattle.std.proofs.lemmas.Simd.{map-map}
 use Rattle.std.specs.List.{flat_map, filter_map, cons_option, position_or_len}
@@ -14,7 +13,7 @@ use Rattle.bdl_check.specs.Declarations.{Placed, name_of, number_named}
 use Rattle.bdl_check.specs.DeclarationViews.{placed_of}
 use Rattle.bdl_check.specs.Recursion.{names_in, uses, links}
 use Rattle.bdl_parser.specs.Trees.{BagFieldTree}
-use Rattle.topological_order.specs.Graphs.{Graph, HasEdge, IsClosed, Reaches, by_edge, by_walk}
+use Rattle.topological_order.specs.Graphs.{Graph, IsClosed, Reaches, by_edge, by_walk}
 
 -- a number that is found is one of a declaration
 found_below : (within : Bool) (place number : ℕ) → cond within (Some place) None ≡ Some number → (within ≡ true) × (place ≡ number)

@@ -5,7 +5,6 @@ use Rattle.std.proofs.lemmas.List.Concat.{flat_map-cons}
 use Rattle.std.specs.Option.{is_some, option_map}
 use Rattle.bdl_load.specs.declared.faults.DefCode.TheVariants.{DuplicateName}
 use Rattle.bdl_load.specs.declared.faults.Fault.{Fault}
-use Rattle.bdl_load.specs.declared.faults.Finding.{Finding}
 use Rattle.bdl_load.specs.declared.files.LoadedFile.{LoadedFile}
 use Rattle.bdl_load.specs.Faults.{found, fault_in}
 use Rattle.bdl_check.specs.Checks.{faults_in, name_fault, name_faults, declaration_faults, placed_faults}

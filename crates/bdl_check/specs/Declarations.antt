@@ -1,5 +1,5 @@
 -- The declarations of all files, by number and by name.
-use Rattle.std.specs.Prelude.{ℕ, List, [], ◌∷◌, Option, None, Some, map, find, position, All}
+use Rattle.std.specs.Prelude.{ℕ, List, Option, map, find, position, All}
 use Rattle.std.specs.List.{flat_map}
 use Rattle.std.specs.Str.{bytes_eq}
 use Rattle.std.specs.Option.{option_map}

@@ -6,11 +6,10 @@ ghost use Rattle.bdl_check.specs.Declarations.{kind_named, placed_in, all_placed
 ghost use Rattle.bdl_load.specs.Faults.{fault_in};
 ghost use Rattle.bdl_check.specs.Faults.{first, Says};
 
-use bdl_load::{DefCode, Fault, Finding};
-use crate::fields::decl_fault;
-use bdl_load::LoadedFile;
 use crate::declarations::{Declarations, decl_place};
+use crate::fields::decl_fault;
 use crate::refusals::Refusal;
+use bdl_load::{DefCode, Fault, Finding, LoadedFile};
 use outside::{Memory, Text};
 use std::alloc::Global;
 
@@ -57,7 +56,10 @@ fn files_fault(
 }
 
 /// Declares what a file declares, up to the first name that was declared before.
-fn declare_file<'a>(declarations: &mut Declarations<'a>, file: &'a LoadedFile) -> Result<Option<Fault>, Memory>
+fn declare_file<'a>(
+    declarations: &mut Declarations<'a>,
+    file: &'a LoadedFile,
+) -> Result<Option<Fault>, Memory>
     ensures found { IfOk result (λ fault. fault ≡ first (name_faults declarations.old (placed_in file.now))) }
     ensures declared { result ≡ Ok None → declarations.new ≡ declarations.old ++ placed_in file.now }
 {
@@ -74,7 +76,10 @@ fn declare_file<'a>(declarations: &mut Declarations<'a>, file: &'a LoadedFile) -
 }
 
 /// Declares what all files declare, up to the first name that was declared before.
-fn declare_files<'a>(declarations: &mut Declarations<'a>, files: &'a [LoadedFile]) -> Result<Option<Fault>, Memory>
+fn declare_files<'a>(
+    declarations: &mut Declarations<'a>,
+    files: &'a [LoadedFile],
+) -> Result<Option<Fault>, Memory>
     ensures found { IfOk result (λ fault. fault ≡ first (name_faults declarations.old (all_placed files.now))) }
     ensures declared { result ≡ Ok None → declarations.new ≡ declarations.old ++ all_placed files.now }
 {
@@ -88,7 +93,10 @@ fn declare_files<'a>(declarations: &mut Declarations<'a>, files: &'a [LoadedFile
 
 /// The declarations of all files, or their first fault: first come the names that an earlier declaration has, and then what
 /// each declaration says.
-pub(crate) fn check_declarations(alloc: Global, files: &[LoadedFile]) -> Result<Declarations<'_>, Refusal>
+pub(crate) fn check_declarations(
+    alloc: Global,
+    files: &[LoadedFile],
+) -> Result<Declarations<'_>, Refusal>
     ensures all { IfOk result (λ declarations. declarations ≡ all_placed files.now) }
     ensures none { OnOk result (declared_faults files.now ≡ []) }
     ensures fault { IfErr result (Says (λ fault. first (declared_faults files.now) ≡ Some fault)) }

@@ -107,7 +107,9 @@ impl<'a> Declarations<'a> {
         ensures new { IfOk result (λ new. new ≡ not (is_some (named self.old (name_of decl.now)))) }
         ensures added { result ≡ Ok true → self.new ≡ self.old ++ placed file.now decl.now ∷ [] }
     {
-        let known = self.by_name.insert(decl_name(decl), Declaration { file, decl })?;
+        let known = self
+            .by_name
+            .insert(decl_name(decl), Declaration { file, decl })?;
         Ok(known.is_none())
     }
 }

@@ -9,16 +9,16 @@ ghost use Rattle.bdl_check.specs.Lookups.{has_number, has_text, HasNumbers, HasT
 ghost use Rattle.bdl_parser.specs.Trees.{BagFieldTree, StructFieldTree};
 ghost use Rattle.bdl_parser.specs.Views.{bag_field_of, struct_field_of};
 
-use bdl_load::{DefCode, Finding};
 use crate::declarations::Declarations;
 use crate::types::{Role, type_fault};
+use bdl_load::{DefCode, Finding};
 use bdl_parser::{BagField, BagFields, Decl, StructField, StructFields};
+use indexmap::IndexSet;
 use outside::Memory;
 use std::alloc::Global;
-use std::collections::BTreeSet;
 
 /// Adds a number, and answers whether it is new.
-fn add_number(numbers: &mut BTreeSet<u16>, number: u16) -> Result<bool, Memory>
+fn add_number(numbers: &mut IndexSet<u16>, number: u16) -> Result<bool, Memory>
     ensures new { IfOk result (λ is_new. is_new ≡ not (has_number numbers.old number)) }
     ensures added { OnOk result ((other : ℕ) → has_number numbers.new other ≡ ((number == other) || has_number numbers.old other)) }
 {
@@ -26,7 +26,7 @@ fn add_number(numbers: &mut BTreeSet<u16>, number: u16) -> Result<bool, Memory>
 }
 
 /// Adds a text, and answers whether it is new.
-fn add_text<'a>(texts: &mut BTreeSet<&'a str>, text: &'a str) -> Result<bool, Memory>
+fn add_text<'a>(texts: &mut IndexSet<&'a str>, text: &'a str) -> Result<bool, Memory>
     ensures new { IfOk result (λ is_new. is_new ≡ not (has_text texts.old text.now)) }
     ensures added { OnOk result ((other : List ℕ) → has_text texts.new other ≡ (bytes_eq text.now other || has_text texts.old other)) }
 {
@@ -36,8 +36,8 @@ fn add_text<'a>(texts: &mut BTreeSet<&'a str>, text: &'a str) -> Result<bool, Me
 /// The first fault of a bag's field, behind the fields with these numbers and these names.
 fn bag_field_fault<'a>(
     declarations: &Declarations,
-    numbers: &mut BTreeSet<u16>,
-    texts: &mut BTreeSet<&'a str>,
+    numbers: &mut IndexSet<u16>,
+    texts: &mut IndexSet<&'a str>,
     field: &'a BagField,
 ) -> Result<Option<Finding>, Memory>
     ensures found { (earlier : List BagFieldTree) → HasNumbers numbers.old (numbers_of earlier) → HasTexts texts.old (names_of earlier) →
@@ -73,8 +73,8 @@ fn bag_fault(
 ) -> Result<Option<Finding>, Memory>
     ensures { IfOk result (λ fault. fault ≡ first (bag_faults (kind_named declarations.now) [] fields.now)) }
 {
-    let mut numbers = BTreeSet::new(alloc);
-    let mut texts = BTreeSet::new(alloc);
+    let mut numbers = IndexSet::new(alloc);
+    let mut texts = IndexSet::new(alloc);
     for field in fields.as_slice() {
         if let Some(fault) = bag_field_fault(declarations, &mut numbers, &mut texts, field)? {
             return Ok(Some(fault));
@@ -86,7 +86,7 @@ fn bag_fault(
 /// The first fault of a struct's field, behind the fields with these names.
 fn struct_field_fault<'a>(
     declarations: &Declarations,
-    texts: &mut BTreeSet<&'a str>,
+    texts: &mut IndexSet<&'a str>,
     field: &'a StructField,
 ) -> Result<Option<Finding>, Memory>
     ensures found { (earlier : List StructFieldTree) → HasTexts texts.old (struct_names_of earlier) →
@@ -114,7 +114,7 @@ fn struct_fault(
 ) -> Result<Option<Finding>, Memory>
     ensures { IfOk result (λ fault. fault ≡ first (struct_faults (kind_named declarations.now) [] fields.now)) }
 {
-    let mut texts = BTreeSet::new(alloc);
+    let mut texts = IndexSet::new(alloc);
     for field in fields.as_slice() {
         if let Some(fault) = struct_field_fault(declarations, &mut texts, field)? {
             return Ok(Some(fault));

@@ -12,17 +12,21 @@ ghost use Rattle.bdl_parser.specs.Views.{tree_of};
 ghost use Rattle.topological_order.specs.Graphs.{graph_of};
 ghost use Rattle.topological_order.specs.Orders.{IsOrder};
 
-use bdl_load::{DefCode, Fault, Finding};
-use bdl_parser::{Decl, TypeForm, TypeNode};
 use crate::checks::found_in;
 use crate::declarations::{Declaration, Declarations, decl_place};
 use crate::refusals::Refusal;
+use bdl_load::{DefCode, Fault, Finding};
+use bdl_parser::{Decl, TypeForm, TypeNode};
 use outside::Memory;
 use std::alloc::Global;
 use topological_order::{Sorted, topological_order};
 
 /// Adds the numbers of the declarations that a type names, from left to right.
-fn add_links(declarations: &Declarations, node: &TypeNode, row: &mut Vec<usize>) -> Result<(), Memory>
+fn add_links(
+    declarations: &Declarations,
+    node: &TypeNode,
+    row: &mut Vec<usize>,
+) -> Result<(), Memory>
     ensures { OnOk result (row.new.items ≡ row.old.items ++ filter_map (number_named declarations.now) (names_in (tree_of node.now))) }
 {
     match &node.form {

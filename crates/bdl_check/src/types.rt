@@ -9,8 +9,8 @@ ghost use Rattle.bdl_check.specs.Types.{is_scalar, is_floating, is_unknown, name
 ghost use Rattle.bdl_parser.specs.declared.trees.Spot.{Spot};
 ghost use Rattle.bdl_parser.specs.Views.{tree_of};
 
-use bdl_load::{DefCode, Finding};
 use crate::declarations::{DeclKind, Declarations};
+use bdl_load::{DefCode, Finding};
 use bdl_parser::{TypeForm, TypeNode};
 
 /// Where a type stands.
@@ -103,7 +103,11 @@ fn node_fault(declarations: &Declarations, role: Role, node: &TypeNode) -> Optio
 }
 
 /// The first fault of a type: its node, and then what stands inside it from left to right.
-pub(crate) fn type_fault(declarations: &Declarations, role: Role, node: &TypeNode) -> Option<Finding>
+pub(crate) fn type_fault(
+    declarations: &Declarations,
+    role: Role,
+    node: &TypeNode,
+) -> Option<Finding>
     ensures { result ≡ first (type_faults (kind_named declarations.now) role (tree_of node.now)) }
 {
     if let Some(fault) = node_fault(declarations, role, node) {

@@ -1,4 +1,4 @@
-use Rattle.std.proofs.Common.{◌≡◌, ap, ◌∙◌, sym, subst}
+use Rattle.std.proofs.Common.{ap, ◌∙◌, sym, subst}
 use Rattle.bdl_check.specs.Recursion.{links}
 use Rattle.bdl_check.proofs.Links.{links_closed, cyclic_below, some_at}
 use Rattle.topological_order.specs.declared.Sorted.{Sorted}

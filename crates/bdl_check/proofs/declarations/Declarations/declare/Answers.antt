@@ -1,6 +1,6 @@
-use Rattle.std.proofs.Common.{ℕ, List, sym, ◌∙◌, ap, not, subst}
+use Rattle.std.proofs.Common.{ℕ, List, ◌∙◌, ap, not}
 use Rattle.std.specs.Option.{is_some}
-use Rattle.bdl_check.specs.Declarations.{Placed, named, name_of}
+use Rattle.bdl_check.specs.Declarations.{named}
 use Rattle.bdl_check.proofs.Entries.{insert_keyed, told_new, added_last}
 use Rattle.bdl_check.proofs.declarations.Declarations.declare.Goals as goal
 
