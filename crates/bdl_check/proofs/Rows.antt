@@ -1,4 +1,4 @@
--- Worked rows: the first faults of some definitions, computed from the definition of all faults.
+-- Worked rows: the first faults of some definitions, computed from the definition of all faults, and the links of one.
 use Rattle.std.proofs.Common.{◌≡◌, ℕ, List, [], ◌∷◌, Option, None, Some, codes, refl}
 use Rattle.bdl_load.specs.declared.faults.DefCode.{DefCode}
 use Rattle.bdl_load.specs.declared.faults.DefCode.TheVariants.{DuplicateName, EmptyStruct, FloatingType, UnknownName, BadKeyType, BadStructField, DuplicateNumber, DuplicateField}
@@ -6,11 +6,12 @@ use Rattle.bdl_check.specs.Checks.{placed_faults}
 use Rattle.bdl_check.specs.Declarations.{Placed}
 use Rattle.bdl_check.specs.Faults.{first}
 use Rattle.bdl_load.specs.declared.faults.Fault.{Fault}
+use Rattle.bdl_check.specs.Recursion.{links}
 use Rattle.bdl_parser.specs.declared.trees.Decl.{Decl}
 use Rattle.bdl_parser.specs.declared.trees.Decl.TheVariants.{Bag, Struct}
 use Rattle.bdl_parser.specs.declared.trees.ScalarWord.TheVariants.{Bool as BoolWord}
 use Rattle.bdl_parser.specs.declared.trees.Spot.{Spot}
-use Rattle.bdl_parser.specs.Trees.{BagFieldTree, TypeTree, scalar, double, counter, name, leaf, set}
+use Rattle.bdl_parser.specs.Trees.{BagFieldTree, TypeTree, scalar, double, counter, name, leaf, set, map as map_of}
 
 abbrev at : ℕ → Spot
 at column = record { line = 1; column = column }
@@ -61,3 +62,9 @@ two_fields = refl
 -- bag A { A a = 0; }
 good : first (placed_faults (in_f (Bag (codes "A") (at 5) (field (leaf (name (codes "A")) (at 9)) (codes "a") 11 0 15 ∷ [])) ∷ [])) ≡ None
 good = refl
+
+-- bag A { map<bool, B> b = 0; } bag B { set<S> s = 0; A a = 1; } struct S { bool x; }
+three_links : links (in_f (Bag (codes "A") (at 5) (field (map_of (leaf (scalar BoolWord) (at 13)) (leaf (name (codes "B")) (at 19)) (at 9)) (codes "b") 22 0 26 ∷ []))
+    ∷ in_f (Bag (codes "B") (at 35) (field (set (leaf (name (codes "S")) (at 43)) (at 39)) (codes "s") 46 0 50 ∷ field (leaf (name (codes "A")) (at 53)) (codes "a") 55 1 59 ∷ []))
+    ∷ in_f (Struct (codes "S") (at 71) (record { kind = leaf (scalar BoolWord) (at 75); name = codes "x"; name_at = at 80 } ∷ [])) ∷ []) ≡ (1 ∷ []) ∷ (2 ∷ 0 ∷ []) ∷ [] ∷ []
+three_links = refl
