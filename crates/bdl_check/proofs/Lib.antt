@@ -1,2 +1,3 @@
 
 pub mod OneLayout
+pub mod LayoutRooms
