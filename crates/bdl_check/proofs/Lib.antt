@@ -1,3 +1,9 @@
-
 pub mod OneLayout
 pub mod LayoutRooms
+pub mod Firsts
+pub mod Entries
+pub mod NameLaws
+pub mod DeclLaws
+pub mod FieldLaws
+pub mod PassLaws
+pub mod Rows
