@@ -7,3 +7,4 @@ pub mod DeclLaws
 pub mod FieldLaws
 pub mod PassLaws
 pub mod Rows
+pub mod Insertions
