@@ -8,3 +8,5 @@ pub mod FieldLaws
 pub mod PassLaws
 pub mod Rows
 pub mod Insertions
+pub mod PassedTypes
+pub mod TypeSizes

@@ -117,7 +117,7 @@ pub(crate) fn sizes_of(alloc: Global, declarations: &Declarations, order: &[usiz
     Ok(sizes)
 }
 
-#[tactic(auto, using(crate::proofs::Insertions::added))]
+#[tactic(auto, using(crate::proofs::TypeSizes::more_size))]
 pub(crate) fn probe(number: u32) -> u32
     ensures { result ≡ number }
 {
