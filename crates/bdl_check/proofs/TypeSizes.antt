@@ -1,5 +1,5 @@
 -- The sizes of types, of bags with one field more, and of declarations.
-use Rattle.std.proofs.Common.{◌≡◌, ℕ, ◌<◌, ◌+◌, min, max, Bool, true, false, List, [], ◌∷◌, ◌++◌, length, get_or, Option, Some, None, refl, sym, ◌∙◌, ap, subst, arith}
+use Rattle.std.proofs.Common.{◌≡◌, ℕ, ◌<◌, ◌+◌, min, max, Bool, true, false, List, [], ◌∷◌, ◌++◌, length, get_or, Option, Some, None, Box, Global, ◌⊎◌, inl, inr, refl, sym, ◌∙◌, ap, subst, arith}
 use Rattle.std.specs.List.{slice_get, AllByRecursion}
 use Rattle.std.specs.List.Sorted.{IsPermutation}
 use Rattle.std.proofs.lemmas.List.Sorted.{IsPermutation-refl}
@@ -10,6 +10,11 @@ use Rattle.bag_model.specs.Tables.{levels_under, levels, nodes_under, node_count
 use Rattle.bdl_parser.specs.declared.trees.Decl.{Decl}
 use Rattle.bdl_parser.specs.declared.trees.Decl.TheVariants.{Bag, Struct}
 use Rattle.bdl_parser.specs.declared.trees.Spot.{Spot}
+use Rattle.bdl_parser.specs.declared.trees.ScalarWord.{ScalarWord}
+use Rattle.bdl_parser.specs.declared.trees.TypeForm as TypeForms
+use Rattle.bdl_parser.specs.declared.trees.TypeForm.{TypeForm}
+use Rattle.bdl_parser.specs.declared.trees.TypeNode.{TypeNode}
+use Rattle.bdl_parser.specs.Views.{tree_at, tree_of}
 use Rattle.bdl_parser.specs.Trees as trees
 use Rattle.bdl_parser.specs.Trees.{TypeTree, BagFieldTree}
 use Rattle.bdl_check.specs.declared.sizes.Size.{Size}
@@ -42,19 +47,11 @@ map_size ds key value spot under l f p h el ef =
       fields_are = ef ∙ h.fields_are;
     }
 
--- words, taints and sets take none
-pub flat_size : (ds : List Placed) (t : TypeTree) → passes_type (kind_named ds) BagField t ≡ true → ((spot : Spot) → t ≡ trees.leaf trees.counter spot → ⊥) → ((key value : TypeTree) (spot : Spot) → t ≡ trees.map key value spot → ⊥)
-    → ((text : List ℕ) (spot : Spot) → t ≡ trees.leaf (trees.name text) spot → ⊥) → HasTypeSize ds t (size 0 0)
-flat_size ds (trees.leaf (trees.scalar word) spot) p c m n = record { shape = _; is = refl; levels_are = refl; fields_are = refl }
-flat_size ds (trees.leaf trees.float spot) p c m n = absurd (cc p)
-flat_size ds (trees.leaf trees.double spot) p c m n = absurd (cc p)
-flat_size ds (trees.leaf trees.taint spot) p c m n = record { shape = Taint; is = refl; levels_are = refl; fields_are = refl }
-flat_size ds (trees.leaf trees.counter spot) p c m n = absurd (c spot refl)
-flat_size ds (trees.leaf (trees.name text) spot) p c m n = absurd (n text spot refl)
-flat_size ds (trees.set element spot) p c m n =
+-- a set takes none
+pub set_size : (ds : List Placed) (element : TypeTree) (spot : Spot) → passes_type (kind_named ds) BagField (trees.set element spot) ≡ true → HasTypeSize ds (trees.set element spot) (size 0 0)
+set_size ds element spot p =
     let kind = element_kind ds element p in
     record { shape = Set kind.0; is = (kind.0, kind.1, refl); levels_are = refl; fields_are = refl }
-flat_size ds (trees.map key value spot) p c m n = absurd (m key value spot refl)
 
 decl_size : (ds : List Placed) (text : List ℕ) (spot : Spot) (d : Placed) (s : Size) → named ds text ≡ Some d → IsSizeOf ds d.decl s → HasTypeSize ds (trees.leaf (trees.name text) spot) s
 decl_size ds text spot d s e h = by d.decl refl h
@@ -113,3 +110,32 @@ more_size ds list t bag under new h u fresh el ef =
       levels_are = omega (arith, el, a.levels_are, h.levels_are, u.levels_are);
       fields_are = omega (arith, ef, a.count_is, h.fields_are, u.fields_are);
     }
+
+-- ---- names that are known
+
+pub known_left : (ds : List Placed) (sizes : List Size) (xs ys : List (List ℕ)) → AreKnown ds sizes (xs ++ ys) → AreKnown ds sizes xs
+known_left ds sizes [] ys h = tt
+known_left ds sizes (x ∷ xs) ys h = (h.0, known_left ds sizes xs ys h.1)
+
+pub known_right : (ds : List Placed) (sizes : List Size) (xs ys : List (List ℕ)) → AreKnown ds sizes (xs ++ ys) → AreKnown ds sizes ys
+known_right ds sizes [] ys h = h
+known_right ds sizes (x ∷ xs) ys h = known_right ds sizes xs ys h.1
+
+-- ---- the depth of a type
+
+-- how many maps stand inside one another
+abbrev pub map_depth : TypeTree → ℕ
+map_depth (trees.leaf l spot) = 0
+map_depth (trees.set element spot) = 0
+map_depth (trees.map key value spot) = 1 + map_depth value
+
+-- a word, a taint or a set takes none
+pub flat_size : (ds : List Placed) (at : Spot) (form : TypeForm) → ((word : ScalarWord) × (form ≡ TypeForms.Scalar word)) ⊎ ((form ≡ TypeForms.Taint) ⊎ ((element : Box TypeNode Global) × (form ≡ TypeForms.Set element)))
+    → passes_type (kind_named ds) BagField (tree_at at form) ≡ true → HasTypeSize ds (tree_at at form) (size 0 0)
+flat_size ds at form (inl word) p =
+    subst (λ (form : TypeForm). HasTypeSize ds (tree_at at form) (size 0 0)) (sym word.1) (record { shape = _; is = refl; levels_are = refl; fields_are = refl })
+flat_size ds at form (inr (inl taint)) p =
+    subst (λ (form : TypeForm). HasTypeSize ds (tree_at at form) (size 0 0)) (sym taint) (record { shape = Taint; is = refl; levels_are = refl; fields_are = refl })
+flat_size ds at form (inr (inr element)) p =
+    subst (λ (form : TypeForm). HasTypeSize ds (tree_at at form) (size 0 0)) (sym element.1)
+    (set_size ds (tree_of element.0.value) at (subst (λ (form : TypeForm). passes_type (kind_named ds) BagField (tree_at at form) ≡ true) element.1 p))
