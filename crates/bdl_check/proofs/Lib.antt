@@ -10,3 +10,5 @@ pub mod Rows
 pub mod Insertions
 pub mod PassedTypes
 pub mod TypeSizes
+pub mod BagSizes
+pub mod OrderSizes
