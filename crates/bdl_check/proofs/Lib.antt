@@ -12,3 +12,5 @@ pub mod PassedTypes
 pub mod TypeSizes
 pub mod BagSizes
 pub mod OrderSizes
+pub mod LayoutKinds
+pub mod LayoutLaws
