@@ -1,5 +1,5 @@
 -- The fields of a bag one after another, as they are laid out.
-use Rattle.std.proofs.Common.{◌≡◌, ◌≢◌, ℕ, ◌+◌, ◌<◌, ◌≤◌, ◌==◌, ◌-◌, max, Bool, true, false, List, [], ◌∷◌, ◌++◌, length, get_or, map, Option, Some, None, refl, sym, ◌∙◌, ap, subst, arith}
+use Rattle.std.proofs.Common.{◌≡◌, ◌≢◌, ℕ, ◌+◌, ◌<◌, ◌≤◌, ◌==◌, ◌-◌, max, Bool, true, false, List, [], ◌∷◌, ◌++◌, length, get_or, take, drop, map, Option, Some, None, refl, sym, ◌∙◌, ap, subst, arith}
 use Rattle.std.specs.List.{AllByRecursion, IsDistinct}
 use Rattle.std.specs.List.Sorted.{IsPermutation, IsStrictlyIncreasing, IsNonDecreasing, IsNonDecreasingBy}
 use Rattle.std.proofs.lemmas.Bool.Decides.{nat_tests}
@@ -17,6 +17,7 @@ use Rattle.bdl_parser.specs.Trees as trees
 use Rattle.bdl_parser.specs.Trees.{TypeTree, BagFieldTree}
 use Rattle.bdl_check.specs.Declarations.{Placed, named}
 use Rattle.bdl_check.specs.Layouts.{Layout, kind_in, IsShapeOfDecl, IsShapeOf, IsFieldOf, AreFieldsOf, IsInOrder, IsLaidOut, HasShapeIn, HasDeclShapeIn}
+use Rattle.bdl_check.proofs.BagSizes.{split_at}
 use Rattle.bdl_check.proofs.Insertions.{all_moved}
 use Rattle.bdl_check.proofs.LayoutRooms.{laid_out, in_order}
 use Rattle.bdl_check.proofs.OneLayout.{numbers}
@@ -55,6 +56,13 @@ middle_level ds front t rest room h =
     let here = each_middle (HasLevels ds room) front t rest h in
     let within = here.2 in
     (omega (arith, within), (here.0, here.1, omega (arith, within)))
+
+-- the same of fields as the code has them
+pub item_level : {X : Type 0} (f : X → BagFieldTree) (ds : List Placed) (list : List BagFieldTree) (sorted items : List X) (nodes : Nodes) (room i : ℕ) (x : X) → IsLaidOut ds list nodes → levels nodes ≤ room → IsPermutation list (map f sorted)
+    → items ≡ sorted → i < length items → x ≡ get_or items i x → (1 ≤ room) × HasShapeIn ds (f x).kind (room - 1)
+item_level f ds list sorted items nodes room i x l le p same lt at =
+    middle_level ds (map f (take i items)) (f x) (map f (drop (i + 1) items)) room
+    (subst (AllByRecursion (HasLevels ds room)) (ap (map f) (sym same) ∙ split_at f items i x lt at) (sorted_levels ds list (map f sorted) nodes room l le p))
 
 -- the value of a map has a shape in one level less
 pub map_level : (ds : List Placed) (key value : TypeTree) (spot : Spot) (room : ℕ) → HasShapeIn ds (trees.map key value spot) room
