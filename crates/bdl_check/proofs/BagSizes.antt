@@ -34,15 +34,15 @@ known_middle ds sizes [] t rest h = known_left ds sizes (names_in t.kind) (flat_
 known_middle ds sizes (u ∷ front) t rest h =
     known_middle ds sizes front t rest (known_right ds sizes (names_in u.kind) (flat_map (λ (field : BagFieldTree). names_in field.kind) (front ++ t ∷ rest)) h)
 
-or_first : (a b : Bool) → (a || b) ≡ false → a ≡ false
+pub or_first : (a b : Bool) → (a || b) ≡ false → a ≡ false
 or_first true b e = e
 or_first false b e = refl
 
-or_second : (a b : Bool) → (a || b) ≡ false → b ≡ false
+pub or_second : (a b : Bool) → (a || b) ≡ false → b ≡ false
 or_second true b e = absurd (cc e)
 or_second false b e = e
 
-not_so : (b : Bool) → not b ≡ true → b ≡ false
+pub not_so : (b : Bool) → not b ≡ true → b ≡ false
 not_so true e = absurd (cc e)
 not_so false e = refl
 

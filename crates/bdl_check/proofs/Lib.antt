@@ -14,3 +14,4 @@ pub mod BagSizes
 pub mod OrderSizes
 pub mod LayoutKinds
 pub mod LayoutLaws
+pub mod TableLaws

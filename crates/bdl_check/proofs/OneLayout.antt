@@ -103,7 +103,7 @@ decl_shape : (A B : Layout) → Agree A B → (decl : Decl) (s t : Shape) → Is
 decl_shape A B one (Bag own spot list) s t a b = a.2 ∙ ap BagOf (one list a.0 b.0 a.1 b.1) ∙ sym b.2
 decl_shape A B one (Struct own spot list) s t a b = a ∙ sym b
 
-same_some : {X : Type 0} (o : Option X) (x y : X) → o ≡ Some x → o ≡ Some y → x ≡ y
+pub same_some : {X : Type 0} (o : Option X) (x y : X) → o ≡ Some x → o ≡ Some y → x ≡ y
 same_some o x y a b = let e : Some x ≡ Some y = sym a ∙ b in cc e
 
 one_shape : (ds : List Placed) (A B : Layout) → Agree A B → (tree : TypeTree) (s t : Shape) → IsShapeOf ds A tree s → IsShapeOf ds B tree t → s ≡ t
