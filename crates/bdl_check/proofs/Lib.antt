@@ -15,3 +15,4 @@ pub mod OrderSizes
 pub mod LayoutKinds
 pub mod LayoutLaws
 pub mod TableLaws
+pub mod ChosenBags

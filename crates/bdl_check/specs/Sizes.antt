@@ -1,11 +1,13 @@
 -- The levels of headers and the number of fields of a bag, as far as they matter.
-use Rattle.std.specs.Prelude.{◌≡◌, ℕ, min, Some, List, length, slice_get}
+use Rattle.std.specs.Prelude.{◌≡◌, ℕ, ◌<◌, ◌≤◌, min, Option, None, Some, List, length, slice_get}
 use Rattle.std.specs.List.{AllByRecursion}
 use Rattle.bag_model.specs.Shapes.{Shape, Nodes}
 use Rattle.bag_model.specs.Tables.{levels_under, levels, nodes_under, node_count}
 use Rattle.bdl_check.specs.declared.sizes.Size.{Size}
 use Rattle.bdl_check.specs.Declarations.{Placed, number_named}
 use Rattle.bdl_check.specs.Layouts.{IsShapeOf, IsLaidOut}
+use Rattle.bdl_load.specs.declared.faults.DefCode.{DefCode}
+use Rattle.bdl_load.specs.declared.faults.DefCode.TheVariants.{TooDeep, TooManySlots}
 use Rattle.bdl_parser.specs.declared.trees.Decl.{Decl}
 use Rattle.bdl_parser.specs.declared.trees.Decl.TheVariants.{Bag, Struct}
 use Rattle.bdl_parser.specs.Trees.{TypeTree, BagFieldTree}
@@ -41,3 +43,10 @@ AreKnown ds sizes texts = AllByRecursion (λ text. (number : ℕ) → number_nam
 pub record AreSizes (ds : List Placed) (sizes : List Size) : Type 0 where
   pub count : length sizes ≡ length ds
   pub each : (number : ℕ) → IsSized ds sizes number
+
+-- what is wrong with a bag of this size: it takes too many levels, or else it has too many fields
+abbrev pub IsExcess : Size → Option DefCode → Type 0
+IsExcess size None = (size.levels ≤ 16) × (size.fields ≤ 16384)
+IsExcess size (Some TooDeep) = 16 < size.levels
+IsExcess size (Some TooManySlots) = (size.levels ≤ 16) × (16384 < size.fields)
+IsExcess size (Some _) = ⊥

@@ -117,10 +117,3 @@ pub(crate) fn sizes_of(alloc: Global, declarations: &Declarations, order: &[usiz
     }
     Ok(sizes)
 }
-
-#[tactic(auto, using(crate::proofs::TableLaws::is_table))]
-pub(crate) fn probe(number: u32) -> u32
-    ensures { result ≡ number }
-{
-    number
-}

@@ -6,6 +6,7 @@ ghost use Rattle.bdl_check.specs.Checks.{placed_faults};
 ghost use Rattle.bdl_check.specs.Declarations.{AreSpelled, number_named};
 ghost use Rattle.bdl_check.specs.Faults.{Says};
 ghost use Rattle.bdl_check.specs.Recursion.{links};
+ghost use Rattle.bdl_check.specs.Sizes.{IsExcess};
 ghost use Rattle.bdl_check.specs.Tables.{bag_named, IsTableOf, IsUntabled};
 ghost use Rattle.bdl_load.specs.Faults.{fault_in};
 ghost use Rattle.topological_order.specs.Orders.{IsOrder};
@@ -13,7 +14,7 @@ ghost use Rattle.topological_order.specs.Orders.{IsOrder};
 use crate::declarations::Declarations;
 use crate::layouts::lay_out;
 use crate::refusals::Refusal;
-use crate::sizes::sizes_of;
+use crate::sizes::{Size, sizes_of};
 use bdl_load::{DefCode, Fault, Finding};
 use bdl_parser::{BagFields, Decl, Spot};
 use field_table::Table;
@@ -56,6 +57,19 @@ fn find_bag<'a>(declarations: &Declarations<'a>, name: &str) -> Option<ChosenBag
     }
 }
 
+/// What is wrong with a bag of this size, if anything is.
+fn excess(size: Size) -> Option<DefCode>
+    ensures { IsExcess size result }
+{
+    if size.levels > MAX_LEVELS {
+        return Some(DefCode::TooDeep);
+    }
+    if size.fields > MAX_FIELDS {
+        return Some(DefCode::TooManySlots);
+    }
+    None
+}
+
 /// The fault in the file of this name.
 fn fault_of(alloc: Global, file: &str, found: Finding) -> Result<Fault, Memory>
     ensures { IfOk result (λ fault. fault ≡ fault_in file.now found) }
@@ -92,17 +106,13 @@ pub(crate) fn table_of(
     };
     let sizes = sizes_of(alloc, declarations, order)?;
     let size = sizes[chosen.number];
-    let code = if size.levels > MAX_LEVELS {
-        DefCode::TooDeep
-    } else if size.fields > MAX_FIELDS {
-        DefCode::TooManySlots
-    } else {
-        let fields = lay_out(alloc, declarations, chosen.fields, MAX_LEVELS)?;
-        return Ok(Table::of(fields));
-    };
-    let found = Finding {
-        at: chosen.at,
-        code,
-    };
-    Err(Refusal::At(fault_of(alloc, chosen.file.as_str(), found)?))
+    if let Some(code) = excess(size) {
+        let found = Finding {
+            at: chosen.at,
+            code,
+        };
+        return Err(Refusal::At(fault_of(alloc, chosen.file.as_str(), found)?));
+    }
+    let fields = lay_out(alloc, declarations, chosen.fields, MAX_LEVELS)?;
+    Ok(Table::of(fields))
 }
