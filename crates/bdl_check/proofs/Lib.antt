@@ -1,3 +1,5 @@
+pub mod OneLayout
+pub mod LayoutRooms
 pub mod Firsts
 pub mod Entries
 pub mod NameLaws
@@ -7,6 +9,14 @@ pub mod FieldLaws
 pub mod PassLaws
 pub mod Soundness
 pub mod Rows
-pub mod OneLayout
+pub mod Insertions
+pub mod PassedTypes
+pub mod TypeSizes
+pub mod BagSizes
+pub mod OrderSizes
+pub mod LayoutKinds
+pub mod LayoutLaws
+pub mod TableLaws
+pub mod ChosenBags
 pub mod Compiling
 pub mod OneOutcome

@@ -18,22 +18,22 @@ use Rattle.bdl_check.specs.Tables.{BagTree, bag_named, Fits, IsUnfit, IsTableOf,
 
 -- ---- fields in ascending order
 
-abbrev Precedes : ℕ → List BagFieldTree → Type 0
+abbrev pub Precedes : ℕ → List BagFieldTree → Type 0
 Precedes number [] = Unit {0}
 Precedes number (y ∷ ys) = (number < y.number) × Precedes number ys
 
-abbrev Rising : List BagFieldTree → Type 0
+abbrev pub Rising : List BagFieldTree → Type 0
 Rising [] = Unit {0}
 Rising (x ∷ xs) = Precedes x.number xs × Rising xs
 
-abbrev numbers : List BagFieldTree → List ℕ
+abbrev pub numbers : List BagFieldTree → List ℕ
 numbers list = map (λ (tree : BagFieldTree). tree.number) list
 
-precedes_too : (n m : ℕ) (ys : List BagFieldTree) → n < m → Precedes m ys → Precedes n ys
+pub precedes_too : (n m : ℕ) (ys : List BagFieldTree) → n < m → Precedes m ys → Precedes n ys
 precedes_too n m [] less p = tt
 precedes_too n m (y ∷ ys) less (first, p) = ((omega arith), precedes_too n m ys less p)
 
-rises : (xs : List BagFieldTree) → AllPairs (λ n m. n < m) (numbers xs) → Rising xs
+pub rises : (xs : List BagFieldTree) → AllPairs (λ n m. n < m) (numbers xs) → Rising xs
 rises [] h = tt
 rises (x ∷ []) h = (tt, tt)
 rises (x ∷ y ∷ ys) h =
@@ -103,7 +103,7 @@ decl_shape : (A B : Layout) → Agree A B → (decl : Decl) (s t : Shape) → Is
 decl_shape A B one (Bag own spot list) s t a b = a.2 ∙ ap BagOf (one list a.0 b.0 a.1 b.1) ∙ sym b.2
 decl_shape A B one (Struct own spot list) s t a b = a ∙ sym b
 
-same_some : {X : Type 0} (o : Option X) (x y : X) → o ≡ Some x → o ≡ Some y → x ≡ y
+pub same_some : {X : Type 0} (o : Option X) (x y : X) → o ≡ Some x → o ≡ Some y → x ≡ y
 same_some o x y a b = let e : Some x ≡ Some y = sym a ∙ b in cc e
 
 one_shape : (ds : List Placed) (A B : Layout) → Agree A B → (tree : TypeTree) (s t : Shape) → IsShapeOf ds A tree s → IsShapeOf ds B tree t → s ≡ t

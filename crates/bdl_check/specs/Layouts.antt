@@ -1,10 +1,11 @@
 -- The fields of a bag as those of a table, with the bags that they name in place.
-use Rattle.std.specs.Prelude.{◌≡◌, ℕ, zero, suc, Option, None, Some, List, [], ◌∷◌, map}
+use Rattle.std.specs.Prelude.{◌≡◌, ◌≤◌, ℕ, zero, suc, Option, None, Some, List, [], ◌∷◌, map}
 use Rattle.std.specs.List.{filter_map}
 use Rattle.std.specs.List.Sorted.{IsPermutation, IsStrictlyIncreasing}
 use Rattle.std.specs.Option.{option_and_then}
 use Rattle.bag_model.specs.Scalars as scalars
 use Rattle.bag_model.specs.Shapes.{Shape, Nodes, Field, fields, Taint, Scalar, Set, Counter, Map, Bag as BagOf}
+use Rattle.bag_model.specs.Tables.{levels_under}
 use Rattle.bdl_check.specs.Declarations.{Placed, named}
 use Rattle.bdl_parser.specs.declared.trees.Decl.{Decl}
 use Rattle.bdl_parser.specs.declared.trees.Decl.TheVariants.{Bag, Struct}
@@ -96,3 +97,11 @@ IsLaidOutWithin (suc room) ds list nodes = IsInOrder ds (IsLaidOutWithin room ds
 -- the fields of a bag as those of a table, however deep its bags stand
 abbrev pub IsLaidOut : List Placed → Layout
 IsLaidOut ds list nodes = (room : ℕ) × IsLaidOutWithin room ds list nodes
+
+-- a field of this type has a shape whose headers take at most so many levels under the field's own
+abbrev pub HasShapeIn : List Placed → trees.TypeTree → ℕ → Type 0
+HasShapeIn ds tree room = (shape : Shape) × IsShapeOf ds (IsLaidOut ds) tree shape × (levels_under shape ≤ room)
+
+-- the same of a field whose type is the name of this declaration
+abbrev pub HasDeclShapeIn : List Placed → Decl → ℕ → Type 0
+HasDeclShapeIn ds decl room = (shape : Shape) × IsShapeOfDecl (IsLaidOut ds) decl shape × (levels_under shape ≤ room)

@@ -1,29 +1,163 @@
 //! The fields of a bag, laid out as those of a table.
 
-ghost use Rattle.std.specs.Prelude.{◌≡◌, ◌≤◌, [], IfOk};
+ghost use Rattle.std.specs.Prelude.{◌≡◌, ◌≤◌, Some, IfOk, map, true};
+ghost use Rattle.std.specs.List.Sorted.{IsPermutation, IsNonDecreasingBy};
+ghost use Rattle.std.specs.Option.{is_some};
+ghost use Rattle.bag_model.specs.Scalars as scalars;
 ghost use Rattle.bag_model.specs.Shapes.{Nodes};
 ghost use Rattle.bag_model.specs.Tables.{levels};
-ghost use Rattle.bdl_check.specs.Checks.{placed_faults};
-ghost use Rattle.bdl_check.specs.Declarations.{AreSpelled};
-ghost use Rattle.bdl_check.specs.Layouts.{IsLaidOut};
-ghost use Rattle.field_table.specs.Plain.{nodes_of, IsIndexed};
+ghost use Rattle.bdl_check.specs.Layouts.{word_in, words_of, kind_of_decl, kind_in, IsShapeOfDecl, IsShapeOf, IsFieldOf, IsLaidOut, HasShapeIn, HasDeclShapeIn};
+ghost use Rattle.bdl_parser.specs.Views.{tree_of, bag_field_of};
+ghost use Rattle.field_table.specs.Plain.{shape_of, field_of, nodes_of, IsIndexed, IsIndexedShape, IsIndexedField};
+ghost use Rattle.scalar_types.specs.KindViews.{IsWord, word_of, kind_of};
 
 use crate::declarations::Declarations;
-use bdl_parser::BagFields;
-use field_table::Slots;
+use bdl_parser::{BagField, BagFields, Decl, ScalarWord, StructFields, TypeForm, TypeNode};
+use field_table::{Shape, Slot, Slots};
 use outside::Memory;
+use scalar_types::{KindList, ScalarKind};
 use std::alloc::Global;
+
+fn word_kind(word: ScalarWord) -> ScalarKind
+    ensures plain { IsWord result }
+    ensures word { word_of result ≡ word_in word }
+    ensures kind { kind_of result ≡ scalars.ScalarKind.One (word_in word) }
+{
+    match word {
+        ScalarWord::Bool => ScalarKind::Bool,
+        ScalarWord::Int32 => ScalarKind::Int32,
+        ScalarWord::Int64 => ScalarKind::Int64,
+        ScalarWord::Sint32 => ScalarKind::Sint32,
+        ScalarWord::Sint64 => ScalarKind::Sint64,
+        ScalarWord::Uint32 => ScalarKind::Uint32,
+        ScalarWord::Uint64 => ScalarKind::Uint64,
+        ScalarWord::Fixed32 => ScalarKind::Fixed32,
+        ScalarWord::Fixed64 => ScalarKind::Fixed64,
+        ScalarWord::Sfixed32 => ScalarKind::Sfixed32,
+        ScalarWord::Sfixed64 => ScalarKind::Sfixed64,
+        ScalarWord::Str => ScalarKind::Str,
+        ScalarWord::Bytes => ScalarKind::Bytes,
+    }
+}
+
+/// A struct, by the kinds of its fields in the order of the text.
+fn struct_kind(alloc: Global, fields: &StructFields) -> Result<ScalarKind, Memory>
+    ensures { IfOk result (λ kind. kind_of kind ≡ scalars.ScalarKind.Packed (words_of fields.now)) }
+{
+    let mut kinds = KindList::new(alloc);
+    for field in fields.as_slice() {
+        if let TypeForm::Scalar(word) = &field.kind.form {
+            kinds.push(word_kind(*word))?;
+        }
+    }
+    Ok(ScalarKind::Packed(kinds))
+}
+
+/// The kind of scalars that a declaration is.
+fn decl_kind(alloc: Global, decl: &Decl) -> Result<ScalarKind, Memory>
+    requires { is_some (kind_of_decl decl.now) ≡ true }
+    ensures { IfOk result (λ kind. kind_of_decl decl.now ≡ Some (kind_of kind)) }
+{
+    match decl {
+        Decl::Struct { fields, .. } => struct_kind(alloc, fields),
+        Decl::Bag { .. } => unreachable!(),
+    }
+}
+
+/// The kind of scalars that the type of an element or a key is.
+fn type_kind(alloc: Global, declarations: &Declarations, node: &TypeNode) -> Result<ScalarKind, Memory>
+    requires { is_some (kind_in declarations.now (tree_of node.now)) ≡ true }
+    ensures { IfOk result (λ kind. kind_in declarations.now (tree_of node.now) ≡ Some (kind_of kind)) }
+{
+    match &node.form {
+        TypeForm::Scalar(word) => Ok(word_kind(*word)),
+        TypeForm::Name(name) => {
+            let declaration = declarations.named(name.as_str()).unwrap();
+            decl_kind(alloc, declaration.decl)
+        }
+        _ => unreachable!(),
+    }
+}
+
+/// The fields in ascending order of number.
+fn in_order<'a>(alloc: Global, fields: &'a BagFields) -> Result<Vec<&'a BagField>, Memory>
+    ensures same { IfOk result (λ sorted. IsPermutation fields.now (map (λ field. bag_field_of field.now) sorted.items)) }
+    ensures rising { IfOk result (λ sorted. IsNonDecreasingBy (λ field. field.now.number) sorted.items) }
+{
+    let mut sorted = Vec::with_capacity(alloc, fields.len())?;
+    for field in fields.as_slice() {
+        sorted.push(field)?;
+    }
+    sorted.sort_unstable_by_key(|field| field.number);
+    Ok(sorted)
+}
+
+/// The shape of a field whose type is the name of that declaration.
+#[cycle(laying)]
+fn decl_shape(alloc: Global, declarations: &Declarations, decl: &Decl, room: u32) -> Result<Shape, Memory>
+    requires { HasDeclShapeIn declarations.now decl.now room }
+    ensures shape { IfOk result (λ shape. IsShapeOfDecl (IsLaidOut declarations.now) decl.now (shape_of shape)) }
+    ensures indexed { IfOk result IsIndexedShape }
+{
+    match decl {
+        Decl::Bag { fields, .. } => Ok(Shape::Bag(lay_out(alloc, declarations, fields, room)?)),
+        Decl::Struct { fields, .. } => Ok(Shape::Scalar(struct_kind(alloc, fields)?)),
+    }
+}
+
+/// The shape of a field of this type, whose headers take at most `room` levels under its own.
+#[cycle(laying)]
+fn type_shape(alloc: Global, declarations: &Declarations, node: &TypeNode, room: u32) -> Result<Shape, Memory>
+    requires { HasShapeIn declarations.now (tree_of node.now) room }
+    ensures shape { IfOk result (λ shape. IsShapeOf declarations.now (IsLaidOut declarations.now) (tree_of node.now) (shape_of shape)) }
+    ensures indexed { IfOk result IsIndexedShape }
+{
+    match &node.form {
+        TypeForm::Scalar(word) => Ok(Shape::Scalar(word_kind(*word))),
+        TypeForm::Taint => Ok(Shape::Taint),
+        TypeForm::Counter => Ok(Shape::Counter),
+        TypeForm::Name(name) => {
+            let declaration = declarations.named(name.as_str()).unwrap();
+            decl_shape(alloc, declarations, declaration.decl, room)
+        }
+        TypeForm::Set(element) => Ok(Shape::Set(type_kind(alloc, declarations, element)?)),
+        TypeForm::Map(key, value) => {
+            let key = type_kind(alloc, declarations, key)?;
+            let value = type_shape(alloc, declarations, value, room - 1)?;
+            Ok(Shape::Map(key, Box::new(alloc, value)?))
+        }
+        TypeForm::Float | TypeForm::Double => unreachable!(),
+    }
+}
+
+/// The field of a table that a field of a bag is.
+#[cycle(laying)]
+fn slot(alloc: Global, declarations: &Declarations, field: &BagField, room: u32) -> Result<Slot, Memory>
+    requires { HasShapeIn declarations.now (tree_of field.now.kind) room }
+    ensures field { IfOk result (λ slot. IsFieldOf declarations.now (IsLaidOut declarations.now) (bag_field_of field.now) (field_of slot)) }
+    ensures indexed { IfOk result IsIndexedField }
+{
+    let shape = type_shape(alloc, declarations, &field.kind, room)?;
+    let name = field.name.copy()?;
+    Ok(Slot {
+        name,
+        number: field.number,
+        shape,
+    })
+}
 
 /// The fields of a bag in ascending order of number, with the bags that they name in place. The bag takes at most `room`
 /// levels of headers.
+#[cycle(laying)]
 pub(crate) fn lay_out(alloc: Global, declarations: &Declarations, fields: &BagFields, room: u32) -> Result<Slots, Memory>
     requires shallow { (nodes : Nodes) × IsLaidOut declarations.now fields.now nodes × (levels nodes ≤ room) }
     ensures laid_out { IfOk result (λ slots. IsLaidOut declarations.now fields.now (nodes_of slots)) }
     ensures indexed { IfOk result IsIndexed }
 {
-    let _ = alloc;
-    let _ = declarations;
-    let _ = fields;
-    let _ = room;
-    Err(Memory)
+    let sorted = in_order(alloc, fields)?;
+    let mut slots = Slots::new(alloc);
+    for field in &sorted {
+        slots.push(slot(alloc, declarations, field, room - 1)?)?;
+    }
+    Ok(slots)
 }

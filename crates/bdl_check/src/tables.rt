@@ -1,17 +1,86 @@
 //! The table of the chosen bag.
 
-ghost use Rattle.std.specs.Prelude.{◌≡◌, [], IfOk, IfErr};
+ghost use Rattle.std.specs.Prelude.{◌≡◌, [], Some, IfOk, IfErr, IfSome};
+ghost use Rattle.std.specs.Option.{option_map};
 ghost use Rattle.bdl_check.specs.Checks.{placed_faults};
-ghost use Rattle.bdl_check.specs.Declarations.{AreSpelled};
+ghost use Rattle.bdl_check.specs.Declarations.{AreSpelled, number_named};
 ghost use Rattle.bdl_check.specs.Faults.{Says};
 ghost use Rattle.bdl_check.specs.Recursion.{links};
-ghost use Rattle.bdl_check.specs.Tables.{IsTableOf, IsUntabled};
+ghost use Rattle.bdl_check.specs.Sizes.{IsExcess};
+ghost use Rattle.bdl_check.specs.Tables.{bag_named, IsTableOf, IsUntabled};
+ghost use Rattle.bdl_load.specs.Faults.{fault_in};
 ghost use Rattle.topological_order.specs.Orders.{IsOrder};
 
 use crate::declarations::Declarations;
+use crate::layouts::lay_out;
 use crate::refusals::Refusal;
+use crate::sizes::{Size, sizes_of};
+use bdl_load::{DefCode, Fault, Finding};
+use bdl_parser::{BagFields, Decl, Spot};
 use field_table::Table;
+use outside::{Memory, Text};
 use std::alloc::Global;
+
+/// The most levels of headers of a table.
+const MAX_LEVELS: u32 = 16;
+
+/// The most fields of a table, those inside them counted.
+const MAX_FIELDS: u32 = 16_384;
+
+/// Where a file begins.
+const START: Spot = Spot { line: 1, column: 1 };
+
+/// A bag: its number, the name of its file, where its name stands, and its fields.
+#[derive(Clone, Copy)]
+struct ChosenBag<'a> {
+    number: usize,
+    file: &'a Text,
+    at: Spot,
+    fields: &'a BagFields,
+}
+
+/// The bag of this name.
+fn find_bag<'a>(declarations: &Declarations<'a>, name: &str) -> Option<ChosenBag<'a>>
+    ensures bag { option_map (λ bag. record { file = bag.file.now; spot = bag.at; list = bag.fields.now }) result ≡ bag_named declarations.now name.now }
+    ensures number { IfSome result (λ bag. number_named declarations.now name.now ≡ Some bag.number) }
+{
+    let number = declarations.number(name)?;
+    let declaration = declarations.get(number)?;
+    match declaration.decl {
+        Decl::Bag { at, fields, .. } => Some(ChosenBag {
+            number,
+            file: declaration.file,
+            at: *at,
+            fields,
+        }),
+        Decl::Struct { .. } => None,
+    }
+}
+
+/// What is wrong with a bag of this size, if anything is.
+fn excess(size: Size) -> Option<DefCode>
+    ensures { IsExcess size result }
+{
+    if size.levels > MAX_LEVELS {
+        return Some(DefCode::TooDeep);
+    }
+    if size.fields > MAX_FIELDS {
+        return Some(DefCode::TooManySlots);
+    }
+    None
+}
+
+/// The fault in the file of this name.
+fn fault_of(alloc: Global, file: &str, found: Finding) -> Result<Fault, Memory>
+    ensures { IfOk result (λ fault. fault ≡ fault_in file.now found) }
+{
+    Ok(Fault {
+        file: Text::of(alloc, file)?,
+        line: found.at.line,
+        column: found.at.column,
+        code: found.code,
+    })
+}
 
 /// The table of the bag of this name among the declarations of a definition with this root. The order is one in which each
 /// declaration stands behind those that it names.
@@ -28,10 +97,22 @@ pub(crate) fn table_of(
     ensures table { IfOk result (IsTableOf declarations.now bag.now) }
     ensures fault { IfErr result (Says (IsUntabled declarations.now root.now bag.now)) }
 {
-    let _ = alloc;
-    let _ = declarations;
-    let _ = order;
-    let _ = root;
-    let _ = bag;
-    Err(Refusal::Memory)
+    let Some(chosen) = find_bag(declarations, bag) else {
+        let found = Finding {
+            at: START,
+            code: DefCode::NoSuchBag,
+        };
+        return Err(Refusal::At(fault_of(alloc, root, found)?));
+    };
+    let sizes = sizes_of(alloc, declarations, order)?;
+    let size = sizes[chosen.number];
+    if let Some(code) = excess(size) {
+        let found = Finding {
+            at: chosen.at,
+            code,
+        };
+        return Err(Refusal::At(fault_of(alloc, chosen.file.as_str(), found)?));
+    }
+    let fields = lay_out(alloc, declarations, chosen.fields, MAX_LEVELS)?;
+    Ok(Table::of(fields))
 }

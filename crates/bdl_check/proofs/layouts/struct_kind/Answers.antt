@@ -1,0 +1,35 @@
+use Rattle.std.proofs.Common.{◌≡◌, List, [], ◌∷◌, ◌++◌, ◌+◌, map, take, sym, ap, subst, ◌∙◌, refl, arith}
+use Rattle.std.proofs.lemmas.List.{take_all}
+use Rattle.bag_model.specs.Scalars as scalars
+use Rattle.bdl_parser.specs.Trees.{StructFieldTree}
+use Rattle.bdl_parser.specs.Views.{struct_field_of}
+use Rattle.bdl_check.specs.Layouts.{words_of}
+use Rattle.bdl_check.proofs.BagSizes.{up_to}
+use Rattle.bdl_check.proofs.LayoutKinds.{word_more, no_more}
+use Rattle.scalar_types.specs.KindViews.{word_of}
+use Rattle.bdl_check.proofs.layouts.struct_kind.Goals as goal
+use Rattle.bdl_check.proofs.layouts.struct_kind.Goals.{in-Scalar+in_ok-push, in_default}
+
+pub loop-field-preserved : goal.loop-field-preserved
+loop-field-preserved c =
+    let items = c.as_slice-field-items.result.now in
+    let i = c.loop-field.field-index in
+    let front = map struct_field_of (take i items) in
+    let field = c.field-item.result in
+    let here = struct_field_of field in
+    let more = ap words_of (sym (up_to struct_field_of items i field c.loop-field-test.true c.field-item.is)) in
+    elim c.match-field.branch [
+    | in-Scalar+in_ok-push w ↦ (
+      let pushed = w.in_ok-push.ensures.ok in
+      let grown = ap (λ words. words ++ word_of w.word_kind.result ∷ []) c.loop-field.invariant in
+      let word = ap (λ word. words_of front ++ word ∷ []) w.word_kind.ensures.word in
+      w.kinds-is ∙ pushed ∙ grown ∙ word ∙ word_more front here field.kind.at field.kind.form w.in-Scalar.word refl w.in-Scalar.is ∙ more
+    )
+    | in_default w ↦ w.kinds-is ∙ c.loop-field.invariant ∙ no_more front here field.kind.at field.kind.form refl w.in_default.not-Scalar ∙ more
+    ]
+
+pub returns : goal.returns
+returns c =
+    let items = c.as_slice-field-items.result.now in
+    let all = ap (map struct_field_of) (take_all c.loop-field.field-index items c.loop-field-test.false) ∙ c.as_slice-field-items.ensures in
+    ap scalars.ScalarKind.Packed (c.loop-field.invariant ∙ ap words_of all)
