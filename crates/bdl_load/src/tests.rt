@@ -267,7 +267,7 @@ fn long_files(rt: HostRuntime) -> Result<(), Fail> {
     Ok(())
 }
 
-/// A library of so many files, `f0` and on, each of which imports the next; the last says this.
+/// A library of the files from `f0` to that of this number, each of which imports the next; the last says this.
 fn chain(alloc: Global, last: u32, says: &str) -> Result<MemoryLibrary, Fail> {
     let mut library = MemoryLibrary::new(alloc, Vec::new(alloc));
     for number in 0..last.min(100) {
