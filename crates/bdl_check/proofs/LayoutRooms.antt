@@ -68,11 +68,14 @@ list_within ds (t ∷ ts) (f ∷ fs) (here, a) =
     let more = list_within ds ts fs a in
     let room = one.0 + more.0 in (
       room,
-      (record {
-        name_is = here.name_is;
-        number_is = here.number_is;
-        shape = shape_grows ds (IsLaidOutWithin one.0 ds) (IsLaidOutWithin room ds) (room_grows ds one.0 room (omega arith)) t.kind f.shape one.1;
-      }, list_grows ds (IsLaidOutWithin more.0 ds) (IsLaidOutWithin room ds) (room_grows ds more.0 room (omega arith)) ts fs more.1),
+      (
+        record {
+          name_is = here.name_is;
+          number_is = here.number_is;
+          shape = shape_grows ds (IsLaidOutWithin one.0 ds) (IsLaidOutWithin room ds) (room_grows ds one.0 room (omega arith)) t.kind f.shape one.1;
+        },
+        list_grows ds (IsLaidOutWithin more.0 ds) (IsLaidOutWithin room ds) (room_grows ds more.0 room (omega arith)) ts fs more.1,
+      ),
     )
 
 -- a bag is laid out where its fields are in order and the bags in place are laid out

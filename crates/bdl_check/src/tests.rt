@@ -50,12 +50,14 @@ fn answer_of<L: Library>(
 ) -> Result<String, Fail> {
     match compile(alloc, library, root, bag) {
         Ok(table) => slots_of(alloc, &table),
-        Err(DefFault::At {
-            file,
-            line,
-            column,
-            code,
-        }) => Ok(format!(in alloc; "{} {line}:{column} {code}", file.as_str())?),
+        Err(
+            DefFault::At {
+                file,
+                line,
+                column,
+                code,
+            },
+        ) => Ok(format!(in alloc; "{} {line}:{column} {code}", file.as_str())?),
         Err(DefFault::Failed) => Ok(String::from_str(alloc, "failed")?),
         Err(DefFault::Memory) => Err(Fail::from("memory")),
     }
@@ -137,7 +139,10 @@ fn layers(rt: HostRuntime) -> Result<(), Fail> {
     let mut library = SureLibrary::new(alloc);
     add_layers(alloc, &mut library, 15, 1)?;
     let answer = answer_of(alloc, &mut library, "f", "B0")?;
-    assert_eq!(rt; answer.as_str(), "ok f0.f0.f0.f0.f0.f0.f0.f0.f0.f0.f0.f0.f0.f0.f0.b:0.0.0.0.0.0.0.0.0.0.0.0.0.0.0.0:scalar");
+    assert_eq!(rt;
+        answer.as_str(),
+        "ok f0.f0.f0.f0.f0.f0.f0.f0.f0.f0.f0.f0.f0.f0.f0.b:0.0.0.0.0.0.0.0.0.0.0.0.0.0.0.0:scalar"
+    );
     add_layers(alloc, &mut library, 16, 1)?;
     let answer = answer_of(alloc, &mut library, "f", "B0")?;
     assert_eq!(rt; answer.as_str(), "f 1:5 TooDeep");

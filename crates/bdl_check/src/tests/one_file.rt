@@ -16,7 +16,10 @@ pub(super) static FAULTS: [(&str, &str); 111] = [
     ("bag B { } /", "1:11 BadByte"),
     ("bag B { } /*/", "1:11 OpenComment"),
     ("\"", "1:1 OpenString"),
-    ("bag B { bool a = 65535; bool b = 065536; }", "1:34 NumberRange"),
+    (
+        "bag B { bool a = 65535; bool b = 065536; }",
+        "1:34 NumberRange",
+    ),
     ("import", "1:1 Expected"),
     ("bag B { } import \"q.bdl\";", "1:11 Expected"),
     ("bag bag { }", "1:5 Expected"),
@@ -32,15 +35,24 @@ pub(super) static FAULTS: [(&str, &str); 111] = [
     ("bag B { } struct B { bool a; }", "1:18 DuplicateName"),
     ("struct B { bool a; } bag B { }", "1:26 DuplicateName"),
     ("struct B { } struct B { }", "1:21 DuplicateName"),
-    ("bag A { } bag B { } bag C { } bag B { } bag A { }", "1:35 DuplicateName"),
+    (
+        "bag A { } bag B { } bag C { } bag B { } bag A { }",
+        "1:35 DuplicateName",
+    ),
     ("bag B { }\nbag\n  B { }", "3:3 DuplicateName"),
     // Names come before everything else.
     ("struct S { } bag B { } bag B { }", "1:28 DuplicateName"),
-    ("bag B { float a = 0; Nix a = 0; } bag B { }", "1:39 DuplicateName"),
+    (
+        "bag B { float a = 0; Nix a = 0; } bag B { }",
+        "1:39 DuplicateName",
+    ),
     // Structs without fields.
     ("struct S { }", "1:8 EmptyStruct"),
     ("struct S { } bag A { S s = 0; }", "1:8 EmptyStruct"),
-    ("bag B { } struct S { bool a; } struct T { }", "1:39 EmptyStruct"),
+    (
+        "bag B { } struct S { bool a; } struct T { }",
+        "1:39 EmptyStruct",
+    ),
     ("struct S { } bag A { Nix x = 0; }", "1:8 EmptyStruct"),
     ("bag A { Nix x = 0; } struct S { }", "1:9 UnknownName"),
     // Floating types.
@@ -48,7 +60,10 @@ pub(super) static FAULTS: [(&str, &str); 111] = [
     ("bag B { double x = 1; }", "1:9 FloatingType"),
     ("bag B { set<float> x = 1; }", "1:13 FloatingType"),
     ("bag B { map<double, bool> x = 1; }", "1:13 FloatingType"),
-    ("bag B { map<bool, map<bool, float>> x = 1; }", "1:29 FloatingType"),
+    (
+        "bag B { map<bool, map<bool, float>> x = 1; }",
+        "1:29 FloatingType",
+    ),
     ("struct S { double x; }", "1:12 FloatingType"),
     ("bag B { bool a = 0; float b = 0; }", "1:21 FloatingType"),
     // Names that no declaration has.
@@ -58,7 +73,10 @@ pub(super) static FAULTS: [(&str, &str); 111] = [
     ("bag A { set<Nix> x = 0; }", "1:13 UnknownName"),
     ("bag A { map<Nix, bool> x = 0; }", "1:13 UnknownName"),
     ("bag A { map<bool, Nix> x = 0; }", "1:19 UnknownName"),
-    ("bag A { map<bool, map<bool, Nix>> x = 0; }", "1:29 UnknownName"),
+    (
+        "bag A { map<bool, map<bool, Nix>> x = 0; }",
+        "1:29 UnknownName",
+    ),
     // Elements and keys.
     ("bag B { set<set<bool>> s = 0; }", "1:13 BadKeyType"),
     ("bag B { set<map<bool, bool>> s = 0; }", "1:13 BadKeyType"),
@@ -66,24 +84,42 @@ pub(super) static FAULTS: [(&str, &str); 111] = [
     ("bag B { set<counter> s = 0; }", "1:13 BadKeyType"),
     ("bag B { set<C> s = 0; } bag C { }", "1:13 BadKeyType"),
     ("bag B { map<set<bool>, bool> s = 0; }", "1:13 BadKeyType"),
-    ("bag B { map<map<bool, bool>, bool> s = 0; }", "1:13 BadKeyType"),
+    (
+        "bag B { map<map<bool, bool>, bool> s = 0; }",
+        "1:13 BadKeyType",
+    ),
     ("bag B { map<taint, bool> s = 0; }", "1:13 BadKeyType"),
     ("bag B { map<counter, bool> s = 0; }", "1:13 BadKeyType"),
-    ("bag B { map<S, bool> s = 0; } struct S { bool a; }", "1:13 BadKeyType"),
+    (
+        "bag B { map<S, bool> s = 0; } struct S { bool a; }",
+        "1:13 BadKeyType",
+    ),
     ("bag B { map<C, bool> s = 0; } bag C { }", "1:13 BadKeyType"),
-    ("bag B { map<bool, set<set<bool>>> s = 0; }", "1:23 BadKeyType"),
-    ("bag B { map<bool, map<taint, bool>> s = 0; }", "1:23 BadKeyType"),
+    (
+        "bag B { map<bool, set<set<bool>>> s = 0; }",
+        "1:23 BadKeyType",
+    ),
+    (
+        "bag B { map<bool, map<taint, bool>> s = 0; }",
+        "1:23 BadKeyType",
+    ),
     // A node comes before the nodes inside it, and the left one before the right one.
     ("bag B { set<set<float>> s = 0; }", "1:13 BadKeyType"),
     ("bag B { map<set<Nix>, float> s = 0; }", "1:13 BadKeyType"),
     ("bag B { map<taint, Nix> s = 0; }", "1:13 BadKeyType"),
-    ("bag B { map<bool, set<set<Nix>>> s = 0; }", "1:23 BadKeyType"),
+    (
+        "bag B { map<bool, set<set<Nix>>> s = 0; }",
+        "1:23 BadKeyType",
+    ),
     // Fields of structs.
     ("struct S { counter c; }", "1:12 BadStructField"),
     ("struct S { taint c; }", "1:12 BadStructField"),
     ("struct S { set<bool> c; }", "1:12 BadStructField"),
     ("struct S { map<bool, bool> c; }", "1:12 BadStructField"),
-    ("struct S { T c; } struct T { bool a; }", "1:12 BadStructField"),
+    (
+        "struct S { T c; } struct T { bool a; }",
+        "1:12 BadStructField",
+    ),
     ("struct S { B c; } bag B { }", "1:12 BadStructField"),
     ("struct S { S c; }", "1:12 BadStructField"),
     ("struct S { bool a; taint c; }", "1:20 BadStructField"),
@@ -92,39 +128,105 @@ pub(super) static FAULTS: [(&str, &str); 111] = [
     // Numbers.
     ("bag In { bool a = 3; bool b = 3; }", "1:31 DuplicateNumber"),
     ("bag In { bool a = 0; bool b = 0; }", "1:31 DuplicateNumber"),
-    ("bag In { bool a = 65535; bool b = 65535; }", "1:35 DuplicateNumber"),
-    ("bag In { bool a = 7; bool b = 007; }", "1:31 DuplicateNumber"),
-    ("bag In { bool a = 1; bool b = 2; bool c = 3; bool d = 1; }", "1:55 DuplicateNumber"),
-    ("bag In { bool a = 1; bool b = 2; bool c = 2; bool d = 1; }", "1:43 DuplicateNumber"),
+    (
+        "bag In { bool a = 65535; bool b = 65535; }",
+        "1:35 DuplicateNumber",
+    ),
+    (
+        "bag In { bool a = 7; bool b = 007; }",
+        "1:31 DuplicateNumber",
+    ),
+    (
+        "bag In { bool a = 1; bool b = 2; bool c = 3; bool d = 1; }",
+        "1:55 DuplicateNumber",
+    ),
+    (
+        "bag In { bool a = 1; bool b = 2; bool c = 2; bool d = 1; }",
+        "1:43 DuplicateNumber",
+    ),
     // The number comes before the name, and a type before both.
     ("bag In { bool a = 3; bool a = 3; }", "1:31 DuplicateNumber"),
     ("bag In { bool a = 3; Nix a = 3; }", "1:22 UnknownName"),
-    ("bag In { bool a = 3; map<bool, float> a = 3; }", "1:32 FloatingType"),
-    ("bag In { bool a = 3; bool b = 3; Nix c = 0; }", "1:31 DuplicateNumber"),
+    (
+        "bag In { bool a = 3; map<bool, float> a = 3; }",
+        "1:32 FloatingType",
+    ),
+    (
+        "bag In { bool a = 3; bool b = 3; Nix c = 0; }",
+        "1:31 DuplicateNumber",
+    ),
     // Names of fields.
     ("bag In { bool a = 3; bool a = 4; }", "1:27 DuplicateField"),
-    ("bag In { bool a = 1; bool b = 2; bool c = 3; bool a = 4; }", "1:51 DuplicateField"),
-    ("bag In { bool a = 3; bool a = 4; bool b = 3; }", "1:27 DuplicateField"),
-    ("bag In { bool a = 3; bool a = 4; float b = 5; }", "1:27 DuplicateField"),
+    (
+        "bag In { bool a = 1; bool b = 2; bool c = 3; bool a = 4; }",
+        "1:51 DuplicateField",
+    ),
+    (
+        "bag In { bool a = 3; bool a = 4; bool b = 3; }",
+        "1:27 DuplicateField",
+    ),
+    (
+        "bag In { bool a = 3; bool a = 4; float b = 5; }",
+        "1:27 DuplicateField",
+    ),
     ("struct S { bool a; bytes a; }", "1:26 DuplicateField"),
-    ("struct S { bool a; bool b; bool b; bool a; }", "1:33 DuplicateField"),
+    (
+        "struct S { bool a; bool b; bool b; bool a; }",
+        "1:33 DuplicateField",
+    ),
     ("struct S { bool a; taint a; }", "1:20 BadStructField"),
-    ("struct S { bool a; bool a; taint b; }", "1:25 DuplicateField"),
+    (
+        "struct S { bool a; bool a; taint b; }",
+        "1:25 DuplicateField",
+    ),
     // An earlier declaration comes before a later one, whatever the rule.
-    ("bag A { bool a = 0; bool a = 1; } bag B { float x = 1; }", "1:26 DuplicateField"),
-    ("bag A { bool a = 0; }\nbag Unused {\n  bool b = 0;\n  bool b = 1; }", "4:8 DuplicateField"),
-    ("struct S { bool a; } bag A { S s = 0; S s = 1; }", "1:41 DuplicateField"),
+    (
+        "bag A { bool a = 0; bool a = 1; } bag B { float x = 1; }",
+        "1:26 DuplicateField",
+    ),
+    (
+        "bag A { bool a = 0; }\nbag Unused {\n  bool b = 0;\n  bool b = 1; }",
+        "4:8 DuplicateField",
+    ),
+    (
+        "struct S { bool a; } bag A { S s = 0; S s = 1; }",
+        "1:41 DuplicateField",
+    ),
     // Fields of several bags.
-    ("bag B { bool a = 065535; bool b = 65535; }", "1:35 DuplicateNumber"),
-    ("bag B { double x = 1; } bag C { } bag C { }", "1:39 DuplicateName"),
-    ("bag B { map<bool, set<double>> x = 1; }", "1:23 FloatingType"),
+    (
+        "bag B { bool a = 065535; bool b = 65535; }",
+        "1:35 DuplicateNumber",
+    ),
+    (
+        "bag B { double x = 1; } bag C { } bag C { }",
+        "1:39 DuplicateName",
+    ),
+    (
+        "bag B { map<bool, set<double>> x = 1; }",
+        "1:23 FloatingType",
+    ),
     ("bag B { map<set<bool>, float> s = 0; }", "1:13 BadKeyType"),
-    ("bag B { map<bool, map<counter, bool>> s = 0; }", "1:23 BadKeyType"),
+    (
+        "bag B { map<bool, map<counter, bool>> s = 0; }",
+        "1:23 BadKeyType",
+    ),
     ("bag B { bool a = 3; bool b = 03; }", "1:30 DuplicateNumber"),
     ("bag B { bool a = 3; bool a = 3; }", "1:30 DuplicateNumber"),
-    ("bag B { bool a = 3; bool b = 4; bool a = 5; }", "1:38 DuplicateField"),
+    (
+        "bag B { bool a = 3; bool b = 4; bool a = 5; }",
+        "1:38 DuplicateField",
+    ),
     ("bag B { bool a = 3; float b = 3; }", "1:21 FloatingType"),
-    ("bag B { bool a = 3; bool b = 3; float c = 4; }", "1:30 DuplicateNumber"),
-    ("bag B { bool a = 3; bool a = 4; } bag C { float x = 0; }", "1:26 DuplicateField"),
-    ("bag B { bool a = 3; } bag C { bool a = 3; float x = 0; }", "1:43 FloatingType"),
+    (
+        "bag B { bool a = 3; bool b = 3; float c = 4; }",
+        "1:30 DuplicateNumber",
+    ),
+    (
+        "bag B { bool a = 3; bool a = 4; } bag C { float x = 0; }",
+        "1:26 DuplicateField",
+    ),
+    (
+        "bag B { bool a = 3; } bag C { bool a = 3; float x = 0; }",
+        "1:43 FloatingType",
+    ),
 ];
