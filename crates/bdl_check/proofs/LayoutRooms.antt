@@ -1,12 +1,12 @@
 -- Layouts by other layouts of the bags in place: more room, and as much as is needed.
-use Rattle.std.proofs.Common.{◌≡◌, ℕ, suc, zero, ◌+◌, ◌≤◌, List, [], ◌∷◌, arith}
-use Rattle.bag_model.specs.Shapes.{Shape, Nodes, Field, fields, Bag as BagOf}
+use Rattle.std.proofs.Common.{ℕ, suc, zero, ◌+◌, ◌≤◌, List, [], ◌∷◌, arith}
+use Rattle.bag_model.specs.Shapes.{Shape, Nodes, Field, fields}
 use Rattle.bdl_parser.specs.declared.trees.Decl.{Decl}
 use Rattle.bdl_parser.specs.declared.trees.Decl.TheVariants.{Bag, Struct}
 use Rattle.bdl_parser.specs.Trees as trees
 use Rattle.bdl_parser.specs.Trees.{BagFieldTree, TypeTree}
-use Rattle.bdl_check.specs.Declarations.{Placed, named}
-use Rattle.bdl_check.specs.Layouts.{Layout, IsShapeOfDecl, IsShapeOf, IsFieldOf, AreFieldsOf, IsInOrder, IsLaidOutWithin, IsLaidOut}
+use Rattle.bdl_check.specs.Declarations.{Placed}
+use Rattle.bdl_check.specs.Layouts.{Layout, IsShapeOfDecl, IsShapeOf, AreFieldsOf, IsInOrder, IsLaidOutWithin, IsLaidOut}
 
 -- what the one lays out so, the other does
 abbrev pub Grows : Layout → Layout → Type 0
@@ -68,11 +68,14 @@ list_within ds (t ∷ ts) (f ∷ fs) (here, a) =
     let more = list_within ds ts fs a in
     let room = one.0 + more.0 in (
       room,
-      (record {
-        name_is = here.name_is;
-        number_is = here.number_is;
-        shape = shape_grows ds (IsLaidOutWithin one.0 ds) (IsLaidOutWithin room ds) (room_grows ds one.0 room (omega arith)) t.kind f.shape one.1;
-      }, list_grows ds (IsLaidOutWithin more.0 ds) (IsLaidOutWithin room ds) (room_grows ds more.0 room (omega arith)) ts fs more.1),
+      (
+        record {
+          name_is = here.name_is;
+          number_is = here.number_is;
+          shape = shape_grows ds (IsLaidOutWithin one.0 ds) (IsLaidOutWithin room ds) (room_grows ds one.0 room (omega arith)) t.kind f.shape one.1;
+        },
+        list_grows ds (IsLaidOutWithin more.0 ds) (IsLaidOutWithin room ds) (room_grows ds more.0 room (omega arith)) ts fs more.1,
+      ),
     )
 
 -- a bag is laid out where its fields are in order and the bags in place are laid out

@@ -65,7 +65,11 @@ fn decl_kind(alloc: Global, decl: &Decl) -> Result<ScalarKind, Memory>
 }
 
 /// The kind of scalars that the type of an element or a key is.
-fn type_kind(alloc: Global, declarations: &Declarations, node: &TypeNode) -> Result<ScalarKind, Memory>
+fn type_kind(
+    alloc: Global,
+    declarations: &Declarations,
+    node: &TypeNode,
+) -> Result<ScalarKind, Memory>
     requires { is_some (kind_in declarations.now (tree_of node.now)) ≡ true }
     ensures { IfOk result (λ kind. kind_in declarations.now (tree_of node.now) ≡ Some (kind_of kind)) }
 {
@@ -94,7 +98,12 @@ fn in_order<'a>(alloc: Global, fields: &'a BagFields) -> Result<Vec<&'a BagField
 
 /// The shape of a field whose type is the name of that declaration.
 #[cycle(laying)]
-fn decl_shape(alloc: Global, declarations: &Declarations, decl: &Decl, room: u32) -> Result<Shape, Memory>
+fn decl_shape(
+    alloc: Global,
+    declarations: &Declarations,
+    decl: &Decl,
+    room: u32,
+) -> Result<Shape, Memory>
     requires { HasDeclShapeIn declarations.now decl.now room }
     ensures shape { IfOk result (λ shape. IsShapeOfDecl (IsLaidOut declarations.now) decl.now (shape_of shape)) }
     ensures indexed { IfOk result IsIndexedShape }
@@ -107,7 +116,12 @@ fn decl_shape(alloc: Global, declarations: &Declarations, decl: &Decl, room: u32
 
 /// The shape of a field of this type, whose headers take at most `room` levels under its own.
 #[cycle(laying)]
-fn type_shape(alloc: Global, declarations: &Declarations, node: &TypeNode, room: u32) -> Result<Shape, Memory>
+fn type_shape(
+    alloc: Global,
+    declarations: &Declarations,
+    node: &TypeNode,
+    room: u32,
+) -> Result<Shape, Memory>
     requires { HasShapeIn declarations.now (tree_of node.now) room }
     ensures shape { IfOk result (λ shape. IsShapeOf declarations.now (IsLaidOut declarations.now) (tree_of node.now) (shape_of shape)) }
     ensures indexed { IfOk result IsIndexedShape }
@@ -132,7 +146,12 @@ fn type_shape(alloc: Global, declarations: &Declarations, node: &TypeNode, room:
 
 /// The field of a table that a field of a bag is.
 #[cycle(laying)]
-fn slot(alloc: Global, declarations: &Declarations, field: &BagField, room: u32) -> Result<Slot, Memory>
+fn slot(
+    alloc: Global,
+    declarations: &Declarations,
+    field: &BagField,
+    room: u32,
+) -> Result<Slot, Memory>
     requires { HasShapeIn declarations.now (tree_of field.now.kind) room }
     ensures field { IfOk result (λ slot. IsFieldOf declarations.now (IsLaidOut declarations.now) (bag_field_of field.now) (field_of slot)) }
     ensures indexed { IfOk result IsIndexedField }
@@ -149,7 +168,12 @@ fn slot(alloc: Global, declarations: &Declarations, field: &BagField, room: u32)
 /// The fields of a bag in ascending order of number, with the bags that they name in place. The bag takes at most `room`
 /// levels of headers.
 #[cycle(laying)]
-pub(crate) fn lay_out(alloc: Global, declarations: &Declarations, fields: &BagFields, room: u32) -> Result<Slots, Memory>
+pub(crate) fn lay_out(
+    alloc: Global,
+    declarations: &Declarations,
+    fields: &BagFields,
+    room: u32,
+) -> Result<Slots, Memory>
     requires shallow { (nodes : Nodes) × IsLaidOut declarations.now fields.now nodes × (levels nodes ≤ room) }
     ensures laid_out { IfOk result (λ slots. IsLaidOut declarations.now fields.now (nodes_of slots)) }
     ensures indexed { IfOk result IsIndexed }

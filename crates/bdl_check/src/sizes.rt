@@ -31,7 +31,10 @@ pub(crate) struct Size {
 }
 
 /// The size of a bag with no field.
-const EMPTY: Size = Size { levels: 0, fields: 0 };
+const EMPTY: Size = Size {
+    levels: 0,
+    fields: 0,
+};
 
 /// The size of a bag with one field more, under which there is that size.
 fn with_field(bag: Size, under: Size) -> Size
@@ -39,8 +42,16 @@ fn with_field(bag: Size, under: Size) -> Size
     ensures fields { result.fields ≡ min (1 + under.fields + bag.fields) 16385 }
 {
     Size {
-        levels: under.levels.saturating_add(1).max(bag.levels).min(LEVELS_CAP),
-        fields: under.fields.saturating_add(1).saturating_add(bag.fields).min(FIELDS_CAP),
+        levels: under
+            .levels
+            .saturating_add(1)
+            .max(bag.levels)
+            .min(LEVELS_CAP),
+        fields: under
+            .fields
+            .saturating_add(1)
+            .saturating_add(bag.fields)
+            .min(FIELDS_CAP),
     }
 }
 
@@ -104,7 +115,11 @@ fn decl_size(declarations: &Declarations, sizes: &[Size], decl: &Decl) -> Size
 
 /// The size of each declaration, in the order of their numbers. Each is looked at once, in an order in which it stands behind
 /// those that it names.
-pub(crate) fn sizes_of(alloc: Global, declarations: &Declarations, order: &[usize]) -> Result<Vec<Size>, Memory>
+pub(crate) fn sizes_of(
+    alloc: Global,
+    declarations: &Declarations,
+    order: &[usize],
+) -> Result<Vec<Size>, Memory>
     requires sound { placed_faults declarations.now ≡ [] }
     requires order { IsOrder (links declarations.now) order.now }
     ensures { IfOk result (λ sizes. AreSizes declarations.now sizes.items) }

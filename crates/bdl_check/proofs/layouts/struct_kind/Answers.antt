@@ -1,7 +1,6 @@
-use Rattle.std.proofs.Common.{◌≡◌, List, [], ◌∷◌, ◌++◌, ◌+◌, map, take, sym, ap, subst, ◌∙◌, refl, arith}
+use Rattle.std.proofs.Common.{[], ◌∷◌, ◌++◌, map, take, sym, ap, ◌∙◌, refl}
 use Rattle.std.proofs.lemmas.List.{take_all}
 use Rattle.bag_model.specs.Scalars as scalars
-use Rattle.bdl_parser.specs.Trees.{StructFieldTree}
 use Rattle.bdl_parser.specs.Views.{struct_field_of}
 use Rattle.bdl_check.specs.Layouts.{words_of}
 use Rattle.bdl_check.proofs.BagSizes.{up_to}
@@ -19,13 +18,13 @@ loop-field-preserved c =
     let here = struct_field_of field in
     let more = ap words_of (sym (up_to struct_field_of items i field c.loop-field-test.true c.field-item.is)) in
     elim c.match-field.branch [
-    | in-Scalar+in_ok-push w ↦ (
-      let pushed = w.in_ok-push.ensures.ok in
-      let grown = ap (λ words. words ++ word_of w.word_kind.result ∷ []) c.loop-field.invariant in
-      let word = ap (λ word. words_of front ++ word ∷ []) w.word_kind.ensures.word in
-      w.kinds-is ∙ pushed ∙ grown ∙ word ∙ word_more front here field.kind.at field.kind.form w.in-Scalar.word refl w.in-Scalar.is ∙ more
-    )
-    | in_default w ↦ w.kinds-is ∙ c.loop-field.invariant ∙ no_more front here field.kind.at field.kind.form refl w.in_default.not-Scalar ∙ more
+      | in-Scalar+in_ok-push w ↦ (
+          let pushed = w.in_ok-push.ensures.ok in
+          let grown = ap (λ words. words ++ word_of w.word_kind.result ∷ []) c.loop-field.invariant in
+          let word = ap (λ word. words_of front ++ word ∷ []) w.word_kind.ensures.word in
+          w.kinds-is ∙ pushed ∙ grown ∙ word ∙ word_more front here field.kind.at field.kind.form w.in-Scalar.word refl w.in-Scalar.is ∙ more
+          )
+      | in_default w ↦ w.kinds-is ∙ c.loop-field.invariant ∙ no_more front here field.kind.at field.kind.form refl w.in_default.not-Scalar ∙ more
     ]
 
 pub returns : goal.returns

@@ -1,5 +1,4 @@
-use Rattle.std.proofs.Common.{◌≡◌, ℕ, List, Option, Some, None, length, take, set, get_or, length-set, ◌+◌, Vec, Global, sym, subst, ap, ◌∙◌, refl, arith}
-use Rattle.std.specs.List.{slice_get}
+use Rattle.std.proofs.Common.{◌≡◌, List, length, take, set, get_or, length-set, ◌+◌, Vec, Global, sym, subst, ap, ◌∙◌}
 use Rattle.std.proofs.lemmas.List.{take_more, take_all}
 use Rattle.std.proofs.lemmas.Option.{slice_get-get_or}
 use Rattle.bdl_check.specs.declared.sizes.Size.{Size}
@@ -34,23 +33,23 @@ loop-number-preserved c =
     let before = c.loop-number.sizes.items in
     let more = take_more order i 0 c.loop-number-test.true in
     elim c.match-get.branch [
-    | in-Some w ↦ (
-      let written : c.match-get.sizes.items ≡ set before number w.decl_size.result = ap (λ (v : Vec Size Global). v.items) w.sizes-is in
-      record {
-        count = ap length written ∙ length-set before number w.decl_size.result ∙ c.loop-number.invariant.count;
-        done = subst (λ (sizes : List Size). AreDone ds sizes (take (i + 1) order)) (sym written)
-            (subst (AreDone ds (set before number w.decl_size.result)) (sym more)
-            (done_more ds before (take i order) number (placed_of w.in-Some.declaration) w.decl_size.result (sym w.in-Some.ensures) w.decl_size.ensures c.loop-number.invariant.done));
-      }
-    )
-    | in_default w ↦ (
-      let same : c.match-get.sizes.items ≡ before = ap (λ (v : Vec Size Global). v.items) w.sizes-is in
-      record {
-        count = ap length same ∙ c.loop-number.invariant.count;
-        done = subst (λ (sizes : List Size). AreDone ds sizes (take (i + 1) order)) (sym same)
-            (subst (AreDone ds before) (sym more) (done_none ds before (take i order) number (sym w.in_default.ensures) c.loop-number.invariant.done));
-      }
-    )
+      | in-Some w ↦ (
+          let written : c.match-get.sizes.items ≡ set before number w.decl_size.result = ap (λ (v : Vec Size Global). v.items) w.sizes-is in
+          record {
+            count = ap length written ∙ length-set before number w.decl_size.result ∙ c.loop-number.invariant.count;
+            done = subst (λ (sizes : List Size). AreDone ds sizes (take (i + 1) order)) (sym written)
+                (subst (AreDone ds (set before number w.decl_size.result)) (sym more)
+                (done_more ds before (take i order) number (placed_of w.in-Some.declaration) w.decl_size.result (sym w.in-Some.ensures) w.decl_size.ensures c.loop-number.invariant.done));
+          }
+          )
+      | in_default w ↦ (
+          let same : c.match-get.sizes.items ≡ before = ap (λ (v : Vec Size Global). v.items) w.sizes-is in
+          record {
+            count = ap length same ∙ c.loop-number.invariant.count;
+            done = subst (λ (sizes : List Size). AreDone ds sizes (take (i + 1) order)) (sym same)
+                (subst (AreDone ds before) (sym more) (done_none ds before (take i order) number (sym w.in_default.ensures) c.loop-number.invariant.done));
+          }
+          )
     ]
 
 pub returns : goal.returns
