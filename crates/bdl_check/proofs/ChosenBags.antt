@@ -1,7 +1,7 @@
 -- The chosen bag, by its size.
-use Rattle.std.proofs.Common.{◌≡◌, ℕ, ◌<◌, ◌≤◌, min, Bool, true, List, [], length, get_or, Option, Some, None, refl, sym, ◌∙◌, ap, subst, arith}
+use Rattle.std.proofs.Common.{◌≡◌, ℕ, ◌<◌, ◌≤◌, Bool, true, List, [], length, get_or, Option, Some, None, refl, sym, ◌∙◌, ap, subst, arith}
 use Rattle.std.specs.List.{find, position, slice_get}
-use Rattle.std.specs.Option.{option_map, option_and_then}
+use Rattle.std.specs.Option.{option_and_then}
 use Rattle.std.specs.Str.{bytes_eq}
 use Rattle.std.proofs.lemmas.Option.{slice_get_within, slice_get-get_or}
 use Rattle.bag_model.specs.Shapes.{Nodes}
@@ -21,7 +21,7 @@ use Rattle.bdl_check.specs.Passes.{passes_decl}
 use Rattle.bdl_check.specs.Sizes.{HasSize, IsSizeOf, AreSizes, IsExcess}
 use Rattle.bdl_check.specs.Tables.{BagTree, bag_in, bag_named, Fits, IsUnfit}
 use Rattle.bdl_check.proofs.OneLayout.{one_layout}
-use Rattle.bdl_check.proofs.PassedTypes.{named_at, number_of, position_of}
+use Rattle.bdl_check.proofs.PassedTypes.{named_at, position_of}
 use Rattle.bdl_check.proofs.TableLaws.{AreGood, good_list, all_good, is_table}
 
 -- ---- by name

@@ -1,18 +1,14 @@
--- The kinds of scalars that structs, elements and keys are.
-use Rattle.std.proofs.Common.{◌≡◌, ℕ, Bool, true, List, [], ◌∷◌, ◌++◌, Option, Some, None, refl, sym, ◌∙◌, ap, subst}
-use Rattle.std.specs.List.{cons_option, filter_map}
-use Rattle.std.specs.Option.{is_some, option_and_then}
+-- The words of structs.
+use Rattle.std.proofs.Common.{◌≡◌, List, [], ◌∷◌, ◌++◌, Option, Some, None, refl, sym, ◌∙◌, ap}
+use Rattle.std.specs.List.{cons_option}
 use Rattle.std.proofs.lemmas.List.Elements.{filter_map-append}
-use Rattle.bag_model.specs.Scalars as scalars
 use Rattle.bdl_parser.specs.declared.trees.ScalarWord.{ScalarWord}
 use Rattle.bdl_parser.specs.declared.trees.Spot.{Spot}
 use Rattle.bdl_parser.specs.declared.trees.TypeForm as TypeForms
 use Rattle.bdl_parser.specs.declared.trees.TypeForm.{TypeForm}
-use Rattle.bdl_parser.specs.Trees as trees
-use Rattle.bdl_parser.specs.Trees.{TypeTree, StructFieldTree}
+use Rattle.bdl_parser.specs.Trees.{StructFieldTree}
 use Rattle.bdl_parser.specs.Views.{tree_at}
-use Rattle.bdl_check.specs.Declarations.{Placed, named}
-use Rattle.bdl_check.specs.Layouts.{word_in, word_of_type, words_of, kind_of_decl, kind_in}
+use Rattle.bdl_check.specs.Layouts.{word_in, word_of_type, words_of}
 
 -- a field more has a word more, if its type is one
 words_more : (front : List StructFieldTree) (t : StructFieldTree) → words_of (front ++ t ∷ []) ≡ words_of front ++ cons_option (word_of_type t.kind) []
@@ -39,16 +35,3 @@ append_none (x ∷ xs) = ap (λ ys. x ∷ ys) (append_none xs)
 pub no_more : (front : List StructFieldTree) (t : StructFieldTree) (at : Spot) (form : TypeForm) → t.kind ≡ tree_at at form → ((word : ScalarWord) → form ≡ TypeForms.Scalar word → ⊥) → words_of front ≡ words_of (front ++ t ∷ [])
 no_more front t at form kind not =
     sym (words_more front t ∙ ap (λ o. words_of front ++ cons_option o []) (ap word_of_type kind ∙ no_word at form not) ∙ append_none (words_of front))
-
--- ---- elements and keys
-
-and_then_some : {X Y : Type 0} (f : X → Option Y) (o : Option X) → is_some (option_and_then f o) ≡ true → (x : X) × (o ≡ Some x) × (is_some (f x) ≡ true)
-and_then_some f None e = absurd (cc e)
-and_then_some f (Some x) e = (x, refl, e)
-
--- a name that is a kind is that of a declaration which is one
-pub named_kind : (ds : List Placed) (text : List ℕ) (spot : Spot) → is_some (kind_in ds (trees.leaf (trees.name text) spot)) ≡ true → (d : Placed) × (named ds text ≡ Some d) × (is_some (kind_of_decl d.decl) ≡ true)
-named_kind ds text spot e = and_then_some (λ (d : Placed). kind_of_decl d.decl) (named ds text) e
-
-pub some_of : {X : Type 0} (o : Option X) (x : X) → o ≡ Some x → is_some o ≡ true
-some_of o x e = ap is_some e

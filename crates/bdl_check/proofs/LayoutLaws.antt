@@ -1,5 +1,5 @@
 -- The fields of a bag one after another, as they are laid out.
-use Rattle.std.proofs.Common.{◌≡◌, ◌≢◌, ℕ, ◌+◌, ◌<◌, ◌≤◌, ◌==◌, ◌-◌, max, Bool, true, false, List, [], ◌∷◌, ◌++◌, length, get_or, take, drop, map, Option, Some, None, refl, sym, ◌∙◌, ap, subst, arith}
+use Rattle.std.proofs.Common.{◌≡◌, ℕ, ◌+◌, ◌<◌, ◌≤◌, ◌==◌, ◌-◌, false, List, [], ◌∷◌, ◌++◌, length, get_or, take, drop, map, Some, sym, ◌∙◌, ap, subst, arith}
 use Rattle.std.specs.List.{AllByRecursion, IsDistinct}
 use Rattle.std.specs.List.Sorted.{IsPermutation, IsStrictlyIncreasing, IsNonDecreasing, IsNonDecreasingBy}
 use Rattle.std.proofs.lemmas.Bool.Decides.{nat_tests}
@@ -10,13 +10,13 @@ use Rattle.std.proofs.lemmas.Map.Keys.{IsDistinct-from_apart, IsDistinct-IsPermu
 use Rattle.std.proofs.lemmas.Simd.{map-map}
 use Rattle.std.proofs.Math.ListN.{get_or-map}
 use Rattle.bag_model.specs.Scalars as scalars
-use Rattle.bag_model.specs.Shapes.{Shape, Nodes, Field, fields, Map, node, no_node}
+use Rattle.bag_model.specs.Shapes.{Shape, Nodes, Field, fields, node, no_node}
 use Rattle.bag_model.specs.Tables.{levels_under, levels}
 use Rattle.bdl_parser.specs.declared.trees.Spot.{Spot}
 use Rattle.bdl_parser.specs.Trees as trees
 use Rattle.bdl_parser.specs.Trees.{TypeTree, BagFieldTree}
 use Rattle.bdl_check.specs.Declarations.{Placed, named}
-use Rattle.bdl_check.specs.Layouts.{Layout, kind_in, IsShapeOfDecl, IsShapeOf, IsFieldOf, AreFieldsOf, IsInOrder, IsLaidOut, HasShapeIn, HasDeclShapeIn}
+use Rattle.bdl_check.specs.Layouts.{Layout, kind_in, IsShapeOf, IsFieldOf, AreFieldsOf, IsLaidOut, HasShapeIn, HasDeclShapeIn}
 use Rattle.bdl_check.proofs.BagSizes.{split_at}
 use Rattle.bdl_check.proofs.Insertions.{all_moved}
 use Rattle.bdl_check.proofs.LayoutRooms.{laid_out, in_order}

@@ -1,12 +1,12 @@
 -- Layouts by other layouts of the bags in place: more room, and as much as is needed.
-use Rattle.std.proofs.Common.{◌≡◌, ℕ, suc, zero, ◌+◌, ◌≤◌, List, [], ◌∷◌, arith}
-use Rattle.bag_model.specs.Shapes.{Shape, Nodes, Field, fields, Bag as BagOf}
+use Rattle.std.proofs.Common.{ℕ, suc, zero, ◌+◌, ◌≤◌, List, [], ◌∷◌, arith}
+use Rattle.bag_model.specs.Shapes.{Shape, Nodes, Field, fields}
 use Rattle.bdl_parser.specs.declared.trees.Decl.{Decl}
 use Rattle.bdl_parser.specs.declared.trees.Decl.TheVariants.{Bag, Struct}
 use Rattle.bdl_parser.specs.Trees as trees
 use Rattle.bdl_parser.specs.Trees.{BagFieldTree, TypeTree}
-use Rattle.bdl_check.specs.Declarations.{Placed, named}
-use Rattle.bdl_check.specs.Layouts.{Layout, IsShapeOfDecl, IsShapeOf, IsFieldOf, AreFieldsOf, IsInOrder, IsLaidOutWithin, IsLaidOut}
+use Rattle.bdl_check.specs.Declarations.{Placed}
+use Rattle.bdl_check.specs.Layouts.{Layout, IsShapeOfDecl, IsShapeOf, AreFieldsOf, IsInOrder, IsLaidOutWithin, IsLaidOut}
 
 -- what the one lays out so, the other does
 abbrev pub Grows : Layout → Layout → Type 0

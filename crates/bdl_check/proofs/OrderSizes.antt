@@ -1,6 +1,6 @@
 -- Sizes along an order in which each declaration stands behind those that it names.
-use Rattle.std.proofs.Common.{◌≡◌, ◌≢◌, ℕ, suc, zero, ◌+◌, ◌<◌, ◌≤◌, Bool, true, false, List, [], ◌∷◌, ◌++◌, length, get_or, take, drop, set, map, Option, Some, None, inl, inr, refl, sym, ◌∙◌, ap, subst, arith}
-use Rattle.std.specs.List.{list_all, filter_map, cons_option, slice_get, Contains, AllByRecursion}
+use Rattle.std.proofs.Common.{◌≡◌, ◌≢◌, ℕ, suc, zero, ◌<◌, Bool, true, List, [], ◌∷◌, ◌++◌, length, get_or, take, set, map, Option, Some, None, inl, inr, refl, sym, ◌∙◌, ap, subst, arith}
+use Rattle.std.specs.List.{list_all, filter_map, cons_option, slice_get, Contains}
 use Rattle.std.specs.Option.{option_map, is_none}
 use Rattle.std.specs.Str.{bytes_eq}
 use Rattle.std.proofs.lemmas.Bool.{cases_eq}
@@ -16,7 +16,6 @@ use Rattle.bdl_check.specs.Recursion.{uses, links}
 use Rattle.bdl_check.specs.Sizes.{IsSizeOf, IsSized, AreKnown, AreSizes}
 use Rattle.bdl_check.proofs.PassLaws.{faultless_pass}
 use Rattle.bdl_check.proofs.PassedTypes.{both_first, both_second}
-use Rattle.topological_order.specs.Graphs.{HasEdge}
 use Rattle.topological_order.specs.Orders.{IsOrder}
 
 -- the declarations of these numbers have their sizes

@@ -1,6 +1,6 @@
 -- Names of declarations, and types that pass.
-use Rattle.std.proofs.Common.{◌≡◌, ℕ, ◌<◌, ◌+◌, Bool, true, false, ◌&&◌, List, [], ◌∷◌, ◌++◌, length, Option, Some, None, cond, refl, sym, ◌∙◌, ap, subst, arith}
-use Rattle.std.specs.List.{find, position, position_or_len, slice_get, AllByRecursion}
+use Rattle.std.proofs.Common.{◌≡◌, ℕ, ◌<◌, Bool, true, false, ◌&&◌, List, length, Option, Some, None, cond, refl, sym, ◌∙◌, ap, arith}
+use Rattle.std.specs.List.{find, position, position_or_len, slice_get}
 use Rattle.std.specs.Option.{option_map, option_and_then}
 use Rattle.std.specs.Str.{bytes_eq}
 use Rattle.std.proofs.lemmas.List.Folds.{find_at}
@@ -13,7 +13,7 @@ use Rattle.bdl_parser.specs.Trees as trees
 use Rattle.bdl_parser.specs.Trees.{TypeTree}
 use Rattle.bdl_check.specs.declared.declarations.DeclKind.{DeclKind}
 use Rattle.bdl_check.specs.declared.types.Role.{Role}
-use Rattle.bdl_check.specs.declared.types.Role.TheVariants.{BagField, StructField, Element, Key, MapValue}
+use Rattle.bdl_check.specs.declared.types.Role.TheVariants.{BagField, Element, Key, MapValue}
 use Rattle.bdl_check.specs.Declarations.{Placed, name_of, kind_of, named, number_named, kind_named}
 use Rattle.bdl_check.specs.Layouts.{words_of, kind_of_decl, kind_in}
 use Rattle.bdl_check.specs.Passes.{may_name, passes_name, passes_type}

@@ -1,8 +1,7 @@
 -- A bag that is laid out makes a table, if the declarations pass and are spelled.
-use Rattle.std.proofs.Common.{◌≡◌, ◌≢◌, ℕ, suc, zero, ◌^◌, ◌<◌, ◌≤◌, ◌==◌, ◌&&◌, Bool, true, false, not, List, [], ◌∷◌, map, Option, Some, None, refl, sym, ap, subst, ◌∙◌, true≢false, arith}
+use Rattle.std.proofs.Common.{◌≡◌, ◌≢◌, ℕ, suc, zero, ◌^◌, ◌<◌, ◌≤◌, ◌==◌, ◌&&◌, Bool, true, false, not, List, [], ◌∷◌, Option, Some, None, refl, sym, subst, ◌∙◌, true≢false}
 use Rattle.std.specs.Bool.{one_answer}
-use Rattle.std.specs.List.{AllByRecursion, IsDistinct, list_any, list_all, cons_option, slice_get}
-use Rattle.std.specs.List.Sorted.{IsPermutation}
+use Rattle.std.specs.List.{AllByRecursion, IsDistinct, list_any, list_all, cons_option}
 use Rattle.std.specs.Option.{option_and_then}
 use Rattle.std.specs.Str.{bytes_eq}
 use Rattle.std.proofs.lemmas.List.Kept.{AllPairs-from_increasing}
@@ -11,7 +10,7 @@ use Rattle.std.proofs.lemmas.Map.Keys.{IsDistinct-IsPermutation, IsDistinct-head
 use Rattle.std.proofs.lemmas.Option.{slice_get_within, get_or_from_slice_get}
 use Rattle.std.proofs.lemmas.Slice.Eq.{bytes_eq-Decides}
 use Rattle.bag_model.specs.Scalars as scalars
-use Rattle.bag_model.specs.Shapes.{Shape, Nodes, Field, fields, no_node, node, Taint, Scalar, Set, Counter, Map, Bag as BagOf}
+use Rattle.bag_model.specs.Shapes.{Shape, Nodes, Field, fields, no_node, node}
 use Rattle.bag_model.specs.Tables.{is_name, IsKind, IsKeyKind, IsShape, AreFields, levels, node_count, IsTable}
 use Rattle.bdl_load.specs.Spelled.{IsSpelledField, IsSpelledDecl}
 use Rattle.bdl_parser.specs.declared.trees.Decl.{Decl}
@@ -20,7 +19,7 @@ use Rattle.bdl_parser.specs.declared.trees.Spot.{Spot}
 use Rattle.bdl_parser.specs.Trees as trees
 use Rattle.bdl_parser.specs.Trees.{TypeTree, BagFieldTree, StructFieldTree}
 use Rattle.bdl_check.specs.declared.declarations.DeclKind.{DeclKind}
-use Rattle.bdl_check.specs.declared.types.Role.TheVariants.{BagField, StructField, Key, Element}
+use Rattle.bdl_check.specs.declared.types.Role.TheVariants.{BagField, StructField, Key}
 use Rattle.bdl_check.specs.Checks.{placed_faults}
 use Rattle.bdl_check.specs.Declarations.{Placed, named, kind_named, AreSpelled}
 use Rattle.bdl_check.specs.Fields.{numbers_of, names_of, struct_names_of}

@@ -1,12 +1,11 @@
 -- The sizes of types, of bags with one field more, and of declarations.
-use Rattle.std.proofs.Common.{◌≡◌, ℕ, ◌<◌, ◌+◌, min, max, Bool, true, false, List, [], ◌∷◌, ◌++◌, length, get_or, Option, Some, None, Box, Global, ◌⊎◌, inl, inr, refl, sym, ◌∙◌, ap, subst, arith}
-use Rattle.std.specs.List.{slice_get, AllByRecursion}
-use Rattle.std.specs.List.Sorted.{IsPermutation}
+use Rattle.std.proofs.Common.{◌≡◌, ℕ, ◌<◌, ◌+◌, min, max, true, List, [], ◌∷◌, ◌++◌, length, get_or, Some, Box, Global, ◌⊎◌, inl, inr, refl, sym, ◌∙◌, subst, arith}
+use Rattle.std.specs.List.{slice_get}
 use Rattle.std.proofs.lemmas.List.Sorted.{IsPermutation-refl}
 use Rattle.std.proofs.lemmas.Option.{slice_get_within, slice_get-get_or}
 use Rattle.bag_model.specs.Scalars as scalars
-use Rattle.bag_model.specs.Shapes.{Shape, Taint, Scalar, Set, Counter, Map, Bag as BagOf, no_node}
-use Rattle.bag_model.specs.Tables.{levels_under, levels, nodes_under, node_count}
+use Rattle.bag_model.specs.Shapes.{Taint, Scalar, Set, Counter, Map, Bag as BagOf, no_node}
+use Rattle.bag_model.specs.Tables.{levels}
 use Rattle.bdl_parser.specs.declared.trees.Decl.{Decl}
 use Rattle.bdl_parser.specs.declared.trees.Decl.TheVariants.{Bag, Struct}
 use Rattle.bdl_parser.specs.declared.trees.Spot.{Spot}
@@ -18,14 +17,14 @@ use Rattle.bdl_parser.specs.Views.{tree_at, tree_of}
 use Rattle.bdl_parser.specs.Trees as trees
 use Rattle.bdl_parser.specs.Trees.{TypeTree, BagFieldTree}
 use Rattle.bdl_check.specs.declared.sizes.Size.{Size}
-use Rattle.bdl_check.specs.declared.types.Role.TheVariants.{BagField, Element}
+use Rattle.bdl_check.specs.declared.types.Role.TheVariants.{BagField}
 use Rattle.bdl_check.specs.Declarations.{Placed, named, number_named, kind_named}
 use Rattle.bdl_check.specs.Layouts.{words_of, IsShapeOfDecl, IsLaidOut}
 use Rattle.bdl_check.specs.Passes.{passes_type}
-use Rattle.bdl_check.specs.Sizes.{HasTypeSize, HasSize, IsSizeOf, IsSized, AreKnown}
+use Rattle.bdl_check.specs.Sizes.{HasTypeSize, HasSize, IsSizeOf, AreKnown}
 use Rattle.bdl_check.proofs.Insertions.{IsNewNumber, added}
 use Rattle.bdl_check.proofs.LayoutRooms.{laid_out, in_order}
-use Rattle.bdl_check.proofs.PassedTypes.{named_at, declared, element_kind, key_kind, map_key, both_first, both_second}
+use Rattle.bdl_check.proofs.PassedTypes.{named_at, declared, element_kind, key_kind, map_key}
 
 abbrev pub size : ℕ → ℕ → Size
 size levels fields = record { levels = levels; fields = fields }

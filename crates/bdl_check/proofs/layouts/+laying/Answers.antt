@@ -1,14 +1,12 @@
-use Rattle.std.proofs.Common.{◌≡◌, ◌≤◌, ℕ, List, [], ◌∷◌, ◌++◌, ◌+◌, ◌-◌, map, take, drop, sym, subst, ap, ◌∙◌, refl, arith, Bor}
-use Rattle.std.specs.List.{AllByRecursion}
-use Rattle.std.specs.List.Sorted.{IsPermutation}
+use Rattle.std.proofs.Common.{List, [], ◌∷◌, ◌++◌, ◌+◌, map, take, sym, subst, ap, ◌∙◌, arith, Bor}
 use Rattle.std.proofs.lemmas.List.{take_all}
 use Rattle.bag_model.specs.Shapes.{Field, fields}
 use Rattle.bdl_parser.specs.declared.trees.BagField.{BagField}
 use Rattle.bdl_parser.specs.Trees.{BagFieldTree}
-use Rattle.bdl_parser.specs.Views.{tree_at, tree_of, bag_field_of}
-use Rattle.bdl_check.specs.Layouts.{AreFieldsOf, IsLaidOut, HasShapeIn, HasDeclShapeIn}
-use Rattle.bdl_check.proofs.BagSizes.{split_at, up_to}
-use Rattle.bdl_check.proofs.LayoutLaws.{item_level, map_level, name_level, fields_push, items_rise, sorted_layout}
+use Rattle.bdl_parser.specs.Views.{bag_field_of}
+use Rattle.bdl_check.specs.Layouts.{AreFieldsOf, IsLaidOut}
+use Rattle.bdl_check.proofs.BagSizes.{up_to}
+use Rattle.bdl_check.proofs.LayoutLaws.{item_level, fields_push, items_rise, sorted_layout}
 use Rattle.field_table.specs.Plain.{nodes_of, field_of}
 use Rattle.bdl_check.proofs.layouts.+laying.Goals as goal
 

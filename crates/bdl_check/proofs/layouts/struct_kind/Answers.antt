@@ -1,7 +1,6 @@
-use Rattle.std.proofs.Common.{◌≡◌, List, [], ◌∷◌, ◌++◌, ◌+◌, map, take, sym, ap, subst, ◌∙◌, refl, arith}
+use Rattle.std.proofs.Common.{[], ◌∷◌, ◌++◌, map, take, sym, ap, ◌∙◌, refl}
 use Rattle.std.proofs.lemmas.List.{take_all}
 use Rattle.bag_model.specs.Scalars as scalars
-use Rattle.bdl_parser.specs.Trees.{StructFieldTree}
 use Rattle.bdl_parser.specs.Views.{struct_field_of}
 use Rattle.bdl_check.specs.Layouts.{words_of}
 use Rattle.bdl_check.proofs.BagSizes.{up_to}

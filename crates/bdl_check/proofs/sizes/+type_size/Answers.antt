@@ -1,4 +1,4 @@
-use Rattle.std.proofs.Common.{◌≡◌, true, ℕ, List, Some, Option, inl, inr, rules, refl, sym, subst, ap, ◌∙◌, get_or, arith}
+use Rattle.std.proofs.Common.{◌≡◌, true, ℕ, Option, refl, sym, subst, ap, ◌∙◌, get_or, arith}
 use Rattle.std.specs.Option.{IsSome}
 use Rattle.bdl_parser.specs.declared.trees.TypeNode.{TypeNode}
 use Rattle.bdl_parser.specs.Trees.{TypeTree}

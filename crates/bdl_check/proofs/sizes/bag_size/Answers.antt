@@ -1,4 +1,4 @@
-use Rattle.std.proofs.Common.{◌≡◌, true, ◌==◌, List, ◌∷◌, ◌++◌, map, take, drop, ◌+◌, sym, subst, ◌∙◌, ap, arith}
+use Rattle.std.proofs.Common.{◌≡◌, true, ◌==◌, List, map, take, drop, ◌+◌, sym, subst, ◌∙◌, ap}
 use Rattle.std.specs.List.{list_all, flat_map}
 use Rattle.std.proofs.lemmas.List.{take_all}
 use Rattle.bdl_parser.specs.Trees.{BagFieldTree}

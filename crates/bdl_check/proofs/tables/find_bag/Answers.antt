@@ -1,8 +1,8 @@
-use Rattle.std.proofs.Common.{Option, Some, None, sym, ap, ◌∙◌}
+use Rattle.std.proofs.Common.{Option, sym, ap, ◌∙◌}
 use Rattle.std.specs.Option.{option_map, option_and_then}
 use Rattle.bdl_check.specs.declared.tables.ChosenBag.{ChosenBag}
 use Rattle.bdl_check.specs.Declarations.{Placed}
-use Rattle.bdl_check.specs.Tables.{BagTree, bag_in}
+use Rattle.bdl_check.specs.Tables.{bag_in}
 use Rattle.bdl_check.proofs.ChosenBags.{no_bag, bag_at}
 use Rattle.bdl_check.proofs.tables.find_bag.Goals as goal
 

@@ -1,4 +1,4 @@
-use Rattle.std.proofs.Common.{Some, sym, subst, ap, ◌∙◌, List, ℕ}
+use Rattle.std.proofs.Common.{sym, subst, ap, ◌∙◌, List, ℕ}
 use Rattle.bdl_load.specs.declared.faults.Fault.{Fault}
 use Rattle.bdl_load.specs.Faults.{found, fault_in}
 use Rattle.bdl_check.specs.declared.sizes.Size.{Size}
