@@ -24,10 +24,12 @@ split_at f xs i x lt e =
 pub up_to : {X Y : Type 0} (f : X → Y) (xs : List X) (i : ℕ) (x : X) → i < length xs → x ≡ get_or xs i x → map f (take (i + 1) xs) ≡ map f (take i xs) ++ f x ∷ []
 up_to f xs i x lt e = ap (map f) (take_more xs i x lt ∙ ap (λ y. take i xs ++ y ∷ []) (sym e)) ∙ map-append f (take i xs) (x ∷ [])
 
+-- what passes of each passes of the one in the middle
 pub all_middle : {X : Type 0} (p : X → Bool) (front : List X) (x : X) (rest : List X) → list_all p (front ++ x ∷ rest) ≡ true → p x ≡ true
 all_middle p [] x rest e = both_first (p x) (list_all p rest) e
 all_middle p (y ∷ front) x rest e = all_middle p front x rest (both_second (p y) (list_all p (front ++ x ∷ rest)) e)
 
+-- the names in its type are known where all are
 pub known_middle : (ds : List Placed) (sizes : List Size) (front : List BagFieldTree) (t : BagFieldTree) (rest : List BagFieldTree) → AreKnown ds sizes (flat_map (λ (field : BagFieldTree). names_in field.kind) (front ++ t ∷ rest))
     → AreKnown ds sizes (names_in t.kind)
 known_middle ds sizes [] t rest h = known_left ds sizes (names_in t.kind) (flat_map (λ (field : BagFieldTree). names_in field.kind) rest) h
@@ -53,6 +55,7 @@ none_middle p (u ∷ front) t rest e = none_middle p front t rest (or_second (p 
 differ : (m n : ℕ) → (m == n) ≡ false → n ≢ m
 differ m n e = grind (arith, nat_tests)
 
+-- its number is none of those before it
 pub new_middle : (front : List BagFieldTree) (t : BagFieldTree) (rest : List BagFieldTree) → are_distinct (λ a b. a == b) (numbers_of (front ++ t ∷ rest)) ≡ true → IsNewNumber t.number front
 new_middle [] t rest e = tt
 new_middle (u ∷ front) t rest e =

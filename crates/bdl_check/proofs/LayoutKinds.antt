@@ -1,5 +1,5 @@
 -- The words of structs.
-use Rattle.std.proofs.Common.{◌≡◌, List, [], ◌∷◌, ◌++◌, Option, Some, None, refl, sym, ◌∙◌, ap}
+use Rattle.std.proofs.Common.{◌≡◌, List, [], ◌∷◌, ◌++◌, None, refl, sym, ◌∙◌, ap}
 use Rattle.std.specs.List.{cons_option}
 use Rattle.std.proofs.lemmas.List.Elements.{filter_map-append}
 use Rattle.bdl_parser.specs.declared.trees.ScalarWord.{ScalarWord}
@@ -14,6 +14,7 @@ use Rattle.bdl_check.specs.Layouts.{word_in, word_of_type, words_of}
 words_more : (front : List StructFieldTree) (t : StructFieldTree) → words_of (front ++ t ∷ []) ≡ words_of front ++ cons_option (word_of_type t.kind) []
 words_more front t = filter_map-append (λ (field : StructFieldTree). word_of_type field.kind) front (t ∷ [])
 
+-- a field whose type is a word adds the word
 pub word_more : (front : List StructFieldTree) (t : StructFieldTree) (at : Spot) (form : TypeForm) (word : ScalarWord) → t.kind ≡ tree_at at form → form ≡ TypeForms.Scalar word → words_of front ++ word_in word ∷ [] ≡ words_of (front ++ t ∷ [])
 word_more front t at form word kind is =
     sym (words_more front t ∙ ap (λ tree. words_of front ++ cons_option (word_of_type tree) []) (kind ∙ ap (tree_at at) is))
@@ -32,6 +33,7 @@ append_none : {X : Type 0} (xs : List X) → xs ++ [] ≡ xs
 append_none [] = refl
 append_none (x ∷ xs) = ap (λ ys. x ∷ ys) (append_none xs)
 
+-- any other adds none
 pub no_more : (front : List StructFieldTree) (t : StructFieldTree) (at : Spot) (form : TypeForm) → t.kind ≡ tree_at at form → ((word : ScalarWord) → form ≡ TypeForms.Scalar word → ⊥) → words_of front ≡ words_of (front ++ t ∷ [])
 no_more front t at form kind not =
     sym (words_more front t ∙ ap (λ o. words_of front ++ cons_option o []) (ap word_of_type kind ∙ no_word at form not) ∙ append_none (words_of front))

@@ -79,6 +79,7 @@ name_level ds text spot room h = (h.1.0, h.1.1, (h.0, h.1.2, h.2))
 
 -- ---- fields one after another
 
+-- a field more at the end
 pub fields_push : (ds : List Placed) (L : Layout) (ts : List BagFieldTree) (fs : List Field) (t : BagFieldTree) (f : Field) → AreFieldsOf ds L ts fs → IsFieldOf ds L t f → AreFieldsOf ds L (ts ++ t ∷ []) (fs ++ f ∷ [])
 fields_push ds L [] [] t f e one = (one, tt)
 fields_push ds L (u ∷ ts) (g ∷ fs) t f e one = (e.0, fields_push ds L ts fs t f e.1 one)

@@ -16,6 +16,7 @@ decl_grows : (A B : Layout) → Grows A B → (decl : Decl) (s : Shape) → IsSh
 decl_grows A B up (Bag own spot list) s a = (a.0, up list a.0 a.1, a.2)
 decl_grows A B up (Struct own spot list) s a = a
 
+-- shapes and fields stay so
 pub shape_grows : (ds : List Placed) (A B : Layout) → Grows A B → (tree : TypeTree) (s : Shape) → IsShapeOf ds A tree s → IsShapeOf ds B tree s
 shape_grows ds A B up (trees.leaf (trees.scalar word) spot) s a = a
 shape_grows ds A B up (trees.leaf trees.float spot) s a = absurd a

@@ -31,6 +31,7 @@ all_get p [] n d e lt = absurd (omega (arith, lt))
 all_get p (x ∷ xs) zero d e lt = both_first (p x) (list_all p xs) e
 all_get p (x ∷ xs) (suc n) d e lt = all_get p xs n d (both_second (p x) (list_all p xs) e) (omega (arith, lt))
 
+-- what passes of each passes of the one with this number
 pub all_at : {X : Type 0} (p : X → Bool) (xs : List X) (n : ℕ) (x : X) → list_all p xs ≡ true → slice_get xs n ≡ Some x → p x ≡ true
 all_at p xs n x e at = subst (λ y. p y ≡ true) (get_or_from_slice_get xs n x x at) (all_get p xs n x e (slice_get_within xs n x at))
 

@@ -21,6 +21,7 @@ use Rattle.bdl_check.specs.Types.{Kinds}
 
 -- ---- names and numbers
 
+-- each of two that hold holds
 pub both_first : (a b : Bool) → (a && b) ≡ true → a ≡ true
 both_first true b e = refl
 both_first false b e = e

@@ -97,6 +97,7 @@ pub record AreGood (ds : List Placed) (list : List BagFieldTree) : Type 0 where
   pub names : IsDistinct bytes_eq (names_of list)
   pub spelled : AllByRecursion IsSpelledField list
 
+-- the fields of a bag that passes and is spelled
 pub good_list : (ds : List Placed) (own : List ℕ) (spot : Spot) (list : List BagFieldTree) → passes_decl (kind_named ds) (Bag own spot list) ≡ true → IsSpelledDecl (Bag own spot list) → AreGood ds list
 good_list ds own spot list p s =
     let types = list_all (λ (t : BagFieldTree). passes_type (kind_named ds) BagField t.kind) list in
@@ -112,6 +113,7 @@ good_list ds own spot list p s =
 abbrev pub AllGood : List Placed → Type 0
 AllGood ds = (text : List ℕ) (d : Placed) → named ds text ≡ Some d → (passes_decl (kind_named ds) d.decl ≡ true) × IsSpelledDecl d.decl
 
+-- declarations without faults pass
 pub all_good : (ds : List Placed) → placed_faults ds ≡ [] → AreSpelled ds → AllGood ds
 all_good ds none spelled text d e =
     let n = number_of ds text d e in

@@ -112,6 +112,7 @@ more_size ds list t bag under new h u fresh el ef =
 
 -- ---- names that are known
 
+-- of two lists of names that are known each is
 pub known_left : (ds : List Placed) (sizes : List Size) (xs ys : List (List ℕ)) → AreKnown ds sizes (xs ++ ys) → AreKnown ds sizes xs
 known_left ds sizes [] ys h = tt
 known_left ds sizes (x ∷ xs) ys h = (h.0, known_left ds sizes xs ys h.1)
