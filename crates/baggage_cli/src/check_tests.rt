@@ -10,11 +10,8 @@ use std::process::Abort;
 use std::test::Fail;
 use std::thread::Threads;
 
-/// The name of a file, and what it holds.
-type File = (&'static str, &'static str);
-
-/// Files, the words that check them, and what the program must answer.
-type Row = (&'static [File], &'static str, u8, &'static str);
+/// Files, each in a line with its name, a bar, and what it holds; the words that check them; and what the program must answer.
+type Row = (&'static str, &'static str, u8, &'static str);
 
 const REQUEST: &str =
     "bag Req { fixed32 id = 0; set<string> tags = 1; counter hops = 2; taint debug = 3; map<string, uint32> load = 4; }";
@@ -53,33 +50,129 @@ fn answers<R: Abort + Threads + Sync, L: Library>(
     Ok(())
 }
 
-const Q: &[File] = &[("q.bdl", REQUEST)];
+const Q: &str =
+    "q.bdl|bag Req { fixed32 id = 0; set<string> tags = 1; counter hops = 2; taint debug = 3; map<string, uint32> load = 4; }";
 
 static ROWS: [Row; 24] = [
     (Q, "check q.bdl Req", 0, "ok 5\n"),
-    (&[("f.bdl", "bag B { }")], "check f.bdl B", 0, "ok 0\n"),
-    (&[("f.bdl", "bag A { bool a = 1; } bag B { }")], "check f.bdl A", 0, "ok 1\n"),
-    (&[("f.bdl", "bag A { bool a = 1; } bag B { }")], "check f.bdl B", 0, "ok 0\n"),
+    ("f.bdl|bag B { }", "check f.bdl B", 0, "ok 0\n"),
+    (
+        "f.bdl|bag A { bool a = 1; } bag B { }",
+        "check f.bdl A",
+        0,
+        "ok 1\n",
+    ),
+    (
+        "f.bdl|bag A { bool a = 1; } bag B { }",
+        "check f.bdl B",
+        0,
+        "ok 0\n",
+    ),
     (Q, "check q.bdl Nix", 1, "definition q.bdl 1:1 NoSuchBag\n"),
     (Q, "check Req q.bdl", 1, "definition Req 1:1 NoFile\n"),
     (Q, "check z.bdl Z", 1, "definition z.bdl 1:1 NoFile\n"),
-    (&[("d.bdl", "bag B { double x = 1; }")], "check d.bdl B", 1, "definition d.bdl 1:9 FloatingType\n"),
-    (&[("f.bdl", "bag B { bool a = 65536; }")], "check f.bdl B", 1, "definition f.bdl 1:18 NumberRange\n"),
-    (&[("f.bdl", "bag B {")], "check f.bdl B", 1, "definition f.bdl 1:7 Expected\n"),
-    (&[("f.bdl", "bag B {\n  set<set<bool>> s = 0;\n}\n")], "check f.bdl B", 1, "definition f.bdl 2:7 BadKeyType\n"),
-    (&[("f.bdl", "bag B { set<set<bool>> s = 0; }")], "check f.bdl B", 1, "definition f.bdl 1:13 BadKeyType\n"),
-    (&[("f.bdl", "bag B { } bag B { }")], "check f.bdl B", 1, "definition f.bdl 1:15 DuplicateName\n"),
-    (&[("f.bdl", "/* bag B { }")], "check f.bdl B", 1, "definition f.bdl 1:1 OpenComment\n"),
-    (&[("f.bdl", "")], "check f.bdl B", 1, "definition f.bdl 1:1 NoSuchBag\n"),
-    (&[("f.bdl", "import \"q.bdl\";")], "check f.bdl B", 1, "definition f.bdl 1:8 ImportMissing\n"),
-    (&[("m.bdl", "import \"in.bdl\"; bag M { In x = 0; }"), ("in.bdl", "bag In { bool a = 3; bool b = 3; }")], "check m.bdl M", 1, "definition in.bdl 1:31 DuplicateNumber\n"),
-    (&[("m.bdl", "import \"in.bdl\"; bag M { In x = 0; S s = 1; }"), ("in.bdl", "struct S { bool a; } bag In { bool a = 3; bool b = 4; }")], "check m.bdl M", 0, "ok 3\n"),
-    (&[("a.bdl", "import \"b.bdl\";"), ("b.bdl", "import \"a.bdl\";")], "check a.bdl A", 1, "definition b.bdl 1:8 ImportCycle\n"),
-    (&[("f.bdl", "bag A { B b = 0; } bag B { A a = 0; }")], "check f.bdl B", 1, "definition f.bdl 1:5 Recursive\n"),
-    (&[("f.bdl", "struct S { } bag A { S s = 0; }")], "check f.bdl A", 1, "definition f.bdl 1:8 EmptyStruct\n"),
-    (&[("f.bdl", "struct S { counter c; }")], "check f.bdl S", 1, "definition f.bdl 1:12 BadStructField\n"),
-    (&[("f.bdl", "bag A { Nix x = 0; }")], "check f.bdl A", 1, "definition f.bdl 1:9 UnknownName\n"),
-    (&[("a.bdl", "import \"b.bdl\"; import \"b.bdl\";"), ("b.bdl", "bag A { bool x = 0; }")], "check a.bdl A", 0, "ok 1\n"),
+    (
+        "d.bdl|bag B { double x = 1; }",
+        "check d.bdl B",
+        1,
+        "definition d.bdl 1:9 FloatingType\n",
+    ),
+    (
+        "f.bdl|bag B { bool a = 65536; }",
+        "check f.bdl B",
+        1,
+        "definition f.bdl 1:18 NumberRange\n",
+    ),
+    (
+        "f.bdl|bag B {",
+        "check f.bdl B",
+        1,
+        "definition f.bdl 1:7 Expected\n",
+    ),
+    (
+        "f.bdl|\tbag B {  set<set<bool>> s = 0; }",
+        "check f.bdl B",
+        1,
+        "definition f.bdl 1:15 BadKeyType\n",
+    ),
+    (
+        "f.bdl|bag B { set<set<bool>> s = 0; }",
+        "check f.bdl B",
+        1,
+        "definition f.bdl 1:13 BadKeyType\n",
+    ),
+    (
+        "f.bdl|bag B { } bag B { }",
+        "check f.bdl B",
+        1,
+        "definition f.bdl 1:15 DuplicateName\n",
+    ),
+    (
+        "f.bdl|/* bag B { }",
+        "check f.bdl B",
+        1,
+        "definition f.bdl 1:1 OpenComment\n",
+    ),
+    (
+        "f.bdl|",
+        "check f.bdl B",
+        1,
+        "definition f.bdl 1:1 NoSuchBag\n",
+    ),
+    (
+        "f.bdl|import \"q.bdl\";",
+        "check f.bdl B",
+        1,
+        "definition f.bdl 1:8 ImportMissing\n",
+    ),
+    (
+        "m.bdl|import \"in.bdl\"; bag M { In x = 0; }\nin.bdl|bag In { bool a = 3; bool b = 3; }",
+        "check m.bdl M",
+        1,
+        "definition in.bdl 1:31 DuplicateNumber\n",
+    ),
+    (
+        "m.bdl|import \"in.bdl\"; bag M { In x = 0; S s = 1; }\nin.bdl|struct S { bool a; } bag In { bool a = 3; bool b = 4; }",
+        "check m.bdl M",
+        0,
+        "ok 3\n",
+    ),
+    (
+        "a.bdl|import \"b.bdl\";\nb.bdl|import \"a.bdl\";",
+        "check a.bdl A",
+        1,
+        "definition b.bdl 1:8 ImportCycle\n",
+    ),
+    (
+        "f.bdl|bag A { B b = 0; } bag B { A a = 0; }",
+        "check f.bdl B",
+        1,
+        "definition f.bdl 1:5 Recursive\n",
+    ),
+    (
+        "f.bdl|struct S { } bag A { S s = 0; }",
+        "check f.bdl A",
+        1,
+        "definition f.bdl 1:8 EmptyStruct\n",
+    ),
+    (
+        "f.bdl|struct S { counter c; }",
+        "check f.bdl S",
+        1,
+        "definition f.bdl 1:12 BadStructField\n",
+    ),
+    (
+        "f.bdl|bag A { Nix x = 0; }",
+        "check f.bdl A",
+        1,
+        "definition f.bdl 1:9 UnknownName\n",
+    ),
+    (
+        "a.bdl|import \"b.bdl\"; import \"b.bdl\";\nb.bdl|bag A { bool x = 0; }",
+        "check a.bdl A",
+        0,
+        "ok 1\n",
+    ),
 ];
 
 #[test]
@@ -87,7 +180,8 @@ fn checks_definitions(rt: HostRuntime) -> Result<(), Fail> {
     let alloc = rt.alloc();
     for (files, words, status, line) in &ROWS {
         let mut library = SureLibrary::new(alloc);
-        for (name, source) in *files {
+        for line in files.lines() {
+            let (name, source) = line.split_once('|').ok_or("a file")?;
             library.add(name, source.as_bytes())?;
         }
         answers(&rt, alloc, &mut library, words, *status, line)?;
@@ -188,7 +282,11 @@ fn checks_a_file_of_the_system(rt: HostRuntime) -> Result<(), Fail> {
     fs::write(&rt, "q.bdl", REQUEST)?;
     let mut library = FileLibrary::new(&rt);
     answers(&rt, alloc, &mut library, "check q.bdl Req", 0, "ok 5\n")?;
-    fs::write(&rt, "two.bdl", "import \"q.bdl\"; bag Two { Req a = 0; Req b = 1; }")?;
+    fs::write(
+        &rt,
+        "two.bdl",
+        "import \"q.bdl\"; bag Two { Req a = 0; Req b = 1; }",
+    )?;
     answers(&rt, alloc, &mut library, "check two.bdl Two", 0, "ok 10\n")?;
     let missing = "definition z.bdl 1:1 NoFile\n";
     answers(&rt, alloc, &mut library, "check z.bdl Req", 1, missing)?;

@@ -3,27 +3,14 @@
 ghost use Rattle.std.specs.Prelude.{◌≡◌, ◌++◌, [], None, Some, Ok, IfOk, IfErr, OnOk};
 ghost use Rattle.bdl_check.specs.Checks.{name_faults, declaration_faults, declared_faults};
 ghost use Rattle.bdl_check.specs.Declarations.{kind_named, placed_in, all_placed};
-ghost use Rattle.bdl_load.specs.Faults.{fault_in};
 ghost use Rattle.bdl_check.specs.Faults.{first, Says};
 
 use crate::declarations::{Declarations, decl_place};
 use crate::fields::decl_fault;
-use crate::refusals::Refusal;
+use crate::refusals::{Refusal, fault_in};
 use bdl_load::{DefCode, Fault, Finding, LoadedFile};
-use outside::{Memory, Text};
+use outside::Memory;
 use std::alloc::Global;
-
-/// The fault in a file of this name.
-pub(crate) fn found_in(found: Finding, file: &Text) -> Result<Fault, Memory>
-    ensures { IfOk result (λ fault. fault ≡ fault_in file.now found) }
-{
-    Ok(Fault {
-        file: file.copy()?,
-        line: found.at.line,
-        column: found.at.column,
-        code: found.code,
-    })
-}
 
 fn file_fault(
     alloc: Global,
@@ -34,7 +21,7 @@ fn file_fault(
 {
     for decl in file.module.decls.as_slice() {
         if let Some(found) = decl_fault(alloc, declarations, decl)? {
-            return Ok(Some(found_in(found, &file.name)?));
+            return Ok(Some(fault_in(file.name.copy()?, found)));
         }
     }
     Ok(None)
@@ -69,7 +56,7 @@ fn declare_file<'a>(
                 at: decl_place(decl),
                 code: DefCode::DuplicateName,
             };
-            return Ok(Some(found_in(found, &file.name)?));
+            return Ok(Some(fault_in(file.name.copy()?, found)));
         }
     }
     Ok(None)

@@ -12,9 +12,8 @@ ghost use Rattle.bdl_parser.specs.Views.{tree_of};
 ghost use Rattle.topological_order.specs.Graphs.{graph_of};
 ghost use Rattle.topological_order.specs.Orders.{IsOrder};
 
-use crate::checks::found_in;
 use crate::declarations::{Declaration, Declarations, decl_place};
-use crate::refusals::Refusal;
+use crate::refusals::{Refusal, fault_in};
 use bdl_load::{DefCode, Fault, Finding};
 use bdl_parser::{Decl, TypeForm, TypeNode};
 use outside::Memory;
@@ -79,7 +78,7 @@ fn recursive(declaration: &Declaration) -> Result<Fault, Memory>
         at: decl_place(declaration.decl),
         code: DefCode::Recursive,
     };
-    found_in(found, declaration.file)
+    Ok(fault_in(declaration.file.copy()?, found))
 }
 
 /// The numbers of the declarations in an order in which each stands behind those that it names, or the fault of the first

@@ -1,7 +1,10 @@
 //! Why there is no table of the declarations of all files.
 
-use bdl_load::{DefFault, Fault};
-use outside::Memory;
+ghost use Rattle.std.specs.Prelude.{◌≡◌};
+ghost use Rattle.bdl_load.specs.Faults.{fault_in};
+
+use bdl_load::{DefFault, Fault, Finding};
+use outside::{Memory, Text};
 use std::alloc::AllocFailed;
 
 /// Why declarations give no table.
@@ -9,6 +12,18 @@ use std::alloc::AllocFailed;
 pub(crate) enum Refusal {
     At(Fault),
     Memory,
+}
+
+/// The fault in the file of this name.
+pub(crate) fn fault_in(file: Text, found: Finding) -> Fault
+    ensures { result ≡ fault_in file found }
+{
+    Fault {
+        file,
+        line: found.at.line,
+        column: found.at.column,
+        code: found.code,
+    }
 }
 
 impl From<Memory> for Refusal {

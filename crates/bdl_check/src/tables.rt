@@ -8,17 +8,16 @@ ghost use Rattle.bdl_check.specs.Faults.{Says};
 ghost use Rattle.bdl_check.specs.Recursion.{links};
 ghost use Rattle.bdl_check.specs.Sizes.{IsExcess};
 ghost use Rattle.bdl_check.specs.Tables.{bag_named, IsTableOf, IsUntabled};
-ghost use Rattle.bdl_load.specs.Faults.{fault_in};
 ghost use Rattle.topological_order.specs.Orders.{IsOrder};
 
 use crate::declarations::Declarations;
 use crate::layouts::lay_out;
-use crate::refusals::Refusal;
+use crate::refusals::{Refusal, fault_in};
 use crate::sizes::{Size, sizes_of};
-use bdl_load::{DefCode, Fault, Finding};
+use bdl_load::{DefCode, FIRST, Finding};
 use bdl_parser::{BagFields, Decl, Spot};
 use field_table::Table;
-use outside::{Memory, Text};
+use outside::Text;
 use std::alloc::Global;
 
 /// The most levels of headers of a table.
@@ -26,9 +25,6 @@ const MAX_LEVELS: u32 = 16;
 
 /// The most fields of a table, those inside them counted.
 const MAX_FIELDS: u32 = 16_384;
-
-/// Where a file begins.
-const START: Spot = Spot { line: 1, column: 1 };
 
 /// A bag: its number, the name of its file, where its name stands, and its fields.
 #[derive(Clone, Copy)]
@@ -70,18 +66,6 @@ fn excess(size: Size) -> Option<DefCode>
     None
 }
 
-/// The fault in the file of this name.
-fn fault_of(alloc: Global, file: &str, found: Finding) -> Result<Fault, Memory>
-    ensures { IfOk result (λ fault. fault ≡ fault_in file.now found) }
-{
-    Ok(Fault {
-        file: Text::of(alloc, file)?,
-        line: found.at.line,
-        column: found.at.column,
-        code: found.code,
-    })
-}
-
 /// The table of the bag of this name among the declarations of a definition with this root. The order is one in which each
 /// declaration stands behind those that it names.
 pub(crate) fn table_of(
@@ -99,10 +83,10 @@ pub(crate) fn table_of(
 {
     let Some(chosen) = find_bag(declarations, bag) else {
         let found = Finding {
-            at: START,
+            at: FIRST,
             code: DefCode::NoSuchBag,
         };
-        return Err(Refusal::At(fault_of(alloc, root, found)?));
+        return Err(Refusal::At(fault_in(Text::of(alloc, root)?, found)));
     };
     let sizes = sizes_of(alloc, declarations, order)?;
     let size = sizes[chosen.number];
@@ -111,7 +95,7 @@ pub(crate) fn table_of(
             at: chosen.at,
             code,
         };
-        return Err(Refusal::At(fault_of(alloc, chosen.file.as_str(), found)?));
+        return Err(Refusal::At(fault_in(chosen.file.copy()?, found)));
     }
     let fields = lay_out(alloc, declarations, chosen.fields, MAX_LEVELS)?;
     Ok(Table::of(fields))

@@ -8,7 +8,7 @@ use field_table::{Shape, Table};
 use one_file::FAULTS;
 use outside::{Library, MemoryLibrary, SureLibrary};
 use scalar_types::ScalarKind;
-use several_files::{ANSWERS, File};
+use several_files::ANSWERS;
 use std::alloc::Global;
 use std::test::Fail;
 
@@ -63,13 +63,14 @@ fn answer_of<L: Library>(
     }
 }
 
-/// The same over these files, the first of which is the root.
-fn answer(alloc: Global, files: &[File], bag: &str) -> Result<String, Fail> {
+/// The same over the files of a text, which has a line for each with its name, a bar, and what it holds. The first is the root.
+fn answer(alloc: Global, files: &str, bag: &str) -> Result<String, Fail> {
     let mut library = SureLibrary::new(alloc);
-    for (name, source) in files {
+    for line in files.lines() {
+        let (name, source) = line.split_once('|').ok_or("a file")?;
         library.add(name, source.as_bytes())?;
     }
-    let (root, _) = files.first().ok_or("a root")?;
+    let (root, _) = files.split_once('|').ok_or("a root")?;
     answer_of(alloc, &mut library, root, bag)
 }
 
@@ -77,8 +78,10 @@ fn answer(alloc: Global, files: &[File], bag: &str) -> Result<String, Fail> {
 fn faults_of_one_file(rt: HostRuntime) -> Result<(), Fail> {
     let alloc = rt.alloc();
     for (source, fault) in &FAULTS {
+        let mut library = SureLibrary::new(alloc);
+        library.add("f.bdl", source.as_bytes())?;
         let wanted = format!(in alloc; "f.bdl {fault}")?;
-        let answer = answer(alloc, &[("f.bdl", source)], "B")?;
+        let answer = answer_of(alloc, &mut library, "f.bdl", "B")?;
         assert_eq!(rt; answer.as_str(), wanted.as_str(), "{source}");
     }
     Ok(())
@@ -89,7 +92,7 @@ fn answers_of_definitions(rt: HostRuntime) -> Result<(), Fail> {
     let alloc = rt.alloc();
     for (files, bag, wanted) in &ANSWERS {
         let answer = answer(alloc, files, bag)?;
-        assert_eq!(rt; answer.as_str(), *wanted);
+        assert_eq!(rt; answer.as_str(), *wanted, "{files}");
     }
     Ok(())
 }

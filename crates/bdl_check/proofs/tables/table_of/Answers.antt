@@ -16,7 +16,7 @@ returns-in-Some-excess-clause-fault c =
     let size = subst (λ (s : Size). HasSize ds bag.list s) (sym c.index-size.ensures)
     (chosen_size ds c.in_ok-sizes.sizes.items c.args.bag.now c.in-Some.chosen.number bag c.index-size.result.now chosen c.in-Some.ensures.number c.in_ok-sizes.ensures) in
     let code = c.in-Some-excess.code in
-    let fault = c.in_ok-fault_of-2.ensures ∙ ap (λ (file : List ℕ). fault_in file (found bag.spot code)) c.as_str.ensures.value in
+    let fault = c.fault_in-in-Some-excess.ensures ∙ ap (λ (file : List ℕ). fault_in file (found bag.spot code)) c.in_ok-copy.ensures in
     subst (λ (f : Fault). IsUntabled ds c.args.root.now c.args.bag.now f) (sym fault) (unfit bag chosen (sized_unfit ds bag c.index-size.result.now code size c.in-Some-excess.ensures))
 
 pub lay_out-requires : goal.lay_out-requires
@@ -27,8 +27,8 @@ lay_out-requires c =
     (chosen_size ds c.in_ok-sizes.sizes.items c.args.bag.now c.in-Some.chosen.number bag c.index-size.result.now (sym c.in-Some.ensures.bag) c.in-Some.ensures.number c.in_ok-sizes.ensures) in
     record { shallow = sized_layout ds bag.list c.index-size.result.now size c.in_default-excess.ensures }
 
-pub of-requires-clause-table : goal.of-requires-clause-table
-of-requires-clause-table c =
+pub of-requires-2-clause-table : goal.of-requires-2-clause-table
+of-requires-2-clause-table c =
     let ds = c.args.declarations.now in
     let bag : BagTree = record { file = c.in-Some.chosen.file.now; spot = c.in-Some.chosen.at; list = c.in-Some.chosen.fields.now } in
     let chosen = sym c.in-Some.ensures.bag in
