@@ -21,7 +21,7 @@ use Rattle.bdl_load.specs.declared.faults.DefFault.TheVariants as defs
 use Rattle.bdl_load.specs.declared.faults.Fault.{Fault}
 use Rattle.bdl_load.specs.declared.files.LoadedFile.{LoadedFile}
 use Rattle.bdl_load.specs.Faults.{Blames}
-use Rattle.bdl_load.specs.Loading.{Holding, OfFiles, Loads, all_loaded, stopped}
+use Rattle.bdl_load.specs.Loading.{OfFiles, Loads, all_loaded, stopped}
 use Rattle.bdl_load.specs.Spelled.{IsSpelledDecl, AreSpelledDecls}
 use Rattle.topological_order.specs.Graphs.{Graph, Reaches}
 use Rattle.topological_order.specs.Orders.{IsOrder}

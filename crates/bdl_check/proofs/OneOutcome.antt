@@ -1,20 +1,20 @@
 -- A definition and the name of a bag have one outcome: one table, or one first fault.
-use Rattle.std.proofs.Common.{◌≡◌, ◌⊎◌, inl, inr, ℕ, ◌<◌, ◌≤◌, List, [], ◌∷◌, Option, Some, arith, ap, refl, subst, sym, ◌∙◌}
+use Rattle.std.proofs.Common.{◌≡◌, ◌⊎◌, inl, inr, ℕ, ◌<◌, ◌≤◌, List, [], ◌∷◌, Some, arith, ap, subst, sym, ◌∙◌}
 use Rattle.std.specs.List.{slice_get}
 use Rattle.std.proofs.lemmas.Bool.{cases_lt}
 use Rattle.bag_model.specs.Shapes.{Nodes}
 use Rattle.bdl_check.specs.Checks.{declared_faults}
 use Rattle.bdl_check.specs.Declarations.{Placed, place_of, all_placed}
-use Rattle.bdl_check.specs.Definitions.{AreSound, IsTableIn, IsFaultIn, IsTable, IsFirstFault}
+use Rattle.bdl_check.specs.Definitions.{IsTableIn, IsFaultIn, IsTable, IsFirstFault}
 use Rattle.bdl_check.specs.Faults.{first}
-use Rattle.bdl_check.specs.Recursion.{links, IsAcyclic, IsRecursive}
+use Rattle.bdl_check.specs.Recursion.{links, IsRecursive}
 use Rattle.bdl_check.proofs.OneLayout.{untabled_one, table_one, table_excludes}
 use Rattle.bdl_load.specs.declared.faults.DefCode.TheVariants.{Recursive}
 use Rattle.bdl_load.specs.declared.faults.Fault.{Fault}
 use Rattle.bdl_load.specs.declared.files.LoadedFile.{LoadedFile}
 use Rattle.bdl_load.specs.Faults.{found, fault_in}
 use Rattle.bdl_load.specs.Loading.{Holding, Loading, Loads, all_loaded, stopped}
-use Rattle.topological_order.specs.Graphs.{Graph, Reaches}
+use Rattle.topological_order.specs.Graphs.{Graph}
 use Rattle.topological_order.specs.Orders.{IsFirstCyclic}
 
 -- what the crate below promises
