@@ -9,6 +9,7 @@ pub mod FieldLaws
 pub mod PassLaws
 pub mod Soundness
 pub mod Rows
+pub mod LayoutRows
 pub mod Insertions
 pub mod PassedTypes
 pub mod TypeSizes
