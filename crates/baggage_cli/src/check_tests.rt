@@ -189,6 +189,15 @@ fn checks_definitions(rt: HostRuntime) -> Result<(), Fail> {
     Ok(())
 }
 
+#[test]
+fn places_are_lines_and_bytes(rt: HostRuntime) -> Result<(), Fail> {
+    let alloc = rt.alloc();
+    let mut library = SureLibrary::new(alloc);
+    library.add("f.bdl", b"bag B {\n  set<set<bool>> s = 0;\n}\n")?;
+    let bad_key = "definition f.bdl 2:7 BadKeyType\n";
+    answers(&rt, alloc, &mut library, "check f.bdl B", 1, bad_key)
+}
+
 /// Adds a chain of bags from `B0` to the one of that number, each with a field of the next and the last with a bool.
 fn add_chain(alloc: Global, library: &mut SureLibrary, last: u32) -> Result<(), Fail> {
     let mut text = String::new(alloc);
