@@ -1,5 +1,5 @@
 -- What an object outside tells of its content: a known content is `Some`, and `None` claims nothing.
-use Rattle.std.specs.Prelude.{◌≡◌, ℕ, List, take, Option, Some, None, if◌then◌else◌}
+use Rattle.std.specs.Prelude.{◌≡◌, ℕ, List, ◌++◌, take, Option, Some, None, IfSome, if◌then◌else◌}
 use Rattle.std.specs.Option.{option_map}
 use Rattle.std.specs.Str.{bytes_eq}
 use Rattle.std.specs.Io.KnownBytes.{Appends}
@@ -11,6 +11,14 @@ AppendsPart old new piece = (n : ℕ) × Appends old new (take n piece)
 -- The files that a library holds, by name, where it tells.
 abbrev pub Files : Type 0
 Files = Option (List ℕ → Option (List ℕ))
+
+-- The names that a library was asked for, in order, where it keeps them.
+abbrev pub Asked : Type 0
+Asked = Option (List (List ℕ))
+
+-- It was asked for these names, in this order, and for nothing else. One that keeps its names no longer claims nothing.
+abbrev pub Asks : List (List ℕ) → Asked → Asked → Type 0
+Asks names before after = IfSome after (λ kept. option_map (λ earlier. earlier ++ names) before ≡ Some kept)
 
 -- The same files, with this content under this name and no other.
 abbrev pub with_file : List ℕ → List ℕ → Files → Files

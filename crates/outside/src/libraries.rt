@@ -1,14 +1,15 @@
 //! Files by name.
 
-ghost use Rattle.std.specs.Prelude.{◌≡◌, ℕ, ◌-◌, ◌^◌, ◌≤◌, length, IfOk, IfSome, OnOk, OnErr, Option, Some, None};
+ghost use Rattle.std.specs.Prelude.{◌≡◌, ℕ, ◌-◌, ◌^◌, ◌≤◌, [], ◌∷◌, length, IfOk, IfSome, OnOk, OnErr, Option, Some, None};
 ghost use Rattle.std.specs.Option.{option_map};
 ghost use Rattle.outside.specs.Causes.{HasCauseAt};
-ghost use Rattle.outside.specs.Told.{Files, Fetches, with_file};
+ghost use Rattle.outside.specs.Told.{Files, Fetches, Asked, Asks, with_file};
 ghost use Rattle.outside.specs.Contents.{held_in};
 ghost use Rattle.outside.specs.Bounds.{zero_in_range};
 
 use crate::answers::{LibraryFault, Memory};
 use crate::failures::Failures;
+use crate::texts::{Text, Words};
 use std::alloc::Global;
 use std::collections::BTreeMap;
 
@@ -18,17 +19,21 @@ const FETCHED: usize = 1_048_577;
 /// A library of files.
 ///
 /// `files` is what it holds by name, where it tells. `faults` counts the failed fetches; it never falls, and stays at
-/// `u64::MAX` once it has reached it.
+/// `u64::MAX` once it has reached it. `asked` has the names that it was asked for, where it keeps them; by default it
+/// keeps none.
 pub trait Library {
     ghost files: { Self → Files };
 
     ghost faults: { Self → ℕ };
+
+    ghost asked: { Self → Asked } = { λ _. None };
 
     /// The first 1,048,577 bytes of the named file, or all of a shorter one; `None` where there is no such file.
     fn fetch(&mut self, alloc: Global, name: &str) -> Result<Option<Vec<u8>>, LibraryFault>
         ensures held { IfOk result (λ found. Fetches (files self.old) name.now (option_map (λ file. file.items) found)) }
         ensures bound { IfOk result (λ found. IfSome found (λ file. length file.items ≤ 1048577)) }
         ensures same { files self.new ≡ files self.old }
+        ensures asked { Asks (name.now ∷ []) (asked self.old) (asked self.new) }
         ensures cause { HasCauseAt LibraryFault.Failed (faults self.old) (faults self.new) result };
 
     ghost counted: { (library : Self) → faults library ≤ 2 ^ 64 - 1 };
@@ -82,11 +87,12 @@ impl Library for SureLibrary {
     }
 }
 
-/// A library in memory, some of whose fetches fail.
+/// A library in memory, some of whose fetches fail. It keeps the names that it was asked for.
 #[derive(Drop)]
 pub struct MemoryLibrary {
     inner: SureLibrary,
     failures: Failures,
+    asked: Option<Words>,
 }
 
 impl MemoryLibrary {
@@ -94,10 +100,12 @@ impl MemoryLibrary {
     pub fn new(alloc: Global, failing: Vec<u64>) -> MemoryLibrary
         ensures files { ⟦<MemoryLibrary as Library>⟧.files result ≡ Some (λ _. None) }
         ensures faults { ⟦<MemoryLibrary as Library>⟧.faults result ≡ 0 }
+        ensures asked { ⟦<MemoryLibrary as Library>⟧.asked result ≡ Some [] }
     {
         MemoryLibrary {
             inner: SureLibrary::new(alloc),
             failures: Failures::new(failing),
+            asked: Some(Words::new(alloc)),
         }
     }
 
@@ -107,9 +115,27 @@ impl MemoryLibrary {
         ensures ok { OnOk result (⟦<MemoryLibrary as Library>⟧.files self.new ≡ with_file name.now content.now (⟦<MemoryLibrary as Library>⟧.files self.old)) }
         ensures err { OnErr result (⟦<MemoryLibrary as Library>⟧.files self.new ≡ ⟦<MemoryLibrary as Library>⟧.files self.old) }
         ensures faults { ⟦<MemoryLibrary as Library>⟧.faults self.new ≡ ⟦<MemoryLibrary as Library>⟧.faults self.old }
+        ensures asked { ⟦<MemoryLibrary as Library>⟧.asked self.new ≡ ⟦<MemoryLibrary as Library>⟧.asked self.old }
     {
         self.inner.add(name, content)
     }
+
+    /// The names that it was asked for, in order. `None` once there was no memory for one of them.
+    pub fn asked(&self) -> Option<&Words>
+        ensures { option_map (λ names. names.now) result ≡ ⟦<MemoryLibrary as Library>⟧.asked self.now }
+    {
+        self.asked.as_ref()
+    }
+}
+
+/// The names with this one behind them, or `None` where there is no memory for it.
+fn with_name(alloc: Global, names: Option<Words>, name: &str) -> Option<Words>
+    ensures { Asks (name.now ∷ []) names result }
+{
+    let mut names = names?;
+    let name = Text::of(alloc, name).ok()?;
+    names.push(name).ok()?;
+    Some(names)
 }
 
 impl Library for MemoryLibrary {
@@ -117,9 +143,12 @@ impl Library for MemoryLibrary {
 
     ghost faults = { λ library. library.failures.faults };
 
+    ghost asked = { λ library. library.asked };
+
     ghost counted = { λ library. library.failures.in_range };
 
     fn fetch(&mut self, alloc: Global, name: &str) -> Result<Option<Vec<u8>>, LibraryFault> {
+        self.asked = with_name(alloc, self.asked.take(), name);
         if self.failures.next_fails() {
             return Err(LibraryFault::Failed);
         }

@@ -81,6 +81,15 @@ fn fetches<L: Library>(
     library.fetch(alloc, name)
 }
 
+/// Whether these are the words, in this order.
+fn are_words(words: &Words, these: &[&'static str]) -> bool {
+    words.len() == these.len()
+        && these.iter().enumerate().all(|(
+            at,
+            this,
+        )| matches!(words.get(at), Some(word) if word.as_str() == *this))
+}
+
 #[test]
 fn files(rt: HostRuntime) -> Result<(), Fail> {
     let alloc = rt.alloc();
@@ -109,5 +118,7 @@ fn files(rt: HostRuntime) -> Result<(), Fail> {
     assert!(rt;
         matches!(fetches(alloc, &mut library, "f"), Ok(Some(file)) if file.len() == 1_048_577)
     );
+    let asked = ["f", "f", "g", "g", "f", "g", "f"];
+    assert!(rt; matches!(library.asked(), Some(names) if are_words(names, &asked)));
     Ok(())
 }
