@@ -1,14 +1,17 @@
 -- What comes of all answers of a library, from what comes of each.
-use Rattle.std.proofs.Common.{◌≡◌, ℕ, Bool, true, false, cond, ◌||◌, Option, None, Some, List, [], ◌∷◌, ◌++◌, refl, sym, ◌∙◌, ap, subst, append_assoc}
+use Rattle.std.proofs.Common.{◌≡◌, ℕ, suc, ◌-◌, Bool, true, false, ◌||◌, Option, None, Some, List, [], ◌∷◌, ◌++◌, length, take, refl, sym, ◌∙◌, ap, subst, append_assoc, arith}
 use Rattle.std.specs.Prelude.{IfSome}
 use Rattle.std.specs.List.{AllByRecursion, IsDistinct}
 use Rattle.std.specs.Str.{bytes_eq}
 use Rattle.std.proofs.lemmas.List.{map-append, append-nil}
 use Rattle.std.proofs.lemmas.Slice.Eq.{bytes_eq-Decides}
-use Rattle.outside.specs.Told.{Files}
+use Rattle.outside.specs.Told.{Files, Asked, Asks}
+use Rattle.bdl_load.specs.declared.faults.DefFault.{DefFault}
+use Rattle.bdl_load.specs.declared.faults.DefFault.TheVariants.{At, Failed, Memory}
+use Rattle.bdl_load.specs.declared.faults.Fault.{Fault}
 use Rattle.bdl_load.specs.declared.files.LoadedFile.{LoadedFile}
-use Rattle.bdl_load.specs.Loading.{Holding, OfFiles, is_among, names_of}
-use Rattle.bdl_load.specs.Asked.{Tells, Answer, asked, Gives, Answers, Stopped, Loaded}
+use Rattle.bdl_load.specs.Loading.{Holding, Loading, stopped, is_among, names_of}
+use Rattle.bdl_load.specs.Asked.{Tells, Answer, asked, Gives, known, Answered, Loaded, Ends, Halts}
 
 -- ---- different names
 
@@ -26,7 +29,7 @@ differ xs ys e = from (bytes_eq ys xs) refl
         let equal = (bytes_eq-Decides xs ys).1 (sym same) in
         absurd (cc (equal, e))
 
-same_bytes : (xs : List ℕ) → bytes_eq xs xs ≡ true
+pub same_bytes : (xs : List ℕ) → bytes_eq xs xs ≡ true
 same_bytes xs = (bytes_eq-Decides xs xs).1 refl
 
 other_first : (name x : List ℕ) (xs : List (List ℕ)) → is_among name (x ∷ xs) ≡ false → (bytes_eq name x ≡ false) × (is_among name xs ≡ false)
@@ -62,9 +65,21 @@ gives_both : (held : Holding) (a b : List Answer) → Gives held a → Gives hel
 gives_both held [] b g h = h
 gives_both held (x ∷ a) b (e, g) h = (e, gives_both held a b g h)
 
-told_both : (files : Files) (a b : List Answer) → IfSome files (λ held. Gives held a) → IfSome files (λ held. Gives held b) → IfSome files (λ held. Gives held (a ++ b))
-told_both None a b g h = tt
-told_both (Some held) a b g h = gives_both held a b g h
+-- one answer more in front of those but the last
+gives_cons : (held : Holding) (x : Answer) (a : List Answer) → held x.name ≡ x.content → Gives held (known false a) → Gives held (known false (x ∷ a))
+gives_cons held x [] e g = tt
+gives_cons held x (y ∷ a) e g =
+    let more : length (x ∷ y ∷ a) - 1 ≡ suc (length (y ∷ a) - 1) = omega arith in
+    subst (λ n. Gives held (take n (x ∷ y ∷ a))) (sym more) (e, g)
+
+gives_known : (held : Holding) (whole : Bool) (a b : List Answer) → Gives held a → Gives held (known whole b) → Gives held (known whole (a ++ b))
+gives_known held true a b g h = gives_both held a b g h
+gives_known held false [] b g h = h
+gives_known held false (x ∷ a) b (e, g) h = gives_cons held x (a ++ b) e (gives_known held false a b g h)
+
+told_both : (files : Files) (whole : Bool) (a b : List Answer) → IfSome files (λ held. Gives held a) → IfSome files (λ held. Gives held (known whole b)) → IfSome files (λ held. Gives held (known whole (a ++ b)))
+told_both None whole a b g h = tt
+told_both (Some held) whole a b g h = gives_known held whole a b g h
 
 told_none : (files : Files) → IfSome files (λ held. Gives held [])
 told_none None = tt
@@ -74,113 +89,171 @@ told_one : (files : Files) (name : List ℕ) (content : Option (List ℕ)) → T
 told_one None name content t = tt
 told_one (Some held) name content t = (t, tt)
 
-names_then : (earlier more : List LoadedFile) (a b : List Answer) → names_of more ≡ asked a → names_of (earlier ++ more) ++ asked b ≡ names_of earlier ++ asked (a ++ b)
-names_then earlier more a b e =
+-- ---- what was asked for
+
+asks_none : (before : Asked) → Asks [] before before
+asks_none None = tt
+asks_none (Some kept) = ap Some (append-nil kept)
+
+asks_then : (a b : List (List ℕ)) (before between after : Asked) → Asks a before between → Asks b between after → Asks (a ++ b) before after
+asks_then a b before between None f g = tt
+asks_then a b before None (Some kept) f g = absurd (cc g)
+asks_then a b None (Some middle) (Some kept) f g = absurd (cc f)
+asks_then a b (Some earlier) (Some middle) (Some kept) f g =
+    let first : earlier ++ a ≡ middle = cc f in
+    let second : middle ++ b ≡ kept = cc g in
+    ap Some (sym (append_assoc earlier a b) ∙ ap (λ names. names ++ b) first ∙ second)
+
+joined : (a b : List Answer) → asked (a ++ b) ≡ asked a ++ asked b
+joined a b = map-append (λ (answer : Answer). answer.name) a b
+
+names_then : (earlier later more : List LoadedFile) (a b : List Answer) → later ≡ earlier ++ more → names_of more ≡ asked a → names_of later ++ asked b ≡ names_of earlier ++ asked (a ++ b)
+names_then earlier later more a b grown e =
     let split : names_of (earlier ++ more) ≡ names_of earlier ++ names_of more = map-append (λ (file : LoadedFile). file.name) earlier more in
-    let joined : asked (a ++ b) ≡ asked a ++ asked b = map-append (λ (answer : Answer). answer.name) a b in
-    ap (λ names. names ++ asked b) (split ∙ ap (λ names. names_of earlier ++ names) e) ∙ append_assoc (names_of earlier) (asked a) (asked b) ∙ ap (λ names. names_of earlier ++ names) (sym joined)
+    ap (λ names. names ++ asked b) (ap names_of grown ∙ split ∙ ap (λ names. names_of earlier ++ names) e) ∙ append_assoc (names_of earlier) (asked a) (asked b)
+    ∙ ap (λ names. names_of earlier ++ names) (sym (joined a b))
 
-answers_then : (files : Files) (earlier later more : List LoadedFile) (a b : List Answer) (C D E : Holding → Type 0) → later ≡ earlier ++ more → names_of more ≡ asked a
-    → Answers files earlier a C → Answers files later b D → ((held : Holding) → C held → D held → E held) → Answers files earlier (a ++ b) E
-answers_then files earlier later more a b C D E grown names first second then = record {
-  told = told_both files a b first.told second.told;
-  distinct = subst (λ names. IsDistinct bytes_eq names) (ap (λ files. names_of files ++ asked b) grown ∙ names_then earlier more a b names) second.distinct;
-  comes = λ held g. then held (first.comes held (gives_front held a b g)) (second.comes held (gives_back held a b g));
-}
+-- ---- answers after files that were loaded
 
--- files that are loaded after others
-pub loaded_then : (files : Files) (earlier between later : List LoadedFile) (C D E : Holding → Type 0) → Loaded files earlier between C → Loaded files between later D
-    → ((held : Holding) → C held → D held → E held) → Loaded files earlier later E
-loaded_then files earlier between later C D E first second then = record {
+pub answered_then : (whole : Bool) (files : Files) (before between after : Asked) (earlier later : List LoadedFile) (C : Holding → Type 0) (D E : List (List ℕ) → Holding → Type 0)
+    → Loaded files before between earlier later C → Answered whole files between after later D
+    → ((held : Holding) → C held → (names : List (List ℕ)) → D names held → E names held) → Answered whole files before after earlier E
+answered_then whole files before between after earlier later C D E first second then =
+    let a = first.given.answers in
+    let b = second.answers in
+    let names = names_then earlier later first.more a b first.grown first.names in
+    record {
+      answers = a ++ b;
+      asks = subst (λ names. Asks names before after) (sym (joined a b)) (asks_then (asked a) (asked b) before between after first.given.asks second.asks);
+      told = told_both files whole a b first.given.told second.told;
+      distinct = subst (λ names. IsDistinct bytes_eq names) names second.distinct;
+      comes = λ held g. subst (λ names. E names held) names
+          (then held (first.given.comes held (gives_front held a b g)) (names_of later ++ asked b) (second.comes held (gives_back held a b g)));
+    }
+
+pub loaded_then : (files : Files) (before middle after : Asked) (earlier between later : List LoadedFile) (C D E : Holding → Type 0) → Loaded files before middle earlier between C → Loaded files middle after between later D
+    → ((held : Holding) → C held → D held → E held) → Loaded files before after earlier later E
+unfolding answered_then
+loaded_then files before middle after earlier between later C D E first second then = record {
   more = first.more ++ second.more;
-  answers = first.answers ++ second.answers;
   grown = second.grown ∙ ap (λ files. files ++ second.more) first.grown ∙ append_assoc earlier first.more second.more;
+  given = answered_then true files before middle after earlier between C (λ _ held. D held) (λ _ held. E held) first second.given (λ held c names d. then held c d);
   names = map-append (λ (file : LoadedFile). file.name) first.more second.more ∙ ap (λ names. names ++ names_of second.more) first.names
-      ∙ ap (λ names. asked first.answers ++ names) second.names ∙ sym (map-append (λ (answer : Answer). answer.name) first.answers second.answers);
-  given = answers_then files earlier between first.more first.answers second.answers C D E first.grown first.names first.given second.given then;
+      ∙ ap (λ names. asked first.given.answers ++ names) second.names ∙ sym (joined first.given.answers second.given.answers);
 }
 
--- a fault after files that were loaded
-pub stopped_then : (files : Files) (earlier between : List LoadedFile) (C D E : Holding → Type 0) → Loaded files earlier between C → Stopped files between D
-    → ((held : Holding) → C held → D held → E held) → Stopped files earlier E
-stopped_then files earlier between C D E first second then = record {
-  answers = first.answers ++ second.answers;
-  given = answers_then files earlier between first.more first.answers second.answers C D E first.grown first.names first.given second.given then;
+unknown_then : (files : Files) (before between after : Asked) (earlier later : List LoadedFile) (C : Holding → Type 0) (D E : Holding → Loading → Type 0) → Loaded files before between earlier later C
+    → ((held : Holding) → C held → (names : List (List ℕ)) (fault : Fault) → D held (stopped names fault) → E held (stopped names fault)) → Answered false files between after later (λ names held. (fault : Fault) × D held (stopped names fault))
+    → Answered false files before after earlier (λ names held. (fault : Fault) × E held (stopped names fault))
+unknown_then files before between after earlier later C D E first then second =
+    answered_then false files before between after earlier later C (λ names held. (fault : Fault) × D held (stopped names fault)) (λ names held. (fault : Fault) × E held (stopped names fault)) first second
+    (λ held c names d. (d.0, then held c names d.0 d.1))
+
+pub ends_then : (files : Files) (before between after : Asked) (earlier later : List LoadedFile) (C : Holding → Type 0) (D E : Holding → Loading → Type 0) → Loaded files before between earlier later C
+    → ((held : Holding) → C held → (names : List (List ℕ)) (fault : Fault) → D held (stopped names fault) → E held (stopped names fault)) → (refusal : DefFault) → Ends files between after later D refusal → Ends files before after earlier E refusal
+ends_then files before between after earlier later C D E first then (At file line column code) second =
+    let fault : Fault = record { file = file; line = line; column = column; code = code } in
+    answered_then true files before between after earlier later C (λ names held. D held (stopped names fault)) (λ names held. E held (stopped names fault)) first second
+    (λ held c names d. then held c names fault d)
+ends_then files before between after earlier later C D E first then Failed second = unknown_then files before between after earlier later C D E first then second
+ends_then files before between after earlier later C D E first then Memory second = unknown_then files before between after earlier later C D E first then second
+
+-- ---- nothing is asked for
+
+answered_nothing : (whole : Bool) (files : Files) (before : Asked) (earlier : List LoadedFile) (C : List (List ℕ) → Holding → Type 0) → IsDistinct bytes_eq (names_of earlier)
+    → ((held : Holding) → C (names_of earlier) held) → Answered whole files before before earlier C
+answered_nothing whole files before earlier C d comes =
+    let same = sym (append-nil (names_of earlier)) in
+    record {
+      answers = [];
+      asks = asks_none before;
+      told = known_nothing whole;
+      distinct = subst (λ names. IsDistinct bytes_eq names) same d;
+      comes = λ held g. subst (λ names. C names held) same (comes held);
+    }
+  where
+    known_nothing : (whole : Bool) → IfSome files (λ held. Gives held (known whole []))
+    known_nothing true = told_none files
+    known_nothing false = told_none files
+
+pub loaded_nothing : (files : Files) (before : Asked) (earlier : List LoadedFile) (C : Holding → Type 0) → IsDistinct bytes_eq (names_of earlier) → ((held : Holding) → C held) → Loaded files before before earlier earlier C
+unfolding answered_nothing
+loaded_nothing files before earlier C d comes =
+    record { more = []; grown = sym (append-nil earlier); given = answered_nothing true files before earlier (λ _ held. C held) d comes; names = refl }
+
+pub ends_halted : (files : Files) (before : Asked) (earlier : List LoadedFile) (C : Holding → Loading → Type 0) → IsDistinct bytes_eq (names_of earlier) → (refusal : DefFault)
+    → Halts (λ fault. (held : Holding) → C held (stopped (names_of earlier) fault)) refusal → Ends files before before earlier C refusal
+ends_halted files before earlier C d (At file line column code) h =
+    answered_nothing true files before earlier (λ names held. C held (stopped names (record { file = file; line = line; column = column; code = code }))) d h
+ends_halted files before earlier C d Failed h = absurd h
+ends_halted files before earlier C d Memory (fault, h) =
+    answered_nothing false files before earlier (λ names held. (fault : Fault) × C held (stopped names fault)) d (λ held. (fault, h held))
+
+-- ---- one file is asked for
+
+-- a name that wasn't asked for before, of files with different names
+pub record IsNew (earlier : List LoadedFile) (name : List ℕ) (before after : Asked) : Type 0 where
+  pub distinct : IsDistinct bytes_eq (names_of earlier)
+  pub fresh : is_among name (names_of earlier) ≡ false
+  pub asks : Asks (name ∷ []) before after
+
+answered_one : (whole : Bool) (files : Files) (before after : Asked) (earlier : List LoadedFile) (name : List ℕ) (content : Option (List ℕ)) (C : List (List ℕ) → Holding → Type 0) → IsNew earlier name before after
+    → IfSome files (λ held. Gives held (known whole (record { name = name; content = content } ∷ []))) → ((held : Holding) → held name ≡ content → C (names_of earlier ++ name ∷ []) held)
+    → Answered whole files before after earlier C
+answered_one whole files before after earlier name content C new told comes = record {
+  answers = record { name = name; content = content } ∷ [];
+  asks = new.asks;
+  told = told;
+  distinct = distinct_snoc (names_of earlier) name new.distinct new.fresh;
+  comes = λ held g. comes held g.0;
 }
 
-answers_none : (files : Files) (earlier : List LoadedFile) (C : Holding → Type 0) → IsDistinct bytes_eq (names_of earlier) → ((held : Holding) → C held) → Answers files earlier [] C
-answers_none files earlier C d comes = record {
-  told = told_none files;
-  distinct = subst (λ names. IsDistinct bytes_eq names) (sym (append-nil (names_of earlier))) d;
-  comes = λ held g. comes held;
-}
-
-answers_one : (files : Files) (earlier : List LoadedFile) (name : List ℕ) (content : Option (List ℕ)) → IsDistinct bytes_eq (names_of earlier) → is_among name (names_of earlier) ≡ false → Tells files name content
-    → Answers files earlier (record { name = name; content = content } ∷ []) (λ held. held name ≡ content)
-answers_one files earlier name content d fresh told = record {
-  told = told_one files name content told;
-  distinct = distinct_snoc (names_of earlier) name d fresh;
-  comes = λ held g. g.0;
-}
-
--- nothing is fetched
-pub loaded_nothing : (files : Files) (earlier : List LoadedFile) (C : Holding → Type 0) → IsDistinct bytes_eq (names_of earlier) → ((held : Holding) → C held) → Loaded files earlier earlier C
-loaded_nothing files earlier C d comes = record { more = []; answers = []; grown = sym (append-nil earlier); names = refl; given = answers_none files earlier C d comes }
-
-pub stopped_nothing : (files : Files) (earlier : List LoadedFile) (C : Holding → Type 0) → IsDistinct bytes_eq (names_of earlier) → ((held : Holding) → C held) → Stopped files earlier C
-stopped_nothing files earlier C d comes = record { answers = []; given = answers_none files earlier C d comes }
-
--- one file is fetched
-pub loaded_file : (files : Files) (earlier : List LoadedFile) (file : LoadedFile) (source : List ℕ) → IsDistinct bytes_eq (names_of earlier) → is_among file.name (names_of earlier) ≡ false
-    → Tells files file.name (Some source) → Loaded files earlier (earlier ++ file ∷ []) (λ held. held file.name ≡ Some source)
-loaded_file files earlier file source d fresh told = record {
+-- the file is held
+pub loaded_file : (files : Files) (before after : Asked) (earlier : List LoadedFile) (file : LoadedFile) (source : List ℕ) → IsNew earlier file.name before after
+    → Tells files file.name (Some source) → Loaded files before after earlier (earlier ++ file ∷ []) (λ held. held file.name ≡ Some source)
+unfolding answered_one
+loaded_file files before after earlier file source new told = record {
   more = file ∷ [];
-  answers = record { name = file.name; content = Some source } ∷ [];
   grown = refl;
+  given = answered_one true files before after earlier file.name (Some source) (λ _ held. held file.name ≡ Some source) new (told_one files file.name (Some source) told) (λ held is. is);
   names = refl;
-  given = answers_one files earlier file.name (Some source) d fresh told;
 }
 
--- the library answers, and loading stops
-pub stopped_file : (files : Files) (earlier : List LoadedFile) (name : List ℕ) (content : Option (List ℕ)) → IsDistinct bytes_eq (names_of earlier) → is_among name (names_of earlier) ≡ false → Tells files name content
-    → Stopped files earlier (λ held. held name ≡ content)
-stopped_file files earlier name content d fresh told = record { answers = record { name = name; content = content } ∷ []; given = answers_one files earlier name content d fresh told }
+-- a fault comes of the answer
+pub answered_fault : (files : Files) (before after : Asked) (earlier : List LoadedFile) (name : List ℕ) (content : Option (List ℕ)) (C : Holding → Loading → Type 0) (fault : Fault) → IsNew earlier name before after
+    → Tells files name content → ((held : Holding) → held name ≡ content → C held (stopped (names_of earlier ++ name ∷ []) fault))
+    → Answered true files before after earlier (λ names held. C held (stopped names fault))
+answered_fault files before after earlier name content C fault new told comes =
+    answered_one true files before after earlier name content (λ names held. C held (stopped names fault)) new (told_one files name content told) comes
 
--- what comes of it comes of it in other words
-pub loaded_so : (files : Files) (earlier later : List LoadedFile) (C D : Holding → Type 0) → Loaded files earlier later C → ((held : Holding) → C held → D held) → Loaded files earlier later D
-loaded_so files earlier later C D l so = record {
-  more = l.more;
-  answers = l.answers;
-  grown = l.grown;
-  names = l.names;
-  given = record { told = l.given.told; distinct = l.given.distinct; comes = λ held g. so held (l.given.comes held g) };
-}
+-- whatever the answer is, a fault would come if there were no such file
+pub answered_unknown : (files : Files) (before after : Asked) (earlier : List LoadedFile) (name : List ℕ) (C : Holding → Loading → Type 0) (fault : Fault) → IsNew earlier name before after
+    → ((held : Holding) → held name ≡ None → C held (stopped (names_of earlier ++ name ∷ []) fault)) → Answered false files before after earlier (λ names held. (fault : Fault) × C held (stopped names fault))
+answered_unknown files before after earlier name C fault new comes =
+    answered_one false files before after earlier name None (λ names held. (fault : Fault) × C held (stopped names fault)) new (told_none files) (λ held none. (fault, comes held none))
 
-pub stopped_so : (files : Files) (earlier : List LoadedFile) (C D : Holding → Type 0) → Stopped files earlier C → ((held : Holding) → C held → D held) → Stopped files earlier D
-stopped_so files earlier C D s so = record { answers = s.answers; given = record { told = s.given.told; distinct = s.given.distinct; comes = λ held g. so held (s.given.comes held g) } }
+-- ---- what comes of it comes of it in other words
 
--- ---- some files give these answers
+answered_so : (whole : Bool) (files : Files) (before after : Asked) (earlier : List LoadedFile) (C D : List (List ℕ) → Holding → Type 0) → ((held : Holding) (names : List (List ℕ)) → C names held → D names held)
+    → Answered whole files before after earlier C → Answered whole files before after earlier D
+answered_so whole files before after earlier C D so a =
+    record { answers = a.answers; asks = a.asks; told = a.told; distinct = a.distinct; comes = λ held g. so held (names_of earlier ++ asked a.answers) (a.comes held g) }
 
-look : List Answer → Holding
-look [] name = None
-look (a ∷ answers) name = cond (bytes_eq a.name name) a.content (look answers name)
+pub loaded_so : (files : Files) (before after : Asked) (earlier later : List LoadedFile) (C D : Holding → Type 0) → ((held : Holding) → C held → D held) → Loaded files before after earlier later C → Loaded files before after earlier later D
+unfolding answered_so
+loaded_so files before after earlier later C D so l =
+    record { more = l.more; grown = l.grown; given = answered_so true files before after earlier (λ _ held. C held) (λ _ held. D held) (λ held names. so held) l.given; names = l.names }
 
-look_later : (a : Answer) (answers these : List Answer) → AllByRecursion (λ name. bytes_eq a.name name ≡ false) (asked these) → Gives (look answers) these → Gives (look (a ∷ answers)) these
-unfolding look
-look_later a answers [] others g = tt
-look_later a answers (b ∷ these) (other, others) (e, g) =
-    (ap (λ same. cond same a.content (look answers b.name)) other ∙ e, look_later a answers these others g)
+unknown_so : (files : Files) (before after : Asked) (earlier : List LoadedFile) (C D : Holding → Loading → Type 0) → ((held : Holding) (names : List (List ℕ)) (fault : Fault) → C held (stopped names fault) → D held (stopped names fault))
+    → Answered false files before after earlier (λ names held. (fault : Fault) × C held (stopped names fault)) → Answered false files before after earlier (λ names held. (fault : Fault) × D held (stopped names fault))
+unknown_so files before after earlier C D so e =
+    answered_so false files before after earlier (λ names held. (fault : Fault) × C held (stopped names fault)) (λ names held. (fault : Fault) × D held (stopped names fault))
+    (λ held names c. (c.0, so held names c.0 c.1)) e
 
-look_gives : (answers : List Answer) → IsDistinct bytes_eq (asked answers) → Gives (look answers) answers
-unfolding IsDistinct look
-look_gives [] d = tt
-look_gives (a ∷ answers) (others, d) =
-    (ap (λ same. cond same a.content (look answers a.name)) (same_bytes a.name), look_later a answers answers others (look_gives answers d))
-
--- what comes of all answers comes of the library's files
-pub of_answers : (files : Files) (C : Holding → Type 0) → Stopped files [] C → OfFiles files C
-of_answers None C s = (look s.answers, tt, s.given.comes (look s.answers) (look_gives s.answers s.given.distinct))
-of_answers (Some held) C s = (held, refl, s.given.comes held s.given.told)
-
-pub of_loaded : (files : Files) (later : List LoadedFile) (C : Holding → Type 0) → Loaded files [] later C → OfFiles files C
-of_loaded files later C l = of_answers files C (record { answers = l.answers; given = l.given })
+pub ends_so : (files : Files) (before after : Asked) (earlier : List LoadedFile) (C D : Holding → Loading → Type 0) → ((held : Holding) (names : List (List ℕ)) (fault : Fault) → C held (stopped names fault) → D held (stopped names fault))
+    → (refusal : DefFault) → Ends files before after earlier C refusal → Ends files before after earlier D refusal
+ends_so files before after earlier C D so (At file line column code) e =
+    let fault : Fault = record { file = file; line = line; column = column; code = code } in
+    answered_so true files before after earlier (λ names held. C held (stopped names fault)) (λ names held. D held (stopped names fault)) (λ held names. so held names fault) e
+ends_so files before after earlier C D so Failed e = unknown_so files before after earlier C D so e
+ends_so files before after earlier C D so Memory e = unknown_so files before after earlier C D so e

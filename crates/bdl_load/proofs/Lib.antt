@@ -4,6 +4,7 @@ mod Names
 mod OneSource
 mod OneLoading
 mod Asking
+mod Answering
 mod Fetched
 mod FilesSoFar
 mod Taking

@@ -10,12 +10,12 @@ use Rattle.bdl_load.specs.Loading.{Holding, Loading, all_loaded, stopped, IsFetc
 use Rattle.bdl_load.proofs.OneSource.{SaysOne}
 
 -- an import of a file whose imports are being taken
-of_cycle : (held : Holding) (taking : List (List ℕ)) (files : List LoadedFile) (from : List ℕ) (import : Import) (rest : List Import) (b : Loading) → is_among import.file taking ≡ true → Takes held taking files from (import ∷ rest) b → b ≡ stopped (fault_in from (found import.at ImportCycle))
+of_cycle : (held : Holding) (taking : List (List ℕ)) (files : List LoadedFile) (from : List ℕ) (import : Import) (rest : List Import) (b : Loading) → is_among import.file taking ≡ true → Takes held taking files from (import ∷ rest) b → b ≡ stopped (names_of files) (fault_in from (found import.at ImportCycle))
 of_cycle held taking files from import rest _ h (Takes.cycle _ _ _ _ _ c) = refl
 of_cycle held taking files from import rest _ h (Takes.known _ _ _ _ _ _ c k t) = absurd (cc)
 of_cycle held taking files from import rest _ h (Takes.too_many _ _ _ _ _ c k l) = absurd (cc)
 of_cycle held taking files from import rest _ h (Takes.missing _ _ _ _ _ f e) = absurd (let no = f.closed in cc)
-of_cycle held taking files from import rest _ h (Takes.within _ _ _ source _ _ fault f e t) = absurd (let no = f.closed in cc)
+of_cycle held taking files from import rest _ h (Takes.within _ _ _ source _ _ names fault f e t) = absurd (let no = f.closed in cc)
 of_cycle held taking files from import rest _ h (Takes.fetched _ _ more _ source _ _ _ f e t v) = absurd (let no = f.closed in cc)
 
 -- an import of a file that was loaded before
@@ -24,30 +24,30 @@ of_known held taking files from import rest _ h i (Takes.cycle _ _ _ _ _ c) = ab
 of_known held taking files from import rest _ h i (Takes.known _ _ _ _ _ _ c k t) = t
 of_known held taking files from import rest _ h i (Takes.too_many _ _ _ _ _ c k l) = absurd (cc)
 of_known held taking files from import rest _ h i (Takes.missing _ _ _ _ _ f e) = absurd (let no = f.fresh in cc)
-of_known held taking files from import rest _ h i (Takes.within _ _ _ source _ _ fault f e t) = absurd (let no = f.fresh in cc)
+of_known held taking files from import rest _ h i (Takes.within _ _ _ source _ _ names fault f e t) = absurd (let no = f.fresh in cc)
 of_known held taking files from import rest _ h i (Takes.fetched _ _ more _ source _ _ _ f e t v) = absurd (let no = f.fresh in cc)
 
 -- an import of one file more than there may be
-of_many : (held : Holding) (taking : List (List ℕ)) (files : List LoadedFile) (from : List ℕ) (import : Import) (rest : List Import) (b : Loading) → is_among import.file taking ≡ false → is_among import.file (names_of files) ≡ false → 64 ≤ length files → Takes held taking files from (import ∷ rest) b → b ≡ stopped (fault_in from (found import.at TooManyFiles))
+of_many : (held : Holding) (taking : List (List ℕ)) (files : List LoadedFile) (from : List ℕ) (import : Import) (rest : List Import) (b : Loading) → is_among import.file taking ≡ false → is_among import.file (names_of files) ≡ false → 64 ≤ length files → Takes held taking files from (import ∷ rest) b → b ≡ stopped (names_of files) (fault_in from (found import.at TooManyFiles))
 of_many held taking files from import rest _ h i j (Takes.cycle _ _ _ _ _ c) = absurd (cc)
 of_many held taking files from import rest _ h i j (Takes.known _ _ _ _ _ _ c k t) = absurd (cc)
 of_many held taking files from import rest _ h i j (Takes.too_many _ _ _ _ _ c k l) = refl
 of_many held taking files from import rest _ h i j (Takes.missing _ _ _ _ _ f e) = absurd (let room = f.room in omega (arith, j))
-of_many held taking files from import rest _ h i j (Takes.within _ _ _ source _ _ fault f e t) = absurd (let room = f.room in omega (arith, j))
+of_many held taking files from import rest _ h i j (Takes.within _ _ _ source _ _ names fault f e t) = absurd (let room = f.room in omega (arith, j))
 of_many held taking files from import rest _ h i j (Takes.fetched _ _ more _ source _ _ _ f e t v) = absurd (let room = f.room in omega (arith, j))
 
 -- an import of a file that there is not
-of_missing : (held : Holding) (taking : List (List ℕ)) (files : List LoadedFile) (from : List ℕ) (import : Import) (rest : List Import) (b : Loading) → IsFetched taking files import.file → held import.file ≡ None → Takes held taking files from (import ∷ rest) b → b ≡ stopped (fault_in from (found import.at ImportMissing))
+of_missing : (held : Holding) (taking : List (List ℕ)) (files : List LoadedFile) (from : List ℕ) (import : Import) (rest : List Import) (b : Loading) → IsFetched taking files import.file → held import.file ≡ None → Takes held taking files from (import ∷ rest) b → b ≡ stopped (names_of files ++ import.file ∷ []) (fault_in from (found import.at ImportMissing))
 of_missing held taking files from import rest _ g h (Takes.cycle _ _ _ _ _ c) = absurd (let no = g.closed in cc)
 of_missing held taking files from import rest _ g h (Takes.known _ _ _ _ _ _ c k t) = absurd (let no = g.fresh in cc)
 of_missing held taking files from import rest _ g h (Takes.too_many _ _ _ _ _ c k l) = absurd (let room = g.room in omega (arith, l))
 of_missing held taking files from import rest _ g h (Takes.missing _ _ _ _ _ f e) = refl
-of_missing held taking files from import rest _ g h (Takes.within _ _ _ source _ _ fault f e t) = absurd (cc)
+of_missing held taking files from import rest _ g h (Takes.within _ _ _ source _ _ names fault f e t) = absurd (cc)
 of_missing held taking files from import rest _ g h (Takes.fetched _ _ more _ source _ _ _ f e t v) = absurd (cc)
 
 -- what came of an import that was fetched
 data Came (held : Holding) (taking : List (List ℕ)) (files : List LoadedFile) (from : List ℕ) (import : Import) (rest : List Import) (source : List ℕ) (b : Loading) : Type 0 where
-  halted : (fault : Fault) → Enters held taking files import.file source (stopped fault) → b ≡ stopped fault → Came held taking files from import rest source b
+  halted : (names : List (List ℕ)) (fault : Fault) → Enters held taking files import.file source (stopped names fault) → b ≡ stopped names fault → Came held taking files from import rest source b
   went_on : (more : List LoadedFile) → Enters held taking files import.file source (all_loaded more) → Takes held taking more from rest b → Came held taking files from import rest source b
 
 -- an import of a file that there is
@@ -56,12 +56,12 @@ of_fetched held taking files from import rest _ s g h (Takes.cycle _ _ _ _ _ c) 
 of_fetched held taking files from import rest _ s g h (Takes.known _ _ _ _ _ _ c k t) = absurd (let no = g.fresh in cc)
 of_fetched held taking files from import rest _ s g h (Takes.too_many _ _ _ _ _ c k l) = absurd (let room = g.room in omega (arith, l))
 of_fetched held taking files from import rest _ s g h (Takes.missing _ _ _ _ _ f e) = absurd (cc)
-of_fetched held taking files from import rest _ s g h (Takes.within _ _ _ source _ _ fault f e t) = halted fault (let same : source ≡ s = cc (e, h) in subst (λ s. Enters held taking files import.file s (stopped fault)) same t) refl
+of_fetched held taking files from import rest _ s g h (Takes.within _ _ _ source _ _ names fault f e t) = halted names fault (let same : source ≡ s = cc (e, h) in subst (λ s. Enters held taking files import.file s (stopped names fault)) same t) refl
 of_fetched held taking files from import rest _ s g h (Takes.fetched _ _ more _ source _ _ _ f e t v) = went_on more (let same : source ≡ s = cc (e, h) in subst (λ s. Enters held taking files import.file s (all_loaded more)) same t) v
 
 mutual
   enters_one : SaysOne → (held : Holding) (taking : List (List ℕ)) (files : List LoadedFile) (name source : List ℕ) (a b : Loading) → Enters held taking files name source a → Enters held taking files name source b → a ≡ b
-  enters_one one held taking files name source _ _ (Enters.broken _ _ _ _ f x) (Enters.broken _ _ _ _ g y) = ap (λ (f : Finding). stopped (fault_in name f)) (one.faults source f g x y)
+  enters_one one held taking files name source _ _ (Enters.broken _ _ _ _ f x) (Enters.broken _ _ _ _ g y) = ap (λ (f : Finding). stopped (names_of files ++ name ∷ []) (fault_in name f)) (one.faults source f g x y)
   enters_one one held taking files name source _ _ (Enters.broken _ _ _ _ f x) (Enters.read _ _ _ _ m b r t) = absurd (one.excludes source m f r x)
   enters_one one held taking files name source _ _ (Enters.read _ _ _ _ m a r t) (Enters.broken _ _ _ _ f x) = absurd (one.excludes source m f r x)
   enters_one one held taking files name source _ _ (Enters.read _ _ _ _ m a r t) (Enters.read _ _ _ _ n b s u) =
@@ -74,12 +74,12 @@ mutual
   takes_one one held taking files from _ _ b (Takes.known _ _ _ import rest a c k t) u = takes_one one held taking files from rest a b t (of_known held taking files from import rest b c k u)
   takes_one one held taking files from _ _ b (Takes.too_many _ _ _ import rest c k l) u = sym (of_many held taking files from import rest b c k l u)
   takes_one one held taking files from _ _ b (Takes.missing _ _ _ import rest f e) u = sym (of_missing held taking files from import rest b f e u)
-  takes_one one held taking files from _ _ b (Takes.within _ _ _ source import rest fault f e t) u = elim (of_fetched held taking files from import rest b source f e u) [
-    | halted other x is ↦ enters_one one held taking files import.file source (stopped fault) (stopped other) t x ∙ sym is
-    | went_on more x v ↦ absurd (let no = enters_one one held taking files import.file source (stopped fault) (all_loaded more) t x in cc no)
+  takes_one one held taking files from _ _ b (Takes.within _ _ _ source import rest names fault f e t) u = elim (of_fetched held taking files from import rest b source f e u) [
+    | halted others other x is ↦ enters_one one held taking files import.file source (stopped names fault) (stopped others other) t x ∙ sym is
+    | went_on more x v ↦ absurd (let no = enters_one one held taking files import.file source (stopped names fault) (all_loaded more) t x in cc no)
   ]
   takes_one one held taking files from _ _ b (Takes.fetched _ _ more _ source import rest a f e t v) u = elim (of_fetched held taking files from import rest b source f e u) [
-    | halted other x is ↦ absurd (let no = enters_one one held taking files import.file source (all_loaded more) (stopped other) t x in cc no)
+    | halted names other x is ↦ absurd (let no = enters_one one held taking files import.file source (all_loaded more) (stopped names other) t x in cc no)
     | went_on others x w ↦
         let same : others ≡ more = cc (enters_one one held taking files import.file source (all_loaded more) (all_loaded others) t x) in
         takes_one one held taking more from rest a b v (subst (λ files. Takes held taking files from rest b) same w)

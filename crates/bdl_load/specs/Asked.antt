@@ -1,15 +1,17 @@
 -- What a library was asked for, and what comes of its answers.
-use Rattle.std.specs.Prelude.{◌≡◌, ℕ, ◌<◌, ◌≤◌, true, false, Bool, Option, None, Some, IfSome, List, [], ◌++◌, length, map}
+use Rattle.std.specs.Prelude.{◌≡◌, ℕ, ◌-◌, ◌<◌, ◌≤◌, true, false, Bool, Option, None, Some, IfSome, List, [], ◌++◌, length, take, map}
 use Rattle.std.specs.List.{All, AllByRecursion, IsDistinct, slice_index_or}
 use Rattle.std.specs.Str.{bytes_eq}
-use Rattle.outside.specs.Told.{Files}
+use Rattle.outside.specs.Told.{Files, Asked, Asks}
 use Rattle.bdl_parser.specs.declared.trees.Import.{Import}
 use Rattle.bdl_parser.specs.declared.trees.Module.{Module}
+use Rattle.bdl_load.specs.declared.faults.DefFault.{DefFault}
+use Rattle.bdl_load.specs.declared.faults.DefFault.TheVariants.{At, Failed, Memory}
 use Rattle.bdl_load.specs.declared.faults.Fault.{Fault}
 use Rattle.bdl_load.specs.declared.faults.Finding.{Finding}
 use Rattle.bdl_load.specs.declared.files.LoadedFile.{LoadedFile}
 use Rattle.bdl_load.specs.Faults.{fault_in}
-use Rattle.bdl_load.specs.Loading.{Holding, Loading, is_among, names_of, loaded_as, IsFetched, Takes}
+use Rattle.bdl_load.specs.Loading.{Holding, Loading, stopped, is_among, names_of, loaded_as, IsFetched, Takes}
 use Rattle.bdl_load.specs.Sources.{SaysModule, IsSourceFault}
 use Rattle.bdl_load.specs.Spelled.{AreSpelledDecls}
 
@@ -90,22 +92,37 @@ asked answers = map (λ answer. answer.name) answers
 abbrev pub Gives : Holding → List Answer → Type 0
 Gives held answers = AllByRecursion (λ answer. held answer.name ≡ answer.content) answers
 
--- These answers, about different files that weren't loaded before, are those of a library that tells; and this comes of all
--- files that give them.
-pub record Answers (files : Files) (loaded : List LoadedFile) (answers : List Answer) (Comes : Holding → Type 0) : Type 0 where
-  pub told : IfSome files (λ held. Gives held answers)
-  pub distinct : IsDistinct bytes_eq (names_of loaded ++ asked answers)
-  pub comes : (held : Holding) → Gives held answers → Comes held
+-- the answers that a library gave: all of these, or all but the last, which nobody knows
+abbrev pub known : Bool → List Answer → List Answer
+known true answers = answers
+known false answers = take (length answers - 1) answers
 
--- this comes of the answers of a library
-pub record Stopped (files : Files) (loaded : List LoadedFile) (Comes : Holding → Type 0) : Type 0 where
+-- A library was asked for the names of these answers, which are different and weren't loaded before. It gave those that are known;
+-- and this comes of all files that give all of them, after the names of what was loaded and asked for.
+pub record Answered (whole : Bool) (files : Files) (before after : Asked) (loaded : List LoadedFile) (Comes : List (List ℕ) → Holding → Type 0) : Type 0 where
   pub answers : List Answer
-  pub given : Answers files loaded answers Comes
+  pub asks : Asks (asked answers) before after
+  pub told : IfSome files (λ held. Gives held (known whole answers))
+  pub distinct : IsDistinct bytes_eq (names_of loaded ++ asked answers)
+  pub comes : (held : Holding) → Gives held answers → Comes (names_of loaded ++ asked answers) held
 
 -- these files were loaded after those, and this comes of the answers of a library
-pub record Loaded (files : Files) (earlier later : List LoadedFile) (Comes : Holding → Type 0) : Type 0 where
+pub record Loaded (files : Files) (before after : Asked) (earlier later : List LoadedFile) (Comes : Holding → Type 0) : Type 0 where
   pub more : List LoadedFile
-  pub answers : List Answer
   pub grown : later ≡ earlier ++ more
-  pub names : names_of more ≡ asked answers
-  pub given : Answers files earlier answers Comes
+  pub given : Answered true files before after earlier (λ _ held. Comes held)
+  pub names : names_of more ≡ asked given.answers
+
+-- Loading ended with this refusal: the fault comes of the answers of a library; or where the library failed or memory ran out, some
+-- fault would come of them and of an answer to what was asked for last.
+abbrev pub Ends : Files → Asked → Asked → List LoadedFile → (Holding → Loading → Type 0) → DefFault → Type 0
+Ends files before after loaded Comes (At file line column code) =
+    Answered true files before after loaded (λ names held. Comes held (stopped names (record { file = file; line = line; column = column; code = code })))
+Ends files before after loaded Comes Failed = Answered false files before after loaded (λ names held. (fault : Fault) × Comes held (stopped names fault))
+Ends files before after loaded Comes Memory = Answered false files before after loaded (λ names held. (fault : Fault) × Comes held (stopped names fault))
+
+-- the refusal blames a fault of which this holds, or there was one and no memory for it
+abbrev pub Halts : (Fault → Type 0) → DefFault → Type 0
+Halts Holds (At file line column code) = Holds (record { file = file; line = line; column = column; code = code })
+Halts Holds Failed = ⊥
+Halts Holds Memory = (fault : Fault) × Holds fault

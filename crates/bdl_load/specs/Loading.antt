@@ -1,8 +1,8 @@
 -- The files of a definition in the order of fetching, or the first fault of loading.
-use Rattle.std.specs.Prelude.{◌≡◌, ℕ, ◌<◌, ◌≤◌, Bool, true, false, Option, None, Some, IfSome, List, [], ◌∷◌, ◌++◌, length, map}
-use Rattle.std.specs.List.{list_any}
+use Rattle.std.specs.Prelude.{◌≡◌, ℕ, ◌<◌, ◌≤◌, Bool, true, false, Option, None, Some, IfSome, List, [], ◌∷◌, ◌++◌, ◌-◌, length, take, map}
+use Rattle.std.specs.List.{AllByRecursion, list_any}
 use Rattle.std.specs.Str.{bytes_eq}
-use Rattle.outside.specs.Told.{Files}
+use Rattle.outside.specs.Told.{Files, Asked, Asks}
 use Rattle.bdl_parser.specs.declared.trees.Import.{Import}
 use Rattle.bdl_parser.specs.declared.trees.Module.{Module}
 use Rattle.bdl_load.specs.declared.faults.DefCode.TheVariants.{NoFile, ImportCycle, TooManyFiles, ImportMissing}
@@ -16,10 +16,6 @@ use Rattle.bdl_load.specs.Sources.{SaysModule, IsSourceFault}
 abbrev pub Holding : Type 0
 Holding = List ℕ → Option (List ℕ)
 
--- it is so of the files of a library; one that doesn't tell held some files of which it is so
-abbrev pub OfFiles : Files → (Holding → Type 0) → Type 0
-OfFiles files Holds = (held : Holding) × IfSome files (λ told. told ≡ held) × Holds held
-
 -- one of these names
 abbrev pub is_among : List ℕ → List (List ℕ) → Bool
 is_among name names = list_any (bytes_eq name) names
@@ -32,10 +28,10 @@ names_of files = map (λ file. file.name) files
 abbrev pub loaded_as : List ℕ → Module → LoadedFile
 loaded_as name module_ = record { name = name; «module» = module_ }
 
--- what loading comes to: all files, in the order of fetching, or the first fault
+-- what loading comes to: all files, in the order of fetching, or the first fault behind the names that were asked for
 pub data Loading : Type 0 where
   all_loaded : List LoadedFile → Loading
-  stopped : Fault → Loading
+  stopped : List (List ℕ) → Fault → Loading
 
 -- the file is fetched: its imports aren't being taken, it wasn't loaded before, and fewer than 64 files were
 pub record IsFetched (taking : List (List ℕ)) (files : List LoadedFile) (name : List ℕ) : Type 0 where
@@ -48,7 +44,7 @@ mutual
   -- What comes of a file that is held: its own first fault, or what comes of its imports.
   pub data Enters (held : Holding) : List (List ℕ) → List LoadedFile → List ℕ → List ℕ → Loading → Type 0 where
     broken : (taking : List (List ℕ)) (files : List LoadedFile) (name source : List ℕ) (finding : Finding)
-        → IsSourceFault source finding → Enters held taking files name source (stopped (fault_in name finding))
+        → IsSourceFault source finding → Enters held taking files name source (stopped (names_of files ++ name ∷ []) (fault_in name finding))
     read : (taking : List (List ℕ)) (files : List LoadedFile) (name source : List ℕ) (module_ : Module) (outcome : Loading)
         → SaysModule source module_ → Takes held (taking ++ name ∷ []) (files ++ loaded_as name module_ ∷ []) name module_.imports outcome
         → Enters held taking files name source outcome
@@ -58,19 +54,19 @@ mutual
     none_left : (taking : List (List ℕ)) (files : List LoadedFile) (from : List ℕ) → Takes held taking files from [] (all_loaded files)
     cycle : (taking : List (List ℕ)) (files : List LoadedFile) (from : List ℕ) (import : Import) (rest : List Import)
         → is_among import.file taking ≡ true
-        → Takes held taking files from (import ∷ rest) (stopped (fault_in from (found import.at ImportCycle)))
+        → Takes held taking files from (import ∷ rest) (stopped (names_of files) (fault_in from (found import.at ImportCycle)))
     known : (taking : List (List ℕ)) (files : List LoadedFile) (from : List ℕ) (import : Import) (rest : List Import) (outcome : Loading)
         → is_among import.file taking ≡ false → is_among import.file (names_of files) ≡ true → Takes held taking files from rest outcome
         → Takes held taking files from (import ∷ rest) outcome
     too_many : (taking : List (List ℕ)) (files : List LoadedFile) (from : List ℕ) (import : Import) (rest : List Import)
         → is_among import.file taking ≡ false → is_among import.file (names_of files) ≡ false → 64 ≤ length files
-        → Takes held taking files from (import ∷ rest) (stopped (fault_in from (found import.at TooManyFiles)))
+        → Takes held taking files from (import ∷ rest) (stopped (names_of files) (fault_in from (found import.at TooManyFiles)))
     missing : (taking : List (List ℕ)) (files : List LoadedFile) (from : List ℕ) (import : Import) (rest : List Import)
         → IsFetched taking files import.file → held import.file ≡ None
-        → Takes held taking files from (import ∷ rest) (stopped (fault_in from (found import.at ImportMissing)))
-    within : (taking : List (List ℕ)) (files : List LoadedFile) (from source : List ℕ) (import : Import) (rest : List Import) (fault : Fault)
-        → IsFetched taking files import.file → held import.file ≡ Some source → Enters held taking files import.file source (stopped fault)
-        → Takes held taking files from (import ∷ rest) (stopped fault)
+        → Takes held taking files from (import ∷ rest) (stopped (names_of files ++ import.file ∷ []) (fault_in from (found import.at ImportMissing)))
+    within : (taking : List (List ℕ)) (files : List LoadedFile) (from source : List ℕ) (import : Import) (rest : List Import) (names : List (List ℕ)) (fault : Fault)
+        → IsFetched taking files import.file → held import.file ≡ Some source → Enters held taking files import.file source (stopped names fault)
+        → Takes held taking files from (import ∷ rest) (stopped names fault)
     fetched : (taking : List (List ℕ)) (files more : List LoadedFile) (from source : List ℕ) (import : Import) (rest : List Import) (outcome : Loading)
         → IsFetched taking files import.file → held import.file ≡ Some source → Enters held taking files import.file source (all_loaded more)
         → Takes held taking more from rest outcome
@@ -78,5 +74,31 @@ mutual
 
 -- What comes of a definition whose root is the file of this name.
 pub data Loads (held : Holding) (root : List ℕ) (outcome : Loading) : Type 0 where
-  no_root : held root ≡ None → outcome ≡ stopped (fault_in root (found first_spot NoFile)) → Loads held root outcome
+  no_root : held root ≡ None → outcome ≡ stopped (root ∷ []) (fault_in root (found first_spot NoFile)) → Loads held root outcome
   from_root : (source : List ℕ) → held root ≡ Some source → Enters held [] [] root source outcome → Loads held root outcome
+
+-- ---- the names that are asked for
+
+-- the names that were asked for, in order
+abbrev pub names_asked : Loading → List (List ℕ)
+names_asked (all_loaded files) = names_of files
+names_asked (stopped names fault) = names
+
+-- loading asks for these names, in this order, and for no others
+abbrev pub AsksAll : Holding → List ℕ → List (List ℕ) → Type 0
+AsksAll held root names = (outcome : Loading) × Loads held root outcome × (names ≡ names_asked outcome)
+
+-- the same is held under each of these names but the last
+abbrev pub AgreeButLast : List (List ℕ) → Holding → Holding → Type 0
+AgreeButLast names held other = AllByRecursion (λ name. other name ≡ held name) (take (length names - 1) names)
+
+-- Loading asks for these names first, in this order: some files that are the same under each of them but the last have a loading that
+-- asks for them and for no others.
+abbrev pub AsksFirst : Holding → List ℕ → List (List ℕ) → Type 0
+AsksFirst held root names = (other : Holding) × AgreeButLast names held other × AsksAll other root names
+
+-- It is so of the files of a library and of the names that it was asked for. One that doesn't tell held some files and was asked for some
+-- names of which it is so.
+abbrev pub OfLibrary : Files → Asked → Asked → (Holding → List (List ℕ) → Type 0) → Type 0
+OfLibrary files before after Holds =
+    (held : Holding) × (names : List (List ℕ)) × IfSome files (λ told. told ≡ held) × Asks names before after × Holds held names

@@ -2,9 +2,10 @@
 
 ghost use Rattle.std.specs.Prelude.{◌≡◌, ℕ, List, [], ◌∷◌, ◌++◌, ◌+◌, ◌<◌, ◌≤◌, length, drop, All, IfOk, IfErr, IsErrOf, false};
 ghost use Rattle.outside.specs.Causes.{Rose};
-ghost use Rattle.bdl_load.specs.Asked.{IsFound, IsBroken, IsSpelledFile, AreSound, IsChosen, Passes, Stopped, Loaded, file_at, names_at};
+ghost use Rattle.bdl_load.specs.Asked.{IsFound, IsBroken, IsSpelledFile, AreSound, IsChosen, Passes, Loaded, Ends, Halts, file_at, names_at};
 ghost use Rattle.bdl_load.specs.Faults.{Blames, found, fault_in};
-ghost use Rattle.bdl_load.specs.Loading.{Holding, OfFiles, Takes, Loads, all_loaded, stopped, is_among, names_of};
+ghost use Rattle.bdl_load.specs.Loading.{Holding, OfLibrary, AsksFirst, Takes, Loads, all_loaded, stopped, is_among, names_of};
+ghost use Rattle.outside.specs.Told.{Asks};
 ghost use Rattle.bdl_load.specs.Spelled.{AreSpelledDecls};
 ghost use Rattle.bdl_parser.specs.declared.trees.Import.{Import};
 
@@ -42,6 +43,7 @@ fn fetch_file<L: Library>(
 ) -> Result<Option<LoadedFile>, DefFault>
     ensures found { IfOk result (IsFound (L.files library.old) name.now) }
     ensures fault { IfErr result (Blames (IsBroken (L.files library.old) name.now)) }
+    ensures asked { Asks (name.now ∷ []) (L.asked library.old) (L.asked library.new) }
     ensures cause { IsErrOf result DefFault.Failed → Rose (L.faults library.old) (L.faults library.new) }
     ensures later { L.faults library.old ≤ L.faults library.new }
     ensures same { L.files library.new ≡ L.files library.old }
@@ -97,8 +99,7 @@ impl Loader {
     fn is_to_fetch(&self, from: &str, import: &Import) -> Result<bool, DefFault>
         requires { AreSound self.now.files.items self.now.taking.items }
         ensures chosen { IfOk result (IsChosen (names_at self.now.files.items self.now.taking.items) self.now.files.items import.now.file) }
-        ensures fault { IfErr result (Blames (λ fault. (held : Holding) → (rest : List Import) → Takes held (names_at self.now.files.items self.now.taking.items) self.now.files.items from.now (import.now ∷ rest) (stopped fault))) }
-        ensures inside { IsErrOf result DefFault.Failed → ⊥ }
+        ensures fault { IfErr result (Halts (λ fault. (held : Holding) → (rest : List Import) → Takes held (names_at self.now.files.items self.now.taking.items) self.now.files.items from.now (import.now ∷ rest) (stopped (names_of self.now.files.items) fault))) }
     {
         let name = import.file.as_str();
         if self.is_taking(name) {
@@ -113,36 +114,16 @@ impl Loader {
         Ok(true)
     }
 
-    /// Adds a file whose imports are to be taken.
-    fn begin(&mut self, file: LoadedFile) -> Result<(), Memory>
+    /// Adds a file whose imports are to be taken, and answers its number.
+    fn begin(&mut self, file: LoadedFile) -> Result<usize, Memory>
+        ensures number { IfOk result (λ number. number ≡ length self.old.files.items) }
         ensures files { IfOk result (λ _. self.new.files.items ≡ self.old.files.items ++ file ∷ []) }
         ensures taking { IfOk result (λ _. self.new.taking.items ≡ self.old.taking.items ++ length self.old.files.items ∷ []) }
     {
-        self.taking.push(self.files.len())?;
+        let number = self.files.len();
+        self.taking.push(number)?;
         self.files.push(file)?;
-        Ok(())
-    }
-
-    /// Takes in a file that was just fetched, and all files that it imports.
-    #[cycle(load)]
-    fn enter<L: Library>(&mut self, library: &mut L, file: LoadedFile) -> Result<(), DefFault>
-        requires sound { AreSound self.old.files.items self.old.taking.items }
-        requires fresh { is_among file.name (names_of self.old.files.items) ≡ false }
-        requires room { length self.old.files.items < MAX_FILES }
-        requires spelled { IsSpelledFile file }
-        ensures sound { IfOk result (λ _. AreSound self.new.files.items self.new.taking.items) }
-        ensures taking { IfOk result (λ _. self.new.taking.items ≡ self.old.taking.items) }
-        ensures loaded { let begun = self.old.files.items ++ file ∷ [] in let names = names_at self.old.files.items self.old.taking.items in IfOk result (λ _. Loaded (L.files library.old) begun self.new.files.items (λ held. Takes held (names ++ file.name ∷ []) begun file.name file.«module».imports (all_loaded self.new.files.items))) }
-        ensures fault { let begun = self.old.files.items ++ file ∷ [] in let names = names_at self.old.files.items self.old.taking.items in IfErr result (Blames (λ fault. Stopped (L.files library.old) begun (λ held. Takes held (names ++ file.name ∷ []) begun file.name file.«module».imports (stopped fault)))) }
-        ensures cause { IsErrOf result DefFault.Failed → Rose (L.faults library.old) (L.faults library.new) }
-        ensures later { L.faults library.old ≤ L.faults library.new }
-        ensures same { L.files library.new ≡ L.files library.old }
-    {
-        let from = self.files.len();
-        self.begin(file)?;
-        self.take_imports(library, from)?;
-        self.taking.pop();
-        Ok(())
+        Ok(number)
     }
 
     /// Takes the imports of the file of that number, one after another.
@@ -152,8 +133,8 @@ impl Loader {
         requires within { from < length self.old.files.items }
         ensures sound { IfOk result (λ _. AreSound self.new.files.items self.new.taking.items) }
         ensures taking { IfOk result (λ _. self.new.taking.items ≡ self.old.taking.items) }
-        ensures loaded { let names = names_at self.old.files.items self.old.taking.items in let file = file_at self.old.files.items from in IfOk result (λ _. Loaded (L.files library.old) self.old.files.items self.new.files.items (λ held. Takes held names self.old.files.items file.name file.«module».imports (all_loaded self.new.files.items))) }
-        ensures fault { let names = names_at self.old.files.items self.old.taking.items in let file = file_at self.old.files.items from in IfErr result (Blames (λ fault. Stopped (L.files library.old) self.old.files.items (λ held. Takes held names self.old.files.items file.name file.«module».imports (stopped fault)))) }
+        ensures loaded { let names = names_at self.old.files.items self.old.taking.items in let file = file_at self.old.files.items from in IfOk result (λ _. Loaded (L.files library.old) (L.asked library.old) (L.asked library.new) self.old.files.items self.new.files.items (λ held. Takes held names self.old.files.items file.name file.«module».imports (all_loaded self.new.files.items))) }
+        ensures fault { let names = names_at self.old.files.items self.old.taking.items in let file = file_at self.old.files.items from in IfErr result (Ends (L.files library.old) (L.asked library.old) (L.asked library.new) self.old.files.items (λ held outcome. Takes held names self.old.files.items file.name file.«module».imports outcome)) }
         ensures cause { IsErrOf result DefFault.Failed → Rose (L.faults library.old) (L.faults library.new) }
         ensures later { L.faults library.old ≤ L.faults library.new }
         ensures same { L.files library.new ≡ L.files library.old }
@@ -178,8 +159,8 @@ impl Loader {
         requires counted { number < length (file_at self.old.files.items from).«module».imports }
         ensures sound { IfOk result (λ _. AreSound self.new.files.items self.new.taking.items) }
         ensures taking { IfOk result (λ _. self.new.taking.items ≡ self.old.taking.items) }
-        ensures loaded { let names = names_at self.old.files.items self.old.taking.items in let file = file_at self.old.files.items from in IfOk result (λ _. Loaded (L.files library.old) self.old.files.items self.new.files.items (λ held. Passes held names file.name self.old.files.items (drop number file.«module».imports) self.new.files.items (drop (number + 1) file.«module».imports))) }
-        ensures fault { let names = names_at self.old.files.items self.old.taking.items in let file = file_at self.old.files.items from in IfErr result (Blames (λ fault. Stopped (L.files library.old) self.old.files.items (λ held. Takes held names self.old.files.items file.name (drop number file.«module».imports) (stopped fault)))) }
+        ensures loaded { let names = names_at self.old.files.items self.old.taking.items in let file = file_at self.old.files.items from in IfOk result (λ _. Loaded (L.files library.old) (L.asked library.old) (L.asked library.new) self.old.files.items self.new.files.items (λ held. Passes held names file.name self.old.files.items (drop number file.«module».imports) self.new.files.items (drop (number + 1) file.«module».imports))) }
+        ensures fault { let names = names_at self.old.files.items self.old.taking.items in let file = file_at self.old.files.items from in IfErr result (Ends (L.files library.old) (L.asked library.old) (L.asked library.new) self.old.files.items (λ held outcome. Takes held names self.old.files.items file.name (drop number file.«module».imports) outcome)) }
         ensures cause { IsErrOf result DefFault.Failed → Rose (L.faults library.old) (L.faults library.new) }
         ensures later { L.faults library.old ≤ L.faults library.new }
         ensures same { L.files library.new ≡ L.files library.old }
@@ -190,7 +171,12 @@ impl Loader {
             return Ok(());
         }
         match fetch_file(self.alloc, library, import.file.as_str())? {
-            Some(file) => self.enter(library, file),
+            Some(file) => {
+                let from = self.begin(file)?;
+                self.take_imports(library, from)?;
+                self.taking.pop();
+                Ok(())
+            }
             None => {
                 let from = file.name.as_str();
                 Err(blame(self.alloc, from, import.at, DefCode::ImportMissing))
@@ -207,9 +193,10 @@ pub fn load<L: Library>(
     library: &mut L,
     root: &str,
 ) -> Result<Vec<LoadedFile>, DefFault>
-    ensures loaded { IfOk result (λ files. OfFiles (L.files library.old) (λ held. Loads held root.now (all_loaded files.items))) }
+    ensures loaded { IfOk result (λ files. OfLibrary (L.files library.old) (L.asked library.old) (L.asked library.new) (λ held names. Loads held root.now (all_loaded files.items) × (names ≡ names_of files.items))) }
     ensures spelled { IfOk result (λ files. All (λ file. AreSpelledDecls file.«module».decls) files.items) }
-    ensures fault { IfErr result (Blames (λ fault. OfFiles (L.files library.old) (λ held. Loads held root.now (stopped fault)))) }
+    ensures fault { IfErr result (Blames (λ fault. OfLibrary (L.files library.old) (L.asked library.old) (L.asked library.new) (λ held names. Loads held root.now (stopped names fault)))) }
+    ensures asked { OfLibrary (L.files library.old) (L.asked library.old) (L.asked library.new) (λ held names. AsksFirst held root.now names) }
     ensures cause { IsErrOf result DefFault.Failed → Rose (L.faults library.old) (L.faults library.new) }
     ensures later { L.faults library.old ≤ L.faults library.new }
     ensures same { L.files library.new ≡ L.files library.old }
@@ -222,6 +209,7 @@ pub fn load<L: Library>(
         files: Vec::new(alloc),
         taking: Vec::new(alloc),
     };
-    loader.enter(library, file)?;
+    let from = loader.begin(file)?;
+    loader.take_imports(library, from)?;
     Ok(loader.files)
 }

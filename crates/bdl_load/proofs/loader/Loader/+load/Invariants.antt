@@ -3,20 +3,17 @@ use Rattle.bdl_load.specs.Asked.{AreSound, Loaded}
 use Rattle.bdl_load.proofs.Taking.{Taken}
 use Rattle.bdl_load.proofs.loader.Loader.+load.Given as goal
 
-abbrev pub decreases-enter : goal.decreases-enter
-decreases-enter g l = 3 * (64 - length l.self.now.files.items)
-
 abbrev pub decreases-take_import : goal.decreases-take_import
-decreases-take_import g l = 3 * (64 - length l.self.now.files.items) + 1
+decreases-take_import g l = 2 * (64 - length l.self.now.files.items)
 
 abbrev pub decreases-take_imports : goal.decreases-take_imports
-decreases-take_imports g l = 3 * (64 - length l.self.now.files.items) + 2
+decreases-take_imports g l = 2 * (64 - length l.self.now.files.items) + 1
 
 abbrev pub invariant-take_imports-loop-number : goal.invariant-take_imports-loop-number
 invariant-take_imports-loop-number g l = record {
   sound : AreSound l.self.files.items l.self.taking.items;
   taking : l.self.taking.items ≡ l.fn.self.taking.items;
-  loaded : Loaded (g.L.Library.files l.fn.library) l.fn.self.files.items l.self.files.items (Taken l.fn.self.files.items l.fn.self.taking.items l.fn.from l.self.files.items l.number);
+  loaded : Loaded (g.L.Library.files l.fn.library) (g.L.Library.asked l.fn.library) (g.L.Library.asked l.library) l.fn.self.files.items l.self.files.items (Taken l.fn.self.files.items l.fn.self.taking.items l.fn.from l.self.files.items l.number);
   same : g.L.Library.files l.library ≡ g.L.Library.files l.fn.library;
   later : g.L.Library.faults l.fn.library ≤ g.L.Library.faults l.library;
 }

@@ -1,9 +1,11 @@
-use Rattle.std.proofs.Common.{◌≡◌, ◌≤◌, true, false, ℕ, List, ◌∷◌, length, sym, ◌∙◌, ap, subst, arith}
+use Rattle.std.proofs.Common.{◌≡◌, ◌≤◌, true, false, ℕ, List, ◌∷◌, length, sym, ◌∙◌, ap, arith}
 use Rattle.bdl_parser.specs.declared.trees.Import.{Import}
+use Rattle.bdl_load.specs.declared.faults.DefCode.TheVariants.{ImportCycle, TooManyFiles}
 use Rattle.bdl_load.specs.declared.faults.Fault.{Fault}
 use Rattle.bdl_load.specs.Asked.{names_at}
+use Rattle.bdl_load.specs.Faults.{found, fault_in}
 use Rattle.bdl_load.specs.Loading.{Holding, Takes, stopped, is_among, names_of}
-use Rattle.bdl_load.proofs.Taking.{blames_so}
+use Rattle.bdl_load.proofs.Taking.{halts_of}
 use Rattle.bdl_load.proofs.loader.Loader.is_to_fetch.Goals as goal
 
 pub returns-then-is_taking-clause-fault : goal.returns-then-is_taking-clause-fault
@@ -13,9 +15,9 @@ returns-then-is_taking-clause-fault c =
     let from = c.args.from.now in
     let import = c.args.import.now in
     let among : is_among import.file taking ≡ true = ap (λ (name : List ℕ). is_among name taking) (sym c.as_str-name.ensures.value) ∙ sym c.is_taking.ensures ∙ c.if-is_taking.true in
-    blames_so _ (λ (fault : Fault). (held : Holding) → (rest : List Import) → Takes held taking loaded from (import ∷ rest) (stopped fault)) c.blame.result
-    (λ fault is held rest. subst (λ (fault : Fault). Takes held taking loaded from (import ∷ rest) (stopped fault)) (sym is) (Takes.cycle taking loaded from import rest among))
-    c.blame.ensures.says
+    halts_of (λ (fault : Fault). (held : Holding) → (rest : List Import) → Takes held taking loaded from (import ∷ rest) (stopped (names_of loaded) fault))
+    (fault_in from (found import.at ImportCycle)) (λ held rest. Takes.cycle taking loaded from import rest among)
+    c.blame.result c.blame.ensures.says c.blame.ensures.inside
 
 pub returns-then-len-ge-MAX_FILES-clause-fault : goal.returns-then-len-ge-MAX_FILES-clause-fault
 returns-then-len-ge-MAX_FILES-clause-fault c =
@@ -26,6 +28,6 @@ returns-then-len-ge-MAX_FILES-clause-fault c =
     let closed : is_among import.file taking ≡ false = ap (λ (name : List ℕ). is_among name taking) (sym c.as_str-name.ensures.value) ∙ sym c.is_taking.ensures ∙ c.if-is_taking.false in
     let fresh : is_among import.file (names_of loaded) ≡ false = ap (λ (name : List ℕ). is_among name (names_of loaded)) (sym c.as_str-name.ensures.value) ∙ sym c.is_loaded.ensures ∙ c.if-is_loaded.false in
     let many : 64 ≤ length loaded = omega arith in
-    blames_so _ (λ (fault : Fault). (held : Holding) → (rest : List Import) → Takes held taking loaded from (import ∷ rest) (stopped fault)) c.blame-then-len-ge-MAX_FILES.result
-    (λ fault is held rest. subst (λ (fault : Fault). Takes held taking loaded from (import ∷ rest) (stopped fault)) (sym is) (Takes.too_many taking loaded from import rest closed fresh many))
-    c.blame-then-len-ge-MAX_FILES.ensures.says
+    halts_of (λ (fault : Fault). (held : Holding) → (rest : List Import) → Takes held taking loaded from (import ∷ rest) (stopped (names_of loaded) fault))
+    (fault_in from (found import.at TooManyFiles)) (λ held rest. Takes.too_many taking loaded from import rest closed fresh many)
+    c.blame-then-len-ge-MAX_FILES.result c.blame-then-len-ge-MAX_FILES.ensures.says c.blame-then-len-ge-MAX_FILES.ensures.inside
