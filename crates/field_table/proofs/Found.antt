@@ -14,7 +14,7 @@ use Rattle.field_table.specs.declared.shapes.Slot.{Slot}
 use Rattle.field_table.specs.declared.shapes.Slots.{Slots}
 use Rattle.field_table.specs.declared.shapes.Shape.TheViews.{out-Slots}
 use Rattle.field_table.specs.Kept.{KeptField, ends_of, start_at, IsPlaceOf, IsReady, capped, name}
-use Rattle.field_table.specs.Plain.{kept_bag, shape_of, nodes_of, name_of, IsIndexed}
+use Rattle.field_table.specs.Plain.{kept_bag, shape_of, nodes_of, name_of, IsIndexed, IsOrdered}
 use Rattle.field_table.proofs.Opened.{length_fields, names_of-items}
 use Rattle.field_table.proofs.Held.{field_open, item_at, item_field, start_is}
 
@@ -59,8 +59,8 @@ pub fits_sum : (m n : ℕ) → m + n ≤ 32768 → Fits w64 (m + n)
 fits_sum m n h = record { fits = omega (arith, h) }
 
 -- The fields of a table are ready for look-ups.
-pub ready : (s : Slots) → IsTable (nodes_of s) → IsIndexed s → IsReady (kept_bag s)
-ready s table indexed = record { fields = table.well_formed; indexed = indexed; small = omega (arith, slots_few (nodes_of s), table.small) }
+pub ready : (s : Slots) → IsTable (nodes_of s) → IsIndexed s → IsOrdered s → IsReady (kept_bag s)
+ready s table indexed ordered = record { fields = table.well_formed; indexed = indexed; in_order = ordered; small = omega (arith, slots_few (nodes_of s), table.small) }
 
 -- The count of slots of a table.
 pub count_of : (s : Slots) → IsTable (nodes_of s) → capped (length (slots_of (nodes_of s))) ≡ length (slots_of (nodes_of s))

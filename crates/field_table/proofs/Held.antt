@@ -64,11 +64,13 @@ inner_ready s place x inner ready at is =
     let field = item_field s place x at in
     let kept_is : kept_shape x.shape ≡ Bag (kept_bag inner) = ap kept_shape is ∙ shape_bag inner in
     let plain_is : shape_of x.shape ≡ model.Shape.Bag (nodes_of inner) = ap plain kept_is in
+    let inside = subst IsKept (ap (λ (k : KeptField). k.shape) (field_open x) ∙ kept_is) ((has_indexes s ready.indexed).inside place x at) in
     let count = count_bound (model.fields (nodes_of s)) place (record { name = x.name; number = x.number; shape = shape_of x.shape }) field in
     let bound : length (slots_of (nodes_of inner)) ≤ length (slots_list (model.fields (nodes_of s))) = subst (λ (shape : model.Shape). slot_count shape ≤ length (slots_list (model.fields (nodes_of s)))) plain_is count in
     record {
       fields = subst IsShape plain_is (is_field (nodes_of s) place (record { name = x.name; number = x.number; shape = shape_of x.shape }) ready.fields field).1;
-      indexed = subst IsKept (ap (λ (k : KeptField). k.shape) (field_open x) ∙ kept_is) ((has_indexes s ready.indexed).inside place x at);
+      indexed = inside.0;
+      in_order = inside.1;
       small = omega (arith, bound, ready.small, ap length (slots_of-list (nodes_of s)));
     }
 

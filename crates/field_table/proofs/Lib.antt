@@ -5,6 +5,6 @@ pub mod Held
 pub mod Dots
 pub mod Found
 pub mod Sets
-pub mod Inserted
+pub mod Places
 pub mod Pushed
 pub mod Shown

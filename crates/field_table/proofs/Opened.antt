@@ -13,9 +13,9 @@ use Rattle.field_table.specs.declared.shapes.Slots.{Slots}
 use Rattle.field_table.specs.declared.shapes.Shape.TheFolds.{fold_out-Slots, fold_out-Slot}
 use Rattle.field_table.specs.declared.shapes.Shape.TheViews.{out-Slots, out-Slot, roll-Slots, out-roll-Slots}
 use Rattle.field_table.specs.declared.shapes.Shape.TheOpen.{Slots-F}
-use Rattle.field_table.specs.Kept.{Kept, KeptField, KeptBag, kept, kept_nodes, kept_list, ends_of, plain, plain_bag, plain_nodes, capped, start_at, name, ends_after, IsNameOrder, IsKeptBag, AreKept}
+use Rattle.field_table.specs.Kept.{Kept, KeptField, KeptBag, kept, kept_nodes, kept_list, ends_of, plain, plain_bag, plain_nodes, capped, start_at, name, ends_after, HasPlaces, IsNameOrder, IsInOrder, IsKept, IsKeptBag, AreKept}
 use Rattle.field_table.proofs.Ends.{length-ends, last_end}
-use Rattle.field_table.specs.Plain.{shape_step, slot_step, slots_step, kept_shape, kept_field, kept_bag, field_of, nodes_of, name_of, IsIndexed, IsIndexedField}
+use Rattle.field_table.specs.Plain.{shape_step, slot_step, slots_step, kept_shape, kept_field, kept_bag, field_of, nodes_of, name_of, IsIndexed, IsOrdered}
 
 pub open_bag : (s : Slots) → kept_bag s ≡ kept (kept_nodes (map kept_field (out-Slots s).items.items)) (out-Slots s).ends.items (out-Slots s).by_name.items
 open_bag s = fold_out-Slots Kept KeptField KeptBag shape_step slot_step slots_step s
@@ -59,26 +59,40 @@ names_mapped (x ∷ xs) = ap (λ l. name_of x ∷ l) (names_mapped xs)
 pub names_of-items : (s : Slots) → map name (model.fields (nodes_of s)) ≡ map name_of (out-Slots s).items.items
 names_of-items s = ap (map name) (fields_of-items s) ∙ names_mapped (out-Slots s).items.items
 
-are_kept : (items : List Slot) (i : ℕ) (slot : Slot) → AreKept (kept_nodes (map kept_field items)) → slice_get items i ≡ Some slot → IsIndexedField slot
+-- The indexes in the shape of the field are right and in order.
+abbrev pub IsKeptField : Slot → Type 0
+IsKeptField slot = IsKept (kept_field slot).shape
+
+are_kept : (items : List Slot) (i : ℕ) (slot : Slot) → AreKept (kept_nodes (map kept_field items)) → slice_get items i ≡ Some slot → IsKeptField slot
 are_kept [] i slot h at = absurd (cc at)
-are_kept (x ∷ xs) zero slot h at = let same : x ≡ slot = cc at in subst IsIndexedField same h.0
+are_kept (x ∷ xs) zero slot h at = let same : x ≡ slot = cc at in subst IsKeptField same h.0
 are_kept (x ∷ xs) (suc i) slot h at = are_kept xs i slot h.1 at
 
 -- What it says that the indexes are right.
 pub record HasIndexes (s : Slots) : Type 0 where
   pub ends : (out-Slots s).ends.items ≡ ends_after 0 (model.fields (nodes_of s))
-  pub order : IsNameOrder (map name_of (out-Slots s).items.items) (out-Slots s).by_name.items
-  pub inside : (i : ℕ) (slot : Slot) → slice_get (out-Slots s).items.items i ≡ Some slot → IsIndexedField slot
+  pub places : HasPlaces (map name_of (out-Slots s).items.items) (out-Slots s).by_name.items
+  pub inside : (i : ℕ) (slot : Slot) → slice_get (out-Slots s).items.items i ≡ Some slot → IsKeptField slot
 
 plain_again : (s : Slots) → model.fields (plain_nodes (kept_nodes (map kept_field (out-Slots s).items.items))) ≡ model.fields (nodes_of s)
 plain_again s = ap (λ b. model.fields (plain_bag b)) (sym (open_bag s))
+
+names_again : (s : Slots) → map name (model.fields (plain_nodes (kept_nodes (map kept_field (out-Slots s).items.items)))) ≡ map name_of (out-Slots s).items.items
+names_again s = ap (map name) (plain_again s) ∙ names_of-items s
+
+-- What it says that the index by name is in order.
+pub is_ordered : (s : Slots) → IsOrdered s → IsNameOrder (map name_of (out-Slots s).items.items) (out-Slots s).by_name.items
+is_ordered s h = subst (λ (names : List (List ℕ)). IsNameOrder names (out-Slots s).by_name.items) (names_again s) (subst IsInOrder (open_bag s) h)
+
+pub are_ordered : (s : Slots) → IsNameOrder (map name_of (out-Slots s).items.items) (out-Slots s).by_name.items → IsOrdered s
+are_ordered s h = subst IsInOrder (sym (open_bag s)) (subst (λ (names : List (List ℕ)). IsNameOrder names (out-Slots s).by_name.items) (sym (names_again s)) h)
 
 pub has_indexes : (s : Slots) → IsIndexed s → HasIndexes s
 has_indexes s h =
     let o = subst IsKeptBag (open_bag s) h in
     record {
       ends = o.0 ∙ ap (ends_after 0) (plain_again s);
-      order = subst (λ (names : List (List ℕ)). IsNameOrder names (out-Slots s).by_name.items) (ap (map name) (plain_again s) ∙ names_of-items s) o.1;
+      places = subst (λ (names : List (List ℕ)). HasPlaces names (out-Slots s).by_name.items) (names_again s) o.1;
       inside = λ i slot at. are_kept (out-Slots s).items.items i slot o.2 at;
     }
 
@@ -92,7 +106,7 @@ count_is s h =
     ap (λ ends. start_at ends (length (out-Slots s).ends.items)) (open_ends s)
     ∙ subst (λ (ends : List ℕ). start_at ends (length ends) ≡ capped (length (slots_of (nodes_of s)))) (sym (has_indexes s h).ends) counted
 
-all_kept : (items : List Slot) → ((i : ℕ) (slot : Slot) → slice_get items i ≡ Some slot → IsIndexedField slot) → AreKept (kept_nodes (map kept_field items))
+all_kept : (items : List Slot) → ((i : ℕ) (slot : Slot) → slice_get items i ≡ Some slot → IsKeptField slot) → AreKept (kept_nodes (map kept_field items))
 all_kept [] h = tt
 all_kept (x ∷ xs) h = (h 0 x refl, all_kept xs (λ i slot at. h (suc i) slot at))
 
@@ -101,7 +115,7 @@ pub are_indexed : (s : Slots) → HasIndexes s → IsIndexed s
 are_indexed s h =
     subst IsKeptBag (sym (open_bag s)) (
       h.ends ∙ ap (ends_after 0) (sym (plain_again s)),
-      subst (λ (names : List (List ℕ)). IsNameOrder names (out-Slots s).by_name.items) (sym (ap (map name) (plain_again s) ∙ names_of-items s)) h.order,
+      subst (λ (names : List (List ℕ)). HasPlaces names (out-Slots s).by_name.items) (sym (names_again s)) h.places,
       all_kept (out-Slots s).items.items h.inside,
     )
 

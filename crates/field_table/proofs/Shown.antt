@@ -11,7 +11,7 @@ use Rattle.field_table.specs.declared.shapes.Slot.{Slot}
 use Rattle.field_table.specs.declared.shapes.Slots.{Slots}
 use Rattle.field_table.specs.declared.shapes.Shape.TheFolds.{fold-roll-Shape}
 use Rattle.field_table.specs.declared.shapes.Shape.TheOpen.{Shape-F}
-use Rattle.field_table.specs.Kept.{Kept, KeptField, KeptBag, plain, Taint, Scalar, Set, Counter, Bag, IsKept}
+use Rattle.field_table.specs.Kept.{Kept, KeptField, KeptBag, plain, Taint, Scalar, Set, Counter, Map, Bag, IsLoose}
 use Rattle.field_table.specs.Plain.{shape_step, slot_step, slots_step, kept_shape, kept_field, kept_bag, field_of, shape_of, nodes_of, IsIndexed, IsIndexedField, IsIndexedShape}
 use Rattle.field_table.proofs.Held.{field_open, shape_bag}
 
@@ -21,7 +21,7 @@ field_shown x = ap (λ (k : KeptField). record { name = k.name; number = k.numbe
 
 -- The field is indexed as its shape is.
 pub field_indexed : (x : Slot) → IsIndexedShape x.shape → IsIndexedField x
-field_indexed x = subst IsKept (sym (ap (λ (k : KeptField). k.shape) (field_open x)))
+field_indexed x = subst IsLoose (sym (ap (λ (k : KeptField). k.shape) (field_open x)))
 
 kept_taint : kept_shape variants.Taint ≡ Taint
 kept_taint = ap kept_shape (sym variants.rolls-Taint) ∙ fold-roll-Shape Kept KeptField KeptBag shape_step slot_step slots_step Shape-F.Taint
@@ -35,24 +35,27 @@ kept_scalar kind = ap kept_shape (sym (variants.rolls-Scalar kind)) ∙ fold-rol
 kept_set : (kind : ScalarKind) → kept_shape (variants.Set kind) ≡ Set (kind_of kind)
 kept_set kind = ap kept_shape (sym (variants.rolls-Set kind)) ∙ fold-roll-Shape Kept KeptField KeptBag shape_step slot_step slots_step (Shape-F.Set kind)
 
+pub kept_map : (key : ScalarKind) (value : Box Shape Global) → kept_shape (variants.Map key value) ≡ Map (kind_of key) (kept_shape value.value)
+kept_map key value = ap kept_shape (sym (variants.rolls-Map key value)) ∙ fold-roll-Shape Kept KeptField KeptBag shape_step slot_step slots_step (Shape-F.Map key value)
+
 pub map_shown : (key : ScalarKind) (value : Box Shape Global) → shape_of (variants.Map key value) ≡ model.Shape.Map (kind_of key) (shape_of value.value)
-map_shown key value = ap plain (ap kept_shape (sym (variants.rolls-Map key value)) ∙ fold-roll-Shape Kept KeptField KeptBag shape_step slot_step slots_step (Shape-F.Map key value))
+map_shown key value = ap plain (kept_map key value)
 
 pub taint_shown : (shape_of variants.Taint ≡ model.Shape.Taint) × IsIndexedShape variants.Taint
-taint_shown = (ap plain kept_taint, subst IsKept (sym kept_taint) tt)
+taint_shown = (ap plain kept_taint, subst IsLoose (sym kept_taint) tt)
 
 pub counter_shown : (shape_of variants.Counter ≡ model.Shape.Counter) × IsIndexedShape variants.Counter
-counter_shown = (ap plain kept_counter, subst IsKept (sym kept_counter) tt)
+counter_shown = (ap plain kept_counter, subst IsLoose (sym kept_counter) tt)
 
 pub scalar_shown : (kind : ScalarKind) → (shape_of (variants.Scalar kind) ≡ model.Shape.Scalar (kind_of kind)) × IsIndexedShape (variants.Scalar kind)
-scalar_shown kind = (ap plain (kept_scalar kind), subst IsKept (sym (kept_scalar kind)) tt)
+scalar_shown kind = (ap plain (kept_scalar kind), subst IsLoose (sym (kept_scalar kind)) tt)
 
 pub set_shown : (kind : ScalarKind) → (shape_of (variants.Set kind) ≡ model.Shape.Set (kind_of kind)) × IsIndexedShape (variants.Set kind)
-set_shown kind = (ap plain (kept_set kind), subst IsKept (sym (kept_set kind)) tt)
+set_shown kind = (ap plain (kept_set kind), subst IsLoose (sym (kept_set kind)) tt)
 
 -- A bag has the fields of the list, and is indexed as that is.
 pub bag_shown : (inner : Slots) → shape_of (variants.Bag inner) ≡ model.Shape.Bag (nodes_of inner)
 bag_shown inner = ap plain (shape_bag inner)
 
 pub bag_indexed : (inner : Slots) → IsIndexed inner → IsIndexedShape (variants.Bag inner)
-bag_indexed inner = subst IsKept (sym (shape_bag inner))
+bag_indexed inner = subst IsLoose (sym (shape_bag inner))

@@ -66,13 +66,22 @@ ends_after before (field ∷ list) = capped (before + slot_count field.shape) �
 abbrev pub name : model.Field → List ℕ
 name field = field.name
 
+-- The places of all names, in any order.
+pub record HasPlaces (names : List (List ℕ)) (places : List ℕ) : Type 0 where
+  pub all : (place : ℕ) → place < length names → IsIn place places
+  pub below : (k : ℕ) → k < length places → slice_index places k < length names
+
 -- The places of all names, in the order of the names.
 pub record IsNameOrder (names : List (List ℕ)) (places : List ℕ) : Type 0 where
   pub all : (place : ℕ) → place < length names → IsIn place places
   pub below : (k : ℕ) → k < length places → slice_index places k < length names
   pub sorted : (i j : ℕ) → i < j → j < length places → slice_cmp nat_cmp (get_or names (slice_index places i) []) (get_or names (slice_index places j) []) ≢ Greater
 
--- The indexes of the bag, and of all bags inside it, are those of their fields.
+-- The places of the bag's fields are in the order of their names.
+abbrev pub IsInOrder : KeptBag → Type 0
+IsInOrder (kept nodes ends by_name) = IsNameOrder (map name (model.fields (plain_nodes nodes))) by_name
+
+-- The indexes of the bag are those of its fields. Those of all bags inside are, too, and are in order.
 abbrev mutual
   pub IsKept : Kept → Type 0
   IsKept Taint = Unit {0}
@@ -80,14 +89,23 @@ abbrev mutual
   IsKept (Set kind) = Unit {0}
   IsKept Counter = Unit {0}
   IsKept (Map key value) = IsKept value
-  IsKept (Bag bag) = IsKeptBag bag
+  IsKept (Bag bag) = IsKeptBag bag × IsInOrder bag
 
   pub IsKeptBag : KeptBag → Type 0
-  IsKeptBag (kept nodes ends by_name) = (ends ≡ ends_after 0 (model.fields (plain_nodes nodes))) × IsNameOrder (map name (model.fields (plain_nodes nodes))) by_name × AreKept nodes
+  IsKeptBag (kept nodes ends by_name) = (ends ≡ ends_after 0 (model.fields (plain_nodes nodes))) × HasPlaces (map name (model.fields (plain_nodes nodes))) by_name × AreKept nodes
 
   pub AreKept : KeptNodes → Type 0
   AreKept no_node = Unit {0}
   AreKept (node name number shape nodes) = IsKept shape × AreKept nodes
+
+-- The same of a shape that no field has yet: the places in its own bag may be in any order.
+abbrev pub IsLoose : Kept → Type 0
+IsLoose Taint = Unit {0}
+IsLoose (Scalar kind) = Unit {0}
+IsLoose (Set kind) = Unit {0}
+IsLoose Counter = Unit {0}
+IsLoose (Map key value) = IsLoose value
+IsLoose (Bag bag) = IsKeptBag bag
 
 -- The fields as a list, with their indexes.
 abbrev pub kept_list : KeptNodes → List KeptField
@@ -111,10 +129,11 @@ abbrev pub IsPlaceOf : List (List ℕ) → List ℕ → Option ℕ → Type 0
 IsPlaceOf names name (Some place) = slice_get names place ≡ Some name
 IsPlaceOf names name None = (place : ℕ) → slice_get names place ≢ Some name
 
--- What look-ups rest on: the fields are a bag's, the indexes are right, and all numbers of slots are kept.
+-- What look-ups rest on: the fields are a bag's, the indexes are right and in order, and all numbers of slots are kept.
 pub record IsReady (bag : KeptBag) : Type 0 where
   pub fields : AreFields (plain_bag bag)
   pub indexed : IsKeptBag bag
+  pub in_order : IsInOrder bag
   pub small : length (slots_of (plain_bag bag)) ≤ 16384
 
 -- How many slots there are before the field at this place, as the ends say.

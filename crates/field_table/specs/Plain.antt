@@ -7,7 +7,7 @@ use Rattle.field_table.specs.declared.shapes.Slot.{Slot}
 use Rattle.field_table.specs.declared.shapes.Slots.{Slots}
 use Rattle.field_table.specs.declared.shapes.Shape.TheFolds.{fold-Shape, fold-Slot, fold-Slots}
 use Rattle.field_table.specs.declared.shapes.Shape.TheOpen.{Shape-F, Slot-F, Slots-F}
-use Rattle.field_table.specs.Kept.{Kept, KeptField, KeptBag, kept, kept_nodes, plain, plain_bag, IsKept, IsKeptBag, Taint, Scalar, Set, Counter, Map, Bag}
+use Rattle.field_table.specs.Kept.{Kept, KeptField, KeptBag, kept, kept_nodes, plain, plain_bag, IsKeptBag, IsInOrder, IsLoose, Taint, Scalar, Set, Counter, Map, Bag}
 
 abbrev pub shape_step : Shape-F Kept KeptField KeptBag → Kept
 shape_step Shape-F.Taint = Taint
@@ -45,17 +45,21 @@ field_of slot = record { name = (kept_field slot).name; number = (kept_field slo
 abbrev pub nodes_of : Slots → model.Nodes
 nodes_of slots = plain_bag (kept_bag slots)
 
--- The indexes in the fields are right, those of bags inside included.
+-- The indexes of the fields are right, and those of bags inside are in the order of names too.
 abbrev pub IsIndexed : Slots → Type 0
 IsIndexed slots = IsKeptBag (kept_bag slots)
 
--- The indexes of all bags in the shape are right.
-abbrev pub IsIndexedShape : Shape → Type 0
-IsIndexedShape shape = IsKept (kept_shape shape)
+-- The index by name is in order.
+abbrev pub IsOrdered : Slots → Type 0
+IsOrdered slots = IsInOrder (kept_bag slots)
 
--- The indexes of all bags in the field's shape are right.
+-- The indexes in a shape that no field has yet are right.
+abbrev pub IsIndexedShape : Shape → Type 0
+IsIndexedShape shape = IsLoose (kept_shape shape)
+
+-- The indexes in the shape of a field that no bag has yet are right.
 abbrev pub IsIndexedField : Slot → Type 0
-IsIndexedField slot = IsKept (kept_field slot).shape
+IsIndexedField slot = IsLoose (kept_field slot).shape
 
 -- The name of a field.
 abbrev pub name_of : Slot → List ℕ

@@ -1,7 +1,7 @@
 //! Fields, their shapes, and the fields of a bag with indexes over them.
 
 ghost use Rattle.std.specs.Prelude.{◌≡◌, ◌≢◌, ◌<◌, ◌≤◌, ◌+◌, ◌-◌, ◌↔◌, ◌++◌, [], ◌∷◌, length, map, get_or, IsTrue, OnOk, OnErr, Some, IfSome, string_bytes};
-ghost use Rattle.std.specs.List.{slice_get, insert};
+ghost use Rattle.std.specs.List.{slice_get};
 ghost use Rattle.std.specs.Option.{option_map};
 ghost use Rattle.std.specs.Cmp.Lexicographic.{slice_cmp};
 ghost use Rattle.std.specs.Ordering.{nat_cmp};
@@ -9,8 +9,8 @@ ghost use Rattle.std.specs.declared.cmp.Ordering.TheVariants.{Less};
 ghost use Rattle.bag_model.specs.Shapes.{fields, no_node};
 ghost use Rattle.bag_model.specs.Slots.{slots_of, slot_count, name_path, FindsField, IsOnly, IsSplit, HasNoDot};
 ghost use Rattle.bag_model.specs.Tables.{levels};
-ghost use Rattle.field_table.specs.Kept.{capped, ends_of, IsKept, IsNameOrder, IsPlaceOf, IsRank, IsReady, Holds, start_at};
-ghost use Rattle.field_table.specs.Plain.{shape_of, kept_shape, name_of, field_of, nodes_of, kept_bag, IsIndexed, IsIndexedField};
+ghost use Rattle.field_table.specs.Kept.{capped, ends_of, HasPlaces, IsKept, IsNameOrder, IsPlaceOf, IsRank, IsReady, Holds, start_at};
+ghost use Rattle.field_table.specs.Plain.{shape_of, kept_shape, name_of, field_of, nodes_of, kept_bag, IsIndexed, IsIndexedShape, IsIndexedField, IsOrdered};
 
 use crate::slot_paths::SlotPath;
 use outside::{Memory, Text};
@@ -47,7 +47,7 @@ pub struct Slots {
     items: Vec<Slot>,
     /// For each field, how many slots there are up to its end.
     ends: Vec<usize>,
-    /// The places of the fields in the order of their names.
+    /// The places of the fields: in the order of their names once this is a bag in a field or the bag of a table.
     by_name: Vec<usize>,
 }
 
@@ -92,12 +92,12 @@ impl Slots {
     }
 
     /// Adds a field at the end. Want of memory leaves the fields as they were.
-    pub fn push(&mut self, item: Slot) -> Result<(), Memory>
+    pub fn push(&mut self, mut item: Slot) -> Result<(), Memory>
         ensures ok { OnOk result (fields (nodes_of self.new) ≡ fields (nodes_of self.old) ++ field_of item ∷ []) }
         ensures err { OnErr result (nodes_of self.new ≡ nodes_of self.old) }
         ensures indexed { IsIndexed self.old → IsIndexedField item → IsIndexed self.new }
     {
-        let rank = rank_of(&self.items, &self.by_name, item.name.as_str().as_bytes());
+        item.shape.sort_index();
         let end = self.slot_count().saturating_add(item.shape.slot_count());
         add_field(
             &mut self.items,
@@ -105,8 +105,16 @@ impl Slots {
             &mut self.by_name,
             item,
             end,
-            rank,
         )
+    }
+
+    /// Puts the index by name in order, once all fields are there. It takes no memory.
+    pub(crate) fn sort_index(&mut self)
+        ensures same { nodes_of self.new ≡ nodes_of self.old }
+        ensures indexed { IsIndexed self.old → IsIndexed self.new }
+        ensures ordered { IsIndexed self.old → IsOrdered self.new }
+    {
+        sort_places(&self.items, &mut self.by_name);
     }
 
     /// How many slots there are.
@@ -210,6 +218,21 @@ impl Slots {
 }
 
 impl Shape {
+    /// Puts the index by name of a bag in order, also where the bag is a map's value.
+    fn sort_index(&mut self)
+        ensures same { shape_of self.new ≡ shape_of self.old }
+        ensures kept { IsIndexedShape self.old → IsKept (kept_shape self.new) }
+    {
+        match self {
+            Shape::Bag(fields) => fields.sort_index(),
+            Shape::Map(_, value) => value.sort_index(),
+            Shape::Taint => {}
+            Shape::Scalar(_) => {}
+            Shape::Set(_) => {}
+            Shape::Counter => {}
+        }
+    }
+
     /// How many slots a field of this shape has.
     pub(crate) fn slot_count(&self) -> usize
         ensures { IsKept (kept_shape self.now) → result ≡ capped (slot_count (shape_of self.now)) }
@@ -225,28 +248,44 @@ impl Shape {
     }
 }
 
-/// Adds a field, its end, and its place at this rank. All room is taken first, so want of memory leaves all as it was.
+/// Adds a field, its end and its place. All room is taken first, so want of memory leaves all as it was.
 fn add_field(
     items: &mut Vec<Slot>,
     ends: &mut Vec<usize>,
     by_name: &mut Vec<usize>,
     item: Slot,
     end: usize,
-    rank: usize,
 ) -> Result<(), Memory>
-    requires rank { rank ≤ length by_name.old.items }
     ensures items { OnOk result (items.new.items ≡ items.old.items ++ item ∷ []) }
     ensures ends { OnOk result (ends.new.items ≡ ends.old.items ++ end ∷ []) }
-    ensures places { OnOk result (by_name.new.items ≡ insert by_name.old.items rank (length items.old.items)) }
+    ensures places { OnOk result (by_name.new.items ≡ by_name.old.items ++ length items.old.items ∷ []) }
     ensures err { OnErr result ((items.new.items ≡ items.old.items) × (ends.new.items ≡ ends.old.items) × (by_name.new.items ≡ by_name.old.items)) }
 {
     items.reserve(1)?;
     ends.reserve(1)?;
     by_name.reserve(1)?;
-    by_name.insert(rank, items.len()).unwrap();
+    by_name.push(items.len()).unwrap();
     ends.push(end).unwrap();
     items.push(item).unwrap();
     Ok(())
+}
+
+/// Puts the places in the order of the names there.
+fn sort_places(items: &[Slot], by_name: &mut [usize])
+    ensures { HasPlaces (map name_of items.now) by_name.old → IsNameOrder (map name_of items.now) by_name.new }
+{
+    by_name.sort_unstable_by(|one, other| name_at(items, *one).cmp(name_at(items, *other)));
+}
+
+/// The name of the field at this place. It is empty where there is no such field.
+fn name_at(items: &[Slot], place: usize) -> &[u8]
+    ensures { result.now ≡ get_or (map name_of items.now) place [] }
+{
+    if place < items.len() {
+        items[place].name.as_str().as_bytes()
+    } else {
+        &[]
+    }
 }
 
 /// How many of the places, in the order of the names there, have a lesser name.

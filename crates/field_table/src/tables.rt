@@ -28,20 +28,21 @@ impl Model for Table {
     ghost coded = { nodes_code };
 
     ghost use Rattle.bag_model.specs.Tables.{IsTable};
-    ghost use Rattle.field_table.specs.Plain.{nodes_of, IsIndexed};
+    ghost use Rattle.field_table.specs.Plain.{nodes_of, IsIndexed, IsOrdered};
 
     ghost view = { λ table. nodes_of table.nodes };
 
-    ghost invariant = { λ table. IsTable (nodes_of table.nodes) × IsIndexed table.nodes };
+    ghost invariant = { λ table. IsTable (nodes_of table.nodes) × IsIndexed table.nodes × IsOrdered table.nodes };
 }
 
 impl Table {
     /// The table with these fields. It takes no memory.
-    pub fn of(nodes: Slots) -> Table
+    pub fn of(mut nodes: Slots) -> Table
         requires table { IsTable (nodes_of nodes) }
         requires indexed { IsIndexed nodes }
         ensures { result ≡ nodes_of nodes }
     {
+        nodes.sort_index();
         Table { nodes }
     }
 

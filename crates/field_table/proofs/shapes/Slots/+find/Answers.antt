@@ -9,7 +9,7 @@ use Rattle.field_table.specs.declared.shapes.Shape.TheViews.{out-Slots}
 use Rattle.field_table.specs.declared.shapes.Slot.{Slot}
 use Rattle.field_table.specs.Kept.{plain, KeptField, IsKept, IsNameOrder, IsPlaceOf}
 use Rattle.field_table.specs.Plain.{nodes_of, name_of, shape_of}
-use Rattle.field_table.proofs.Opened.{length_fields, has_indexes}
+use Rattle.field_table.proofs.Opened.{length_fields, has_indexes, is_ordered}
 use Rattle.field_table.proofs.Held.{ends_are, inner_fewer, inner_ready, no_bag, shape_bag, field_open}
 use Rattle.field_table.proofs.Found.{other_name, named_at, named_start, place_within, found_bound, finds_nothing, whole_path, fits_sum}
 use Rattle.field_table.proofs.shapes.Slots.+find.Goals as goal
@@ -18,7 +18,7 @@ pub place_of-requires : goal.place_of-requires
 place_of-requires t c =
     let s = c.args.self.now in
     subst (λ (items : List Slot). IsNameOrder (map name_of items) c.deref-2.result.now) (sym c.deref.ensures.value)
-    (subst (λ (places : List ℕ). IsNameOrder (map name_of (out-Slots s).items.items) places) (sym c.deref-2.ensures.value) (has_indexes s c.requires.1.1.indexed).order)
+    (subst (λ (places : List ℕ). IsNameOrder (map name_of (out-Slots s).items.items) places) (sym c.deref-2.ensures.value) (is_ordered s c.requires.1.1.in_order))
 
 pub returns-in_err-place-clause-found : goal.returns-in_err-place-clause-found
 returns-in_err-place-clause-found t c =

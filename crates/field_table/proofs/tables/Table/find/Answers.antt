@@ -9,7 +9,7 @@ use Rattle.field_table.proofs.Found.{ready}
 use Rattle.field_table.proofs.tables.Table.find.Goals as goal
 
 pub find-requires : goal.find-requires
-find-requires c = record { ready = ready c.self.inside.nodes c.self.invariant.0 c.self.invariant.1 }
+find-requires c = record { ready = ready c.self.inside.nodes c.self.invariant.0 c.self.invariant.1 c.self.invariant.2 }
 
 pub returns-in_err-slot : goal.returns-in_err-slot
 returns-in_err-slot c =

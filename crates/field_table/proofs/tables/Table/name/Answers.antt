@@ -2,4 +2,4 @@ use Rattle.field_table.proofs.Found.{ready}
 use Rattle.field_table.proofs.tables.Table.name.Goals as goal
 
 pub put_name-requires-clause-ready : goal.put_name-requires-clause-ready
-put_name-requires-clause-ready c = ready c.self.inside.nodes c.self.invariant.0 c.self.invariant.1
+put_name-requires-clause-ready c = ready c.self.inside.nodes c.self.invariant.0 c.self.invariant.1 c.self.invariant.2
