@@ -69,7 +69,7 @@ less_orders names = ranks_by nat_list_cmp_total (λ place. get_or names place []
 
 -- The places of all names, once they are sorted by that test.
 pub places_sorted : (names : List (List ℕ)) (places sorted : List ℕ) → HasPlaces names places → IsPermutation places sorted → IsSortedBy (named_less names) sorted → IsNameOrder names sorted
-places_sorted names places sorted h permuted up = record { all = all; below = below; sorted = in_order }
+places_sorted names places sorted h permuted up = record { places_are = record { all = all; below = below }; sorted = in_order }
   where
     all : (place : ℕ) → place < length names → IsIn place sorted
     all place less =

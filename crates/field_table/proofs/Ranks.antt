@@ -14,7 +14,7 @@ use Rattle.std.proofs.lemmas.Option.{slice_get_within, get_or_from_slice_get}
 use Rattle.context_model.specs.Orders.{IsIn}
 use Rattle.field_table.specs.Kept.{IsNameOrder, IsRank, IsPlaceOf}
 
-abbrev name_cmp : List ℕ → List ℕ → Ordering
+abbrev pub name_cmp : List ℕ → List ℕ → Ordering
 name_cmp = slice_cmp nat_cmp
 
 -- What isn't behind something less is less.
@@ -63,7 +63,7 @@ stands place (p ∷ places) (inr later) = let r = stands place places later in r
 named_there : (names : List (List ℕ)) (places : List ℕ) (name : List ℕ) → IsNameOrder names places → (place : ℕ) → slice_get names place ≡ Some name
     → (rank : ℕ) × (rank < length places) × (ranked names places rank ≡ name)
 named_there names places name order place at =
-    let r = stands place places (order.all place (slice_get_within names place name at)) in
+    let r = stands place places (order.places_are.all place (slice_get_within names place name at)) in
     (r.rank, r.within, ap (λ n. get_or names n []) r.is ∙ get_or_from_slice_get names place name [] at)
 
 -- Behind all ranks no name is left.

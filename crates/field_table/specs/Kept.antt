@@ -73,8 +73,7 @@ pub record HasPlaces (names : List (List ℕ)) (places : List ℕ) : Type 0 wher
 
 -- The places of all names, in the order of the names.
 pub record IsNameOrder (names : List (List ℕ)) (places : List ℕ) : Type 0 where
-  pub all : (place : ℕ) → place < length names → IsIn place places
-  pub below : (k : ℕ) → k < length places → slice_index places k < length names
+  pub places_are : HasPlaces names places
   pub sorted : (i j : ℕ) → i < j → j < length places → slice_cmp nat_cmp (get_or names (slice_index places i) []) (get_or names (slice_index places j) []) ≢ Greater
 
 -- The places of the bag's fields are in the order of their names.

@@ -297,20 +297,13 @@ fn rank_of(items: &[Slot], by_name: &[usize], name: &[u8]) -> usize
     let mut high = by_name.len();
     while low < high {
         let middle = low + (high - low) / 2;
-        if is_before(items, by_name[middle], name) {
+        if name_at(items, by_name[middle]).cmp(name).is_lt() {
             low = middle + 1;
         } else {
             high = middle;
         }
     }
     low
-}
-
-/// Whether the field at this place has a lesser name.
-fn is_before(items: &[Slot], place: usize, name: &[u8]) -> bool
-    ensures { place < length items.now → IsTrue result ↔ (slice_cmp nat_cmp (get_or (map name_of items.now) place []) name.now ≡ Less) }
-{
-    place < items.len() && items[place].name.as_str().as_bytes().cmp(name).is_lt()
 }
 
 /// The place of the field with this name.
@@ -323,18 +316,11 @@ fn place_of(items: &[Slot], by_name: &[usize], name: &[u8]) -> Option<usize>
         return None;
     }
     let place = by_name[rank];
-    if is_named(items, place, name) {
+    if name_at(items, place) == name {
         Some(place)
     } else {
         None
     }
-}
-
-/// Whether the field at this place has this name.
-fn is_named(items: &[Slot], place: usize, name: &[u8]) -> bool
-    ensures { place < length items.now → IsTrue result ↔ (get_or (map name_of items.now) place [] ≡ name.now) }
-{
-    place < items.len() && items[place].name.as_str().as_bytes() == name
 }
 
 /// The first name of a path, and the rest behind a dot.

@@ -1,6 +1,6 @@
-use Rattle.std.proofs.Common.{◌≡◌, ◌<◌, ℕ, length, map, get_or, [], IsTrue, Some, ◌∙◌, ap, subst, arith}
+use Rattle.std.proofs.Common.{◌≡◌, ◌<◌, length, map, get_or, [], Some, sym, ◌∙◌, ap, arith}
+use Rattle.std.specs.Cmp.Lexicographic.{same_text, other_text}
 use Rattle.std.specs.List.{slice_index}
-use Rattle.std.proofs.lemmas.List.{length-map}
 use Rattle.std.proofs.lemmas.Option.{slice_get-get_or}
 use Rattle.field_table.specs.Plain.{name_of}
 use Rattle.field_table.proofs.Ranks.{none_left, none_there}
@@ -10,24 +10,13 @@ pub returns-then-rank-by_name : goal.returns-then-rank-by_name
 returns-then-rank-by_name c =
     none_left (map name_of c.args.items.now) c.args.by_name.now c.args.name.now c.rank_of-rank.result c.requires (c.rank_of-rank.ensures.rank c.requires) (omega arith)
 
-pub returns-then-is_named : goal.returns-then-is_named
-returns-then-is_named c =
+pub returns-then-eq : goal.returns-then-eq
+returns-then-eq c =
     let names = map name_of c.args.items.now in
-    let places = c.args.by_name.now in
-    let rank = c.rank_of-rank.result in
-    let below : slice_index places rank < length names = c.requires.below rank (omega arith) in
-    let is : get_or names (slice_index places rank) [] ≡ c.args.name.now =
-    (c.is_named.ensures (subst (λ (n : ℕ). slice_index places rank < n) (length-map c.args.items.now name_of) below)).0 c.if-is_named.true
-    in slice_get-get_or names (slice_index places rank) [] below ∙ ap Some is
+    let place = slice_index c.args.by_name.now c.rank_of-rank.result in
+    slice_get-get_or names place [] (c.requires.places_are.below c.rank_of-rank.result (omega arith)) ∙ ap Some (sym c.name_at.ensures ∙ same_text c.name_at.result.now c.args.name.now c.if-eq.ensures)
 
-pub returns-else-is_named : goal.returns-else-is_named
-returns-else-is_named c =
-    let names = map name_of c.args.items.now in
-    let places = c.args.by_name.now in
-    let rank = c.rank_of-rank.result in
-    let inside : rank < length places = omega arith in
-    let below : slice_index places rank < length names = c.requires.below rank inside in
-    none_there names places c.args.name.now rank c.requires (c.rank_of-rank.ensures.rank c.requires) inside
-    (λ is.
-    let yes : IsTrue c.is_named.result = (c.is_named.ensures (subst (λ (n : ℕ). slice_index places rank < n) (length-map c.args.items.now name_of) below)).1 is in
-    cc (yes, c.if-is_named.false))
+pub returns-else-eq : goal.returns-else-eq
+returns-else-eq c =
+    none_there (map name_of c.args.items.now) c.args.by_name.now c.args.name.now c.rank_of-rank.result c.requires (c.rank_of-rank.ensures.rank c.requires) (omega arith) 
+    (λ is. other_text c.name_at.result.now c.args.name.now c.if-eq.ensures (c.name_at.ensures ∙ is))

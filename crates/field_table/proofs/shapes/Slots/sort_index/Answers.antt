@@ -21,7 +21,7 @@ in_order c h =
     (subst (λ (items : List Slot). IsNameOrder (map name_of items) c.sort_places.new.by_name) c.deref.ensures.value (c.sort_places.ensures places))
 
 pub returns-clause-indexed : goal.returns-clause-indexed
-returns-clause-indexed c h = let order = in_order c h in same_fields c.args.self.now _ h refl refl (record { all = order.all; below = order.below })
+returns-clause-indexed c h = same_fields c.args.self.now _ h refl refl (in_order c h).places_are
 
 pub returns-clause-ordered : goal.returns-clause-ordered
 returns-clause-ordered c h = roll_ordered _ (in_order c h)
