@@ -97,7 +97,7 @@ impl Slots {
         ensures err { OnErr result (nodes_of self.new ≡ nodes_of self.old) }
         ensures indexed { IsIndexed self.old → IsIndexedField item → IsIndexed self.new }
     {
-        item.shape.sort_index();
+        item.shape.sort_bag_index();
         let end = self.slot_count().saturating_add(item.shape.slot_count());
         add_field(
             &mut self.items,
@@ -219,13 +219,13 @@ impl Slots {
 
 impl Shape {
     /// Puts the index by name of a bag in order, also where the bag is a map's value.
-    fn sort_index(&mut self)
+    fn sort_bag_index(&mut self)
         ensures same { shape_of self.new ≡ shape_of self.old }
         ensures kept { IsIndexedShape self.old → IsKept (kept_shape self.new) }
     {
         match self {
             Shape::Bag(fields) => fields.sort_index(),
-            Shape::Map(_, value) => value.sort_index(),
+            Shape::Map(_, value) => value.sort_bag_index(),
             Shape::Taint => {}
             Shape::Scalar(_) => {}
             Shape::Set(_) => {}

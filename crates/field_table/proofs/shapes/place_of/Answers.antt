@@ -18,5 +18,5 @@ returns-then-eq c =
 
 pub returns-else-eq : goal.returns-else-eq
 returns-else-eq c =
-    none_there (map name_of c.args.items.now) c.args.by_name.now c.args.name.now c.rank_of-rank.result c.requires (c.rank_of-rank.ensures.rank c.requires) (omega arith) 
+    none_there (map name_of c.args.items.now) c.args.by_name.now c.args.name.now c.rank_of-rank.result c.requires (c.rank_of-rank.ensures.rank c.requires) (omega arith)
     (λ is. other_text c.name_at.result.now c.args.name.now c.if-eq.ensures (c.name_at.ensures ∙ is))
