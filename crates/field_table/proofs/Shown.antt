@@ -1,5 +1,5 @@
 -- What is seen of a field that is put together, by its parts.
-use Rattle.std.proofs.Common.{◌≡◌, refl, sym, ◌∙◌, ap, subst}
+use Rattle.std.proofs.Common.{◌≡◌, ℕ, List, [], ◌∷◌, ◌++◌, refl, sym, ◌∙◌, ap, subst}
 use Rattle.std.specs.Prelude.{Box}
 use Rattle.std.specs.declared.alloc.Global.{Global}
 use Rattle.field_table.specs.declared.shapes.Shape.{Shape}
@@ -59,3 +59,9 @@ bag_shown inner = ap plain (shape_bag inner)
 
 pub bag_indexed : (inner : Slots) → IsIndexed inner → IsIndexedShape (variants.Bag inner)
 bag_indexed inner = subst IsLoose (sym (shape_bag inner))
+
+-- A field more at the end.
+pub one_more : (before after : List model.Field) (fields : List model.Field) (name : List ℕ) (number : ℕ) (own shape : model.Shape) → before ≡ fields → after ≡ before ++ (record { name = name; number = number; shape = own }) ∷ [] → own ≡ shape
+    → after ≡ fields ++ (record { name = name; number = number; shape = shape }) ∷ []
+one_more before after fields name number own shape held added is =
+    added ∙ (ap (λ l. l ++ (record { name = name; number = number; shape = own }) ∷ []) held ∙ ap (λ (s : model.Shape). fields ++ (record { name = name; number = number; shape = s }) ∷ []) is)

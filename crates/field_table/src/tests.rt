@@ -66,10 +66,11 @@ fn slots_of_fields(rt: HostRuntime) -> Result<(), Fail> {
     Ok(())
 }
 
-/// A bag with a field that is true or false, in a bag.
+/// A bag in a bag, its fields not in the order of their names.
 fn nested_table(alloc: Global) -> Result<Table, Memory> {
     let mut inner = Slots::new(alloc);
     add(alloc, &mut inner, "ok", 2, Shape::Scalar(ScalarKind::Bool))?;
+    add(alloc, &mut inner, "at", 5, Shape::Taint)?;
     let mut nodes = Slots::new(alloc);
     add(alloc, &mut nodes, "sub", 1, Shape::Bag(inner))?;
     Ok(Table::of(nodes))
@@ -79,10 +80,11 @@ fn nested_table(alloc: Global) -> Result<Table, Memory> {
 fn slots_of_nested_bags(rt: HostRuntime) -> Result<(), Fail> {
     let alloc = rt.alloc();
     let table = nested_table(alloc)?;
-    assert!(rt; table.slots() == 1);
+    assert!(rt; table.slots() == 2);
     assert!(rt; table.find("sub.ok") == Some(0));
+    assert!(rt; table.find("sub.at") == Some(1));
     assert!(rt; table.find("sub").is_none());
-    assert!(rt; table.find_range("sub") == Some((0, 1)));
+    assert!(rt; table.find_range("sub") == Some((0, 2)));
     assert!(rt; table.find_range("sub.ok") == Some((0, 1)));
     assert!(rt; table.find_range("ok").is_none());
     assert!(rt; table.nodes().len() == 1);

@@ -8,14 +8,8 @@ use Rattle.bag_model.proofs.SlotLaws.{from-fields}
 use Rattle.scalar_types.specs.declared.kinds.ScalarKind.TheVariants.{Fixed32, Str, Uint32}
 use Rattle.field_table.specs.declared.shapes.Shape.TheVariants as variants
 use Rattle.field_table.specs.Plain.{nodes_of, shape_of}
-use Rattle.field_table.proofs.Shown.{scalar_shown, set_shown, counter_shown, taint_shown, map_shown}
+use Rattle.field_table.proofs.Shown.{scalar_shown, set_shown, counter_shown, taint_shown, one_more}
 use Rattle.field_table.proofs.tests.mixed_table.Goals as goal
-
--- A field more at the end.
-one_more : (before after : List model.Field) (fields : List model.Field) (name : List ℕ) (number : ℕ) (own shape : model.Shape) → before ≡ fields → after ≡ before ++ (record { name = name; number = number; shape = own }) ∷ [] → own ≡ shape
-    → after ≡ fields ++ (record { name = name; number = number; shape = shape }) ∷ []
-one_more before after fields name number own shape held added is =
-    added ∙ (ap (λ l. l ++ (record { name = name; number = number; shape = own }) ∷ []) held ∙ ap (λ (s : model.Shape). fields ++ (record { name = name; number = number; shape = s }) ∷ []) is)
 
 pub of-requires-clause-table : goal.of-requires-clause-table
 of-requires-clause-table c =
