@@ -1,5 +1,5 @@
 -- What is seen of a field that is put together, by its parts.
-use Rattle.std.proofs.Common.{◌≡◌, ℕ, List, [], ◌∷◌, ◌++◌, refl, sym, ◌∙◌, ap, subst}
+use Rattle.std.proofs.Common.{◌≡◌, ℕ, List, [], ◌∷◌, ◌++◌, sym, ◌∙◌, ap, subst}
 use Rattle.std.specs.Prelude.{Box}
 use Rattle.std.specs.declared.alloc.Global.{Global}
 use Rattle.field_table.specs.declared.shapes.Shape.{Shape}
@@ -11,8 +11,8 @@ use Rattle.field_table.specs.declared.shapes.Slot.{Slot}
 use Rattle.field_table.specs.declared.shapes.Slots.{Slots}
 use Rattle.field_table.specs.declared.shapes.Shape.TheFolds.{fold-roll-Shape}
 use Rattle.field_table.specs.declared.shapes.Shape.TheOpen.{Shape-F}
-use Rattle.field_table.specs.Kept.{Kept, KeptField, KeptBag, plain, Taint, Scalar, Set, Counter, Map, Bag, IsLoose}
-use Rattle.field_table.specs.Plain.{shape_step, slot_step, slots_step, kept_shape, kept_field, kept_bag, field_of, shape_of, nodes_of, IsIndexed, IsIndexedField, IsIndexedShape}
+use Rattle.field_table.specs.Kept.{Kept, KeptField, KeptBag, plain, Taint, Scalar, Set, Counter, Map, IsLoose}
+use Rattle.field_table.specs.Plain.{shape_step, slot_step, slots_step, kept_shape, field_of, shape_of, nodes_of, IsIndexed, IsIndexedField, IsIndexedShape}
 use Rattle.field_table.proofs.Held.{field_open, shape_bag}
 
 -- The plain field has the name, the number and the plain shape.

@@ -1,4 +1,4 @@
-use Rattle.std.proofs.Common.{◌≡◌, ◌<◌, length, map, get_or, [], Some, sym, ◌∙◌, ap, arith}
+use Rattle.std.proofs.Common.{map, [], Some, sym, ◌∙◌, ap, arith}
 use Rattle.std.specs.Cmp.Lexicographic.{same_text, other_text}
 use Rattle.std.specs.List.{slice_index}
 use Rattle.std.proofs.lemmas.Option.{slice_get-get_or}

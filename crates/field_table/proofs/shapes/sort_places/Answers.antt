@@ -1,6 +1,5 @@
 use Rattle.std.proofs.Common.{◌≡◌, map, rules}
-use Rattle.std.specs.Cmp.Lexicographic.{slice_cmp}
-use Rattle.std.specs.Ordering.{nat_cmp, is_lt}
+use Rattle.std.specs.Ordering.{is_lt}
 use Rattle.std.proofs.lemmas.Fn.{always_returns_same}
 use Rattle.field_table.specs.Plain.{name_of}
 use Rattle.field_table.proofs.Places.{named_less, less_orders, places_sorted}

@@ -1,13 +1,12 @@
-use Rattle.std.proofs.Common.{◌≡◌, ℕ, List, [], ◌∷◌, ◌++◌, refl, sym, ◌∙◌, ap, subst, arith}
+use Rattle.std.proofs.Common.{◌≡◌, ℕ, List, [], refl, sym, ◌∙◌, ap, subst, arith}
 use Rattle.std.specs.Prelude.{codes}
 use Rattle.std.specs.List.{slice_index}
 use Rattle.bag_model.specs.Scalars as scalars
 use Rattle.bag_model.specs.Shapes as model
 use Rattle.bag_model.specs.Tables.{IsTable}
 use Rattle.bag_model.proofs.SlotLaws.{from-fields}
-use Rattle.scalar_types.specs.declared.kinds.ScalarKind.TheVariants.{Fixed32, Str, Uint32}
-use Rattle.field_table.specs.declared.shapes.Shape.TheVariants as variants
-use Rattle.field_table.specs.Plain.{nodes_of, shape_of}
+use Rattle.scalar_types.specs.declared.kinds.ScalarKind.TheVariants.{Fixed32, Str}
+use Rattle.field_table.specs.Plain.{nodes_of}
 use Rattle.field_table.proofs.Shown.{scalar_shown, set_shown, counter_shown, taint_shown, one_more}
 use Rattle.field_table.proofs.tests.mixed_table.Goals as goal
 

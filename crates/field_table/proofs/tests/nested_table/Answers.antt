@@ -1,4 +1,4 @@
-use Rattle.std.proofs.Common.{◌≡◌, ℕ, List, [], ◌∷◌, ◌++◌, refl, sym, ◌∙◌, ap, subst, arith}
+use Rattle.std.proofs.Common.{◌≡◌, ℕ, List, [], ◌∷◌, refl, sym, ◌∙◌, ap, subst, arith}
 use Rattle.std.specs.Prelude.{codes}
 use Rattle.std.specs.List.{slice_index}
 use Rattle.bag_model.specs.Scalars as scalars
@@ -6,8 +6,7 @@ use Rattle.bag_model.specs.Shapes as model
 use Rattle.bag_model.specs.Tables.{IsTable}
 use Rattle.bag_model.proofs.SlotLaws.{from-fields}
 use Rattle.scalar_types.specs.declared.kinds.ScalarKind.TheVariants.{Bool}
-use Rattle.field_table.specs.declared.shapes.Shape.TheVariants as variants
-use Rattle.field_table.specs.Plain.{nodes_of, shape_of}
+use Rattle.field_table.specs.Plain.{nodes_of}
 use Rattle.field_table.proofs.Shown.{scalar_shown, taint_shown, bag_shown, one_more}
 use Rattle.field_table.proofs.tests.nested_table.Goals as goal
 
