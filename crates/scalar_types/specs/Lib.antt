@@ -1,6 +1,7 @@
 pub mod Spelling
 pub mod Fronts
 pub mod KindViews
+pub mod HeldKinds
 pub mod KindFalls
 pub mod ScalarViews
 pub mod ScalarFalls

@@ -8,6 +8,7 @@ ghost use Rattle.scalar_types.specs.KindViews.{IsWord, word_of, kind_of};
 use outside::Memory;
 use std::alloc::Global;
 use std::marker::Model;
+use std::sync::Arc;
 
 /// The type of a scalar: a word of the definition language, or a struct of words.
 #[cycle(scalar_kind)]
@@ -47,7 +48,15 @@ pub enum ScalarKind {
 #[cycle(scalar_kind)]
 #[derive(Drop)]
 pub struct KindList {
-    kinds: Vec<ScalarKind>,
+    held: HeldKinds,
+}
+
+/// The kinds of one list alone, or those that it shares with its copies.
+#[cycle(scalar_kind)]
+#[derive(Drop)]
+enum HeldKinds {
+    Own(Vec<ScalarKind>),
+    Shared(Arc<Vec<ScalarKind>>),
 }
 
 impl Model for KindList {
@@ -57,27 +66,28 @@ impl Model for KindList {
     ghost Value = { List Word };
 
     ghost use Rattle.std.specs.Prelude.{map, All};
+    ghost use Rattle.scalar_types.specs.HeldKinds.{kinds_in};
     ghost use Rattle.scalar_types.specs.KindViews.{IsWord, word_of};
 
-    ghost view = { λ list. map word_of list.kinds.items };
+    ghost view = { λ list. map word_of (kinds_in list.held) };
 
-    ghost invariant = { λ list. All IsWord list.kinds.items };
+    ghost invariant = { λ list. All IsWord (kinds_in list.held) };
 
     ghost size = { length };
 
-    ghost use Rattle.scalar_types.specs.KindFalls.{kinds_fall};
+    ghost use Rattle.scalar_types.specs.KindFalls.{held_fall};
     ghost use Rattle.std.proofs.Common.{arith};
 
-    ghost size_decreases = { λ list words. omega (arith, kinds_fall list.kinds.items words) };
+    ghost size_decreases = { λ list words. omega (arith, held_fall list.held words) };
 }
 
 impl KindList {
-    /// No kinds.
+    /// No kinds. It takes no memory.
     pub fn new(alloc: Global) -> KindList
         ensures { result ≡ [] }
     {
         KindList {
-            kinds: Vec::new(alloc),
+            held: HeldKinds::Own(Vec::new(alloc)),
         }
     }
 
@@ -85,14 +95,22 @@ impl KindList {
     pub fn len(&self) -> usize
         ensures { result ≡ length self.now }
     {
-        self.kinds.len()
+        self.as_slice().len()
     }
 
     /// Whether there is no kind.
     pub fn is_empty(&self) -> bool
         ensures { IsTrue result ↔ (self.now ≡ []) }
     {
-        self.kinds.is_empty()
+        self.as_slice().is_empty()
+    }
+
+    /// The kind at this place, from 0 on.
+    pub fn get(&self, at: usize) -> Option<&ScalarKind>
+        ensures word { option_map (λ kind. word_of kind.now) result ≡ slice_get self.now at }
+        ensures plain { IfSome result (λ kind. IsWord kind.now) }
+    {
+        self.as_slice().get(at)
     }
 
     /// The kinds in order.
@@ -100,29 +118,66 @@ impl KindList {
         ensures words { map word_of result.now ≡ self.now }
         ensures plain { All IsWord result.now }
     {
-        self.kinds.as_slice()
+        match &self.held {
+            HeldKinds::Own(kinds) => kinds.as_slice(),
+            HeldKinds::Shared(kinds) => kinds.as_slice(),
+        }
     }
 
-    /// Adds a kind that is no struct at the end. Want of memory leaves the list as it was.
+    /// Adds a kind that is no struct at the end. Want of memory leaves the list as it was. A list that is shared is copied
+    /// first, and isn't shared any more.
     pub fn push(&mut self, kind: ScalarKind) -> Result<(), Memory>
         requires { IsWord kind }
         ensures ok { OnOk result (self.new ≡ self.old ++ word_of kind ∷ []) }
         ensures err { OnErr result (self.new ≡ self.old) }
     {
-        self.kinds.push(kind)?;
+        match &mut self.held {
+            HeldKinds::Own(kinds) => kinds.push(kind)?,
+            HeldKinds::Shared(kinds) => {
+                let mut own = copy_words(kinds)?;
+                own.push(kind)?;
+                self.held = HeldKinds::Own(own);
+            }
+        }
         Ok(())
     }
 
-    /// The same list again.
+    /// The same list, whose copies share its kinds from now on.
+    pub fn shared(self) -> Result<KindList, Memory>
+        ensures { IfOk result (λ list. list ≡ self) }
+    {
+        let held = match self.held {
+            HeldKinds::Own(kinds) => {
+                let alloc = *kinds.allocator();
+                HeldKinds::Shared(Arc::new(alloc, kinds)?)
+            }
+            HeldKinds::Shared(kinds) => HeldKinds::Shared(kinds),
+        };
+        Ok(KindList { held })
+    }
+
+    /// The same list again. A copy of a shared list takes constant time and no memory.
     pub fn copy(&self) -> Result<KindList, Memory>
         ensures { IfOk result (λ copied. copied ≡ self.now) }
     {
-        let mut copied = KindList::new(*self.kinds.allocator());
-        for kind in &self.kinds {
-            copied.push(kind.copy_word())?;
-        }
-        Ok(copied)
+        let held = match &self.held {
+            HeldKinds::Own(kinds) => HeldKinds::Own(copy_words(kinds)?),
+            HeldKinds::Shared(kinds) => HeldKinds::Shared(Arc::try_clone(kinds)?),
+        };
+        Ok(KindList { held })
     }
+}
+
+/// The same kinds again, none of which is a struct.
+fn copy_words(kinds: &Vec<ScalarKind>) -> Result<Vec<ScalarKind>, Memory>
+    requires { All IsWord kinds.now.items }
+    ensures { IfOk result (λ copied. copied.items ≡ kinds.now.items) }
+{
+    let mut copied = Vec::with_capacity(*kinds.allocator(), kinds.len())?;
+    for kind in kinds {
+        copied.push(kind.copy_word())?;
+    }
+    Ok(copied)
 }
 
 impl ScalarKind {

@@ -10,6 +10,7 @@ mod laws;
 mod packed;
 mod plain_codecs;
 mod scalars;
+mod sharing;
 #[cfg(test)]
 mod tests;
 mod varint_codecs;
@@ -21,4 +22,5 @@ pub use kinds::{KindList, ScalarKind};
 pub use laws::spellings_keep_order;
 pub use plain_codecs::{Flag, Raw, Unit, Utf8};
 pub use scalars::{Scalar, ScalarList};
+pub use sharing::kinds_cross_threads;
 pub use varint_codecs::{LexI, LexU};

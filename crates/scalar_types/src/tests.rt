@@ -2,7 +2,7 @@
 
 use crate::{
     Codec, Fixed, Flag, KindList, LexI, LexU, Raw, Scalar, ScalarKind, ScalarList, SignedFixed,
-    TakeFault, Unit, Utf8, respelled, round_trip, spellings_keep_order,
+    TakeFault, Unit, Utf8, kinds_cross_threads, respelled, round_trip, spellings_keep_order,
 };
 use outside::{Memory, Octets, Text};
 use std::alloc::Global;
@@ -375,6 +375,29 @@ fn structs(rt: HostRuntime) -> Result<(), Fail> {
     assert!(rt; !kind.fits(&Scalar::Packed(ScalarList::new(alloc))));
     assert!(rt; !ScalarKind::Str.fits(&less));
     Ok(())
+}
+
+#[test]
+fn shared_kinds(rt: HostRuntime) -> Result<(), Fail> {
+    let alloc = rt.alloc();
+    let mut kinds = KindList::new(alloc);
+    kinds.push(ScalarKind::Str)?;
+    kinds.push(ScalarKind::Int32)?;
+    let shared = kinds.shared()?;
+    let mut copied = shared.copy()?.shared()?;
+    copied.push(ScalarKind::Bool)?;
+    copied.push(ScalarKind::Bytes)?;
+    assert_eq!(rt; copied.len(), 4);
+    assert!(rt; matches!(copied.get(0), Some(ScalarKind::Str)));
+    assert!(rt; matches!(copied.get(3), Some(ScalarKind::Bytes)));
+    assert_eq!(rt; shared.len(), 2);
+    assert!(rt; matches!(shared.get(1), Some(ScalarKind::Int32)));
+    assert!(rt; shared.get(2).is_none());
+    kinds_cross_threads(&ScalarKind::Bool, &shared);
+    let kind = ScalarKind::Packed(shared);
+    let spelling = b"\x61\x00\x01\x7f".as_slice();
+    spells(&rt, alloc, &kind, &pair(alloc, "a", -1)?, spelling)?;
+    spells(&rt, alloc, &kind.copy()?, &pair(alloc, "a", -1)?, spelling)
 }
 
 #[test]
