@@ -1,8 +1,7 @@
 -- The chosen bag, by its size.
-use Rattle.std.proofs.Common.{◌≡◌, ℕ, ◌<◌, ◌≤◌, Bool, true, List, [], length, get_or, Option, Some, None, refl, sym, ◌∙◌, ap, subst, arith}
-use Rattle.std.specs.List.{find, position, slice_get}
+use Rattle.std.proofs.Common.{◌≡◌, ℕ, ◌<◌, ◌≤◌, true, List, [], length, get_or, Option, Some, None, refl, sym, ◌∙◌, ap, subst, arith}
+use Rattle.std.specs.List.{slice_get}
 use Rattle.std.specs.Option.{option_and_then}
-use Rattle.std.specs.Str.{bytes_eq}
 use Rattle.std.proofs.lemmas.Option.{slice_get_within, slice_get-get_or}
 use Rattle.bag_model.specs.Shapes.{Nodes}
 use Rattle.bag_model.specs.Tables.{levels, node_count, IsTable}
@@ -15,25 +14,21 @@ use Rattle.bdl_parser.specs.declared.trees.Decl.TheVariants.{Bag, Struct}
 use Rattle.bdl_parser.specs.Trees.{BagFieldTree}
 use Rattle.bdl_check.specs.declared.sizes.Size.{Size}
 use Rattle.bdl_check.specs.Checks.{placed_faults}
-use Rattle.bdl_check.specs.Declarations.{Placed, name_of, named, number_named, kind_named, AreSpelled}
+use Rattle.bdl_check.specs.Declarations.{Placed, named, number_named, kind_named, AreSpelled}
 use Rattle.bdl_check.specs.Layouts.{IsLaidOut}
 use Rattle.bdl_check.specs.Passes.{passes_decl}
 use Rattle.bdl_check.specs.Sizes.{HasSize, IsSizeOf, AreSizes, IsExcess}
 use Rattle.bdl_check.specs.Tables.{BagTree, bag_in, bag_named, Fits, IsUnfit}
 use Rattle.bdl_check.proofs.OneLayout.{one_layout}
-use Rattle.bdl_check.proofs.PassedTypes.{named_at, position_of}
+use Rattle.bdl_check.proofs.PassedTypes.{named_at, not_named}
 use Rattle.bdl_check.proofs.TableLaws.{AreGood, good_list, all_good, is_table}
 
 -- ---- by name
 
-unfound : {X : Type 0} (p : X → Bool) (xs : List X) (o : Option X) → position p xs ≡ None → find p xs ≡ o → find p xs ≡ None
-unfound p xs None none e = e
-unfound p xs (Some x) none e = absurd (let n = position_of p xs x e in let same = sym none ∙ n.1 in cc same)
-
 -- a name without a number is that of no bag
 pub no_bag : (ds : List Placed) (name : List ℕ) → number_named ds name ≡ None → bag_named ds name ≡ None
 no_bag ds name none =
-    ap (option_and_then (λ (d : Placed). bag_in d.file d.decl)) (unfound (λ (d : Placed). bytes_eq (name_of d.decl) name) ds (named ds name) none refl)
+    ap (option_and_then (λ (d : Placed). bag_in d.file d.decl)) (not_named ds name none)
 
 -- the bag of a name is its declaration's
 pub bag_at : (ds : List Placed) (name : List ℕ) (n : ℕ) → number_named ds name ≡ Some n → bag_named ds name ≡ option_and_then (λ (d : Placed). bag_in d.file d.decl) (slice_get ds n)

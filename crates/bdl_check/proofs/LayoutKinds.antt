@@ -1,14 +1,18 @@
 -- The words of structs.
-use Rattle.std.proofs.Common.{◌≡◌, List, [], ◌∷◌, ◌++◌, None, refl, sym, ◌∙◌, ap}
+use Rattle.std.proofs.Common.{◌≡◌, ℕ, List, [], ◌∷◌, ◌++◌, None, Some, map, get_or, slice_get, refl, sym, ◌∙◌, ap}
 use Rattle.std.specs.List.{cons_option}
+use Rattle.std.specs.Option.{option_map}
 use Rattle.std.proofs.lemmas.List.Elements.{filter_map-append}
+use Rattle.std.proofs.lemmas.Option.{slice_get-map, get_or_from_slice_get}
+use Rattle.bag_model.specs.Scalars as scalars
 use Rattle.bdl_parser.specs.declared.trees.ScalarWord.{ScalarWord}
 use Rattle.bdl_parser.specs.declared.trees.Spot.{Spot}
 use Rattle.bdl_parser.specs.declared.trees.TypeForm as TypeForms
 use Rattle.bdl_parser.specs.declared.trees.TypeForm.{TypeForm}
 use Rattle.bdl_parser.specs.Trees.{StructFieldTree}
 use Rattle.bdl_parser.specs.Views.{tree_at}
-use Rattle.bdl_check.specs.Layouts.{word_in, word_of_type, words_of}
+use Rattle.bdl_check.specs.Declarations.{Placed}
+use Rattle.bdl_check.specs.Layouts.{word_in, word_of_type, words_of, words_of_decl}
 
 -- a field more has a word more, if its type is one
 words_more : (front : List StructFieldTree) (t : StructFieldTree) → words_of (front ++ t ∷ []) ≡ words_of front ++ cons_option (word_of_type t.kind) []
@@ -37,3 +41,10 @@ append_none (x ∷ xs) = ap (λ ys. x ∷ ys) (append_none xs)
 pub no_more : (front : List StructFieldTree) (t : StructFieldTree) (at : Spot) (form : TypeForm) → t.kind ≡ tree_at at form → ((word : ScalarWord) → form ≡ TypeForms.Scalar word → ⊥) → words_of front ≡ words_of (front ++ t ∷ [])
 no_more front t at form kind not =
     sym (words_more front t ∙ ap (λ o. words_of front ++ cons_option o []) (ap word_of_type kind ∙ no_word at form not) ∙ append_none (words_of front))
+
+-- the words of the declaration with this number, where those of all are listed
+pub words_at : (ds : List Placed) (lists : List (List scalars.Word)) (number : ℕ) (d : Placed) (other : List scalars.Word) → lists ≡ map (λ (d : Placed). words_of_decl d.decl) ds → slice_get ds number ≡ Some d →
+    get_or lists number other ≡ words_of_decl d.decl
+words_at ds lists number d other are there =
+    get_or_from_slice_get lists number (words_of_decl d.decl) other
+    (ap (λ (all : List (List scalars.Word)). slice_get all number) are ∙ slice_get-map (λ (d : Placed). words_of_decl d.decl) ds number ∙ ap (option_map (λ (d : Placed). words_of_decl d.decl)) there)

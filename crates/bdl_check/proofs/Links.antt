@@ -87,11 +87,11 @@ field_added f whole row more rest left field is so_far added =
 pub fields_added : (f : List ℕ → Option ℕ) (whole row : List ℕ) (rest : List BagFieldTree) → rest ≡ [] → row ++ filter_map f (used rest) ≡ whole → row ≡ whole
 fields_added f whole row rest is so_far = sym (append-nil row) ∙ ap (λ (fields : List BagFieldTree). row ++ filter_map f (used fields)) (sym is) ∙ so_far
 
--- the rows of all declarations, as the code looks at them
-pub rows_are : (ds : List Placed) (rows : Graph) (its : List Declaration) (seen : List (Bor Declaration)) → rows ≡ map (λ d. row_of ds (placed_of d.now)) seen →
-    map (λ d. d.now) seen ≡ its → map placed_of its ≡ ds → rows ≡ links ds
-rows_are ds rows its seen are end is =
+-- what is had of each declaration as the code looks at them, is had of all
+pub rows_are : {X : Type 0} (f : Placed → X) (ds : List Placed) (rows : List X) (its : List Declaration) (seen : List (Bor Declaration)) → rows ≡ map (λ d. f (placed_of d.now)) seen →
+    map (λ d. d.now) seen ≡ its → map placed_of its ≡ ds → rows ≡ map f ds
+rows_are f ds rows its seen are end is =
     are
-    ∙ sym (map-map (λ (d : Declaration). row_of ds (placed_of d)) (λ (d : Bor Declaration). d.now) seen)
-    ∙ ap (map (λ (d : Declaration). row_of ds (placed_of d))) end
-    ∙ sym (map-map (row_of ds) placed_of its) ∙ ap (map (row_of ds)) is
+    ∙ sym (map-map (λ (d : Declaration). f (placed_of d)) (λ (d : Bor Declaration). d.now) seen)
+    ∙ ap (map (λ (d : Declaration). f (placed_of d))) end
+    ∙ sym (map-map f placed_of its) ∙ ap (map f) is

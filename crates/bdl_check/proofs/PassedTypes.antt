@@ -52,6 +52,14 @@ named_at ds text n e = found_at (λ (d : Placed). bytes_eq (name_of d.decl) text
 pub number_of : (ds : List Placed) (text : List ℕ) (d : Placed) → named ds text ≡ Some d → (n : ℕ) × (number_named ds text ≡ Some n) × (slice_get ds n ≡ Some d)
 number_of ds text d e = position_of (λ (d : Placed). bytes_eq (name_of d.decl) text) ds d e
 
+unfound : {X : Type 0} (p : X → Bool) (xs : List X) (o : Option X) → position p xs ≡ None → find p xs ≡ o → find p xs ≡ None
+unfound p xs None none e = e
+unfound p xs (Some x) none e = absurd (let n = position_of p xs x e in let same = sym none ∙ n.1 in cc same)
+
+-- a name without a number is that of no declaration
+pub not_named : (ds : List Placed) (text : List ℕ) → number_named ds text ≡ None → named ds text ≡ None
+not_named ds text none = unfound (λ (d : Placed). bytes_eq (name_of d.decl) text) ds (named ds text) none refl
+
 -- a name that passes is that of a declaration which may stand there
 declared_in : {X : Type 0} (role : Role) (f : X → DeclKind) (o : Option X) → passes_name role (option_map f o) ≡ true → (x : X) × (o ≡ Some x) × (may_name role (f x) ≡ true)
 declared_in role f None e = absurd (cc e)

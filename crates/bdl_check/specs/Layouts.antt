@@ -38,6 +38,11 @@ word_of_type _ = None
 abbrev pub words_of : List trees.StructFieldTree → List scalars.Word
 words_of fields = filter_map (λ field. word_of_type field.kind) fields
 
+-- the same of a declaration: a bag has none
+abbrev pub words_of_decl : Decl → List scalars.Word
+words_of_decl (Bag own spot list) = []
+words_of_decl (Struct own spot list) = words_of list
+
 -- the kind of scalars that a declaration is: a struct is one of its words
 abbrev pub kind_of_decl : Decl → Option scalars.ScalarKind
 kind_of_decl (Bag own spot list) = None

@@ -3,81 +3,30 @@
 ghost use Rattle.std.specs.Prelude.{◌≡◌, ◌≤◌, Some, IfOk, map, true};
 ghost use Rattle.std.specs.List.Sorted.{IsPermutation, IsNonDecreasingBy};
 ghost use Rattle.std.specs.Option.{is_some};
-ghost use Rattle.bag_model.specs.Scalars as scalars;
 ghost use Rattle.bag_model.specs.Shapes.{Nodes};
 ghost use Rattle.bag_model.specs.Tables.{levels};
-ghost use Rattle.bdl_check.specs.Layouts.{word_in, words_of, kind_of_decl, kind_in, IsShapeOfDecl, IsShapeOf, IsFieldOf, IsLaidOut, HasShapeIn, HasDeclShapeIn};
+ghost use Rattle.bdl_check.specs.Layouts.{kind_in, IsShapeOfDecl, IsShapeOf, IsFieldOf, IsLaidOut, HasShapeIn, HasDeclShapeIn};
 ghost use Rattle.bdl_parser.specs.Views.{tree_of, bag_field_of};
 ghost use Rattle.field_table.specs.Plain.{shape_of, field_of, nodes_of, IsIndexed, IsIndexedShape, IsIndexedField};
-ghost use Rattle.scalar_types.specs.KindViews.{IsWord, word_of, kind_of};
+ghost use Rattle.scalar_types.specs.KindViews.{kind_of};
 
-use crate::declarations::Declarations;
-use bdl_parser::{BagField, BagFields, Decl, ScalarWord, StructFields, TypeForm, TypeNode};
+use crate::listed::{Listed, ListedDeclarations, word_kind};
+use bdl_parser::{BagField, BagFields, Decl, TypeForm, TypeNode};
 use field_table::{Shape, Slot, Slots};
 use outside::Memory;
-use scalar_types::{KindList, ScalarKind};
+use scalar_types::ScalarKind;
 use std::alloc::Global;
 
-fn word_kind(word: ScalarWord) -> ScalarKind
-    ensures plain { IsWord result }
-    ensures word { word_of result ≡ word_in word }
-    ensures kind { kind_of result ≡ scalars.ScalarKind.One (word_in word) }
-{
-    match word {
-        ScalarWord::Bool => ScalarKind::Bool,
-        ScalarWord::Int32 => ScalarKind::Int32,
-        ScalarWord::Int64 => ScalarKind::Int64,
-        ScalarWord::Sint32 => ScalarKind::Sint32,
-        ScalarWord::Sint64 => ScalarKind::Sint64,
-        ScalarWord::Uint32 => ScalarKind::Uint32,
-        ScalarWord::Uint64 => ScalarKind::Uint64,
-        ScalarWord::Fixed32 => ScalarKind::Fixed32,
-        ScalarWord::Fixed64 => ScalarKind::Fixed64,
-        ScalarWord::Sfixed32 => ScalarKind::Sfixed32,
-        ScalarWord::Sfixed64 => ScalarKind::Sfixed64,
-        ScalarWord::Str => ScalarKind::Str,
-        ScalarWord::Bytes => ScalarKind::Bytes,
-    }
-}
-
-/// A struct, by the kinds of its fields in the order of the text.
-fn struct_kind(alloc: Global, fields: &StructFields) -> Result<ScalarKind, Memory>
-    ensures { IfOk result (λ kind. kind_of kind ≡ scalars.ScalarKind.Packed (words_of fields.now)) }
-{
-    let mut kinds = KindList::new(alloc);
-    for field in fields.as_slice() {
-        if let TypeForm::Scalar(word) = &field.kind.form {
-            kinds.push(word_kind(*word))?;
-        }
-    }
-    Ok(ScalarKind::Packed(kinds))
-}
-
-/// The kind of scalars that a declaration is.
-fn decl_kind(alloc: Global, decl: &Decl) -> Result<ScalarKind, Memory>
-    requires { is_some (kind_of_decl decl.now) ≡ true }
-    ensures { IfOk result (λ kind. kind_of_decl decl.now ≡ Some (kind_of kind)) }
-{
-    match decl {
-        Decl::Struct { fields, .. } => struct_kind(alloc, fields),
-        Decl::Bag { .. } => unreachable!(),
-    }
-}
-
 /// The kind of scalars that the type of an element or a key is.
-fn type_kind(
-    alloc: Global,
-    declarations: &Declarations,
-    node: &TypeNode,
-) -> Result<ScalarKind, Memory>
+fn type_kind(declarations: &ListedDeclarations, node: &TypeNode) -> Result<ScalarKind, Memory>
     requires { is_some (kind_in declarations.now (tree_of node.now)) ≡ true }
     ensures { IfOk result (λ kind. kind_in declarations.now (tree_of node.now) ≡ Some (kind_of kind)) }
 {
     match &node.form {
         TypeForm::Scalar(word) => Ok(word_kind(*word)),
         TypeForm::Name(name) => {
-            let declaration = declarations.named(name.as_str()).unwrap();
-            decl_kind(alloc, declaration.decl)
+            let listed = declarations.named(name.as_str()).unwrap();
+            listed.kind()
         }
         _ => unreachable!(),
     }
@@ -100,17 +49,17 @@ fn in_order<'a>(alloc: Global, fields: &'a BagFields) -> Result<Vec<&'a BagField
 #[cycle(laying)]
 fn decl_shape(
     alloc: Global,
-    declarations: &Declarations,
-    decl: &Decl,
+    declarations: &ListedDeclarations,
+    listed: &Listed,
     room: u32,
 ) -> Result<Shape, Memory>
-    requires { HasDeclShapeIn declarations.now decl.now room }
-    ensures shape { IfOk result (λ shape. IsShapeOfDecl (IsLaidOut declarations.now) decl.now (shape_of shape)) }
+    requires { HasDeclShapeIn declarations.now listed.now.declaration.decl.now room }
+    ensures shape { IfOk result (λ shape. IsShapeOfDecl (IsLaidOut declarations.now) listed.now.declaration.decl.now (shape_of shape)) }
     ensures indexed { IfOk result IsIndexedShape }
 {
-    match decl {
+    match listed.declaration.decl {
         Decl::Bag { fields, .. } => Ok(Shape::Bag(lay_out(alloc, declarations, fields, room)?)),
-        Decl::Struct { fields, .. } => Ok(Shape::Scalar(struct_kind(alloc, fields)?)),
+        Decl::Struct { .. } => Ok(Shape::Scalar(listed.kind()?)),
     }
 }
 
@@ -118,7 +67,7 @@ fn decl_shape(
 #[cycle(laying)]
 fn type_shape(
     alloc: Global,
-    declarations: &Declarations,
+    declarations: &ListedDeclarations,
     node: &TypeNode,
     room: u32,
 ) -> Result<Shape, Memory>
@@ -131,12 +80,12 @@ fn type_shape(
         TypeForm::Taint => Ok(Shape::Taint),
         TypeForm::Counter => Ok(Shape::Counter),
         TypeForm::Name(name) => {
-            let declaration = declarations.named(name.as_str()).unwrap();
-            decl_shape(alloc, declarations, declaration.decl, room)
+            let listed = declarations.named(name.as_str()).unwrap();
+            decl_shape(alloc, declarations, &listed, room)
         }
-        TypeForm::Set(element) => Ok(Shape::Set(type_kind(alloc, declarations, element)?)),
+        TypeForm::Set(element) => Ok(Shape::Set(type_kind(declarations, element)?)),
         TypeForm::Map(key, value) => {
-            let key = type_kind(alloc, declarations, key)?;
+            let key = type_kind(declarations, key)?;
             let value = type_shape(alloc, declarations, value, room - 1)?;
             Ok(Shape::Map(key, Box::new(alloc, value)?))
         }
@@ -148,7 +97,7 @@ fn type_shape(
 #[cycle(laying)]
 fn slot(
     alloc: Global,
-    declarations: &Declarations,
+    declarations: &ListedDeclarations,
     field: &BagField,
     room: u32,
 ) -> Result<Slot, Memory>
@@ -170,7 +119,7 @@ fn slot(
 #[cycle(laying)]
 pub(crate) fn lay_out(
     alloc: Global,
-    declarations: &Declarations,
+    declarations: &ListedDeclarations,
     fields: &BagFields,
     room: u32,
 ) -> Result<Slots, Memory>

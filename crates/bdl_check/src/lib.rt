@@ -7,6 +7,7 @@ mod declarations;
 mod fields;
 pub mod laws;
 mod layouts;
+mod listed;
 mod recursion;
 mod refusals;
 mod sizes;

@@ -12,6 +12,7 @@ ghost use Rattle.topological_order.specs.Orders.{IsOrder};
 
 use crate::declarations::Declarations;
 use crate::layouts::lay_out;
+use crate::listed::ListedDeclarations;
 use crate::refusals::{Refusal, fault_in};
 use crate::sizes::{Size, sizes_of};
 use bdl_load::{DefCode, FIRST, Finding};
@@ -97,6 +98,7 @@ pub(crate) fn table_of(
         };
         return Err(Refusal::At(fault_in(chosen.file.copy()?, found)));
     }
-    let fields = lay_out(alloc, declarations, chosen.fields, MAX_LEVELS)?;
+    let listed = ListedDeclarations::of(alloc, declarations)?;
+    let fields = lay_out(alloc, &listed, chosen.fields, MAX_LEVELS)?;
     Ok(Table::of(fields))
 }

@@ -192,6 +192,59 @@ fn fields_inside_map_values(rt: HostRuntime) -> Result<(), Fail> {
     Ok(())
 }
 
+/// A struct with so many fields.
+fn wide_struct(alloc: Global, count: u32) -> Result<String, Fail> {
+    let mut text = String::from_str(alloc, "struct S { ")?;
+    for number in 0..count {
+        text.push_str(format!(in alloc; "bool f{number}; ")?.as_str())?;
+    }
+    text.push_str("} ")?;
+    Ok(text)
+}
+
+/// Adds a bag with so many fields whose types name the struct: as a field, as a set's elements and as a map's values in turn.
+fn add_uses(alloc: Global, text: &mut String, count: u32) -> Result<(), Fail> {
+    text.push_str("bag B { ")?;
+    for number in 0..count {
+        let kind = match number % 3 {
+            0 => "S",
+            1 => "set<S>",
+            _ => "map<bool, S>",
+        };
+        text.push_str(format!(in alloc; "{kind} f{number} = {number}; ")?.as_str())?;
+    }
+    text.push('}')?;
+    Ok(())
+}
+
+/// How many fields the struct has that a shape holds.
+fn struct_len(shape: &Shape) -> usize {
+    match shape {
+        Shape::Scalar(ScalarKind::Packed(kinds)) | Shape::Set(ScalarKind::Packed(kinds)) => {
+            kinds.len()
+        }
+        Shape::Map(_, value) => struct_len(value),
+        _ => 0,
+    }
+}
+
+#[test]
+fn structs_that_many_fields_name(rt: HostRuntime) -> Result<(), Fail> {
+    let alloc = rt.alloc();
+    let mut text = wide_struct(alloc, 2_000)?;
+    add_uses(alloc, &mut text, 2_000)?;
+    let mut library = SureLibrary::new(alloc);
+    library.add("f", text.as_str().as_bytes())?;
+    let Ok(table) = compile(alloc, &mut library, "f", "B") else {
+        return Err(Fail::from("2,000 uses of a struct"));
+    };
+    assert_eq!(rt; table.slots(), 2_000);
+    for slot in 0..table.slots() {
+        assert_eq!(rt; struct_len(table.shape(slot)), 2_000);
+    }
+    Ok(())
+}
+
 /// A bag with so many fields.
 fn wide_bag(alloc: Global, count: u32) -> Result<String, Fail> {
     let mut text = String::from_str(alloc, "bag B { ")?;

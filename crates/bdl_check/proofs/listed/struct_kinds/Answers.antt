@@ -1,13 +1,11 @@
 use Rattle.std.proofs.Common.{[], ◌∷◌, ◌++◌, map, take, sym, ap, ◌∙◌, refl}
-use Rattle.std.proofs.lemmas.List.{take_all}
-use Rattle.bag_model.specs.Scalars as scalars
 use Rattle.bdl_parser.specs.Views.{struct_field_of}
 use Rattle.bdl_check.specs.Layouts.{words_of}
 use Rattle.bdl_check.proofs.BagSizes.{up_to}
 use Rattle.bdl_check.proofs.LayoutKinds.{word_more, no_more}
 use Rattle.scalar_types.specs.KindViews.{word_of}
-use Rattle.bdl_check.proofs.layouts.struct_kind.Goals as goal
-use Rattle.bdl_check.proofs.layouts.struct_kind.Goals.{in-Scalar+in_ok-push, in_default}
+use Rattle.bdl_check.proofs.listed.struct_kinds.Goals as goal
+use Rattle.bdl_check.proofs.listed.struct_kinds.Goals.{in-Scalar+in_ok-push, in_default}
 
 pub loop-field-preserved : goal.loop-field-preserved
 loop-field-preserved c =
@@ -26,9 +24,3 @@ loop-field-preserved c =
           )
       | in_default w ↦ w.kinds-is ∙ c.loop-field.invariant ∙ no_more front here field.kind.at field.kind.form refl w.in_default.not-Scalar ∙ more
     ]
-
-pub returns : goal.returns
-returns c =
-    let items = c.as_slice-field-items.result.now in
-    let all = ap (map struct_field_of) (take_all c.loop-field.field-index items c.loop-field-test.false) ∙ c.as_slice-field-items.ensures in
-    ap scalars.ScalarKind.Packed (c.loop-field.invariant ∙ ap words_of all)

@@ -1,0 +1,134 @@
+//! The declarations, with the kinds of each struct listed once.
+
+ghost use Rattle.std.specs.Prelude.{◌≡◌, Some, IfOk, true};
+ghost use Rattle.std.specs.Option.{is_some, option_map};
+ghost use Rattle.bag_model.specs.Scalars as scalars;
+ghost use Rattle.bdl_check.specs.Declarations.{named};
+ghost use Rattle.bdl_check.specs.DeclarationViews.{placed_of};
+ghost use Rattle.bdl_check.specs.Layouts.{word_in, words_of, words_of_decl, kind_of_decl};
+ghost use Rattle.scalar_types.specs.KindViews.{IsWord, word_of, kind_of};
+
+use crate::declarations::{Declaration, Declarations};
+use bdl_parser::{Decl, ScalarWord, StructFields, TypeForm};
+use outside::Memory;
+use scalar_types::{KindList, ScalarKind};
+use std::alloc::Global;
+use std::marker::Model;
+
+/// A declaration, and the kinds of its fields where it is a struct. A bag has none.
+#[derive(Clone, Copy)]
+pub(crate) struct Listed<'a> {
+    pub declaration: Declaration<'a>,
+    pub kinds: &'a KindList,
+    ghost kinds_are: { kinds.now ≡ words_of_decl declaration.decl.now },
+}
+
+/// The declarations in order, each with the kinds of its fields. Contracts see the declarations.
+#[derive(Drop)]
+pub(crate) struct ListedDeclarations<'a> {
+    declarations: &'a Declarations<'a>,
+    kinds: Vec<KindList>,
+}
+
+impl<'a> Model for ListedDeclarations<'a> {
+    ghost use Rattle.std.specs.Prelude.{◌≡◌, List, map};
+    ghost use Rattle.bdl_check.specs.Declarations.{Placed};
+    ghost use Rattle.bdl_check.specs.DeclarationCode.{placed_list_code};
+
+    ghost Value = { List Placed };
+
+    ghost coded = { placed_list_code };
+
+    ghost use Rattle.bdl_check.specs.Layouts.{words_of_decl};
+
+    ghost view = { λ listed. listed.declarations.now };
+
+    ghost invariant = { λ listed. listed.kinds.items ≡ map (λ d. words_of_decl d.decl) listed.declarations.now };
+}
+
+impl<'a> ListedDeclarations<'a> {
+    /// Lists the kinds of each struct. The copies of a list share it.
+    pub(crate) fn of(
+        alloc: Global,
+        declarations: &'a Declarations<'a>,
+    ) -> Result<ListedDeclarations<'a>, Memory>
+        ensures { IfOk result (λ listed. listed ≡ declarations.now) }
+    {
+        let mut kinds = Vec::with_capacity(alloc, declarations.len())?;
+        for declaration in declarations.iter() {
+            kinds.push(field_kinds(alloc, declaration.decl)?)?;
+        }
+        Ok(ListedDeclarations {
+            declarations,
+            kinds,
+        })
+    }
+
+    /// The one of this name.
+    pub(crate) fn named(&self, name: &str) -> Option<Listed<'_>>
+        ensures { option_map (λ listed. placed_of listed.declaration) result ≡ named self.now name.now }
+    {
+        let number = self.declarations.number(name)?;
+        let declaration = self.declarations.get(number)?;
+        Some(Listed {
+            declaration,
+            kinds: &self.kinds[number],
+        })
+    }
+}
+
+impl<'a> Listed<'a> {
+    /// The kind of scalars that a struct is.
+    pub(crate) fn kind(&self) -> Result<ScalarKind, Memory>
+        requires { is_some (kind_of_decl self.now.declaration.decl.now) ≡ true }
+        ensures { IfOk result (λ kind. kind_of_decl self.now.declaration.decl.now ≡ Some (kind_of kind)) }
+    {
+        Ok(ScalarKind::Packed(self.kinds.copy()?))
+    }
+}
+
+/// The kinds of the fields of a declaration.
+fn field_kinds(alloc: Global, decl: &Decl) -> Result<KindList, Memory>
+    ensures { IfOk result (λ kinds. kinds ≡ words_of_decl decl.now) }
+{
+    match decl {
+        Decl::Struct { fields, .. } => struct_kinds(alloc, fields),
+        Decl::Bag { .. } => Ok(KindList::new(alloc)),
+    }
+}
+
+/// The kinds of a struct's fields in the order of the text.
+fn struct_kinds(alloc: Global, fields: &StructFields) -> Result<KindList, Memory>
+    ensures { IfOk result (λ kinds. kinds ≡ words_of fields.now) }
+{
+    let mut kinds = KindList::new(alloc);
+    for field in fields.as_slice() {
+        if let TypeForm::Scalar(word) = &field.kind.form {
+            kinds.push(word_kind(*word))?;
+        }
+    }
+    kinds.shared()
+}
+
+/// The kind of scalars that a word is.
+pub(crate) fn word_kind(word: ScalarWord) -> ScalarKind
+    ensures plain { IsWord result }
+    ensures word { word_of result ≡ word_in word }
+    ensures kind { kind_of result ≡ scalars.ScalarKind.One (word_in word) }
+{
+    match word {
+        ScalarWord::Bool => ScalarKind::Bool,
+        ScalarWord::Int32 => ScalarKind::Int32,
+        ScalarWord::Int64 => ScalarKind::Int64,
+        ScalarWord::Sint32 => ScalarKind::Sint32,
+        ScalarWord::Sint64 => ScalarKind::Sint64,
+        ScalarWord::Uint32 => ScalarKind::Uint32,
+        ScalarWord::Uint64 => ScalarKind::Uint64,
+        ScalarWord::Fixed32 => ScalarKind::Fixed32,
+        ScalarWord::Fixed64 => ScalarKind::Fixed64,
+        ScalarWord::Sfixed32 => ScalarKind::Sfixed32,
+        ScalarWord::Sfixed64 => ScalarKind::Sfixed64,
+        ScalarWord::Str => ScalarKind::Str,
+        ScalarWord::Bytes => ScalarKind::Bytes,
+    }
+}
