@@ -1,11 +1,11 @@
 -- What the steps of compiling say of files and of definitions.
-use Rattle.std.proofs.Common.{◌≡◌, ◌∙◌, ℕ, List, [], ◌∷◌, subst, sym}
+use Rattle.std.proofs.Common.{◌≡◌, ◌∙◌, ℕ, List, [], ◌∷◌, refl, subst, sym}
 use Rattle.std.specs.Prelude.{Result, Ok, Err, IfErr}
 use Rattle.std.specs.List.{All, AllByRecursion}
 use Rattle.std.specs.Result.{IsErrAnd}
 use Rattle.std.proofs.lemmas.List.Concat.{flat_map-cons}
 use Rattle.std.proofs.lemmas.List.Elements.{All-nil, All-append, All-cons, All-head, All-tail, All-map}
-use Rattle.outside.specs.Told.{Files}
+use Rattle.outside.specs.Told.{Files, Asked}
 use Rattle.bag_model.specs.Shapes.{Nodes}
 use Rattle.bdl_check.specs.declared.refusals.Refusal.{Refusal}
 use Rattle.bdl_check.specs.declared.refusals.Refusal.TheVariants.{At, Memory}
@@ -21,7 +21,7 @@ use Rattle.bdl_load.specs.declared.faults.DefFault.TheVariants as defs
 use Rattle.bdl_load.specs.declared.faults.Fault.{Fault}
 use Rattle.bdl_load.specs.declared.files.LoadedFile.{LoadedFile}
 use Rattle.bdl_load.specs.Faults.{Blames}
-use Rattle.bdl_load.specs.Loading.{OfFiles, Loads, all_loaded, stopped}
+use Rattle.bdl_load.specs.Loading.{Holding, OfLibrary, AsksAll, Loads, all_loaded, stopped, names_of}
 use Rattle.bdl_load.specs.Spelled.{IsSpelledDecl, AreSpelledDecls}
 use Rattle.topological_order.specs.Graphs.{Graph, Reaches}
 use Rattle.topological_order.specs.Orders.{IsOrder}
@@ -71,24 +71,38 @@ untabled_files files ds root name sound is refusal says =
 
 -- ---- definitions
 
-pub table_of_files : (files : Files) (root name : List ℕ) (loaded : List LoadedFile) (nodes : Nodes) → OfFiles files (λ held. Loads held root (all_loaded loaded)) → IsTableIn loaded name nodes
-    → OfFiles files (λ held. IsTable held root name nodes)
-table_of_files files root name loaded nodes (held, told, loads) table = (held, told, record { files = loaded; loaded = loads; table = table })
+-- what a library gave and was asked for, where this comes of its files
+abbrev Gave : Files → Asked → Asked → List ℕ → (Holding → Type 0) → Type 0
+Gave files before after root Comes = OfLibrary files before after (λ held names. Comes held × AsksAll held root names)
+
+-- these are all files of the definition
+abbrev pub HasLoaded : Files → Asked → Asked → List ℕ → List LoadedFile → Type 0
+HasLoaded files before after root loaded = OfLibrary files before after (λ held names. Loads held root (all_loaded loaded) × (names ≡ names_of loaded))
+
+pub table_of_files : (files : Files) (before after : Asked) (root name : List ℕ) (loaded : List LoadedFile) (nodes : Nodes) → HasLoaded files before after root loaded → IsTableIn loaded name nodes
+    → Gave files before after root (λ held. IsTable held root name nodes)
+table_of_files files before after root name loaded nodes (held, names, told, asks, (loads, all)) table =
+    (held, names, told, asks, (record { files = loaded; loaded = loads; table = table }, (all_loaded loaded, loads, all)))
+
+-- the answer blames the first fault of the definition
+abbrev pub BlamesFirst : Files → Asked → Asked → List ℕ → List ℕ → DefFault → Type 0
+BlamesFirst files before after root name = Blames (λ fault. Gave files before after root (λ held. IsFirstFault held root name fault))
 
 -- a fault of loading is the definition's first
-pub blames_loading : (files : Files) (root name : List ℕ) (answer : DefFault) → Blames (λ fault. OfFiles files (λ held. Loads held root (stopped fault))) answer
-    → Blames (λ fault. OfFiles files (λ held. IsFirstFault held root name fault)) answer
-blames_loading files root name (defs.At file line column code) (held, told, loads) = (held, told, IsFirstFault.unloaded loads)
-blames_loading files root name defs.Failed b = tt
-blames_loading files root name defs.Memory b = tt
+pub blames_loading : (files : Files) (before after : Asked) (root name : List ℕ) (answer : DefFault) → Blames (λ fault. OfLibrary files before after (λ held names. Loads held root (stopped names fault))) answer
+    → BlamesFirst files before after root name answer
+blames_loading files before after root name (defs.At file line column code) (held, names, told, asks, loads) =
+    let fault : Fault = record { file = file; line = line; column = column; code = code } in
+    (held, names, told, asks, (IsFirstFault.unloaded names loads, (stopped names fault, loads, refl)))
+blames_loading files before after root name defs.Failed b = tt
+blames_loading files before after root name defs.Memory b = tt
 
 -- and so is one of the files that were loaded
-pub blames_files : (files : Files) (root name : List ℕ) (loaded : List LoadedFile) → OfFiles files (λ held. Loads held root (all_loaded loaded)) → (refusal : Refusal) (answer : DefFault)
-    → Says (IsFaultIn loaded root name) refusal → IsAnswerOf refusal answer → Blames (λ fault. OfFiles files (λ held. IsFirstFault held root name fault)) answer
-blames_files files root name loaded (held, told, loads) (At fault) answer says is =
-    subst (Blames (λ fault. OfFiles files (λ held. IsFirstFault held root name fault))) (sym is) (held, told, IsFirstFault.loaded loaded loads says)
-blames_files files root name loaded of Memory answer says is =
-    subst (Blames (λ fault. OfFiles files (λ held. IsFirstFault held root name fault))) (sym is) tt
+pub blames_files : (files : Files) (before after : Asked) (root name : List ℕ) (loaded : List LoadedFile) → HasLoaded files before after root loaded → (refusal : Refusal) (answer : DefFault)
+    → Says (IsFaultIn loaded root name) refusal → IsAnswerOf refusal answer → BlamesFirst files before after root name answer
+blames_files files before after root name loaded (held, names, told, asks, (loads, all)) (At fault) answer says is =
+    subst (BlamesFirst files before after root name) (sym is) (held, names, told, asks, (IsFirstFault.loaded loaded loads says, (all_loaded loaded, loads, all)))
+blames_files files before after root name loaded of Memory answer says is = subst (BlamesFirst files before after root name) (sym is) tt
 
 -- an answer of a refusal isn't that the library failed
 pub answer_not_failed : (refusal : Refusal) (answer : DefFault) → IsAnswerOf refusal answer → answer ≡ defs.Failed → ⊥

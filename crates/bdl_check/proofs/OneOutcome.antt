@@ -65,8 +65,8 @@ table_in_excludes files root name table f t (IsFaultIn.untabled sound p) = table
 same_files : LoadingOne → (held : Holding) (root : List ℕ) (files others : List LoadedFile) → Loads held root (all_loaded files) → Loads held root (all_loaded others) → files ≡ others
 same_files one held root files others p q = let same = one held root (all_loaded files) (all_loaded others) p q in cc same
 
-not_stopped : LoadingOne → (held : Holding) (root : List ℕ) (files : List LoadedFile) (f : Fault) → Loads held root (all_loaded files) → Loads held root (stopped f) → ⊥
-not_stopped one held root files f p q = let same = one held root (all_loaded files) (stopped f) p q in cc same
+not_stopped : LoadingOne → (held : Holding) (root : List ℕ) (files : List LoadedFile) (names : List (List ℕ)) (f : Fault) → Loads held root (all_loaded files) → Loads held root (stopped names f) → ⊥
+not_stopped one held root files names f p q = let same = one held root (all_loaded files) (stopped names f) p q in cc same
 
 pub tables_one : LoadingOne → (held : Holding) (root name : List ℕ) (m n : Nodes) → IsTable held root name m → IsTable held root name n → m ≡ n
 tables_one one held root name m n t u =
@@ -75,15 +75,15 @@ tables_one one held root name m n t u =
     table_one (all_placed u.files) name m n there.table u.table.table
 
 pub tables_exclude : LoadingOne → (held : Holding) (root name : List ℕ) (table : Nodes) (f : Fault) → IsTable held root name table → IsFirstFault held root name f → ⊥
-tables_exclude one held root name table f t (IsFirstFault.unloaded p) = not_stopped one held root t.files f t.loaded p
+tables_exclude one held root name table f t (IsFirstFault.unloaded names p) = not_stopped one held root t.files names f t.loaded p
 tables_exclude one held root name table f t (IsFirstFault.loaded files p q) =
     let same = same_files one held root t.files files t.loaded p in
     table_in_excludes files root name table f (subst (λ (fs : List LoadedFile). IsTableIn fs name table) same t.table) q
 
 pub faults_one : LoadingOne → (held : Holding) (root name : List ℕ) (f g : Fault) → IsFirstFault held root name f → IsFirstFault held root name g → f ≡ g
-faults_one one held root name f g (IsFirstFault.unloaded p) (IsFirstFault.unloaded q) = let same = one held root (stopped f) (stopped g) p q in cc same
-faults_one one held root name f g (IsFirstFault.unloaded p) (IsFirstFault.loaded files q r) = absurd (not_stopped one held root files f q p)
-faults_one one held root name f g (IsFirstFault.loaded files p r) (IsFirstFault.unloaded q) = absurd (not_stopped one held root files g p q)
+faults_one one held root name f g (IsFirstFault.unloaded names p) (IsFirstFault.unloaded others q) = let same = one held root (stopped names f) (stopped others g) p q in cc same
+faults_one one held root name f g (IsFirstFault.unloaded names p) (IsFirstFault.loaded files q r) = absurd (not_stopped one held root files names f q p)
+faults_one one held root name f g (IsFirstFault.loaded files p r) (IsFirstFault.unloaded names q) = absurd (not_stopped one held root files names g p q)
 faults_one one held root name f g (IsFirstFault.loaded files p r) (IsFirstFault.loaded others q s) =
     let same = same_files one held root files others p q in
     faults_in_one others root name f g (subst (λ (fs : List LoadedFile). IsFaultIn fs root name f) same r) s

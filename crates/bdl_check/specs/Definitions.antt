@@ -34,5 +34,5 @@ pub record IsTable (held : Holding) (root name : List ℕ) (nodes : Nodes) : Typ
 
 -- the first fault of the definition with this root, asked for the bag of this name: of loading, or of the files that were loaded
 pub data IsFirstFault (held : Holding) (root name : List ℕ) (fault : Fault) : Type 0 where
-  unloaded : Loads held root (stopped fault) → IsFirstFault held root name fault
+  unloaded : (names : List (List ℕ)) → Loads held root (stopped names fault) → IsFirstFault held root name fault
   loaded : (files : List LoadedFile) → Loads held root (all_loaded files) → IsFaultIn files root name fault → IsFirstFault held root name fault

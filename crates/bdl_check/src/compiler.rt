@@ -3,7 +3,7 @@
 ghost use Rattle.std.specs.Prelude.{◌≡◌, ◌≤◌, All, IfOk, IfErr, IsErrOf};
 ghost use Rattle.outside.specs.Causes.{Rose};
 ghost use Rattle.bdl_load.specs.Faults.{Blames};
-ghost use Rattle.bdl_load.specs.Loading.{OfFiles};
+ghost use Rattle.bdl_load.specs.Loading.{OfLibrary, AsksAll, AsksFirst};
 ghost use Rattle.bdl_load.specs.Spelled.{AreSpelledDecls};
 ghost use Rattle.bdl_check.specs.Definitions.{IsTableIn, IsFaultIn, IsTable, IsFirstFault};
 ghost use Rattle.bdl_check.specs.Faults.{Says};
@@ -31,16 +31,17 @@ fn table_in(alloc: Global, files: &[LoadedFile], root: &str, bag: &str) -> Resul
 }
 
 /// The table of a bag of a definition, whose root is a file of the library. The root is fetched first, and then each file that
-/// is imported, once; the first fault of all is the answer where there is one, `Failed` where a fetch failed, and `Memory`
-/// where there is none for the files, the table or the fault.
+/// is imported, once, and no other; the first fault of all is the answer where there is one, `Failed` where a fetch failed, and
+/// `Memory` where there is none for the files, the table or the fault.
 pub fn compile<L: Library>(
     alloc: Global,
     library: &mut L,
     file: &str,
     bag: &str,
 ) -> Result<Table, DefFault>
-    ensures table { IfOk result (λ table. OfFiles (L.files library.old) (λ held. IsTable held file.now bag.now table)) }
-    ensures fault { IfErr result (Blames (λ fault. OfFiles (L.files library.old) (λ held. IsFirstFault held file.now bag.now fault))) }
+    ensures table { IfOk result (λ table. OfLibrary (L.files library.old) (L.asked library.old) (L.asked library.new) (λ held names. IsTable held file.now bag.now table × AsksAll held file.now names)) }
+    ensures fault { IfErr result (Blames (λ fault. OfLibrary (L.files library.old) (L.asked library.old) (L.asked library.new) (λ held names. IsFirstFault held file.now bag.now fault × AsksAll held file.now names))) }
+    ensures asked { OfLibrary (L.files library.old) (L.asked library.old) (L.asked library.new) (λ held names. AsksFirst held file.now names) }
     ensures cause { IsErrOf result DefFault.Failed → Rose (L.faults library.old) (L.faults library.new) }
     ensures later { L.faults library.old ≤ L.faults library.new }
     ensures same { L.files library.new ≡ L.files library.old }

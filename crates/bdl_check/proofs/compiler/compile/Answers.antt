@@ -1,38 +1,42 @@
 use Rattle.std.proofs.Common.{◌≡◌, List, subst, sym}
-use Rattle.bdl_check.specs.Definitions.{IsTableIn, IsFaultIn, IsFirstFault}
+use Rattle.bdl_check.specs.Definitions.{IsTableIn, IsFaultIn}
 use Rattle.bdl_check.specs.Faults.{Says}
 use Rattle.bdl_check.specs.Refusals.{IsAnswerOf}
 use Rattle.bdl_load.specs.declared.faults.DefFault.{DefFault}
 use Rattle.bdl_load.specs.declared.files.LoadedFile.{LoadedFile}
-use Rattle.bdl_load.specs.Faults.{Blames}
-use Rattle.bdl_load.specs.Loading.{OfFiles}
-use Rattle.bdl_check.proofs.Compiling.{exit_err, table_of_files, blames_loading, blames_files}
+use Rattle.bdl_check.proofs.Compiling.{exit_err, BlamesFirst, table_of_files, blames_loading, blames_files}
 use Rattle.bdl_check.proofs.compiler.compile.Goals as goal
 
 pub returns-in_err-files-clause-fault : goal.returns-in_err-files-clause-fault
 returns-in_err-files-clause-fault g c =
     let files = g.L.Library.files c.args.library.now in
+    let before = g.L.Library.asked c.args.library.now in
+    let after = g.L.Library.asked c.load.new.library in
     let root = c.args.file.now in
     let name = c.args.bag.now in
     let fault = c.in_err-files.field-0.0 in
-    exit_err {E = DefFault} (λ (answer : DefFault). answer ≡ fault) (Blames (λ f. OfFiles files (λ held. IsFirstFault held root name f))) c.from_residual.result
-    (λ (answer : DefFault) is. subst (Blames (λ f. OfFiles files (λ held. IsFirstFault held root name f))) (sym is) (blames_loading files root name fault c.in_err-files.ensures.fault))
+    exit_err {E = DefFault} (λ (answer : DefFault). answer ≡ fault) (BlamesFirst files before after root name) c.from_residual.result
+    (λ (answer : DefFault) is. subst (BlamesFirst files before after root name) (sym is) (blames_loading files before after root name fault c.in_err-files.ensures.fault))
     c.from_residual.ensures.1
 
 pub returns-in_err-table_in-clause-fault : goal.returns-in_err-table_in-clause-fault
 returns-in_err-table_in-clause-fault g c =
     let files = g.L.Library.files c.args.library.now in
+    let before = g.L.Library.asked c.args.library.now in
+    let after = g.L.Library.asked c.load.new.library in
     let root = c.args.file.now in
     let name = c.args.bag.now in
     let refusal = c.in_err-table_in.field-0.0 in
     let says = subst (λ (those : List LoadedFile). Says (IsFaultIn those root name) refusal) c.deref.ensures.value c.in_err-table_in.ensures.fault in
-    exit_err {E = DefFault} (IsAnswerOf refusal) (Blames (λ f. OfFiles files (λ held. IsFirstFault held root name f))) c.from_residual-in_err-table_in.result
-    (λ (answer : DefFault) is. blames_files files root name c.in_ok-files.files.items c.in_ok-files.ensures.loaded refusal answer says is)
+    exit_err {E = DefFault} (IsAnswerOf refusal) (BlamesFirst files before after root name) c.from_residual-in_err-table_in.result
+    (λ (answer : DefFault) is. blames_files files before after root name c.in_ok-files.files.items c.in_ok-files.ensures.loaded refusal answer says is)
     c.from_residual-in_err-table_in.ensures.1
 
 pub returns-clause-table : goal.returns-clause-table
 returns-clause-table g c =
-    let root = c.args.file.now in
+    let files = g.L.Library.files c.args.library.now in
+    let before = g.L.Library.asked c.args.library.now in
+    let after = g.L.Library.asked c.load.new.library in
     let name = c.args.bag.now in
     let table = subst (λ (those : List LoadedFile). IsTableIn those name c.in_ok-table_in.field-0) c.deref.ensures.value c.in_ok-table_in.ensures.table in
-    table_of_files (g.L.Library.files c.args.library.now) root name c.in_ok-files.files.items c.in_ok-table_in.field-0 c.in_ok-files.ensures.loaded table
+    table_of_files files before after c.args.file.now name c.in_ok-files.files.items c.in_ok-table_in.field-0 c.in_ok-files.ensures.loaded table
