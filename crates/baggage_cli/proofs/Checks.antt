@@ -1,5 +1,6 @@
 -- What files give for a bag is one outcome.
-use Rattle.std.proofs.Common.{inl, inr, subst, ◌≡◌, ℕ, List, length, Ok, Err, refl, sym, ◌∙◌, ap}
+use Rattle.std.proofs.Common.{inl, inr, subst, ◌≡◌, ℕ, ◌-◌, List, [], ◌∷◌, length, take, Ok, Err, refl, sym, ◌∙◌, ap}
+use Rattle.std.specs.List.{AllByRecursion}
 use Rattle.std.specs.Prelude.{Result, IfErr}
 use Rattle.std.specs.Result.{IsErrAnd}
 use Rattle.bag_model.specs.Shapes.{Nodes}
@@ -8,13 +9,16 @@ use Rattle.bdl_load.specs.declared.faults.DefFault.{DefFault}
 use Rattle.bdl_load.specs.declared.faults.DefFault.TheVariants as defs
 use Rattle.bdl_load.specs.declared.faults.Fault.{Fault}
 use Rattle.bdl_load.specs.Faults.{Blames}
-use Rattle.bdl_load.specs.Loading.{Holding, OfFiles}
+use Rattle.bdl_load.specs.Loading.{Holding, OfLibrary, AgreeButLast, AsksAll, AsksFirst}
 use Rattle.bdl_check.specs.Definitions.{IsTable, IsFirstFault}
 use Rattle.baggage_cli.specs.declared.refusals.Refusal.{Refusal}
 use Rattle.baggage_cli.specs.declared.refusals.Refusal.TheVariants.{Input, Context, Definition, LibraryFailed, SourceFailed, Memory}
-use Rattle.baggage_cli.specs.Answer.{ok_line, CheckGives, Compiles, GivesOne}
+use Rattle.baggage_cli.specs.Answer.{Outcome, ok_line, CheckGives, Compiles, Comes, GivesOne}
+use Rattle.baggage_cli.specs.Asked.{file_word, bag_word}
+use Rattle.baggage_cli.specs.declared.commands.Command.{Command}
+use Rattle.baggage_cli.specs.declared.commands.Command.TheVariants.{Check}
 use Rattle.baggage_cli.specs.Refused.{refusal_of}
-use Rattle.baggage_cli.specs.Scene.{Change, HasFailed}
+use Rattle.baggage_cli.specs.Scene.{Change, HasFailed, IsSame}
 
 -- A refusal that is given is the first fault of the definition.
 record IsBlamed (root bag : List ℕ) (held : Holding) (refusal : Refusal) : Type 0 where
@@ -48,11 +52,36 @@ checks_one root bag one never first held (Err r) (Err s) f g =
     ap Err (b.is ∙ middle ∙ sym d.is)
 
 -- What the compiler answers is what the command comes to.
-pub compiled_refusal : (root bag : List ℕ) (library : Change Holding) (answer : DefFault) → Blames (λ fault. OfFiles library.before (λ held. IsFirstFault held root bag fault)) answer
-    → (answer ≡ defs.Failed → HasFailed library) → Compiles (CheckGives root bag) library (Err (refusal_of answer))
-compiled_refusal root bag library (defs.At file line column code) (held, told, first) failed = inr (inr (held, told, first))
-compiled_refusal root bag library defs.Failed blames failed = inr (inl (refl, failed refl))
-compiled_refusal root bag library defs.Memory blames failed = inl refl
+pub compiled_refusal : (root bag : List ℕ) (library : Change Holding) (requests : Change (List (List ℕ))) (answer : DefFault)
+    → Blames (λ fault. OfLibrary library.before requests.before requests.after (λ held names. IsFirstFault held root bag fault × AsksAll held root names)) answer
+    → OfLibrary library.before requests.before requests.after (λ held names. AsksFirst held root names)
+    → (answer ≡ defs.Failed → HasFailed library) → Compiles (CheckGives root bag) root library requests (Err (refusal_of answer))
+compiled_refusal root bag library requests (defs.At file line column code) blames asked failed = inr (inr blames)
+compiled_refusal root bag library requests defs.Failed blames asked failed = inr (inl (refl, failed refl, asked))
+compiled_refusal root bag library requests defs.Memory blames asked failed = inl (refl, asked)
+
+-- The names of all files are the first names.
+same_but_last : (held : Holding) (names : List (List ℕ)) → AgreeButLast names held held
+same_but_last held names = each (take (length names - 1) names)
+  where
+    each : (those : List (List ℕ)) → AllByRecursion (λ name. held name ≡ held name) those
+    each [] = tt
+    each (name ∷ those) = (refl, each those)
+
+-- Where a definition comes to a refusal, memory may be wanting for it.
+pub compiled_memory : (root bag : List ℕ) (library : Change Holding) (requests : Change (List (List ℕ))) (refusal : Refusal)
+    → Compiles (CheckGives root bag) root library requests (Err refusal) → Compiles (CheckGives root bag) root library requests (Err Memory)
+compiled_memory root bag library requests refusal (inl wanting) = inl (refl, wanting.1)
+compiled_memory root bag library requests refusal (inr (inl failed)) = inl (refl, failed.2)
+compiled_memory root bag library requests refusal (inr (inr (held, names, told, asks, (gave, all)))) = inl (refl, (held, names, told, asks, (held, same_but_last held names, all)))
+
+-- What the compiler comes to for the words of a command is what the command comes to.
+pub check_comes : (words : List (List ℕ)) (command : Command) (file bag : List ℕ) (library : Change Holding) (requests : Change (List (List ℕ))) (source : Change (List ℕ)) (outcome : Outcome)
+    → command ≡ Check → file ≡ file_word words → bag ≡ bag_word words → IsSame source → Compiles (CheckGives file bag) file library requests outcome → Comes words command library requests source outcome
+check_comes words command file bag library requests source outcome is file_is bag_is same gave =
+    let named = subst (λ file. Compiles (CheckGives file bag) file library requests outcome) file_is gave in
+    let asked_for = subst (λ bag. Compiles (CheckGives (file_word words) bag) (file_word words) library requests outcome) bag_is named in
+    subst (λ command. Comes words command library requests source outcome) (sym is) (same, asked_for)
 
 -- What an early return by `?` hands on.
 pub exit_refused : {T E : Type 0} (Says : E → Type 0) (result : Result T E) (refusal : E) → IsErrAnd result (λ other. other ≡ refusal) → Says refusal → IfErr result Says

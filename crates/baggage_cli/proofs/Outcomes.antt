@@ -1,6 +1,7 @@
 -- What follows from what a command may come to, and from how that is delivered.
-use Rattle.std.proofs.Common.{◌≡◌, ◌⊎◌, inl, inr, ℕ, ◌≤◌, List, [], ◌∷◌, ◌++◌, length, Option, Some, None, Ok, Err, refl, sym, ◌∙◌, ap, subst, length-append, arith}
+use Rattle.std.proofs.Common.{◌≡◌, ◌⊎◌, inl, inr, ℕ, ◌<◌, ◌≤◌, List, [], ◌∷◌, ◌++◌, length, Option, Some, None, Ok, Err, refl, sym, ◌∙◌, ap, subst, length-append, arith}
 use Rattle.std.specs.List.{AllByRecursion}
+use Rattle.outside.specs.Told.{Asks}
 use Rattle.context_model.specs.Atoms.{Atom}
 use Rattle.context_model.specs.Framing.{bytes_of}
 use Rattle.context_model.specs.Trimmed.{trimmed}
@@ -11,7 +12,7 @@ use Rattle.bag_model.specs.Shapes.{Nodes}
 use Rattle.bag_model.specs.Slots.{slots_of}
 use Rattle.bdl_load.specs.declared.faults.DefCode.{DefCode}
 use Rattle.bdl_load.specs.declared.faults.Fault.{Fault}
-use Rattle.bdl_load.specs.Loading.{Holding}
+use Rattle.bdl_load.specs.Loading.{Holding, AsksAll}
 use Rattle.bdl_check.specs.Definitions.{IsTable, IsFirstFault}
 use Rattle.baggage_cli.specs.Asked.{file_word, bag_word}
 use Rattle.baggage_cli.specs.declared.commands.Command.{Command}
@@ -27,6 +28,7 @@ use Rattle.baggage_cli.specs.ReadLines.Wanted.{AnyList, OnlyContext}
 use Rattle.baggage_cli.specs.Scene.{Change, Scene, HasFailed, Takes}
 use Rattle.baggage_cli.specs.Refused.{status_of, line_of}
 use Rattle.baggage_cli.specs.Answer.{Outcome, ok_line, CheckGives, Compiles, IsTooLong, Within, RefusesOne, TrimsLines, MergesLines, TrimGives, MergeGives, Accepts, GivesOne, Reads, Comes, Tells, Delivers, Answers}
+use Rattle.baggage_cli.proofs.Checks.{compiled_memory}
 use Rattle.baggage_cli.proofs.FirstBad.{all_say-length, all_say_one, first_bad_one, all_good}
 
 -- ---- one outcome
@@ -83,11 +85,11 @@ too_long_comes gives source refusal (inr (inl failed)) = inr (inl failed)
 too_long_comes gives source refusal (inr (inr (input, held, long, ended))) = inr (inr (input, held, inl long, ended))
 
 -- Where a command may come to a refusal it may come to want of memory.
-pub memory_instead : (words : List (List ℕ)) (command : Command) (library : Change (List ℕ → Option (List ℕ))) (source : Change (List ℕ)) (refusal : Refusal)
-    → Comes words command library source (Err refusal) → Comes words command library source (Err Memory)
-memory_instead words (Trim budget) library source refusal comes = (comes.0, inl refl)
-memory_instead words Merge library source refusal comes = (comes.0, inl refl)
-memory_instead words Check library source refusal comes = (comes.0, inl refl)
+pub memory_instead : (words : List (List ℕ)) (command : Command) (library : Change Holding) (requests : Change (List (List ℕ))) (source : Change (List ℕ)) (refusal : Refusal)
+    → Comes words command library requests source (Err refusal) → Comes words command library requests source (Err Memory)
+memory_instead words (Trim budget) library requests source refusal comes = (comes.0, comes.1, inl refl)
+memory_instead words Merge library requests source refusal comes = (comes.0, comes.1, inl refl)
+memory_instead words Check library requests source refusal comes = (comes.0, compiled_memory (file_word words) (bag_word words) library requests refusal comes.1)
 
 -- No refusal has the status of success.
 status_some : (refusal : Refusal) → status_of refusal ≡ 0 → ⊥
@@ -119,7 +121,7 @@ pub trim_appends : (words : List (List ℕ)) (budget : ℕ) (input : List ℕ) (
     → Takes scene.out (hex_line (bytes_of (trimmed list budget)))
 trim_appends words budget input list scene answer (outcome, comes, delivers) held says zero_is =
     let out = delivered outcome scene.out scene.errs answer delivers zero_is in
-    let gave : TrimGives budget input (Ok out.0) = given (TrimGives budget) scene.source input out.0 held (subst (Reads (TrimGives budget) scene.source) out.1 comes.1) in
+    let gave : TrimGives budget input (Ok out.0) = given (TrimGives budget) scene.source input out.0 held (subst (Reads (TrimGives budget) scene.source) out.1 comes.2) in
     let same : ◌≡◌ {A = Outcome} (Ok out.0) (Ok (hex_line (bytes_of (trimmed list budget)))) =
     trim_gives_one budget input (Ok out.0) (Ok (hex_line (bytes_of (trimmed list budget)))) gave (inr (says.0, (list, says.1, refl))) in
     subst (Takes scene.out) (cc same) out.2
@@ -130,7 +132,7 @@ pub merge_appends : (words : List (List ℕ)) (input : List ℕ) (lists : List (
     → Takes scene.out (hex_line (bytes_of merged))
 merge_appends words input lists merged scene answer (outcome, comes, delivers) held says is zero_is =
     let out = delivered outcome scene.out scene.errs answer delivers zero_is in
-    let gave : MergeGives input (Ok out.0) = given MergeGives scene.source input out.0 held (subst (Reads MergeGives scene.source) out.1 comes.1) in
+    let gave : MergeGives input (Ok out.0) = given MergeGives scene.source input out.0 held (subst (Reads MergeGives scene.source) out.1 comes.2) in
     subst (Takes scene.out) (merge_given input lists merged out.0 says is gave) out.2
   where
     merge_given : (input : List ℕ) (lists : List (List Atom)) (merged : List Atom) (output : List ℕ) → SaysLists OnlyContext input lists → IsMerged lists merged → MergeGives input (Ok output) → output ≡ hex_line (bytes_of merged)
@@ -142,10 +144,11 @@ merge_appends words input lists merged scene answer (outcome, comes, delivers) h
 -- ---- definitions
 
 -- What a definition comes to is given for the files that the library tells, but for want of memory and a library that failed.
-compiled : (gives : Holding → Outcome → Type 0) (library : Change Holding) (held : Holding) (output : List ℕ) → library.before ≡ Some held → Compiles gives library (Ok output) → gives held (Ok output)
-compiled gives library held output is (inl e) = absurd (cc e)
-compiled gives library held output is (inr (inl failed)) = absurd (cc (failed.0))
-compiled gives library held output is (inr (inr (files, told, gave))) =
+compiled : (gives : Holding → Outcome → Type 0) (root : List ℕ) (library : Change Holding) (requests : Change (List (List ℕ))) (held : Holding) (output : List ℕ) → library.before ≡ Some held
+    → Compiles gives root library requests (Ok output) → gives held (Ok output)
+compiled gives root library requests held output is (inl wanting) = absurd (cc (wanting.0))
+compiled gives root library requests held output is (inr (inl failed)) = absurd (cc (failed.0))
+compiled gives root library requests held output is (inr (inr (files, names, told, asks, (gave, all)))) =
     let same : held ≡ files = rw is at told in
     subst (λ held. gives held (Ok output)) (sym same) gave
 
@@ -159,7 +162,7 @@ check_appends words command held scene answer answers is told zero_is = by (subs
     by (outcome, comes, delivers) =
         let out = delivered outcome scene.out scene.errs answer delivers zero_is in
         let gave : CheckGives (file_word words) (bag_word words) held (Ok out.0) =
-        compiled (CheckGives (file_word words) (bag_word words)) scene.library held out.0 told (subst (Compiles (CheckGives (file_word words) (bag_word words)) scene.library) out.1 comes.1) in
+        compiled (CheckGives (file_word words) (bag_word words)) (file_word words) scene.library scene.requests held out.0 told (subst (Compiles (CheckGives (file_word words) (bag_word words)) (file_word words) scene.library scene.requests) out.1 comes.1) in
         (gave.0, gave.1, subst (Takes scene.out) gave.2 out.2)
 
 -- A refusal of a line or of the whole input.
@@ -216,31 +219,31 @@ failed_source library source LibraryFailed (inr (inr of)) four_is = absurd of
 failed_source library source SourceFailed (inr (inr of)) four_is = absurd of
 failed_source library source Memory (inr (inr of)) four_is = absurd of
 
-failed_library : (file bag : List ℕ) (library : Change Holding) (source : Change (List ℕ)) (refusal : Refusal) → Compiles (CheckGives file bag) library (Err refusal) → status_of refusal ≡ 4
+failed_library : (file bag : List ℕ) (library : Change Holding) (requests : Change (List (List ℕ))) (source : Change (List ℕ)) (refusal : Refusal) → Compiles (CheckGives file bag) file library requests (Err refusal) → status_of refusal ≡ 4
     → HasFailed library ⊎ HasFailed source
-failed_library file bag library source refusal (inl e) four_is = absurd (let is : refusal ≡ Memory = cc e in let six = ap status_of is in omega (arith, six, four_is))
-failed_library file bag library source refusal (inr (inl failed)) four_is = inl failed.1
-failed_library file bag library source (Definition name line column code) (inr (inr (held, told, gave))) four_is = absurd (omega (arith, four_is))
-failed_library file bag library source (Input line code) (inr (inr (held, told, gave))) four_is = absurd gave
-failed_library file bag library source (Context line offset code) (inr (inr (held, told, gave))) four_is = absurd gave
-failed_library file bag library source LibraryFailed (inr (inr (held, told, gave))) four_is = absurd gave
-failed_library file bag library source SourceFailed (inr (inr (held, told, gave))) four_is = absurd gave
-failed_library file bag library source Memory (inr (inr (held, told, gave))) four_is = absurd gave
+failed_library file bag library requests source refusal (inl wanting) four_is = absurd (let is : refusal ≡ Memory = cc (wanting.0) in let six = ap status_of is in omega (arith, six, four_is))
+failed_library file bag library requests source refusal (inr (inl failed)) four_is = inl failed.1
+failed_library file bag library requests source (Definition name line column code) (inr (inr (held, names, told, asks, (gave, all)))) four_is = absurd (omega (arith, four_is))
+failed_library file bag library requests source (Input line code) (inr (inr (held, names, told, asks, (gave, all)))) four_is = absurd gave
+failed_library file bag library requests source (Context line offset code) (inr (inr (held, names, told, asks, (gave, all)))) four_is = absurd gave
+failed_library file bag library requests source LibraryFailed (inr (inr (held, names, told, asks, (gave, all)))) four_is = absurd gave
+failed_library file bag library requests source SourceFailed (inr (inr (held, names, told, asks, (gave, all)))) four_is = absurd gave
+failed_library file bag library requests source Memory (inr (inr (held, names, told, asks, (gave, all)))) four_is = absurd gave
 
-failed_comes : (words : List (List ℕ)) (command : Command) (library : Change Holding) (source : Change (List ℕ)) (refusal : Refusal) → Comes words command library source (Err refusal) → status_of refusal ≡ 4
+failed_comes : (words : List (List ℕ)) (command : Command) (library : Change Holding) (requests : Change (List (List ℕ))) (source : Change (List ℕ)) (refusal : Refusal) → Comes words command library requests source (Err refusal) → status_of refusal ≡ 4
     → HasFailed library ⊎ HasFailed source
-failed_comes words (Trim budget) library source refusal comes four_is =
-    failed_source library source refusal (reads_refuse (TrimGives budget) source refusal (λ input. trim_of_input budget input refusal) comes.1) four_is
-failed_comes words Merge library source refusal comes four_is =
-    failed_source library source refusal (reads_refuse MergeGives source refusal (λ input. merge_of_input input refusal) comes.1) four_is
-failed_comes words Check library source refusal comes four_is = failed_library (file_word words) (bag_word words) library source refusal comes.1 four_is
+failed_comes words (Trim budget) library requests source refusal comes four_is =
+    failed_source library source refusal (reads_refuse (TrimGives budget) source refusal (λ input. trim_of_input budget input refusal) comes.2) four_is
+failed_comes words Merge library requests source refusal comes four_is =
+    failed_source library source refusal (reads_refuse MergeGives source refusal (λ input. merge_of_input input refusal) comes.2) four_is
+failed_comes words Check library requests source refusal comes four_is = failed_library (file_word words) (bag_word words) library requests source refusal comes.1 four_is
 
 pub failed_rose : (words : List (List ℕ)) (command : Option Command) (scene : Scene) (answer : ℕ) → Answers words command scene answer → answer ≡ 4 → HasFailed scene.library ⊎ HasFailed scene.source
-failed_rose words None scene answer (library, source, out, inl told) four_is = absurd (let status = told.0 in omega arith)
-failed_rose words None scene answer (library, source, out, inr failed) four_is = absurd (let status = failed.0 in omega arith)
+failed_rose words None scene answer (library, requests, source, out, inl told) four_is = absurd (let status = told.0 in omega arith)
+failed_rose words None scene answer (library, requests, source, out, inr failed) four_is = absurd (let status = failed.0 in omega arith)
 failed_rose words (Some command) scene answer (Ok output, comes, inl done) four_is = absurd (let status = done.0 in omega arith)
 failed_rose words (Some command) scene answer (Ok output, comes, inr failed) four_is = absurd (let status = failed.0 in omega arith)
-failed_rose words (Some command) scene answer (Err refusal, comes, (same, inl told)) four_is = failed_comes words command scene.library scene.source refusal comes (sym told.0 ∙ four_is)
+failed_rose words (Some command) scene answer (Err refusal, comes, (same, inl told)) four_is = failed_comes words command scene.library scene.requests scene.source refusal comes (sym told.0 ∙ four_is)
 failed_rose words (Some command) scene answer (Err refusal, comes, (same, inr failed)) four_is = absurd (let status = failed.0 in omega arith)
 
 -- The first fault of the definition that the words name, with its line.
@@ -249,24 +252,24 @@ SaysFault words held scene =
     (fault : Fault) × IsFirstFault held (file_word words) (bag_word words) fault × Takes scene.errs (line_of (Definition fault.file fault.line fault.column fault.code))
 
 check_says : (words : List (List ℕ)) (held : Holding) (scene : Scene) (file : List ℕ) (line column : ℕ) (code : DefCode)
-    → Compiles (CheckGives (file_word words) (bag_word words)) scene.library (Err (Definition file line column code)) → scene.library.before ≡ Some held
+    → Compiles (CheckGives (file_word words) (bag_word words)) (file_word words) scene.library scene.requests (Err (Definition file line column code)) → scene.library.before ≡ Some held
     → Takes scene.errs (line_of (Definition file line column code)) → SaysFault words held scene
-check_says words held scene file line column code (inl e) is takes = absurd (cc e)
+check_says words held scene file line column code (inl wanting) is takes = absurd (cc (wanting.0))
 check_says words held scene file line column code (inr (inl failed)) is takes = absurd (cc (failed.0))
-check_says words held scene file line column code (inr (inr (files, told, gave))) is takes =
+check_says words held scene file line column code (inr (inr (files, names, told, asks, (gave, all)))) is takes =
     let same : held ≡ files = rw is at told in
     let said = subst (λ held. CheckGives (file_word words) (bag_word words) held (Err (Definition file line column code))) (sym same) gave in
     (record { file = file; line = line; column = column; code = code }, said, takes)
 
 comes_definition : (words : List (List ℕ)) (command : Command) (held : Holding) (scene : Scene) (file : List ℕ) (line column : ℕ) (code : DefCode)
-    → Comes words command scene.library scene.source (Err (Definition file line column code)) → scene.library.before ≡ Some held
+    → Comes words command scene.library scene.requests scene.source (Err (Definition file line column code)) → scene.library.before ≡ Some held
     → Takes scene.errs (line_of (Definition file line column code)) → SaysFault words held scene
-comes_definition words (Trim budget) held scene file line column code comes is takes = absurd (no_definition scene.source file line column code (reads_refuse (TrimGives budget) scene.source (Definition file line column code) (λ input. trim_of_input budget input (Definition file line column code)) comes.1))
-comes_definition words Merge held scene file line column code comes is takes = absurd (no_definition scene.source file line column code (reads_refuse MergeGives scene.source (Definition file line column code) (λ input. merge_of_input input (Definition file line column code)) comes.1))
+comes_definition words (Trim budget) held scene file line column code comes is takes = absurd (no_definition scene.source file line column code (reads_refuse (TrimGives budget) scene.source (Definition file line column code) (λ input. trim_of_input budget input (Definition file line column code)) comes.2))
+comes_definition words Merge held scene file line column code comes is takes = absurd (no_definition scene.source file line column code (reads_refuse MergeGives scene.source (Definition file line column code) (λ input. merge_of_input input (Definition file line column code)) comes.2))
 comes_definition words Check held scene file line column code comes is takes = check_says words held scene file line column code comes.1 is takes
 
 refusal_definition : (words : List (List ℕ)) (command : Command) (held : Holding) (scene : Scene) (answer : ℕ) (refusal : Refusal)
-    → Comes words command scene.library scene.source (Err refusal) → Tells (status_of refusal) (line_of refusal) scene.errs answer → scene.library.before ≡ Some held → answer ≡ 1
+    → Comes words command scene.library scene.requests scene.source (Err refusal) → Tells (status_of refusal) (line_of refusal) scene.errs answer → scene.library.before ≡ Some held → answer ≡ 1
     → SaysFault words held scene
 refusal_definition words command held scene answer refusal comes (inr failed) is one_is = absurd (let five = failed.0 in omega arith)
 refusal_definition words command held scene answer (Definition file line column code) comes (inl told) is one_is = comes_definition words command held scene file line column code comes is told.1
@@ -280,11 +283,45 @@ refusal_definition words command held scene answer Memory comes (inl told) is on
 pub says_definition : (words : List (List ℕ)) (command : Option Command) (held : Holding) (scene : Scene) (answer : ℕ)
     → Answers words command scene answer → scene.library.before ≡ Some held → answer ≡ 1
     → (fault : Fault) × IsFirstFault held (file_word words) (bag_word words) fault × Takes scene.errs (line_of (Definition fault.file fault.line fault.column fault.code))
-says_definition words None held scene answer (library, source, out, inl told) is one_is = absurd (let status = told.0 in omega arith)
-says_definition words None held scene answer (library, source, out, inr failed) is one_is = absurd (let status = failed.0 in omega arith)
+says_definition words None held scene answer (library, requests, source, out, inl told) is one_is = absurd (let status = told.0 in omega arith)
+says_definition words None held scene answer (library, requests, source, out, inr failed) is one_is = absurd (let status = failed.0 in omega arith)
 says_definition words (Some command) held scene answer (Ok output, comes, inl done) is one_is = absurd (let status = done.0 in omega arith)
 says_definition words (Some command) held scene answer (Ok output, comes, inr failed) is one_is = absurd (let status = failed.0 in omega arith)
 says_definition words (Some command) held scene answer (Err refusal, comes, (same, told)) is one_is = refusal_definition words command held scene answer refusal comes told is one_is
+
+-- ---- what is asked for
+
+-- The library was asked for all files of the definition that the words name, in order, and for no others.
+abbrev pub HasAsked : List (List ℕ) → Holding → Change (List (List ℕ)) → Type 0
+HasAsked words held requests = (names : List (List ℕ)) × AsksAll held (file_word words) names × Asks names requests.before requests.after
+
+compiled_asked : (words : List (List ℕ)) (gives : Holding → Outcome → Type 0) (library : Change Holding) (requests : Change (List (List ℕ))) (held : Holding) (outcome : Outcome) → library.before ≡ Some held
+    → (outcome ≡ Err Memory → ⊥) → (outcome ≡ Err LibraryFailed → ⊥) → Compiles gives (file_word words) library requests outcome → HasAsked words held requests
+compiled_asked words gives library requests held outcome is enough sure (inl wanting) = absurd (enough wanting.0)
+compiled_asked words gives library requests held outcome is enough sure (inr (inl failed)) = absurd (sure failed.0)
+compiled_asked words gives library requests held outcome is enough sure (inr (inr (files, names, told, asks, (gave, all)))) =
+    let same : held ≡ files = rw is at told in
+    (names, subst (λ held. AsksAll held (file_word words) names) (sym same) all, asks)
+
+-- An answer 0 or 1 is none of want of memory or of a library that failed.
+decided : (refusal other : Refusal) (answer : ℕ) → answer ≡ status_of refusal → (answer ≡ 0) ⊎ (answer ≡ 1) → 1 < status_of other → ◌≡◌ {A = Outcome} (Err refusal) (Err other) → ⊥
+decided refusal other answer status (inl zero_is) more is = let same : refusal ≡ other = cc is in let e = ap status_of same in omega (arith, status, zero_is, more, e)
+decided refusal other answer status (inr one_is) more is = let same : refusal ≡ other = cc is in let e = ap status_of same in omega (arith, status, one_is, more, e)
+
+pub has_asked : (words : List (List ℕ)) (command : Option Command) (held : Holding) (scene : Scene) (answer : ℕ)
+    → Answers words command scene answer → command ≡ Some Check → scene.library.before ≡ Some held → (answer ≡ 0) ⊎ (answer ≡ 1) → HasAsked words held scene.requests
+has_asked words command held scene answer answers is told ended = by (subst (λ command. Answers words command scene answer) is answers)
+  where
+    gives : Holding → Outcome → Type 0
+    gives = CheckGives (file_word words) (bag_word words)
+    by : Answers words (Some Check) scene answer → HasAsked words held scene.requests
+    by (Ok output, comes, delivers) = compiled_asked words gives scene.library scene.requests held (Ok output) told (λ e. cc e) (λ e. cc e) comes.1
+    by (Err refusal, comes, (same, inl said)) =
+        compiled_asked words gives scene.library scene.requests held (Err refusal) told (decided refusal Memory answer said.0 ended (omega arith)) (decided refusal LibraryFailed answer said.0 ended (omega arith)) comes.1
+    by (Err refusal, comes, (same, inr failed)) = absurd (elim ended [
+      | inl zero_is ↦ omega (arith, zero_is, failed.0)
+      | inr one_is ↦ omega (arith, one_is, failed.0)
+    ])
 
 -- ---- completeness
 
@@ -315,11 +352,11 @@ reads_good gives source input refusal held good sure (inr (inr (told, is, gave, 
     absurd (good (subst (λ bytes. gives bytes (Err refusal)) (sym same) gave))
 
 -- After a definition without a first fault and without a fault of the library, a refusal is want of memory.
-check_good : (file bag : List ℕ) (library : Change Holding) (held : Holding) (refusal : Refusal) → library.before ≡ Some held → ((fault : Fault) → IsFirstFault held file bag fault → ⊥) → ¬ (HasFailed library)
-    → Compiles (CheckGives file bag) library (Err refusal) → refusal ≡ Memory
-check_good file bag library held refusal is none sure (inl wanting) = cc wanting
-check_good file bag library held refusal is none sure (inr (inl failed)) = absurd (sure failed.1)
-check_good file bag library held refusal is none sure (inr (inr (files, told, gave))) =
+check_good : (file bag : List ℕ) (library : Change Holding) (requests : Change (List (List ℕ))) (held : Holding) (refusal : Refusal) → library.before ≡ Some held → ((fault : Fault) → IsFirstFault held file bag fault → ⊥) → ¬ (HasFailed library)
+    → Compiles (CheckGives file bag) file library requests (Err refusal) → refusal ≡ Memory
+check_good file bag library requests held refusal is none sure (inl wanting) = cc (wanting.0)
+check_good file bag library requests held refusal is none sure (inr (inl failed)) = absurd (sure failed.1)
+check_good file bag library requests held refusal is none sure (inr (inr (files, names, told, asks, (gave, all)))) =
     let same : held ≡ files = rw is at told in
     absurd (refuses_nothing refusal (subst (λ held. CheckGives file bag held (Err refusal)) (sym same) gave))
   where
@@ -331,11 +368,11 @@ check_good file bag library held refusal is none sure (inr (inr (files, told, ga
     refuses_nothing SourceFailed said = said
     refuses_nothing Memory said = said
 
-only_memory : (words : List (List ℕ)) (command : Command) (library : Change Holding) (source : Change (List ℕ)) (refusal : Refusal)
-    → Comes words command library source (Err refusal) → Accepts words command library.before source.before → ¬ (HasFailed library) → ¬ (HasFailed source) → refusal ≡ Memory
-only_memory words (Trim budget) library source refusal comes (input, told, (list, says)) library_sure sure = reads_good (TrimGives budget) source input refusal told (trim_accepts budget input list refusal says) sure comes.1
-only_memory words Merge library source refusal comes (input, told, (lists, says, few)) library_sure sure = reads_good MergeGives source input refusal told (merge_accepts input lists refusal says few) sure comes.1
-only_memory words Check library source refusal comes (held, told, none) library_sure sure = check_good (file_word words) (bag_word words) library held refusal told none library_sure comes.1
+only_memory : (words : List (List ℕ)) (command : Command) (library : Change Holding) (requests : Change (List (List ℕ))) (source : Change (List ℕ)) (refusal : Refusal)
+    → Comes words command library requests source (Err refusal) → Accepts words command library.before source.before → ¬ (HasFailed library) → ¬ (HasFailed source) → refusal ≡ Memory
+only_memory words (Trim budget) library requests source refusal comes (input, told, (list, says)) library_sure sure = reads_good (TrimGives budget) source input refusal told (trim_accepts budget input list refusal says) sure comes.2
+only_memory words Merge library requests source refusal comes (input, told, (lists, says, few)) library_sure sure = reads_good MergeGives source input refusal told (merge_accepts input lists refusal says few) sure comes.2
+only_memory words Check library requests source refusal comes (held, told, none) library_sure sure = check_good (file_word words) (bag_word words) library requests held refusal told none library_sure comes.1
 
 -- Such a call answers 0 or 6, unless a sink failed.
 pub completes : (words : List (List ℕ)) (command : Command) (scene : Scene) (answer : ℕ)
@@ -348,6 +385,6 @@ completes words command scene answer (Ok output, comes, delivers) accepts librar
     ]
 completes words command scene answer (Err refusal, comes, (same, told)) accepts library_sure sure out_sure errs_sure =
     elim told [
-      | inl said ↦ inr (said.0 ∙ ap status_of (only_memory words command scene.library scene.source refusal comes accepts library_sure sure))
+      | inl said ↦ inr (said.0 ∙ ap status_of (only_memory words command scene.library scene.requests scene.source refusal comes accepts library_sure sure))
       | inr failed ↦ absurd (errs_sure failed.1.0)
     ]

@@ -9,7 +9,7 @@ use Rattle.context_model.specs.Merged.{IsMerged}
 use Rattle.bag_model.specs.Shapes.{Nodes}
 use Rattle.bag_model.specs.Slots.{slots_of}
 use Rattle.bdl_load.specs.declared.faults.Fault.{Fault}
-use Rattle.bdl_load.specs.Loading.{Holding}
+use Rattle.bdl_load.specs.Loading.{Holding, OfLibrary, AsksAll, AsksFirst}
 use Rattle.bdl_check.specs.Definitions.{IsTable, IsFirstFault}
 use Rattle.baggage_cli.specs.Asked.{file_word, bag_word}
 use Rattle.baggage_cli.specs.declared.commands.Command.{Command}
@@ -83,19 +83,20 @@ Reads gives source outcome =
     ⊎ ((outcome ≡ Err SourceFailed) × HasFailed source)
     ⊎ ((input : List ℕ) × Held source input × gives input outcome × OnOk outcome (IsAtEnd source.after))
 
--- A definition is compiled. Memory may be wanting, and a library that failed has its cause; otherwise it is what is given for the
--- files of the library. A library that doesn't tell held some files for which it is so.
-abbrev pub Compiles : (Holding → Outcome → Type 0) → Change Holding → Outcome → Type 0
-Compiles gives library outcome =
-    (outcome ≡ Err Memory)
-    ⊎ ((outcome ≡ Err LibraryFailed) × HasFailed library)
-    ⊎ ((held : Holding) × Held library held × gives held outcome)
+-- A definition is compiled. Memory may be wanting, and a library that failed has its cause; then the library was asked for the first
+-- names of the definition's files. Otherwise it is what is given for the files of the library, which was asked for all of them and for
+-- no others. A library that doesn't tell held some files, and was asked for some names, for which it is so.
+abbrev pub Compiles : (Holding → Outcome → Type 0) → List ℕ → Change Holding → Change (List (List ℕ)) → Outcome → Type 0
+Compiles gives root library requests outcome =
+    ((outcome ≡ Err Memory) × OfLibrary library.before requests.before requests.after (λ held names. AsksFirst held root names))
+    ⊎ ((outcome ≡ Err LibraryFailed) × HasFailed library × OfLibrary library.before requests.before requests.after (λ held names. AsksFirst held root names))
+    ⊎ OfLibrary library.before requests.before requests.after (λ held names. gives held outcome × AsksAll held root names)
 
 -- What each command may come to, with its words and with the library and the source before and after it.
-abbrev pub Comes : List (List ℕ) → Command → Change Holding → Change (List ℕ) → Outcome → Type 0
-Comes words (Trim budget) library source outcome = IsSame library × Reads (TrimGives budget) source outcome
-Comes words Merge library source outcome = IsSame library × Reads MergeGives source outcome
-Comes words Check library source outcome = IsSame source × Compiles (CheckGives (file_word words) (bag_word words)) library outcome
+abbrev pub Comes : List (List ℕ) → Command → Change Holding → Change (List (List ℕ)) → Change (List ℕ) → Outcome → Type 0
+Comes words (Trim budget) library requests source outcome = IsSame library × IsSame requests × Reads (TrimGives budget) source outcome
+Comes words Merge library requests source outcome = IsSame library × IsSame requests × Reads MergeGives source outcome
+Comes words Check library requests source outcome = IsSame source × Compiles (CheckGives (file_word words) (bag_word words)) (file_word words) library requests outcome
 
 -- A line with its status: it was written to the sink of errors, or that failed and the status is 5.
 abbrev pub Tells : ℕ → List ℕ → Change (List ℕ) → ℕ → Type 0
@@ -116,9 +117,9 @@ Delivers (Err refusal) out errs answer = IsSame out × Tells (status_of refusal)
 -- The call answers: words that ask for nothing are refused and nothing else is touched; otherwise what the command comes to is delivered.
 abbrev pub Answers : List (List ℕ) → Option Command → Scene → ℕ → Type 0
 Answers words None scene answer =
-    IsSame scene.library × IsSame scene.source × IsSame scene.out × Tells 7 words_refused_line scene.errs answer
+    IsSame scene.library × IsSame scene.requests × IsSame scene.source × IsSame scene.out × Tells 7 words_refused_line scene.errs answer
 Answers words (Some command) scene answer =
-    (outcome : Outcome) × Comes words command scene.library scene.source outcome × Delivers outcome scene.out scene.errs answer
+    (outcome : Outcome) × Comes words command scene.library scene.requests scene.source outcome × Delivers outcome scene.out scene.errs answer
 
 -- A command gives one outcome for an input, or for the files of a library.
 abbrev pub GivesOne : {A : Type 0} → (A → Outcome → Type 0) → Type 0

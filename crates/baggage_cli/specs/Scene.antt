@@ -20,9 +20,10 @@ change content faults old new = record {
   faults_after = faults new;
 }
 
--- The four objects of a call.
+-- The four objects of a call: of the library, its files and the names that it was asked for.
 pub record Scene : Type 0 where
   pub library : Change (List ℕ → Option (List ℕ))
+  pub requests : Change (List (List ℕ))
   pub source : Change (List ℕ)
   pub out : Change (List ℕ)
   pub errs : Change (List ℕ)

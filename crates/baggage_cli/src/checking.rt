@@ -23,8 +23,8 @@ pub fn check_bag<L: Library>(
     file: &str,
     bag: &str,
 ) -> Result<String, Refusal>
-    ensures ok { IfOk result (λ output. Compiles (CheckGives file.now bag.now) (change L.files L.faults library.old library.new) (Ok (string_bytes output))) }
-    ensures err { IfErr result (λ refusal. Compiles (CheckGives file.now bag.now) (change L.files L.faults library.old library.new) (Err refusal)) }
+    ensures ok { IfOk result (λ output. Compiles (CheckGives file.now bag.now) file.now (change L.files L.faults library.old library.new) (change L.asked L.faults library.old library.new) (Ok (string_bytes output))) }
+    ensures err { IfErr result (λ refusal. Compiles (CheckGives file.now bag.now) file.now (change L.files L.faults library.old library.new) (change L.asked L.faults library.old library.new) (Err refusal)) }
 {
     let table = compile(alloc, library, file, bag)?;
     Ok(ok_line(alloc, table.slots())?)

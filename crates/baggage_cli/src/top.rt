@@ -9,7 +9,8 @@ ghost use Rattle.context_model.specs.Trimmed.{trimmed};
 ghost use Rattle.bag_model.specs.Shapes.{Nodes};
 ghost use Rattle.bag_model.specs.Slots.{slots_of};
 ghost use Rattle.bdl_load.specs.declared.faults.Fault.{Fault};
-ghost use Rattle.bdl_load.specs.Loading.{Holding};
+ghost use Rattle.bdl_load.specs.Loading.{Holding, AsksAll};
+ghost use Rattle.outside.specs.Told.{Asks};
 ghost use Rattle.bdl_check.specs.Definitions.{IsTable, IsFirstFault};
 ghost use Rattle.baggage_cli.specs.Asked.{asked, IsSound, ReadsSource, file_word, bag_word};
 ghost use Rattle.baggage_cli.specs.HexLine.{hex_line};
@@ -48,8 +49,8 @@ fn carry_out<L: Library, S: Source>(
     source: &mut S,
 ) -> Result<String, Refusal>
     requires { IsSound command }
-    ensures ok { IfOk result (λ output. Comes words.now command (change L.files L.faults library.old library.new) (change S.left S.faults source.old source.new) (Ok (string_bytes output))) }
-    ensures err { IfErr result (λ refusal. Comes words.now command (change L.files L.faults library.old library.new) (change S.left S.faults source.old source.new) (Err refusal)) }
+    ensures ok { IfOk result (λ output. Comes words.now command (change L.files L.faults library.old library.new) (change L.asked L.faults library.old library.new) (change S.left S.faults source.old source.new) (Ok (string_bytes output))) }
+    ensures err { IfErr result (λ refusal. Comes words.now command (change L.files L.faults library.old library.new) (change L.asked L.faults library.old library.new) (change S.left S.faults source.old source.new) (Err refusal)) }
 {
     match command {
         Command::Trim { budget } => trim_source(alloc, source, budget),
@@ -71,6 +72,7 @@ fn answer_command<L: Library, S: Source, K: Sink, E: Sink>(
     requires { IsSound command }
     ensures { Answers words.now (Some command) (record {
       library = change L.files L.faults library.old library.new;
+      requests = change L.asked L.faults library.old library.new;
       source = change S.left S.faults source.old source.new;
       out = change K.written K.faults out.old out.new;
       errs = change E.written E.faults errs.old errs.new;
@@ -93,6 +95,7 @@ fn answer_words<L: Library, S: Source, K: Sink, E: Sink>(
 ) -> u8
     ensures { Answers words.now (asked words.now) (record {
       library = change L.files L.faults library.old library.new;
+      requests = change L.asked L.faults library.old library.new;
       source = change S.left S.faults source.old source.new;
       out = change K.written K.faults out.old out.new;
       errs = change E.written E.faults errs.old errs.new;
@@ -125,6 +128,7 @@ pub fn baggage_top<R: Threads + Sync, G: Gate, L: Library, S: Source, K: Sink, E
     // Exactly what the call comes to, and how it is delivered.
     ensures answer { Answers words.now (asked words.now) (record {
       library = change L.files L.faults library.old library.new;
+      requests = change L.asked L.faults library.old library.new;
       source = change S.left S.faults source.old source.new;
       out = change K.written K.faults out.old out.new;
       errs = change E.written E.faults errs.old errs.new;
@@ -137,6 +141,9 @@ pub fn baggage_top<R: Threads + Sync, G: Gate, L: Library, S: Source, K: Sink, E
         → result ≡ 0 → Appends (K.written out.old) (K.written out.new) (hex_line (bytes_of merged)) }
     ensures check { (held : Holding) → asked words.now ≡ Some Command.Check → L.files library.old ≡ Some held
         → result ≡ 0 → (table : Nodes) × IsTable held (file_word words.now) (bag_word words.now) table × Appends (K.written out.old) (K.written out.new) (ok_line (length (slots_of table))) }
+
+    ensures fetched { (held : Holding) → asked words.now ≡ Some Command.Check → L.files library.old ≡ Some held → (result ≡ 0) ⊎ (result ≡ 1)
+        → (names : List (List ℕ)) × AsksAll held (file_word words.now) names × Asks names (L.asked library.old) (L.asked library.new) }
 
     // What each status says of the objects.
     ensures errs { result ≡ 0 → E.written errs.new ≡ E.written errs.old }

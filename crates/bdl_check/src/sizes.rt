@@ -17,11 +17,17 @@ use bdl_parser::{BagFields, Decl, TypeForm, TypeNode};
 use outside::Memory;
 use std::alloc::Global;
 
-/// One more than the most levels.
-const LEVELS_CAP: u32 = 17;
+/// The most levels of headers of a table.
+pub(crate) const MAX_LEVELS: u32 = 16;
 
-/// One more than the most fields.
-const FIELDS_CAP: u32 = 16_385;
+/// The most fields of a table, those inside them counted.
+pub(crate) const MAX_FIELDS: u32 = 16_384;
+
+/// Levels are counted up to one more than the most.
+const LEVELS_CAP: u32 = MAX_LEVELS + 1;
+
+/// Fields are counted up to one more than the most.
+const FIELDS_CAP: u32 = MAX_FIELDS + 1;
 
 /// The levels of headers that the fields of a bag take, at most 17, and the fields with those inside them, at most 16,385.
 #[derive(Clone, Copy, Debug, PartialEq, Eq)]

@@ -14,18 +14,12 @@ use crate::declarations::Declarations;
 use crate::layouts::lay_out;
 use crate::listed::ListedDeclarations;
 use crate::refusals::{Refusal, fault_in};
-use crate::sizes::{Size, sizes_of};
+use crate::sizes::{MAX_FIELDS, MAX_LEVELS, Size, sizes_of};
 use bdl_load::{DefCode, FIRST, Finding};
 use bdl_parser::{BagFields, Decl, Spot};
 use field_table::Table;
 use outside::Text;
 use std::alloc::Global;
-
-/// The most levels of headers of a table.
-const MAX_LEVELS: u32 = 16;
-
-/// The most fields of a table, those inside them counted.
-const MAX_FIELDS: u32 = 16_384;
 
 /// A bag: its number, the name of its file, where its name stands, and its fields.
 #[derive(Clone, Copy)]

@@ -1,4 +1,4 @@
-use Rattle.baggage_cli.proofs.Outcomes.{trim_appends, merge_appends, check_appends, failed_rose, says_definition, completes}
+use Rattle.baggage_cli.proofs.Outcomes.{trim_appends, merge_appends, check_appends, failed_rose, says_definition, has_asked, completes}
 use Rattle.baggage_cli.proofs.top.baggage_top.Goals as goal
 
 pub returns-clause-trim : goal.returns-clause-trim
@@ -23,3 +23,7 @@ returns-clause-failed g c = λ four. failed_rose c.args.words.now _ _ c.answer_w
 pub returns-clause-definition : goal.returns-clause-definition
 returns-clause-definition g c = λ held told one.
     says_definition c.args.words.now _ held _ c.answer_words.result c.answer_words.ensures told one
+
+pub returns-clause-fetched : goal.returns-clause-fetched
+returns-clause-fetched g c = λ held is told ended.
+    has_asked c.args.words.now _ held _ c.answer_words.result c.answer_words.ensures is told ended
