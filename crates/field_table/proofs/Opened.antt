@@ -10,18 +10,15 @@ use Rattle.bag_model.proofs.SlotLaws.{slots_of-list}
 use Rattle.field_table.specs.declared.shapes.Shape.{Shape}
 use Rattle.field_table.specs.declared.shapes.Slot.{Slot}
 use Rattle.field_table.specs.declared.shapes.Slots.{Slots}
-use Rattle.field_table.specs.declared.shapes.Shape.TheFolds.{fold_out-Slots, fold_out-Slot}
-use Rattle.field_table.specs.declared.shapes.Shape.TheViews.{out-Slots, out-Slot, roll-Slots, out-roll-Slots}
+use Rattle.field_table.specs.declared.shapes.Shape.TheFolds.{fold_out-Slots}
+use Rattle.field_table.specs.declared.shapes.Shape.TheViews.{out-Slots, roll-Slots, out-roll-Slots}
 use Rattle.field_table.specs.declared.shapes.Shape.TheOpen.{Slots-F}
-use Rattle.field_table.specs.Kept.{Kept, KeptField, KeptBag, kept, kept_nodes, kept_list, ends_of, plain, plain_bag, plain_nodes, capped, start_at, name, ends_after, HasPlaces, IsNameOrder, IsInOrder, IsKept, IsKeptBag, AreKept}
+use Rattle.field_table.specs.Kept.{Kept, KeptField, KeptBag, kept, kept_nodes, ends_of, plain, plain_bag, plain_nodes, capped, start_at, name, ends_after, HasPlaces, IsNameOrder, IsInOrder, IsKept, IsKeptBag, AreKept}
 use Rattle.field_table.proofs.Ends.{length-ends, last_end}
-use Rattle.field_table.specs.Plain.{shape_step, slot_step, slots_step, kept_shape, kept_field, kept_bag, field_of, nodes_of, name_of, IsIndexed, IsOrdered}
+use Rattle.field_table.specs.Plain.{shape_step, slot_step, slots_step, kept_field, kept_bag, field_of, nodes_of, name_of, IsIndexed, IsOrdered}
 
 pub open_bag : (s : Slots) → kept_bag s ≡ kept (kept_nodes (map kept_field (out-Slots s).items.items)) (out-Slots s).ends.items (out-Slots s).by_name.items
 open_bag s = fold_out-Slots Kept KeptField KeptBag shape_step slot_step slots_step s
-
-pub open_field : (s : Slot) → kept_field s ≡ record { name = (out-Slot s).name; number = (out-Slot s).number; shape = kept_shape (out-Slot s).shape }
-open_field s = fold_out-Slot Kept KeptField KeptBag shape_step slot_step slots_step s
 
 abbrev pub plain_field : KeptField → model.Field
 plain_field field = record { name = field.name; number = field.number; shape = plain field.shape }
@@ -29,10 +26,6 @@ plain_field field = record { name = field.name; number = field.number; shape = p
 pub plain_fields : (ks : List KeptField) → model.fields (plain_nodes (kept_nodes ks)) ≡ map plain_field ks
 plain_fields [] = refl
 plain_fields (k ∷ ks) = ap (λ l. plain_field k ∷ l) (plain_fields ks)
-
-pub list_kept : (ks : List KeptField) → kept_list (kept_nodes ks) ≡ ks
-list_kept [] = refl
-list_kept (k ∷ ks) = ap (λ l. k ∷ l) (list_kept ks)
 
 mapped : (items : List Slot) → map plain_field (map kept_field items) ≡ map field_of items
 mapped [] = refl

@@ -7,21 +7,12 @@ use Rattle.bag_model.specs.Shapes as model
 use Rattle.scalar_types.specs.KindViews.{kind_of}
 use Rattle.scalar_types.specs.declared.kinds.ScalarKind.{ScalarKind}
 use Rattle.field_table.specs.declared.shapes.Shape.TheVariants as variants
-use Rattle.field_table.specs.declared.shapes.Slot.{Slot}
 use Rattle.field_table.specs.declared.shapes.Slots.{Slots}
 use Rattle.field_table.specs.declared.shapes.Shape.TheFolds.{fold-roll-Shape}
 use Rattle.field_table.specs.declared.shapes.Shape.TheOpen.{Shape-F}
 use Rattle.field_table.specs.Kept.{Kept, KeptField, KeptBag, plain, Taint, Scalar, Set, Counter, Map, IsLoose}
-use Rattle.field_table.specs.Plain.{shape_step, slot_step, slots_step, kept_shape, field_of, shape_of, nodes_of, IsIndexed, IsIndexedField, IsIndexedShape}
-use Rattle.field_table.proofs.Held.{field_open, shape_bag}
-
--- The plain field has the name, the number and the plain shape.
-pub field_shown : (x : Slot) → field_of x ≡ record { name = x.name; number = x.number; shape = shape_of x.shape }
-field_shown x = ap (λ (k : KeptField). record { name = k.name; number = k.number; shape = plain k.shape }) (field_open x)
-
--- The field is indexed as its shape is.
-pub field_indexed : (x : Slot) → IsIndexedShape x.shape → IsIndexedField x
-field_indexed x = subst IsLoose (sym (ap (λ (k : KeptField). k.shape) (field_open x)))
+use Rattle.field_table.specs.Plain.{shape_step, slot_step, slots_step, kept_shape, shape_of, nodes_of, IsIndexedShape}
+use Rattle.field_table.proofs.Held.{shape_bag}
 
 kept_taint : kept_shape variants.Taint ≡ Taint
 kept_taint = ap kept_shape (sym variants.rolls-Taint) ∙ fold-roll-Shape Kept KeptField KeptBag shape_step slot_step slots_step Shape-F.Taint
@@ -53,12 +44,9 @@ scalar_shown kind = (ap plain (kept_scalar kind), subst IsLoose (sym (kept_scala
 pub set_shown : (kind : ScalarKind) → (shape_of (variants.Set kind) ≡ model.Shape.Set (kind_of kind)) × IsIndexedShape (variants.Set kind)
 set_shown kind = (ap plain (kept_set kind), subst IsLoose (sym (kept_set kind)) tt)
 
--- A bag has the fields of the list, and is indexed as that is.
+-- A bag has the fields of the list.
 pub bag_shown : (inner : Slots) → shape_of (variants.Bag inner) ≡ model.Shape.Bag (nodes_of inner)
 bag_shown inner = ap plain (shape_bag inner)
-
-pub bag_indexed : (inner : Slots) → IsIndexed inner → IsIndexedShape (variants.Bag inner)
-bag_indexed inner = subst IsLoose (sym (shape_bag inner))
 
 -- A field more at the end.
 pub one_more : (before after : List model.Field) (fields : List model.Field) (name : List ℕ) (number : ℕ) (own shape : model.Shape) → before ≡ fields → after ≡ before ++ (record { name = name; number = number; shape = own }) ∷ [] → own ≡ shape

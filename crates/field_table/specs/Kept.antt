@@ -106,14 +106,6 @@ IsLoose Counter = Unit {0}
 IsLoose (Map key value) = IsLoose value
 IsLoose (Bag bag) = IsKeptBag bag
 
--- The fields as a list, with their indexes.
-abbrev pub kept_list : KeptNodes → List KeptField
-kept_list no_node = []
-kept_list (node name number shape nodes) = record { name = name; number = number; shape = shape } ∷ kept_list nodes
-
-abbrev pub kept_fields : KeptBag → List KeptField
-kept_fields (kept nodes ends by_name) = kept_list nodes
-
 abbrev pub ends_of : KeptBag → List ℕ
 ends_of (kept nodes ends by_name) = ends
 
