@@ -314,6 +314,7 @@ has_asked words command held scene answer answers is told ended = by (subst (λ 
   where
     gives : Holding → Outcome → Type 0
     gives = CheckGives (file_word words) (bag_word words)
+
     by : Answers words (Some Check) scene answer → HasAsked words held scene.requests
     by (Ok output, comes, delivers) = compiled_asked words gives scene.library scene.requests held (Ok output) told (λ e. cc e) (λ e. cc e) comes.1
     by (Err refusal, comes, (same, inl said)) =

@@ -111,6 +111,14 @@ fn libraries_that_fail(rt: HostRuntime) -> Result<(), Fail> {
     assert_eq!(rt; answer.as_str(), "ok");
     let answer = answer_of(alloc, &mut library, "z.bdl", "Z")?;
     assert_eq!(rt; answer.as_str(), "failed");
+    let asked = ["z.bdl", "z.bdl", "z.bdl", "y.bdl", "z.bdl"];
+    let Some(names) = library.asked() else {
+        return Err(Fail::from("no names"));
+    };
+    assert_eq!(rt; names.len(), asked.len());
+    for (at, name) in asked.iter().enumerate() {
+        assert!(rt; matches!(names.get(at), Some(word) if word.as_str() == *name));
+    }
     Ok(())
 }
 

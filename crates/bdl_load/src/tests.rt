@@ -51,6 +51,39 @@ static LOADED: [LoadedRow; 6] = [
     ),
 ];
 
+type AskedRow = (&'static [File], &'static [&'static str]);
+
+// The root `a` and other files with a fault of loading, and the names that are asked for until it.
+static ASKED: [AskedRow; 5] = [
+    (&[], &["a"]),
+    (&[("a", "import \"a\"; import \"b\";"), ("b", "")], &["a"]),
+    (
+        &[
+            ("a", "import \"b\"; import \"c\"; import \"d\";"),
+            ("b", "import \"c\";"),
+            ("c", ""),
+            ("d", "?"),
+        ],
+        &["a", "b", "c", "d"],
+    ),
+    (
+        &[
+            ("a", "import \"b\"; import \"x\"; import \"c\";"),
+            ("b", ""),
+            ("c", ""),
+        ],
+        &["a", "b", "x"],
+    ),
+    (
+        &[
+            ("a", "import \"b\"; import \"c\";"),
+            ("b", "import \"c\"; import \"a\";"),
+            ("c", ""),
+        ],
+        &["a", "b", "c"],
+    ),
+];
+
 type FaultRow = (&'static [File], &'static str, u32, u32, DefCode);
 
 // The root `a` and other files, and the first fault.
@@ -160,6 +193,18 @@ fn library_of(alloc: Global, files: &[File]) -> Result<MemoryLibrary, Fail> {
     Ok(library)
 }
 
+/// Whether the library was asked for these names, in this order, and for no others.
+fn was_asked(library: &MemoryLibrary, names: &[&'static str]) -> bool {
+    let Some(asked) = library.asked() else {
+        return false;
+    };
+    asked.len() == names.len()
+        && names.iter().enumerate().all(|(
+            at,
+            name,
+        )| matches!(asked.get(at), Some(word) if word.as_str() == *name))
+}
+
 /// Whether these are the names of the files, in this order.
 fn have_names(files: &[LoadedFile], names: &[&'static str]) -> bool {
     if files.len() != names.len() {
@@ -215,6 +260,7 @@ fn loaded_files(rt: HostRuntime) -> Result<(), Fail> {
             return Err(Fail::from("a fault"));
         };
         assert!(rt; have_names(&loaded, names));
+        assert!(rt; was_asked(&library, names));
     }
     Ok(())
 }
@@ -226,6 +272,17 @@ fn first_faults(rt: HostRuntime) -> Result<(), Fail> {
         let mut library = library_of(alloc, files)?;
         let fault = (*name, *line, *column, *code);
         assert!(rt; is_refused(alloc, &mut library, "a", fault));
+    }
+    Ok(())
+}
+
+#[test]
+fn names_asked_until_a_fault(rt: HostRuntime) -> Result<(), Fail> {
+    let alloc = rt.alloc();
+    for (files, names) in &ASKED {
+        let mut library = library_of(alloc, files)?;
+        assert!(rt; matches!(load(alloc, &mut library, "a"), Err(DefFault::At { .. })));
+        assert!(rt; was_asked(&library, names));
     }
     Ok(())
 }
@@ -250,6 +307,7 @@ fn failing_fetches(rt: HostRuntime) -> Result<(), Fail> {
     assert!(rt; matches!(load(alloc, &mut library, "a"), Err(DefFault::Failed)));
     assert!(rt; matches!(load(alloc, &mut library, "a"), Err(DefFault::Failed)));
     assert!(rt; count_loaded(alloc, &mut library, "a") == Some(2));
+    assert!(rt; was_asked(&library, &["a", "b", "a", "a", "b"]));
     Ok(())
 }
 
