@@ -3,6 +3,7 @@ mod Words
 mod Names
 mod OneSource
 mod OneLoading
+mod Fronts
 mod Asking
 mod Answering
 mod Fetched

@@ -19,7 +19,7 @@ of_cycle held taking files from import rest _ h (Takes.within _ _ _ source _ _ n
 of_cycle held taking files from import rest _ h (Takes.fetched _ _ more _ source _ _ _ f e t v) = absurd (let no = f.closed in cc)
 
 -- an import of a file that was loaded before
-of_known : (held : Holding) (taking : List (List ℕ)) (files : List LoadedFile) (from : List ℕ) (import : Import) (rest : List Import) (b : Loading) → is_among import.file taking ≡ false → is_among import.file (names_of files) ≡ true → Takes held taking files from (import ∷ rest) b → Takes held taking files from rest b
+pub of_known : (held : Holding) (taking : List (List ℕ)) (files : List LoadedFile) (from : List ℕ) (import : Import) (rest : List Import) (b : Loading) → is_among import.file taking ≡ false → is_among import.file (names_of files) ≡ true → Takes held taking files from (import ∷ rest) b → Takes held taking files from rest b
 of_known held taking files from import rest _ h i (Takes.cycle _ _ _ _ _ c) = absurd (cc)
 of_known held taking files from import rest _ h i (Takes.known _ _ _ _ _ _ c k t) = t
 of_known held taking files from import rest _ h i (Takes.too_many _ _ _ _ _ c k l) = absurd (cc)
@@ -46,12 +46,12 @@ of_missing held taking files from import rest _ g h (Takes.within _ _ _ source _
 of_missing held taking files from import rest _ g h (Takes.fetched _ _ more _ source _ _ _ f e t v) = absurd (cc)
 
 -- what came of an import that was fetched
-data Came (held : Holding) (taking : List (List ℕ)) (files : List LoadedFile) (from : List ℕ) (import : Import) (rest : List Import) (source : List ℕ) (b : Loading) : Type 0 where
+pub data Came (held : Holding) (taking : List (List ℕ)) (files : List LoadedFile) (from : List ℕ) (import : Import) (rest : List Import) (source : List ℕ) (b : Loading) : Type 0 where
   halted : (names : List (List ℕ)) (fault : Fault) → Enters held taking files import.file source (stopped names fault) → b ≡ stopped names fault → Came held taking files from import rest source b
   went_on : (more : List LoadedFile) → Enters held taking files import.file source (all_loaded more) → Takes held taking more from rest b → Came held taking files from import rest source b
 
 -- an import of a file that there is
-of_fetched : (held : Holding) (taking : List (List ℕ)) (files : List LoadedFile) (from : List ℕ) (import : Import) (rest : List Import) (b : Loading) → (s : List ℕ) → IsFetched taking files import.file → held import.file ≡ Some s → Takes held taking files from (import ∷ rest) b → Came held taking files from import rest s b
+pub of_fetched : (held : Holding) (taking : List (List ℕ)) (files : List LoadedFile) (from : List ℕ) (import : Import) (rest : List Import) (b : Loading) → (s : List ℕ) → IsFetched taking files import.file → held import.file ≡ Some s → Takes held taking files from (import ∷ rest) b → Came held taking files from import rest s b
 of_fetched held taking files from import rest _ s g h (Takes.cycle _ _ _ _ _ c) = absurd (let no = g.closed in cc)
 of_fetched held taking files from import rest _ s g h (Takes.known _ _ _ _ _ _ c k t) = absurd (let no = g.fresh in cc)
 of_fetched held taking files from import rest _ s g h (Takes.too_many _ _ _ _ _ c k l) = absurd (let room = g.room in omega (arith, l))
@@ -60,7 +60,7 @@ of_fetched held taking files from import rest _ s g h (Takes.within _ _ _ source
 of_fetched held taking files from import rest _ s g h (Takes.fetched _ _ more _ source _ _ _ f e t v) = went_on more (let same : source ≡ s = cc (e, h) in subst (λ s. Enters held taking files import.file s (all_loaded more)) same t) v
 
 mutual
-  enters_one : SaysOne → (held : Holding) (taking : List (List ℕ)) (files : List LoadedFile) (name source : List ℕ) (a b : Loading) → Enters held taking files name source a → Enters held taking files name source b → a ≡ b
+  pub enters_one : SaysOne → (held : Holding) (taking : List (List ℕ)) (files : List LoadedFile) (name source : List ℕ) (a b : Loading) → Enters held taking files name source a → Enters held taking files name source b → a ≡ b
   enters_one one held taking files name source _ _ (Enters.broken _ _ _ _ f x) (Enters.broken _ _ _ _ g y) = ap (λ (f : Finding). stopped (names_of files ++ name ∷ []) (fault_in name f)) (one.faults source f g x y)
   enters_one one held taking files name source _ _ (Enters.broken _ _ _ _ f x) (Enters.read _ _ _ _ m b r t) = absurd (one.excludes source m f r x)
   enters_one one held taking files name source _ _ (Enters.read _ _ _ _ m a r t) (Enters.broken _ _ _ _ f x) = absurd (one.excludes source m f r x)

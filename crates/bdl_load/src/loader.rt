@@ -2,10 +2,10 @@
 
 ghost use Rattle.std.specs.Prelude.{◌≡◌, ℕ, List, [], ◌∷◌, ◌++◌, ◌+◌, ◌<◌, ◌≤◌, length, drop, All, IfOk, IfErr, IsErrOf, false};
 ghost use Rattle.outside.specs.Causes.{Rose};
+ghost use Rattle.outside.specs.Told.{Asks};
 ghost use Rattle.bdl_load.specs.Asked.{IsFound, IsBroken, IsSpelledFile, AreSound, IsChosen, Passes, Loaded, Ends, Halts, file_at, names_at};
 ghost use Rattle.bdl_load.specs.Faults.{Blames, found, fault_in};
 ghost use Rattle.bdl_load.specs.Loading.{Holding, OfLibrary, AsksFirst, Takes, Loads, all_loaded, stopped, is_among, names_of};
-ghost use Rattle.outside.specs.Told.{Asks};
 ghost use Rattle.bdl_load.specs.Spelled.{AreSpelledDecls};
 ghost use Rattle.bdl_parser.specs.declared.trees.Import.{Import};
 
@@ -186,8 +186,9 @@ impl Loader {
 }
 
 /// Fetches the root file and all files that it imports, the imports of each file depth first and each file once, and reads
-/// each as soon as it is fetched. They stand in the order of fetching. The first fault is the answer where there is one,
-/// `Failed` where a fetch failed, and `Memory` where there is none for the files or the fault.
+/// each as soon as it is fetched. They stand in the order of fetching, and the library is asked for nothing else. The first
+/// fault is the answer where there is one, `Failed` where a fetch failed, and `Memory` where there is none for the files or
+/// the fault.
 pub fn load<L: Library>(
     alloc: Global,
     library: &mut L,

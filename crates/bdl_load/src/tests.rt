@@ -447,4 +447,5 @@ fn wide_files(rt: HostRuntime) -> Result<(), Fail> {
 #[test]
 fn laws() {
     laws::loading_is_unique();
+    laws::first_names_are_a_front();
 }
