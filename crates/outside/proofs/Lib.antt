@@ -1,2 +1,2 @@
-mod Contents
+mod Files
 mod Pieces

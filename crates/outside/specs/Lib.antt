@@ -1,4 +1,6 @@
-pub mod Causes
-pub mod Told
 pub mod Bounds
-pub mod Contents
+pub mod Causes
+pub mod Faults
+pub mod InMemory
+pub mod Libraries
+pub mod Told

@@ -4,6 +4,7 @@
 
 mod answers;
 mod failures;
+mod faults;
 mod gates;
 mod in_memory;
 mod libraries;
@@ -14,12 +15,17 @@ mod texts;
 mod transfers;
 
 pub use answers::{Failed, LibraryFault, Memory, ReadFault};
+pub use faults::FaultCount;
 pub use gates::{Gate, Open};
 pub use in_memory::{MemorySink, MemorySource, SureSink, SureSource};
 pub use libraries::{Library, MemoryLibrary, SureLibrary};
 pub use streams::{Sink, Source};
-pub use texts::{Octets, Text, Words};
+pub use texts::{Octets, Text, WordIter, Words};
 pub use transfers::{read_all, write_all};
 
 /// The most bytes that an atom has.
 pub const ATOM_MAX: usize = 65_535;
+
+/// The most bytes that are fetched of a file: one more than a definition or a table may have, so that one that is too
+/// long is known.
+pub const FETCH_MAX: usize = 1_048_577;

@@ -4,17 +4,17 @@ ghost use Rattle.std.specs.Prelude.{◌≡◌, ℕ, ◌-◌, ◌^◌, ◌≤◌,
 ghost use Rattle.std.specs.Option.{option_map};
 ghost use Rattle.outside.specs.Causes.{HasCauseAt};
 ghost use Rattle.outside.specs.Told.{Files, Fetches, Asked, Asks, with_file};
-ghost use Rattle.outside.specs.Contents.{held_in};
+ghost use Rattle.outside.specs.Libraries.{held_in};
 ghost use Rattle.outside.specs.Bounds.{zero_in_range};
+ghost use Rattle.outside.specs.Faults.{faults_in, faults_in_range};
+ghost use Rattle.outside.specs.declared.TheConstants.{FETCH_MAX};
 
+use crate::FETCH_MAX;
 use crate::answers::{LibraryFault, Memory};
 use crate::failures::Failures;
 use crate::texts::{Text, Words};
 use std::alloc::Global;
 use std::collections::BTreeMap;
-
-/// The most bytes of a file that are fetched: one more than a definition or a table may have.
-const FETCHED: usize = 1_048_577;
 
 /// A library of files.
 ///
@@ -28,10 +28,12 @@ pub trait Library {
 
     ghost asked: { Self → Asked } = { λ _. None };
 
-    /// The first 1,048,577 bytes of the named file, or all of a shorter one; `None` where there is no such file.
+    /// The first `FETCH_MAX` bytes of the named file, or all of a shorter one; `None` where there is no such file.
     fn fetch(&mut self, alloc: Global, name: &str) -> Result<Option<Vec<u8>>, LibraryFault>
-        ensures held { IfOk result (λ found. Fetches (files self.old) name.now (option_map (λ file. file.items) found)) }
-        ensures bound { IfOk result (λ found. IfSome found (λ file. length file.items ≤ 1048577)) }
+        ensures held { IfOk result
+            (λ found. Fetches (files self.old) name.now (option_map (λ file. file.items) found)) }
+        ensures bound { IfOk result
+            (λ found. IfSome found (λ file. length file.items ≤ FETCH_MAX)) }
         ensures same { files self.new ≡ files self.old }
         ensures asked { Asks (name.now ∷ []) (asked self.old) (asked self.new) }
         ensures cause { HasCauseAt LibraryFault.Failed (faults self.old) (faults self.new) result };
@@ -49,7 +51,8 @@ pub struct SureLibrary {
 impl SureLibrary {
     /// The library that holds no file.
     pub fn new(alloc: Global) -> SureLibrary
-        ensures { ⟦<SureLibrary as Library>⟧.files result ≡ Some (λ _. None) }
+        ensures files { ⟦<SureLibrary as Library>⟧.files result ≡ Some (λ _. None) }
+        ensures faults { ⟦<SureLibrary as Library>⟧.faults result ≡ 0 }
     {
         SureLibrary {
             alloc,
@@ -57,11 +60,13 @@ impl SureLibrary {
         }
     }
 
-    /// Puts the name with this content, in place of any earlier content of that name. Want of memory leaves the library as
-    /// it was.
+    /// Puts the name with this content, in place of any earlier content of that name. Want of memory leaves the
+    /// library as it was.
     pub fn add(&mut self, name: &str, content: &[u8]) -> Result<(), Memory>
-        ensures ok { OnOk result (⟦<SureLibrary as Library>⟧.files self.new ≡ with_file name.now content.now (⟦<SureLibrary as Library>⟧.files self.old)) }
-        ensures err { OnErr result (⟦<SureLibrary as Library>⟧.files self.new ≡ ⟦<SureLibrary as Library>⟧.files self.old) }
+        ensures ok { OnOk result (⟦<SureLibrary as Library>⟧.files self.new
+            ≡ with_file name.now content.now (⟦<SureLibrary as Library>⟧.files self.old)) }
+        ensures err { OnErr result (⟦<SureLibrary as Library>⟧.files self.new
+            ≡ ⟦<SureLibrary as Library>⟧.files self.old) }
     {
         let name = String::from_str(self.alloc, name)?;
         let content = Vec::from_slice(self.alloc, content)?;
@@ -81,7 +86,7 @@ impl Library for SureLibrary {
         let Some(content) = self.contents.get(name) else {
             return Ok(None);
         };
-        let len = FETCHED.min(content.len());
+        let len = FETCH_MAX.min(content.len());
         let bytes = Vec::from_slice(alloc, &content[..len])?;
         Ok(Some(bytes))
     }
@@ -109,20 +114,25 @@ impl MemoryLibrary {
         }
     }
 
-    /// Puts the name with this content, in place of any earlier content of that name. Want of memory leaves the library as
-    /// it was.
+    /// Puts the name with this content, in place of any earlier content of that name. Want of memory leaves the
+    /// library as it was.
     pub fn add(&mut self, name: &str, content: &[u8]) -> Result<(), Memory>
-        ensures ok { OnOk result (⟦<MemoryLibrary as Library>⟧.files self.new ≡ with_file name.now content.now (⟦<MemoryLibrary as Library>⟧.files self.old)) }
-        ensures err { OnErr result (⟦<MemoryLibrary as Library>⟧.files self.new ≡ ⟦<MemoryLibrary as Library>⟧.files self.old) }
-        ensures faults { ⟦<MemoryLibrary as Library>⟧.faults self.new ≡ ⟦<MemoryLibrary as Library>⟧.faults self.old }
-        ensures asked { ⟦<MemoryLibrary as Library>⟧.asked self.new ≡ ⟦<MemoryLibrary as Library>⟧.asked self.old }
+        ensures ok { OnOk result (⟦<MemoryLibrary as Library>⟧.files self.new
+            ≡ with_file name.now content.now (⟦<MemoryLibrary as Library>⟧.files self.old)) }
+        ensures err { OnErr result (⟦<MemoryLibrary as Library>⟧.files self.new
+            ≡ ⟦<MemoryLibrary as Library>⟧.files self.old) }
+        ensures faults { ⟦<MemoryLibrary as Library>⟧.faults self.new
+            ≡ ⟦<MemoryLibrary as Library>⟧.faults self.old }
+        ensures asked { ⟦<MemoryLibrary as Library>⟧.asked self.new
+            ≡ ⟦<MemoryLibrary as Library>⟧.asked self.old }
     {
         self.inner.add(name, content)
     }
 
     /// The names that it was asked for, in order. `None` once there was no memory for one of them.
     pub fn asked(&self) -> Option<&Words>
-        ensures { option_map (λ names. names.now) result ≡ ⟦<MemoryLibrary as Library>⟧.asked self.now }
+        ensures { option_map (λ names. names.now) result
+            ≡ ⟦<MemoryLibrary as Library>⟧.asked self.now }
     {
         self.asked.as_ref()
     }
@@ -141,11 +151,11 @@ fn with_name(alloc: Global, names: Option<Words>, name: &str) -> Option<Words>
 impl Library for MemoryLibrary {
     ghost files = { λ library. ⟦<SureLibrary as Library>⟧.files library.inner };
 
-    ghost faults = { λ library. library.failures.faults };
+    ghost faults = { λ library. faults_in library.failures.faults };
 
     ghost asked = { λ library. library.asked };
 
-    ghost counted = { λ library. library.failures.in_range };
+    ghost counted = { λ library. faults_in_range library.failures.faults };
 
     fn fetch(&mut self, alloc: Global, name: &str) -> Result<Option<Vec<u8>>, LibraryFault> {
         self.asked = with_name(alloc, self.asked.take(), name);

@@ -1,20 +1,34 @@
 //! What no clause says: that these calls succeed, which calls of an object in memory fail, and how much a piece holds.
 
-ghost use Rattle.std.specs.Prelude.{◌+◌, ◌^◌, ◌<◌};
+ghost use Rattle.std.specs.Prelude.{◌≡◌, ◌+◌, ◌^◌, ◌<◌, length};
 
 use crate::{
-    Gate, Library, LibraryFault, MemoryLibrary, MemorySink, MemorySource, Octets, Open, ReadFault,
-    Sink, Source, SureLibrary, SureSink, SureSource, Text, Words, read_all, write_all,
+    FETCH_MAX, Gate, Library, LibraryFault, Memory, MemoryLibrary, MemorySink, MemorySource,
+    Octets, Open, ReadFault, Sink, Source, SureLibrary, SureSink, SureSource, Text, Words,
+    read_all, write_all,
 };
 use std::alloc::Global;
 use std::test::Fail;
+
+/// Takes what may be sent to threads and shared between them, and nothing else.
+fn crosses_threads<T: Send + Sync>(_value: &T) {}
+
+/// How many words there are, counted one by one.
+fn count_of(words: &Words) -> usize
+    ensures { result ≡ length words.now }
+{
+    words.iter().count()
+}
 
 #[test]
 fn small_types(rt: HostRuntime) -> Result<(), Fail> {
     let alloc = rt.alloc();
     let text = Text::of(alloc, "a")?;
     assert_eq!(rt; text.as_str(), "a");
-    assert_eq!(rt; text.copy()?.as_str(), "a");
+    let copy = text.copy()?;
+    assert_eq!(rt; copy.as_str(), "a");
+    let made = Text::from_string(String::from_str(alloc, "bc")?)?;
+    assert_eq!(rt; made.as_str(), "bc");
     let octets = Octets::of(alloc, &[0])?;
     assert_eq!(rt; octets.as_slice(), [0].as_slice());
     assert_eq!(rt; octets.copy()?.as_slice(), [0].as_slice());
@@ -29,6 +43,13 @@ fn small_types(rt: HostRuntime) -> Result<(), Fail> {
     assert_eq!(rt; words.len(), 1);
     assert!(rt; matches!(words.get(0), Some(word) if word.as_str() == "a"));
     assert!(rt; words.get(1).is_none());
+    words.push(made)?;
+    assert_eq!(rt; count_of(&words), 2);
+    assert!(rt; are_words(&words, &["a", "bc"]));
+    crosses_threads(&copy);
+    crosses_threads(&octets);
+    crosses_threads(&words);
+    crosses_threads(&Memory);
     Open.enter(0);
     Ok(())
 }
@@ -84,10 +105,10 @@ fn fetches<L: Library>(
 /// Whether these are the words, in this order.
 fn are_words(words: &Words, these: &[&'static str]) -> bool {
     words.len() == these.len()
-        && these.iter().enumerate().all(|(
-            at,
-            this,
-        )| matches!(words.get(at), Some(word) if word.as_str() == *this))
+        && words
+            .iter()
+            .zip(these)
+            .all(|(word, this)| word.as_str() == *this)
 }
 
 #[test]
@@ -113,10 +134,10 @@ fn files(rt: HostRuntime) -> Result<(), Fail> {
         matches!(fetches(alloc, &mut library, "f"), Ok(Some(file)) if file.as_slice() == b"bc".as_slice())
     );
     assert!(rt; matches!(fetches(alloc, &mut library, "g"), Ok(Some(file)) if file.is_empty()));
-    let long = vec![in alloc; b'a'; 1_048_578]?;
+    let long = vec![in alloc; b'a'; FETCH_MAX + 1]?;
     assert!(rt; library.add("f", &long).is_ok());
     assert!(rt;
-        matches!(fetches(alloc, &mut library, "f"), Ok(Some(file)) if file.len() == 1_048_577)
+        matches!(fetches(alloc, &mut library, "f"), Ok(Some(file)) if file.len() == FETCH_MAX)
     );
     let asked = ["f", "f", "g", "g", "f", "g", "f"];
     assert!(rt; matches!(library.asked(), Some(names) if are_words(names, &asked)));

@@ -1,24 +1,29 @@
 //! Small types over text, bytes and words, which contracts see as lists.
 
-ghost use Rattle.std.specs.Prelude.{◌≡◌, List, [], ◌∷◌, ◌++◌, length, IfOk, OnOk, OnErr, IsUtf8, slice_get, IsTrue, ◌↔◌};
+ghost use Rattle.std.specs.Prelude.{◌≡◌, List, [], ◌∷◌, ◌++◌, length, IfOk, OnOk, OnErr, IsUtf8, slice_get, IsTrue, ◌↔◌, string_bytes};
+ghost use Rattle.std.specs.Iterator.{YieldsFirstRef, item_count};
 ghost use Rattle.std.specs.Option.{option_copied};
 
 use crate::answers::Memory;
 use std::alloc::Global;
 use std::marker::Model;
+use std::slice;
+use std::sync::Arc;
 
-/// A text. Contracts see it as the list of its bytes, which are valid UTF-8.
+/// A text, which shares its characters with its copies. Contracts see it as the list of its bytes, which are valid
+/// UTF-8.
 #[derive(Drop)]
 pub struct Text {
-    string: String,
+    string: Arc<String>,
 }
 
 impl Model for Text {
     ghost use Rattle.std.specs.Prelude.{ℕ, List, string_bytes};
+    ghost use Rattle.std.specs.Arc.{arc_value};
 
     ghost Value = { List ℕ };
 
-    ghost view = { λ text. string_bytes text.string };
+    ghost view = { λ text. string_bytes (arc_value text.string) };
 }
 
 impl Text {
@@ -27,8 +32,18 @@ impl Text {
         ensures made { IfOk result (λ made. made ≡ text.now) }
         ensures utf8 { IfOk result IsUtf8 }
     {
-        let string = String::from_str(alloc, text)?;
+        Text::from_string(String::from_str(alloc, text)?)
+    }
+
+    /// The text over this string, whose characters aren't copied.
+    pub fn from_string(string: String) -> Result<Text, Memory>
+        ensures made { IfOk result (λ made. made ≡ string_bytes string) }
+        ensures utf8 { IfOk result IsUtf8 }
+    {
+        // for the proof: the bytes of a string are UTF-8
         let _utf8 = string.as_str();
+        let alloc = *string.allocator();
+        let string = Arc::new(alloc, string)?;
         Ok(Text { string })
     }
 
@@ -40,11 +55,11 @@ impl Text {
         self.string.as_str()
     }
 
-    /// The same text again.
+    /// The same text again. It takes constant time, and no memory for the characters, which the two share.
     pub fn copy(&self) -> Result<Text, Memory>
         ensures { IfOk result (λ made. made ≡ self.now) }
     {
-        let string = self.string.clone()?;
+        let string = Arc::try_clone(&self.string)?;
         Ok(Text { string })
     }
 }
@@ -149,12 +164,64 @@ impl Words {
         self.words.as_slice().get(at)
     }
 
+    /// The words in order.
+    pub fn iter(&self) -> WordIter<'_>
+        ensures { result ≡ self.now }
+    {
+        WordIter {
+            rest: self.words.iter(),
+        }
+    }
+
     /// Adds a word at the end. Want of memory leaves the list as it was.
     pub fn push(&mut self, word: Text) -> Result<(), Memory>
         ensures ok { OnOk result (self.new ≡ self.old ++ word ∷ []) }
         ensures err { OnErr result (self.new ≡ self.old) }
     {
         self.words.push(word)?;
+        Ok(())
+    }
+}
+
+/// The words that are left to go through. Contracts see it as their list.
+#[derive(Drop)]
+pub struct WordIter<'a> {
+    rest: slice::Iter<'a, Text>,
+}
+
+impl<'a> Model for WordIter<'a> {
+    ghost use Rattle.std.specs.Prelude.{ℕ, List};
+    ghost use Rattle.std.specs.Slice.Iter.{iter_rest};
+
+    ghost Value = { List (List ℕ) };
+
+    ghost view = { λ words. iter_rest words.rest };
+}
+
+impl<'a> Iterator for WordIter<'a> {
+    type Item = &'a Text;
+
+    ghost next_gives = { YieldsFirstRef (λ words. words) };
+
+    ghost remaining = { item_count (λ words. words) };
+
+    fn next(&mut self) -> Option<&'a Text> {
+        self.rest.next()
+    }
+}
+
+#[cfg(test)]
+mod tests {
+    use super::*;
+    use std::test::Fail;
+
+    #[test]
+    fn a_copy_shares_the_characters(rt: HostRuntime) -> Result<(), Fail> {
+        let text = Text::of(rt.alloc(), "a")?;
+        assert_eq!(rt; Arc::strong_count(&text.string), 1);
+        let copy = text.copy()?;
+        assert_eq!(rt; copy.as_str(), "a");
+        assert_eq!(rt; Arc::strong_count(&text.string), 2);
         Ok(())
     }
 }

@@ -20,12 +20,16 @@ pub fn read_all<S: Source>(
     limit: usize,
 ) -> Result<Vec<u8>, ReadFault>
     requires { limit + 1 < 2 ^ 64 }
-    ensures all { IfOk result (λ bytes. Consumes (S.left source.old) (S.left source.new) bytes.items) }
+    ensures all { IfOk result
+        (λ bytes. Consumes (S.left source.old) (S.left source.new) bytes.items) }
     ensures end { OnOk result (IsAtEnd (S.left source.new)) }
     ensures fits { IfOk result (λ bytes. length bytes.items ≤ limit) }
-    ensures too_long { result ≡ Err ReadFault.TooLong → (front : List ℕ) × (length front ≡ limit + 1) × Consumes (S.left source.old) (S.left source.new) front }
+    ensures too_long { result ≡ Err ReadFault.TooLong → (front : List ℕ)
+        × (length front ≡ limit + 1) × Consumes (S.left source.old) (S.left source.new) front }
     ensures later { S.faults source.old ≤ S.faults source.new }
-    ensures failed { result ≡ Err ReadFault.Failed → Rose (S.faults source.old) (S.faults source.new) }
+    ensures steady { OnOk result (S.faults source.new ≡ S.faults source.old) }
+    ensures failed { result ≡ Err ReadFault.Failed
+        → Rose (S.faults source.old) (S.faults source.new) }
 {
     let mut bytes = Vec::new(alloc);
     let mut buffer = [0u8; BUFFER];

@@ -1,4 +1,4 @@
-use Rattle.std.proofs.Common.{◌++◌, length, take, arith}
+use Rattle.std.proofs.Common.{◌++◌, ◌∙◌, length, take}
 use Rattle.std.proofs.KnownBytes.{Appends-trans, Appends-kept}
 use Rattle.std.proofs.lemmas.Result.{err_from_is_err_and}
 use Rattle.outside.proofs.Pieces.{written_more, written_front}
@@ -19,5 +19,5 @@ loop-rest-preserved g c =
         written_more c.args.piece.now w.0 c.loop-rest.rest.now c.in_ok-count.count w.1,
         Appends-trans _ _ _ w.0 _ w.2 c.in_ok-count.ensures.bytes,
       );
-      later = omega arith;
+      steady = c.in_ok-count.ensures.cause.steady ∙ c.loop-rest.invariant.steady;
     }

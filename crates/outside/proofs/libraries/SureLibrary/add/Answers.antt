@@ -1,6 +1,6 @@
 use Rattle.std.proofs.Common.{◌≡◌, List, ℕ, subst, string_bytes}
-use Rattle.outside.proofs.Contents.{held_more}
-use Rattle.outside.specs.Contents.{held_in}
+use Rattle.outside.proofs.Files.{held_more}
+use Rattle.outside.specs.Libraries.{held_in}
 use Rattle.outside.specs.Told.{with_file}
 use Rattle.outside.proofs.libraries.SureLibrary.add.Goals as goal
 

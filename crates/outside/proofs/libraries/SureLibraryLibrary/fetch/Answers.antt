@@ -1,4 +1,4 @@
-use Rattle.outside.proofs.Contents.{fetched_found}
+use Rattle.outside.proofs.Files.{fetched_found}
 use Rattle.outside.proofs.libraries.SureLibraryLibrary.fetch.Goals as goal
 
 pub returns-clause-held : goal.returns-clause-held

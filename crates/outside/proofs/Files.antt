@@ -9,8 +9,9 @@ use Rattle.std.specs.Str.{bytes_eq}
 use Rattle.std.specs.String.{string_cmp}
 use Rattle.std.proofs.lemmas.List.{take_min}
 use Rattle.std.proofs.lemmas.Map.Text.{btree_map_updates_text}
-use Rattle.outside.specs.Contents.{held_in}
+use Rattle.outside.specs.Libraries.{held_in}
 use Rattle.outside.specs.Told.{with_file, fetched}
+use Rattle.outside.specs.declared.TheConstants.{FETCH_MAX}
 
 -- A choice between two contents, seen as bytes.
 chosen : (here : Bool) (content : Vec ℕ) (bytes : List ℕ) (before : Option (Vec ℕ)) → content.items ≡ bytes
@@ -26,8 +27,8 @@ held_more name bytes old new content is updates =
 
 -- What is fetched of a file that the map has.
 pub fetched_found : (name : List ℕ) (contents : BTreeMap (String Global) (Vec ℕ)) (content : Vec ℕ) (count : ℕ) (bytes : List ℕ) → Some content ≡ get_by_text contents name
-    → count ≡ min 1048577 (length content.items) → bytes ≡ take count content.items → Some bytes ≡ option_map fetched (option_map (λ v. v.items) (get_by_text contents name))
+    → count ≡ min FETCH_MAX (length content.items) → bytes ≡ take count content.items → Some bytes ≡ option_map fetched (option_map (λ v. v.items) (get_by_text contents name))
 unfolding fetched
 fetched_found name contents content count bytes found len is =
     subst (λ (o : Option (Vec ℕ)). Some bytes ≡ option_map fetched (option_map (λ v. v.items) o)) found
-    (ap Some (is ∙ ap (λ n. take n content.items) len ∙ take_min 1048577 content.items))
+    (ap Some (is ∙ ap (λ n. take n content.items) len ∙ take_min FETCH_MAX content.items))

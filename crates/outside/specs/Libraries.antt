@@ -5,6 +5,7 @@ use Rattle.std.specs.Global.{Global, Vec}
 use Rattle.std.specs.Option.{option_map}
 use Rattle.outside.specs.Told.{Files}
 
--- each name that the map has, with its content
+-- Each name that the map has, with its content.
 abbrev pub held_in : BTreeMap (String Global) (Vec ℕ) → Files
-held_in contents = Some (λ name. option_map (λ content. content.items) (get_by_text contents name))
+held_in contents =
+    Some (λ name. option_map (λ content. content.items) (get_by_text contents name))
