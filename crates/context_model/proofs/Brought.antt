@@ -2,7 +2,7 @@
 use Rattle.std.proofs.Common.{◌≡◌, List, [], ◌∷◌, refl, sym, ◌∙◌, ap}
 use Rattle.std.specs.declared.cmp.Ordering.{Ordering}
 use Rattle.std.specs.declared.cmp.Ordering.TheVariants.{Less, Equal, Greater}
-use Rattle.context_model.specs.Merge.{merge_with, brings, keys_of, later}
+use Rattle.context_model.specs.KeyedMerge.{merge_with, brings, keys_of, later}
 use Rattle.context_model.proofs.TwoLists.{two_lists}
 use Rattle.context_model.proofs.MergeLaws.{with-right_empty, with-less, with-equal, with-greater}
 

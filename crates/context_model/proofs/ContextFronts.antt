@@ -1,24 +1,22 @@
 -- The first fault of a context: where the atoms read so far cease to be a context, no context goes further.
-use Rattle.std.proofs.Common.{◌≡◌, ◌≢◌, ℕ, ◌+◌, ◌-◌, ◌<◌, ◌≤◌, ◌⊎◌, inl, inr, [], List, ◌∷◌, ◌++◌, length, take, drop, slice_get, Option, Some, None, refl, sym, ◌∙◌, ap, subst, append_assoc, length-append, arith}
-use Rattle.std.specs.List.{AllByRecursion}
-use Rattle.std.proofs.lemmas.List.{take_at, drop_at, take-append-drop, append-nil, length-take-le, take_all}
+use Rattle.std.proofs.Common.{◌≡◌, ℕ, ◌+◌, ◌<◌, ◌≤◌, inl, inr, [], List, ◌∷◌, ◌++◌, length, take, drop, refl, sym, ◌∙◌, ap, subst, append_assoc, length-append, arith}
+use Rattle.std.proofs.lemmas.List.{take_at, drop_at, take-append-drop, length-take-le, take_all}
 use Rattle.std.proofs.lemmas.Bool.{cases_lt}
+use Rattle.outside.specs.declared.TheConstants.{ATOM_MAX}
 use Rattle.context_model.specs.Atoms.{Atom, AreAtoms}
 use Rattle.context_model.specs.Framing.{frame, bytes_of}
 use Rattle.context_model.specs.ByteCodes.{ByteCode}
 use Rattle.context_model.specs.Paths.{last_path_after}
 use Rattle.context_model.specs.WellFormed.{IsWellFormed}
 use Rattle.context_model.specs.WireFault.{wire_code}
-use Rattle.context_model.specs.ShapeFault.{IsWrong, IsFirstShapeFault}
-use Rattle.context_model.specs.ContextFault.{IsContextOf, IsWrongBehind, IsFirstContextFault, HasOneContext}
-use Rattle.context_model.proofs.FramingLaws.{bytes_of-append}
+use Rattle.context_model.specs.ShapeFault.{IsWrong}
+use Rattle.context_model.specs.ContextFault.{IsWrongBehind, IsFirstContextFault, HasOneContext}
 use Rattle.context_model.proofs.Frames.{frame_cancel, bytes_of_cancel, not_longer, wire_code-frame}
-use Rattle.context_model.proofs.Following.{Fits}
-use Rattle.context_model.proofs.ShapeLaws.{split_at, fits_there, wrong_apart, wrong_unique}
+use Rattle.context_model.proofs.ShapeLaws.{fits_there, wrong_apart, wrong_unique}
 
 -- A list goes on from a front of its bytes: of two lists whose bytes have one beginning, the one with fewer bytes is a front of the other, or something is wrong between.
 pub goes_on : (list other : List Atom) (rest more : List ℕ) → AreAtoms list → AreAtoms other → bytes_of list ++ rest ≡ bytes_of other ++ more
-    → length (bytes_of list) < length (bytes_of other) → (atom : Atom) × (behind : List Atom) × (other ≡ list ++ atom ∷ behind) × (length atom ≤ 65535) × (rest ≡ frame atom ++ (bytes_of behind ++ more))
+    → length (bytes_of list) < length (bytes_of other) → (atom : Atom) × (behind : List Atom) × (other ≡ list ++ atom ∷ behind) × (length atom ≤ ATOM_MAX) × (rest ≡ frame atom ++ (bytes_of behind ++ more))
 goes_on [] [] rest more short short' e less = absurd (omega arith)
 goes_on [] (b ∷ other) rest more short short' e less = (b, other, refl, short'.0, e ∙ append_assoc (frame b) (bytes_of other) more)
 goes_on (a ∷ list) [] rest more short short' e less = absurd (omega arith)

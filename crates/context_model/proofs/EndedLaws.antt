@@ -10,8 +10,9 @@ use Rattle.context_model.specs.Orders.{Path, atom_cmp, path_cmp, IsIn}
 use Rattle.context_model.specs.Paths.{is_header, level, header_count, depth_after, path_after, paths_after}
 use Rattle.context_model.specs.WellFormed.{IsWellFormed}
 use Rattle.context_model.specs.Ended.{HasMarker, front_of, IsBeyond, IsEnded, EndsAtMarkers, AreHeaders}
-use Rattle.context_model.specs.WithoutData.{without_from, without, LeavesAllButData, AreDataPlaces, DataMayGo}
-use Rattle.context_model.specs.WithoutData.LeavesAllButData.{empty, drops, keeps}
+use Rattle.context_model.specs.WithoutData.{without_from, without, AreDataPlaces, DataMayGo}
+use Rattle.context_model.proofs.Leaving.{LeavesAllButData}
+use Rattle.context_model.proofs.Leaving.LeavesAllButData.{empty, drops, keeps}
 use Rattle.context_model.proofs.OrderLaws.{paths_total, paths_anti}
 use Rattle.context_model.proofs.Following.{Fits, Follows, IsWellFormed-follows, IsWellFormed-from, header_count-length, header_count-take, header_count-more, path_after-marker, later_below, Fits-marker}
 use Rattle.context_model.proofs.Beyond.{IsBeyond-later, beyond_none, headers_of, beyond_headers, beyond_from_headers}
@@ -70,12 +71,12 @@ IsEnded-from_markers list s m = by (to_front [] list s m)
 -- ---- without some of the data
 
 -- The path r in what is left has the same headers as the path q in the list, and isn't greater.
-record Kept (q r : Path) : Type 0 where
-  count : header_count r ≡ header_count q
-  headers : headers_of r ≡ headers_of q
-  most : (r ≡ q) ⊎ (path_cmp r q ≡ Less)
+pub record Kept (q r : Path) : Type 0 where
+  pub count : header_count r ≡ header_count q
+  pub headers : headers_of r ≡ headers_of q
+  pub most : (r ≡ q) ⊎ (path_cmp r q ≡ Less)
 
-kept_same : (q : Path) → Kept q q
+pub kept_same : (q : Path) → Kept q q
 kept_same q = record { count = refl; headers = refl; most = inl refl }
 
 up_to : (r q p : Path) → (r ≡ q) ⊎ (path_cmp r q ≡ Less) → path_cmp q p ≡ Less → path_cmp r p ≡ Less
@@ -88,7 +89,7 @@ fewer n q r k h =
     sym (take-take n (header_count r) r (omega (arith, k.count))) ∙ ap (take n) k.headers ∙ take-take n (header_count q) q h
 
 -- an atom that is no marker has the same path behind both
-kept_path : (q r : Path) (a : Atom) → Kept q r → (a ≡ [] → ⊥) → (is_header a ≡ true → level a ≤ header_count q) → path_after r a ≡ path_after q a
+pub kept_path : (q r : Path) (a : Atom) → Kept q r → (a ≡ [] → ⊥) → (is_header a ≡ true → level a ≤ header_count q) → path_after r a ≡ path_after q a
 kept_path q r [] k n f = absurd (n refl)
 kept_path q r (b ∷ bytes) k n f = by (nat_le 128 b) refl
   where
@@ -101,7 +102,7 @@ kept_path q r (b ∷ bytes) k n f = by (nat_le 128 b) refl
 pub headers_front : (q : Path) (a : Atom) → headers_of q ≡ take (header_count q) (headers_of q ++ a ∷ [])
 headers_front q a = sym (take_at (headers_of q) (a ∷ []) (header_count q) (length-take-le (header_count q) q (header_count-length q)))
 
-kept_drop : (q r : Path) (payload : List ℕ) → Kept q r → Fits q (0 ∷ payload) → Kept (path_after q (0 ∷ payload)) r
+pub kept_drop : (q r : Path) (payload : List ℕ) → Kept q r → Fits q (0 ∷ payload) → Kept (path_after q (0 ∷ payload)) r
 kept_drop q r payload k f = record {
   count = k.count ∙ sym count;
   headers = k.headers ∙ headers_front q (0 ∷ payload) ∙ ap (λ v. take v (headers_of q ++ (0 ∷ payload) ∷ [])) (sym count);
@@ -141,7 +142,7 @@ marker_most q r (inr l) = by (path_cmp (r ++ [] ∷ []) q) refl
         let greater : path_cmp q r ≡ Greater = paths_total.antisymm q r ∙ ap ordering_reverse l in
         absurd (before_marker q r less greater)
 
-kept_marker : (q r : Path) → Kept q r → Kept (path_after q []) (path_after r [])
+pub kept_marker : (q r : Path) → Kept q r → Kept (path_after q []) (path_after r [])
 kept_marker q r k = subst₂ Kept (sym (path_after-marker q)) (sym (path_after-marker r)) (record {
   count = header_count-more r ∙ k.count ∙ sym (header_count-more q);
   headers = headers_more r ∙ k.headers ∙ sym (headers_more q);
@@ -157,7 +158,7 @@ kept_fits q r b bytes k f = record {
   later = ap (path_cmp r) (kept_path q r (b ∷ bytes) k (some_atom b bytes) f.level) ∙ up_to r q (path_after q (b ∷ bytes)) k.most f.later;
 }
 
-kept_next : (q r : Path) (b : ℕ) (bytes : List ℕ) → Kept q r → Fits q (b ∷ bytes) → Kept (path_after q (b ∷ bytes)) (path_after r (b ∷ bytes))
+pub kept_next : (q r : Path) (b : ℕ) (bytes : List ℕ) → Kept q r → Fits q (b ∷ bytes) → Kept (path_after q (b ∷ bytes)) (path_after r (b ∷ bytes))
 kept_next q r b bytes k f = subst (Kept (path_after q (b ∷ bytes))) (sym (kept_path q r (b ∷ bytes) k (some_atom b bytes) f.level)) (kept_same (path_after q (b ∷ bytes)))
 
 kept_follows : (q r : Path) (list left : List Atom) → Kept q r → Follows q list → LeavesAllButData list left → Follows r left
@@ -255,7 +256,7 @@ leaves i gone (a ∷ list) h =
         let x : (payload : List ℕ) × (a ≡ 0 ∷ payload) = h zero a refl (subst (λ v. list_any (λ place. place == v) gone ≡ true) (sym (add-zero i)) e) in
         subst (λ v. LeavesAllButData (v ∷ list) (without_from (i + 1) gone list)) (sym (x.1)) (drops {payload = x.0} d)
 
-datum_there : (gone : List ℕ) (list : List Atom) (k : ℕ) (a : Atom) → AreDataPlaces gone list → slice_get list k ≡ Some a → list_any (λ place. place == k) gone ≡ true
+pub datum_there : (gone : List ℕ) (list : List Atom) (k : ℕ) (a : Atom) → AreDataPlaces gone list → slice_get list k ≡ Some a → list_any (λ place. place == k) gone ≡ true
     → (payload : List ℕ) × (a ≡ 0 ∷ payload)
 datum_there [] list k a d e l = cc
 datum_there (g ∷ gone) list k a d e l = by (g == k) refl l (λ m. datum_there gone list k a d.1 e m)

@@ -3,7 +3,7 @@ use Rattle.std.proofs.Common.{List, Option, Some, None, IsTrue, refl}
 use Rattle.std.specs.Prelude.{◌↔◌}
 use Rattle.std.specs.Option.{is_some}
 use Rattle.context_model.specs.Orders.{IsIn}
-use Rattle.context_model.specs.Merge.{Finds, keys_of}
+use Rattle.context_model.specs.KeyedMerge.{Finds, keys_of}
 use Rattle.context_model.proofs.MergeLaws.{IsIn-keys_of}
 
 module _ {K X : Type 0} where

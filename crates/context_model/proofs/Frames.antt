@@ -1,14 +1,23 @@
 -- No frame begins another, nothing is wrong at a frame, and where something is wrong behind a list no list goes further.
-use Rattle.std.proofs.Common.{◌≡◌, ℕ, ◌+◌, ◌-◌, ◌*◌, ◌/◌, ◌%◌, ◌<◌, ◌≤◌, ◌⊎◌, inl, inr, Bool, true, false, cond, [], List, ◌∷◌, ◌++◌, length, take, drop, get_or, nat_lt, nat_le, ◌==◌, ◌&&◌, if◌then◌else◌, Option, Some, None, refl, sym, ◌∙◌, ap, subst, append_assoc, length-append, arith}
-use Rattle.std.proofs.lemmas.List.{take_at, drop_at, take-append-drop, append_cancel_left, append-nil, length-take-le, take_all}
+use Rattle.std.proofs.Common.{◌≡◌, ℕ, ◌+◌, ◌-◌, ◌/◌, ◌%◌, ◌<◌, ◌≤◌, inl, inr, Bool, false, [], List, ◌∷◌, ◌++◌, length, take, drop, get_or, nat_lt, ◌==◌, ◌&&◌, if◌then◌else◌, Some, None, refl, sym, ◌∙◌, ap, subst, append_assoc, length-append, arith}
+use Rattle.std.proofs.lemmas.List.{take_at, drop_at, take-append-drop, append_cancel_left, length-take-le, take_all}
 use Rattle.std.proofs.lemmas.Bool.{cases_lt}
 use Rattle.std.proofs.lemmas.Bool.Decides.{nat_tests}
+use Rattle.outside.specs.declared.TheConstants.{ATOM_MAX}
+use Rattle.context_model.specs.declared.TheConstants.{LENGTH_MAX}
 use Rattle.context_model.specs.Atoms.{Atom, AreAtoms}
-use Rattle.context_model.specs.Framing.{length_code, frame, bytes_of, IsFramed}
+use Rattle.context_model.specs.Framing.{length_code, frame, bytes_of}
 use Rattle.context_model.proofs.FramingLaws.{length-length_code}
 use Rattle.context_model.specs.ByteCodes.{ByteCode}
 use Rattle.context_model.specs.ByteCodes.ByteCode.{CutBody}
-use Rattle.context_model.specs.WireFault.{through_last, length_front, length_said, is_open, cuts_length, is_too_long, is_long_form, cuts_body, wire_code, IsFirstWireFault, ReadsOneWay}
+use Rattle.context_model.specs.WireFault.{length_front, length_said, is_open, wire_code, IsFirstWireFault, ReadsOneWay}
+
+-- Each length of an atom, and no other, can stand before it.
+pub limits_agree : ATOM_MAX ≡ LENGTH_MAX
+limits_agree = refl
+
+pub length_fits : (atom : Atom) → length atom ≤ ATOM_MAX → length atom ≤ LENGTH_MAX
+length_fits atom short = subst (λ most. length atom ≤ most) limits_agree short
 
 -- The three forms of a length.
 code_one : (n : ℕ) → n < 128 → length_code n ≡ n ∷ []
@@ -36,7 +45,7 @@ front_three : (a b c : ℕ) (xs : List ℕ) → 128 ≤ a → 128 ≤ b → c < 
 unfolding length_front
 front_three a b c xs h k m = grind (arith, nat_tests)
 
-pub length_front-code : (n : ℕ) (xs : List ℕ) → n ≤ 65535 → length_front (length_code n ++ xs) ≡ length_code n
+pub length_front-code : (n : ℕ) (xs : List ℕ) → n ≤ LENGTH_MAX → length_front (length_code n ++ xs) ≡ length_code n
 length_front-code n xs within = elim (cases_lt n 128) [
   | inl one ↦ rw (code_one n one) (front_one n xs one)
   | inr more ↦ elim (cases_lt n 16384) [
@@ -45,7 +54,7 @@ length_front-code n xs within = elim (cases_lt n 128) [
   ]
 ]
 
-pub length_said-code : (n : ℕ) → n ≤ 65535 → length_said (length_code n) ≡ n
+pub length_said-code : (n : ℕ) → n ≤ LENGTH_MAX → length_said (length_code n) ≡ n
 length_said-code n within = elim (cases_lt n 128) [
   | inl one ↦ rw (code_one n one) (omega arith)
   | inr more ↦ elim (cases_lt n 16384) [
@@ -55,7 +64,7 @@ length_said-code n within = elim (cases_lt n 128) [
 ]
 
 -- The last byte of a length has no top bit, and isn't 0 where there is one before it.
-code_ends : (n : ℕ) → n ≤ 65535 → is_open (length_code n) ≡ false
+code_ends : (n : ℕ) → n ≤ LENGTH_MAX → is_open (length_code n) ≡ false
 code_ends n within = elim (cases_lt n 128) [
   | inl one ↦ rw (code_one n one) (grind (arith, nat_tests))
   | inr more ↦ elim (cases_lt n 16384) [
@@ -77,7 +86,7 @@ code_short n = elim (cases_lt n 128) [
 ]
 
 -- What is wrong behind a length that is rightly spelled: that the body is cut, or nothing.
-pub wire_code-length : (n : ℕ) (behind : List ℕ) → n ≤ 65535 → wire_code (length_code n ++ behind) ≡ (if nat_lt (length behind) n then Some CutBody else None)
+pub wire_code-length : (n : ℕ) (behind : List ℕ) → n ≤ LENGTH_MAX → wire_code (length_code n ++ behind) ≡ (if nat_lt (length behind) n then Some CutBody else None)
 unfolding wire_code
 wire_code-length n behind within =
     let front = length_front-code n behind within in
@@ -86,18 +95,20 @@ wire_code-length n behind within =
     rw (front, said, body, code_ends n within, code_short n) (grind (arith, nat_tests))
 
 -- Nothing is wrong at a frame.
-pub wire_code-frame : (atom rest : List ℕ) → length atom ≤ 65535 → wire_code (frame atom ++ rest) ≡ None
+pub wire_code-frame : (atom rest : List ℕ) → length atom ≤ ATOM_MAX → wire_code (frame atom ++ rest) ≡ None
 wire_code-frame atom rest within =
-    rw (append_assoc, wire_code-length (length atom) (atom ++ rest) within) (let l = length-append atom rest in grind (arith, nat_tests))
+    rw (append_assoc, wire_code-length (length atom) (atom ++ rest) (length_fits atom within)) (let l = length-append atom rest in grind (arith, nat_tests))
 
 -- No frame begins another.
-pub frame_cancel : (a b xs ys : List ℕ) → length a ≤ 65535 → length b ≤ 65535 → frame a ++ xs ≡ frame b ++ ys → (a ≡ b) × (xs ≡ ys)
+pub frame_cancel : (a b xs ys : List ℕ) → length a ≤ ATOM_MAX → length b ≤ ATOM_MAX → frame a ++ xs ≡ frame b ++ ys → (a ≡ b) × (xs ≡ ys)
 frame_cancel a b xs ys short_a short_b e =
     let code_a = length_code (length a) in
     let code_b = length_code (length b) in
+    let fits_a = length_fits a short_a in
+    let fits_b = length_fits b short_b in
     let split : code_a ++ (a ++ xs) ≡ code_b ++ (b ++ ys) = sym (append_assoc code_a a xs) ∙ e ∙ append_assoc code_b b ys in
-    let codes : code_a ≡ code_b = sym (length_front-code (length a) (a ++ xs) short_a) ∙ ap length_front split ∙ length_front-code (length b) (b ++ ys) short_b in
-    let long : length a ≡ length b = sym (length_said-code (length a) short_a) ∙ ap length_said codes ∙ length_said-code (length b) short_b in
+    let codes : code_a ≡ code_b = sym (length_front-code (length a) (a ++ xs) fits_a) ∙ ap length_front split ∙ length_front-code (length b) (b ++ ys) fits_b in
+    let long : length a ≡ length b = sym (length_said-code (length a) fits_a) ∙ ap length_said codes ∙ length_said-code (length b) fits_b in
     let behind : a ++ xs ≡ b ++ ys = append_cancel_left code_a (a ++ xs) (b ++ ys) (split ∙ ap (λ code. code ++ (b ++ ys)) (sym codes)) in
     let same : a ≡ b = sym (take_at a xs (length a) refl) ∙ ap (take (length a)) behind ∙ take_at b ys (length a) (sym long) in
     (same, sym (drop_at a xs (length a) refl) ∙ ap (drop (length a)) behind ∙ drop_at b ys (length a) (sym long))

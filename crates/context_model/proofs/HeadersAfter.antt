@@ -1,5 +1,5 @@
 -- The headers of the next path.
-use Rattle.std.proofs.Common.{◌≡◌, ℕ, ◌+◌, ◌≤◌, Bool, true, false, cond, nat_le, List, [], ◌∷◌, ◌++◌, length, take, sym, refl, ap, ◌∙◌, subst, arith, add-zero, le_refl}
+use Rattle.std.proofs.Common.{◌≡◌, ◌+◌, ◌≤◌, true, false, cond, [], ◌∷◌, ◌++◌, take, sym, ap, ◌∙◌, arith, add-zero, le_refl}
 use Rattle.std.proofs.lemmas.List.{take-take, take_all}
 use Rattle.context_model.specs.Atoms.{Atom}
 use Rattle.context_model.specs.Orders.{Path}

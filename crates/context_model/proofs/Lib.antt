@@ -5,6 +5,7 @@ pub mod Following
 pub mod Frames
 pub mod FramingLaws
 pub mod KindLaws
+pub mod Leaving
 pub mod OrderLaws
 pub mod PathPlaces
 pub mod ShapeLaws
@@ -16,6 +17,7 @@ pub mod TwoLists
 pub mod Rising
 pub mod MergeLaws
 pub mod GreedyLaws
+pub mod GreedyMap
 pub mod Search
 pub mod Brought
 pub mod MergeSteps
@@ -24,6 +26,7 @@ pub mod ContextFronts
 pub mod Meets
 pub mod EndedSteps
 pub mod Places
+pub mod PlacesOf
 pub mod Lexicographic
 pub mod MergePaths
 pub mod GreedyElements
@@ -32,3 +35,4 @@ pub mod MergedMarkers
 pub mod FirstMarkers
 pub mod MergeRows
 pub mod HeadersAfter
+pub mod LeftPaths

@@ -6,9 +6,14 @@ use Rattle.std.specs.declared.cmp.Ordering.{Ordering}
 use Rattle.std.specs.declared.cmp.Ordering.TheVariants.{Less, Equal, Greater}
 use Rattle.std.specs.Ordering.{ordering_reverse}
 use Rattle.context_model.specs.Orders.{IsIn, Rises}
-use Rattle.context_model.specs.Merge.{greedy_merge, merge_with, keys_of, EachPair, IsAt, AtTies}
+use Rattle.context_model.specs.Merge.{greedy_merge}
+use Rattle.context_model.specs.KeyedMerge.{merge_with, keys_of, EachPair, IsAt}
 use Rattle.context_model.proofs.TwoLists.{two_lists}
 use Rattle.context_model.proofs.Rising.{Rises-tail, not_behind, greedy-right_empty, greedy-less, greedy-equal, greedy-greater}
+
+-- Q holds of each two pairs, one of each list, whose keys tie.
+abbrev pub AtTies : {K X : Type 0} → (K → K → Ordering) → (K → X → K → X → Type 0) → List (K × X) → List (K × X) → Type 0
+AtTies {K} {X} R Q es ds = (k j : K) (v w : X) → IsAt k v es → IsAt j w ds → R k j ≡ Equal → Q k v j w
 
 module _ {K X : Type 0} (R : K → K → Ordering) (f : X → X → X) where
   pub with-right_empty : (es : List (K × X)) → merge_with R f es [] ≡ es

@@ -3,7 +3,7 @@ use Rattle.std.proofs.Common.{◌≡◌, ℕ, ◌+◌, ◌<◌, ◌≤◌, ◌�
 use Rattle.std.proofs.lemmas.List.{drop_all, append-nil}
 use Rattle.std.specs.declared.cmp.Ordering.{Ordering}
 use Rattle.std.specs.declared.cmp.Ordering.TheVariants.{Less, Equal, Greater}
-use Rattle.context_model.specs.Merge.{merge_with, brings}
+use Rattle.context_model.specs.KeyedMerge.{merge_with, brings}
 use Rattle.context_model.proofs.MergeLaws.{with-right_empty, with-less, with-equal, with-greater}
 use Rattle.context_model.proofs.Brought.{brings-right_empty, brings-less, brings-equal, brings-greater}
 

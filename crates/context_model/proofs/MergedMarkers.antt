@@ -11,7 +11,7 @@ use Rattle.context_model.specs.Behind.{HasMarkerBehind}
 use Rattle.context_model.specs.MergedMarkers.{KeepsMarkers, KeepsMarkersBehind, EndsWithEach}
 use Rattle.context_model.proofs.GreedyElements.{All-at, All-from}
 use Rattle.context_model.proofs.Following.{path_after-marker}
-use Rattle.context_model.proofs.Places.{path_at, StandsThere, place_of}
+use Rattle.context_model.proofs.Places.{path_of_place, StandsThere, place_of}
 use Rattle.context_model.proofs.EndedLaws.{ends_at_markers}
 use Rattle.context_model.proofs.MergedLaws.{same_end, merged_path, keeps_atoms}
 
@@ -23,7 +23,7 @@ pub HasMarkerBehind-path : (list : List Atom) (q : Path) → HasMarkerBehind lis
 HasMarkerBehind-path list q = (there, back)
   where
     there : HasMarkerBehind list q → IsIn (q ++ [] ∷ []) (paths list)
-    there m = subst (λ p. IsIn p (paths list)) (path_after-marker (last_path_after [] (take m.place list)) ∙ ap (λ p. p ++ [] ∷ []) m.behind) (path_at [] list m.place [] m.there)
+    there m = subst (λ p. IsIn p (paths list)) (path_after-marker (last_path_after [] (take m.place list)) ∙ ap (λ p. p ++ [] ∷ []) m.behind) (path_of_place [] list m.place [] m.there)
 
     back : IsIn (q ++ [] ∷ []) (paths list) → HasMarkerBehind list q
     back i =

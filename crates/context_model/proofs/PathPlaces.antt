@@ -6,7 +6,7 @@ use Rattle.std.proofs.lemmas.Cmp.{tied_itself}
 use Rattle.context_model.specs.Atoms.{Atom}
 use Rattle.context_model.specs.Orders.{Path, atom_cmp, path_cmp}
 use Rattle.context_model.specs.Paths.{is_header, level, header_count, depth_after, path_after, last_path_after}
-use Rattle.context_model.specs.Nearest.{nearest_from, HasNearestHeaders, IsNearestPlace}
+use Rattle.context_model.specs.Nearest.{nearest_from, last_header_from, levels_open, HasNearestHeaders, IsNearestPlace}
 use Rattle.context_model.proofs.OrderLaws.{atoms_total}
 use Rattle.context_model.proofs.Following.{Fits, Follows, header_count-length, next_bound, IsWellFormed-follows}
 
@@ -98,8 +98,20 @@ module _ (n : ℕ) where
   along q [] last f known h = known h
   along q (a ∷ list) last f known h = along (path_after q a) list (cond (is_header a && eqb (level a) n) (Some a) last) f.1 (step q a last f.0 known) h
 
+-- There are as many headers as levels open behind the last one.
+count_along : (q : Path) (list : List Atom) (last : Option Atom) → Follows q list → header_count q ≡ levels_open last → header_count (last_path_after q list) ≡ levels_open (last_header_from last list)
+count_along q [] last f known = known
+count_along q (a ∷ list) last f known = count_along (path_after q a) list (cond (is_header a) (Some a) last) f.1 (next_bound q a f.0.level ∙ by (is_header a))
+  where
+    by : (b : Bool) → cond b (level a + 1) (header_count q) ≡ levels_open (cond b (Some a) last)
+    by true = refl
+    by false = known
+
 pub has_nearest_headers : HasNearestHeaders
-has_nearest_headers list n w h = along n [] list None (IsWellFormed-follows list w) (λ l. absurd (omega arith)) h
+has_nearest_headers = record {
+  number = λ list w. count_along [] list None (IsWellFormed-follows list w) refl;
+  each = λ list n w h. along n [] list None (IsWellFormed-follows list w) (λ l. absurd (omega arith)) h;
+}
 
 -- ---- places of nearest headers
 

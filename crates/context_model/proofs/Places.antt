@@ -1,5 +1,5 @@
 -- Paths, markers and fronts by places, for loops over a list.
-use Rattle.std.proofs.Common.{◌≡◌, ℕ, zero, suc, ◌+◌, ◌<◌, ◌≤◌, ◌⊎◌, ◌↔◌, List, [], ◌∷◌, ◌++◌, length, take, slice_get, Some, None, sym, refl, ap, ap₂, ◌∙◌, subst, arith, inl, inr, add-one}
+use Rattle.std.proofs.Common.{◌≡◌, ℕ, zero, suc, ◌+◌, ◌<◌, ◌≤◌, ◌⊎◌, ◌↔◌, List, [], ◌∷◌, length, take, slice_get, Some, sym, refl, ap, ◌∙◌, subst, arith, inl, inr, add-one}
 use Rattle.std.proofs.lemmas.List.{length-take-le}
 use Rattle.context_model.specs.Atoms.{Atom}
 use Rattle.context_model.specs.Orders.{Path, IsIn}
@@ -16,10 +16,10 @@ last_path_after-more q list i a e = ap (λ n. last_path_after q (take n list)) (
     by q (x ∷ list) zero e = let h : x ≡ a = cc in ap (path_after q) h
     by q (x ∷ list) (suc i) e = by (path_after q x) list i e
 
-pub path_at : (q : Path) (list : List Atom) (i : ℕ) (a : Atom) → slice_get list i ≡ Some a → IsIn (path_after (last_path_after q (take i list)) a) (paths_after q list)
-path_at q [] i a e = cc
-path_at q (x ∷ list) zero a e = let h : a ≡ x = cc in inl (ap (path_after q) h)
-path_at q (x ∷ list) (suc i) a e = inr (path_at (path_after q x) list i a e)
+pub path_of_place : (q : Path) (list : List Atom) (i : ℕ) (a : Atom) → slice_get list i ≡ Some a → IsIn (path_after (last_path_after q (take i list)) a) (paths_after q list)
+path_of_place q [] i a e = cc
+path_of_place q (x ∷ list) zero a e = let h : a ≡ x = cc in inl (ap (path_after q) h)
+path_of_place q (x ∷ list) (suc i) a e = inr (path_of_place (path_after q x) list i a e)
 
 -- every path of a list is that of an atom at a place
 pub record StandsThere (q : Path) (list : List Atom) (p : Path) : Type 0 where
@@ -89,7 +89,7 @@ IsEnded-at list s n i a f l e b =
     inr (
       path_after (last_path_after [] (take i list)) a,
       subst (λ v. IsIn (path_after (last_path_after [] (take i list)) a) (paths v)) (sym f)
-          (subst (λ v. IsIn (path_after (last_path_after [] v) a) (paths (take n list))) (take_front list n i l) (path_at [] (take n list) i a (take-slice_get list n i a l e))),
+          (subst (λ v. IsIn (path_after (last_path_after [] v) a) (paths (take n list))) (take_front list n i l) (path_of_place [] (take n list) i a (take-slice_get list n i a l e))),
       b,
     )
 

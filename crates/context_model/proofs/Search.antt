@@ -5,7 +5,7 @@ use Rattle.std.specs.declared.cmp.Ordering.{Ordering}
 use Rattle.std.specs.declared.cmp.Ordering.TheVariants.{Less, Greater}
 use Rattle.std.specs.Ordering.{ordering_reverse}
 use Rattle.context_model.specs.Orders.{IsIn, Rises}
-use Rattle.context_model.specs.Merge.{keys_of, IsAt}
+use Rattle.context_model.specs.KeyedMerge.{keys_of, IsAt}
 use Rattle.context_model.proofs.Rising.{Rises-before, Rises-tail}
 
 module _ {E K : Type 0} (key : E → K) (R : K → K → Ordering) where

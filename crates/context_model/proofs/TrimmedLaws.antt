@@ -1,7 +1,7 @@
 -- The laws of trimming: a list that doesn't fit keeps its longest front, and trimming twice is trimming to the lesser budget.
-use Rattle.std.proofs.Common.{◌≡◌, ℕ, ◌+◌, ◌-◌, ◌<◌, ◌≤◌, zero, suc, Bool, true, false, [], List, ◌∷◌, ◌++◌, ◌⊎◌, inl, inr, length, take, drop, min, nat_le, nat_lt, if◌then◌else◌, refl, sym, ◌∙◌, ap, subst, append_assoc, length-append, arith, leb-true, leb-false, le-leb}
+use Rattle.std.proofs.Common.{◌≡◌, ℕ, ◌+◌, ◌-◌, ◌<◌, ◌≤◌, zero, suc, Bool, true, false, [], List, ◌∷◌, ◌++◌, ◌⊎◌, inl, inr, length, take, min, nat_le, nat_lt, if◌then◌else◌, refl, sym, ◌∙◌, ap, subst, length-append, arith, leb-true, le-leb}
 use Rattle.std.proofs.lemmas.List.{length-take-le, take-append-le, take-take, take_all}
-use Rattle.std.proofs.lemmas.Bool.{cases_lt, cases_Bool}
+use Rattle.std.proofs.lemmas.Bool.{cases_lt}
 use Rattle.std.proofs.lemmas.Bool.Decides.{nat_tests}
 use Rattle.context_model.specs.Atoms.{Atom}
 use Rattle.context_model.specs.Framing.{size_of}

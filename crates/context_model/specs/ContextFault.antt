@@ -1,5 +1,6 @@
 -- The first fault of bytes that aren't those of a context.
-use Rattle.std.specs.Prelude.{◌≡◌, ◌⊎◌, ℕ, ◌<◌, ◌≤◌, List, ◌++◌, length, take, drop, [], Option, Some, None}
+use Rattle.std.specs.Prelude.{◌≡◌, ◌⊎◌, ℕ, ◌<◌, ◌≤◌, List, ◌++◌, length, take, drop, [], Some}
+use Rattle.outside.specs.declared.TheConstants.{ATOM_MAX}
 use Rattle.context_model.specs.Atoms.{Atom, AreAtoms}
 use Rattle.context_model.specs.Framing.{frame, bytes_of}
 use Rattle.context_model.specs.ByteCodes.{ByteCode}
@@ -16,7 +17,7 @@ IsContextOf list bytes = AreAtoms list × IsWellFormed list × (bytes ≡ bytes_
 abbrev pub IsWrongBehind : List Atom → List ℕ → ByteCode → Type 0
 IsWrongBehind list rest code =
     (wire_code rest ≡ Some code)
-    ⊎ ((atom : Atom) × (more : List ℕ) × (length atom ≤ 65535) × (rest ≡ frame atom ++ more) × IsWrong code (last_path_after [] list) atom)
+    ⊎ ((atom : Atom) × (more : List ℕ) × (length atom ≤ ATOM_MAX) × (rest ≡ frame atom ++ more) × IsWrong code (last_path_after [] list) atom)
 
 -- The longest front that is the bytes of a context ends before the input does, and this is wrong with what follows.
 pub record IsFirstContextFault (bytes : List ℕ) (offset : ℕ) (code : ByteCode) : Type 0 where

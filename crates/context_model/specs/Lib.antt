@@ -3,6 +3,7 @@ pub mod ByteCodes
 pub mod Ended
 pub mod Framing
 pub mod Kinds
+pub mod KeyedMerge
 pub mod Merge
 pub mod Nearest
 pub mod Orders

@@ -1,7 +1,8 @@
-use Rattle.std.specs.Prelude.{◌≡◌, ◌⊎◌, ◌↔◌, List, [], ◌∷◌, map, Option, Some, None}
+-- Merges of two lists in order.
+use Rattle.std.specs.Prelude.{◌≡◌, List, [], ◌∷◌, Option, Some, None}
 use Rattle.std.specs.declared.cmp.Ordering.{Ordering}
-use Rattle.std.specs.declared.cmp.Ordering.TheVariants.{Less, Equal}
-use Rattle.context_model.specs.Orders.{IsIn, by_order}
+use Rattle.std.specs.declared.cmp.Ordering.TheVariants.{Less}
+use Rattle.context_model.specs.Orders.{by_order}
 
 -- The merge of x ∷ xs with a list, where rest is the merge of xs with a list.
 abbrev merge_onto : {K : Type 0} → (K → K → Ordering) → K → List K → (List K → List K) → List K → List K
@@ -14,66 +15,13 @@ abbrev pub greedy_merge : {K : Type 0} → (K → K → Ordering) → List K →
 greedy_merge R [] ys = ys
 greedy_merge R (x ∷ xs) ys = merge_onto R x xs (greedy_merge R xs) ys
 
--- the merge of k with v and a list with another list, where rest is that of the list
-abbrev with_onto : {K X : Type 0} → (K → K → Ordering) → (X → X → X) → K × X → List (K × X) → (List (K × X) → List (K × X)) → List (K × X) → List (K × X)
-with_onto R f e es rest [] = e ∷ es
-with_onto R f e es rest (d ∷ ds) = by_order (R e.0 d.0) (e ∷ rest (d ∷ ds)) ((e.0, f e.1 d.1) ∷ rest ds) (d ∷ with_onto R f e es rest ds)
+-- The one value, or of two values the one that comes first.
+abbrev pub first_of : {V : Type 0} → (V → V → Ordering) → Option V → Option V → Option V
+first_of R None w = w
+first_of R (Some v) None = Some v
+first_of R (Some v) (Some w) = by_order (R v w) (Some v) (Some v) (Some w)
 
--- the keys of both, and at a key of both what f makes of its two values
-abbrev pub merge_with : {K X : Type 0} → (K → K → Ordering) → (X → X → X) → List (K × X) → List (K × X) → List (K × X)
-merge_with R f [] ds = ds
-merge_with R f (e ∷ es) ds = with_onto R f e es (merge_with R f es) ds
-
--- what a merge of a pair e and a list with another list brings, where rest is what that of the list brings
-abbrev brings_onto : {K X : Type 0} → (K → K → Ordering) → (X → X → X) → K × X → (List (K × X) → List (K × X)) → List (K × X) → List (K × X)
-brings_onto R f e rest [] = []
-brings_onto R f e rest (d ∷ ds) = by_order (R e.0 d.0) (rest (d ∷ ds)) ((d.0, f e.1 d.1) ∷ rest ds) (d ∷ brings_onto R f e rest ds)
-
--- what a merge brings to the first list: the pairs of the second, and at a key of both what f makes of its two values
-abbrev pub brings : {K X : Type 0} → (K → K → Ordering) → (X → X → X) → List (K × X) → List (K × X) → List (K × X)
-brings R f [] ds = ds
-brings R f (e ∷ es) ds = brings_onto R f e (brings R f es) ds
-
--- of two values the second
-abbrev pub later : {X : Type 0} → X → X → X
-later v w = w
-
--- the keys, without their values
-abbrev pub keys_of : {K X : Type 0} → List (K × X) → List K
-keys_of es = map (λ e. e.0) es
-
--- P holds of each key and its value
-abbrev pub EachPair : {K X : Type 0} → (K → X → Type 0) → List (K × X) → Type 0
-EachPair P [] = Unit {0}
-EachPair P (e ∷ es) = P e.0 e.1 × EachPair P es
-
--- a pair of the list is this key with this value
-abbrev pub IsAt : {K X : Type 0} → K → X → List (K × X) → Type 0
-IsAt k v [] = ⊥
-IsAt k v (e ∷ es) = ((k ≡ e.0) × (v ≡ e.1)) ⊎ IsAt k v es
-
--- P holds of each two values, one of each list, that have one key
-abbrev pub AtOneKey : {K X : Type 0} → (X → X → Type 0) → List (K × X) → List (K × X) → Type 0
-AtOneKey {K} {X} P es ds = (k : K) (v w : X) → IsAt k v es → IsAt k w ds → P v w
-
--- Q holds of each two pairs, one of each list, whose keys tie
-abbrev pub AtTies : {K X : Type 0} → (K → K → Ordering) → (K → X → K → X → Type 0) → List (K × X) → List (K × X) → Type 0
-AtTies {K} {X} R Q es ds = (k j : K) (v w : X) → IsAt k v es → IsAt j w ds → R k j ≡ Equal → Q k v j w
-
--- each element comes before k
+-- Each element comes before k.
 abbrev pub AllBelow : {K : Type 0} → (K → K → Ordering) → List K → K → Type 0
 AllBelow R [] k = Unit {0}
 AllBelow R (x ∷ xs) k = (R x k ≡ Less) × AllBelow R xs k
-
--- what is found at a key: the value that it has, or nothing where no pair has the key
-abbrev pub Finds : {K X : Type 0} → List (K × X) → K → Option X → Type 0
-Finds es k None = ¬ (IsIn k (keys_of es))
-Finds es k (Some v) = IsAt k v es
-
--- The union of two lists of keys with values: the keys of both, at a key of both what f makes of its two values, and at a
--- key of one alone its value there.
-pub record IsUnion {K X : Type 0} (f : X → X → X) (es ds union : List (K × X)) : Type 0 where
-  pub keys : (k : K) → IsIn k (keys_of union) ↔ (IsIn k (keys_of es) ⊎ IsIn k (keys_of ds))
-  pub both : (k : K) (v w : X) → IsAt k v es → IsAt k w ds → IsAt k (f v w) union
-  pub first : (k : K) (v : X) → IsAt k v es → ¬ (IsIn k (keys_of ds)) → IsAt k v union
-  pub second : (k : K) (w : X) → ¬ (IsIn k (keys_of es)) → IsAt k w ds → IsAt k w union

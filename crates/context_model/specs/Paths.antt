@@ -1,5 +1,5 @@
 -- The path of each atom of a list: the headers around it, and then the atom itself.
-use Rattle.std.specs.Prelude.{ℕ, suc, ◌-◌, ◌/◌, Bool, false, cond, nat_le, List, [], ◌∷◌, ◌++◌, length, take}
+use Rattle.std.specs.Prelude.{ℕ, suc, ◌+◌, ◌-◌, ◌/◌, Bool, false, cond, nat_le, List, [], ◌∷◌, ◌++◌, length, take, slice_index_or}
 use Rattle.context_model.specs.Atoms.{Atom}
 use Rattle.context_model.specs.Orders.{Path}
 
@@ -41,3 +41,15 @@ paths = paths_after []
 abbrev pub last_path_after : Path → List Atom → Path
 last_path_after q [] = q
 last_path_after q (a ∷ list) = last_path_after (path_after q a) list
+
+-- The atom at a place.
+abbrev pub atom_at : List Atom → ℕ → Atom
+atom_at list at = slice_index_or list at []
+
+-- The path of the atom before a place, and the empty path before the first.
+abbrev pub path_before : List Atom → ℕ → Path
+path_before list at = last_path_after [] (take at list)
+
+-- The path of the atom at a place.
+abbrev pub path_at : List Atom → ℕ → Path
+path_at list at = path_before list (at + 1)

@@ -1,6 +1,7 @@
+-- Numbers as byte strings whose order is that of the numbers: varints, unsigned and signed.
 use Rattle.std.specs.Prelude.{ℕ, ℤ, pos, negsuc, zero, suc, ◌+◌, ◌-◌, ◌/◌, ◌%◌, ◌^◌, nat_le, List, [], ◌∷◌, map, count_by}
 
--- the lowest bytes of a number, so many of them, most significant first
+-- The lowest bytes of a number, so many of them, most significant first.
 abbrev pub big_endian : ℕ → ℕ → List ℕ
 big_endian zero n = []
 big_endian (suc width) n = n / 256 ^ width % 256 ∷ big_endian width n
@@ -10,11 +11,11 @@ big_endian (suc width) n = n / 256 ^ width % 256 ∷ big_endian width n
 unfoldable pub unsigned_form : ℕ → ℕ → List ℕ
 unsigned_form k n = (256 - 2 ^ (8 - k) + n / 256 ^ k) ∷ big_endian k n
 
--- how many bytes follow the first in the shortest form: one for each of these limits that the number reaches
+-- How many bytes follow the first in the shortest form: one for each of these limits that the number reaches.
 unfoldable pub unsigned_tail : ℕ → ℕ
 unsigned_tail n = count_by (λ limit. nat_le limit n) (2 ^ 7 ∷ 2 ^ 14 ∷ 2 ^ 21 ∷ 2 ^ 28 ∷ 2 ^ 35 ∷ 2 ^ 42 ∷ 2 ^ 49 ∷ 2 ^ 56 ∷ [])
 
--- the unsigned varint of a number below 2 ^ 64 is its shortest form
+-- The unsigned varint of a number below 2 ^ 64 is its shortest form.
 unfoldable pub unsigned_varint : ℕ → List ℕ
 unsigned_varint n = unsigned_form (unsigned_tail n) n
 
@@ -23,15 +24,15 @@ unsigned_varint n = unsigned_form (unsigned_tail n) n
 unfoldable pub natural_form : ℕ → ℕ → List ℕ
 natural_form k n = (256 - 2 ^ (7 - k) + n / 256 ^ k) ∷ big_endian k n
 
--- one byte for each limit that the number reaches, and at the last limit two: no form has seven
+-- One byte for each limit that the number reaches, and at the last limit two: no form has seven.
 unfoldable pub natural_tail : ℕ → ℕ
 natural_tail n = count_by (λ limit. nat_le limit n) (2 ^ 6 ∷ 2 ^ 13 ∷ 2 ^ 20 ∷ 2 ^ 27 ∷ 2 ^ 34 ∷ 2 ^ 41 ∷ 2 ^ 48 ∷ 2 ^ 48 ∷ [])
 
--- each byte with each of its bits turned
+-- Each byte with each of its bits turned.
 unfoldable pub complement : List ℕ → List ℕ
 complement bytes = map (λ b. 255 - b) bytes
 
--- the form of -1 - n is that of n with each bit turned; negsuc n is -1 - n
+-- The form of -1 - n is that of n with each bit turned; negsuc n is -1 - n.
 unfoldable pub signed_form : ℕ → ℤ → List ℕ
 signed_form k (pos n) = natural_form k n
 signed_form k (negsuc n) = complement (natural_form k n)
@@ -40,6 +41,6 @@ unfoldable pub signed_tail : ℤ → ℕ
 signed_tail (pos n) = natural_tail n
 signed_tail (negsuc n) = natural_tail n
 
--- the signed varint of a number from -2 ^ 63 to 2 ^ 63 - 1 is its shortest form
+-- The signed varint of a number from -2 ^ 63 to 2 ^ 63 - 1 is its shortest form.
 unfoldable pub signed_varint : ℤ → List ℕ
 signed_varint z = signed_form (signed_tail z) z

@@ -1,6 +1,7 @@
 -- The first fault of bytes that aren't those of a list: where the longest front that is a list ends, and why it ends there.
 use Rattle.std.specs.Prelude.{◌≡◌, ℕ, ◌+◌, ◌-◌, ◌*◌, ◌%◌, ◌<◌, ◌≤◌, Bool, ◌==◌, ◌&&◌, ◌||◌, List, [], ◌∷◌, length, take, drop, slice_index, nat_lt, nat_le, if◌then◌else◌, Option, Some, None}
 use Rattle.std.specs.List.{list_all}
+use Rattle.context_model.specs.declared.TheConstants.{LENGTH_MAX}
 use Rattle.context_model.specs.Atoms.{Atom, AreAtoms}
 use Rattle.context_model.specs.Framing.{bytes_of, IsFramed}
 use Rattle.context_model.specs.ByteCodes.{ByteCode}
@@ -28,9 +29,9 @@ is_open bytes = list_all (λ b. nat_le 128 b) bytes
 abbrev pub cuts_length : List ℕ → Bool
 cuts_length bytes = nat_lt (length (length_front bytes)) 3 && is_open (length_front bytes)
 
--- The third byte of the length has its top bit set, or the length is above 65,535.
+-- The third byte of the length has its top bit set, or the length is above the limit.
 abbrev pub is_too_long : List ℕ → Bool
-is_too_long bytes = is_open (length_front bytes) || nat_lt 65535 (length_said (length_front bytes))
+is_too_long bytes = is_open (length_front bytes) || nat_lt LENGTH_MAX (length_said (length_front bytes))
 
 -- The length has more than one byte, and its last byte is 0.
 abbrev pub is_long_form : List ℕ → Bool

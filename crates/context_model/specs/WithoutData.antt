@@ -15,12 +15,6 @@ without_from i gone (a ∷ list) = if list_any (λ place. place == i) gone then 
 abbrev pub without : List ℕ → List Atom → List Atom
 without = without_from 0
 
--- What is left of the list: every atom but some of its data.
-pub data LeavesAllButData : List Atom → List Atom → Type 0 where
-  empty : LeavesAllButData [] []
-  drops : {payload : List ℕ} {list left : List Atom} → LeavesAllButData list left → LeavesAllButData ((0 ∷ payload) ∷ list) left
-  keeps : {a : Atom} {list left : List Atom} → LeavesAllButData list left → LeavesAllButData (a ∷ list) (a ∷ left)
-
 -- Each of the places is that of a datum of the list.
 abbrev pub AreDataPlaces : List ℕ → List Atom → Type 0
 AreDataPlaces gone list = AllByRecursion (λ place. (payload : List ℕ) × (slice_get list place ≡ Some (0 ∷ payload))) gone
