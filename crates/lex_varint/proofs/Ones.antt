@@ -6,7 +6,7 @@ use Rattle.std.proofs.lemmas.Bool.{cases_lt, cases_order, cases_eq}
 use Rattle.std.proofs.Math.Nat.{pow-suc}
 use lib.Count.{count_leading_zeros}
 use Rattle.context_model.proofs.VarintLaws.{upto_eight, powers, unsigned_first, unsigned_rises, natural_first}
-use Rattle.lex_varint.specs.Fronts.{natural_follows}
+use Rattle.lex_varint.specs.Fronts.{natural_demand}
 
 -- the byte lies where bytes with so many ones at their front lie
 pub record HasOnes (b k : ℕ) : Type 0 where
@@ -51,7 +51,7 @@ pub record HasNaturalOnes (b k : ℕ) : Type 0 where
   pub low : natural_first k ≤ b
   pub high : b < natural_first k + 2 ^ (6 - k)
 
-pub HasNaturalOnes-follows : (b : ℕ) → b < 256 → 128 ≤ b → HasNaturalOnes b (natural_follows b)
+pub HasNaturalOnes-follows : (b : ℕ) → b < 256 → 128 ≤ b → HasNaturalOnes b (natural_demand b)
 HasNaturalOnes-follows b h l = by (leading_ones w8 b) (HasOnes-leading b h)
   where
     by : (k : ℕ) → HasOnes b k → HasNaturalOnes b (cond (eqb k 8) 8 (k - 1))

@@ -7,7 +7,7 @@ use Rattle.context_model.specs.Varints.{big_endian, natural_form, natural_tail, 
 use Rattle.context_model.proofs.Digits.{length-big_endian}
 use Rattle.context_model.proofs.VarintLaws.{natural_first, natural_room, natural_tail-most, natural_tail-length, natural_tail-room, natural_tail-below, natural_tail-le, natural_tail-whole, natural_room-most, natural_bytes, powers, wide}
 use Rattle.context_model.proofs.VarintForms.{natural_part, natural_part-back, natural_byte, natural_rises-lengths, natural_form-unique, length-natural_form, length_bound}
-use Rattle.lex_varint.specs.Fronts.{BeginsWith, IsSignedAt, IsSignedCut, IsSignedLong, IsSignedOut, natural_follows, turned, with_sign}
+use Rattle.lex_varint.specs.Fronts.{BeginsWith, IsSignedAt, IsSignedCut, IsSignedLong, IsSignedOut, natural_demand, turned, with_sign}
 use Rattle.lex_varint.specs.declared.VarintFault.{VarintFault}
 use Rattle.lex_varint.specs.declared.VarintFault.TheVariants.{Cut, LongForm, OutOfRange}
 use Rattle.lex_varint.proofs.Ones.{HasNaturalOnes, HasNaturalOnes-follows}
@@ -31,7 +31,7 @@ HasNaturalOnes-unique b j k f g = elim (cases_order j k) [
 ]
 
 -- the first byte of a number from 0 on, and what follows it
-NaturalStands-first : (first : ℕ) (rest : List ℕ) (k n : ℕ) → NaturalStands (first ∷ rest) k n → (128 ≤ first) × (first < 256) × (natural_follows first ≡ k) × (k ≤ length rest)
+NaturalStands-first : (first : ℕ) (rest : List ℕ) (k n : ℕ) → NaturalStands (first ∷ rest) k n → (128 ≤ first) × (first < 256) × (natural_demand first ≡ k) × (k ≤ length rest)
 unfolding natural_form
 NaturalStands-first first rest k n f =
     let head : first ≡ natural_first k + n / 256 ^ k = cc (f.front.1) in
@@ -43,16 +43,16 @@ NaturalStands-first first rest k n f =
     let byte : first < 256 = omega arith in (
       top,
       byte,
-      HasNaturalOnes-unique first (natural_follows first) k (HasNaturalOnes-follows first byte top) (record { most = f.few; low = omega arith; high = omega arith }),
+      HasNaturalOnes-unique first (natural_demand first) k (HasNaturalOnes-follows first byte top) (record { most = f.few; low = omega arith; high = omega arith }),
       omega (arith, ap length tails, length-append (big_endian k n) f.front.0, length-big_endian k n),
     )
 
-NaturalStands-made : (first : ℕ) (rest : List ℕ) (n : ℕ) → first < 256 → 128 ≤ first → natural_follows first ≤ length rest
-    → big_endian (natural_follows first) n ≡ take (natural_follows first) rest → n / 256 ^ natural_follows first ≡ first - natural_first (natural_follows first)
-    → NaturalStands (first ∷ rest) (natural_follows first) n
+NaturalStands-made : (first : ℕ) (rest : List ℕ) (n : ℕ) → first < 256 → 128 ≤ first → natural_demand first ≤ length rest
+    → big_endian (natural_demand first) n ≡ take (natural_demand first) rest → n / 256 ^ natural_demand first ≡ first - natural_first (natural_demand first)
+    → NaturalStands (first ∷ rest) (natural_demand first) n
 unfolding natural_form
 NaturalStands-made first rest n h top l low high =
-    let k : ℕ = natural_follows first in
+    let k : ℕ = natural_demand first in
     let o : HasNaturalOnes first k = HasNaturalOnes-follows first h top in
     let head : first ≡ natural_first k + n / 256 ^ k = omega (arith, o.low, high) in
     record {
@@ -179,13 +179,13 @@ unfolding complement
 Stands-uncut [] k (pos n) f cut = NaturalStands-some k n (Stands-turned [] k (pos n) f)
 Stands-uncut [] k (negsuc n) f cut = NaturalStands-some k n (Stands-turned [] k (negsuc n) f)
 Stands-uncut (first ∷ rest) k (pos n) f cut =
-    let s : (128 ≤ first) × (first < 256) × (natural_follows first ≡ k) × (k ≤ length rest) = NaturalStands-first first rest k n (Stands-turned (first ∷ rest) k (pos n) f) in
-    let short : length rest < natural_follows first = subst (λ b. length rest < natural_follows (cond b (255 - first) first)) (le-ltb first 128 s.0) cut in
+    let s : (128 ≤ first) × (first < 256) × (natural_demand first ≡ k) × (k ≤ length rest) = NaturalStands-first first rest k n (Stands-turned (first ∷ rest) k (pos n) f) in
+    let short : length rest < natural_demand first = subst (λ b. length rest < natural_demand (cond b (255 - first) first)) (le-ltb first 128 s.0) cut in
     omega (arith, s.2, s.3)
 Stands-uncut (first ∷ rest) k (negsuc n) f cut =
-    let s : (128 ≤ 255 - first) × (255 - first < 256) × (natural_follows (255 - first) ≡ k) × (k ≤ length (complement rest)) =
+    let s : (128 ≤ 255 - first) × (255 - first < 256) × (natural_demand (255 - first) ≡ k) × (k ≤ length (complement rest)) =
     NaturalStands-first (255 - first) (complement rest) k n (Stands-turned (first ∷ rest) k (negsuc n) f) in
-    let short : length rest < natural_follows (255 - first) = subst (λ b. length rest < natural_follows (cond b (255 - first) first)) (lt-ltb first 128 (omega (arith, s.0))) cut in
+    let short : length rest < natural_demand (255 - first) = subst (λ b. length rest < natural_demand (cond b (255 - first) first)) (lt-ltb first 128 (omega (arith, s.0))) cut in
     omega (arith, s.2, s.3, length-map rest (λ b. 255 - b))
 
 -- the four clauses of an answer
@@ -346,12 +346,12 @@ pub high_first : (first other : ℕ) (negative : Bool) → first < 256 → negat
 high_first first other true h e o = let low : first < 128 = ltb-true first 128 (sym e) in (omega arith, omega arith)
 high_first first other false h e o = let high : 128 ≤ first = ltb-false first 128 (sym e) in (omega arith, omega arith)
 
-pub table_low : (first k : ℕ) → first < 256 → 128 ≤ first → k ≡ natural_follows first → get_or table (min (k + 1) 8) 0 ≤ first
+pub table_low : (first k : ℕ) → first < 256 → 128 ≤ first → k ≡ natural_demand first → get_or table (min (k + 1) 8) 0 ≤ first
 table_low first k h l e =
     let o : HasNaturalOnes first k = subst (λ v. HasNaturalOnes first v) (sym e) (HasNaturalOnes-follows first h l) in
     subst (λ v. v ≤ first) (sym (natural_at k (length_bound k o.most))) o.low
 
-pub table_room : (first k m : ℕ) → first < 256 → 128 ≤ first → k ≡ natural_follows first → m ≡ k → (first - get_or table (min (k + 1) 8) 0 + 1) * 256 ^ m ≤ 2 ^ 64
+pub table_room : (first k m : ℕ) → first < 256 → 128 ≤ first → k ≡ natural_demand first → m ≡ k → (first - get_or table (min (k + 1) 8) 0 + 1) * 256 ^ m ≤ 2 ^ 64
 table_room first k m h l e n =
     let o : HasNaturalOnes first k = subst (λ v. HasNaturalOnes first v) (sym e) (HasNaturalOnes-follows first h l) in
     let few : first - natural_first k + 1 ≤ 2 ^ (6 - k) = omega (arith, o.low, o.high) in
@@ -360,7 +360,7 @@ table_room first k m h l e n =
     (subst (λ v. (first - v + 1) * 256 ^ k ≤ 2 ^ 64) (sym (natural_at k (length_bound k o.most))) all)
 
 pub Stands-read : (bytes : List ℕ) (first : ℕ) (rest : List ℕ) (negative : Bool) (other k n : ℕ) → bytes ≡ first ∷ rest → ((i : ℕ) → get_or bytes i 0 < 256)
-    → negative ≡ ltb first 128 → other ≡ cond negative (255 - first) first → k ≡ natural_follows other → k ≤ length rest
+    → negative ≡ ltb first 128 → other ≡ cond negative (255 - first) first → k ≡ natural_demand other → k ≤ length rest
     → big_endian (length (take k rest)) n ≡ turned negative (take k rest) → n / 256 ^ length (take k rest) ≡ other - get_or table (min (k + 1) 8) 0
     → Stands bytes k (with_sign negative n)
 Stands-read bytes first rest negative other k n whole small sign turn e l low high =
@@ -381,7 +381,7 @@ Stands-read bytes first rest negative other k n whole small sign turn e l low hi
     lengths : (k < 7) ⊎ (k ≡ 8)
     lengths = subst (λ v. (v < 7) ⊎ (v ≡ 8)) (sym e) (HasNaturalOnes-follows other bounds.1 bounds.0).most
 
-    made : NaturalStands (other ∷ turned negative rest) (natural_follows other) n
+    made : NaturalStands (other ∷ turned negative rest) (natural_demand other) n
     made = NaturalStands-made other (turned negative rest) n bounds.1 bounds.0 (omega (arith, length-turned negative rest))
         (subst (λ v. big_endian v n ≡ take v (turned negative rest)) e (subst (λ v. big_endian v n ≡ turned negative (take k rest)) count low ∙ sym (take-turned negative k rest)))
         (subst (λ v. n / 256 ^ v ≡ other - natural_first v) e (subst (λ v. n / 256 ^ v ≡ other - get_or table (min (k + 1) 8) 0) count high ∙ ap (λ v. other - v) (natural_at k (length_bound k lengths))))
@@ -391,9 +391,9 @@ empty_cut [] h = tt
 empty_cut (b ∷ bytes) h = absurd (omega arith)
 
 pub short_cut : (bytes : List ℕ) (first : ℕ) (rest : List ℕ) (negative : Bool) (other k : ℕ) → bytes ≡ first ∷ rest → negative ≡ ltb first 128 → other ≡ cond negative (255 - first) first
-    → k ≡ natural_follows other → length rest < k → IsSignedCut bytes
+    → k ≡ natural_demand other → length rest < k → IsSignedCut bytes
 short_cut bytes first rest negative other k whole sign turn e h =
-    subst (λ v. IsSignedCut v) (sym whole) (subst (λ v. length rest < v) (e ∙ ap natural_follows (turn ∙ ap (λ b. cond b (255 - first) first) sign)) h)
+    subst (λ v. IsSignedCut v) (sym whole) (subst (λ v. length rest < v) (e ∙ ap natural_demand (turn ∙ ap (λ b. cond b (255 - first) first) sign)) h)
 
 size_with : (negative : Bool) (n : ℕ) → n ≡ size (with_sign negative n)
 size_with true n = refl

@@ -1,3 +1,4 @@
+-- What stands at the front of bytes: a varint, a longer form of one, a number out of range, or too few bytes.
 use Rattle.std.specs.Prelude.{◌≡◌, ℕ, ℤ, pos, negsuc, ◌-◌, ◌^◌, ◌<◌, ◌≤◌, ◌⊎◌, Bool, true, false, if◌then◌else◌, nat_lt, ◌==◌, List, [], ◌∷◌, ◌++◌, length, FitsSigned}
 use Rattle.std.specs.Int.{leading_ones, w8, w64}
 use Rattle.context_model.specs.Varints.{unsigned_form, unsigned_tail, unsigned_varint, signed_form, signed_tail, signed_varint, complement}
@@ -7,18 +8,18 @@ BeginsWith bytes front = (rest : List ℕ) × (bytes ≡ front ++ rest)
 
 -- ---- unsigned
 
--- the varint of the value is at the front, and has so many bytes
+-- The varint of the value is at the front, and has so many bytes.
 pub record IsUnsignedAt (bytes : List ℕ) (value count : ℕ) : Type 0 where
   pub fits : value < 2 ^ 64
   pub front : BeginsWith bytes (unsigned_varint value)
   pub whole : count ≡ length (unsigned_varint value)
 
--- there is no first byte, or fewer bytes follow it than it begins with ones
+-- There is no first byte, or fewer bytes follow it than it begins with ones.
 abbrev pub IsUnsignedCut : List ℕ → Type 0
 IsUnsignedCut [] = Unit {0}
 IsUnsignedCut (first ∷ rest) = length rest < leading_ones w8 first
 
--- a number is at the front in a form that is longer than its shortest
+-- A number is at the front in a form that is longer than its shortest.
 pub record IsUnsignedLong (bytes : List ℕ) : Type 0 where
   pub tail : ℕ
   pub value : ℕ
@@ -28,26 +29,27 @@ pub record IsUnsignedLong (bytes : List ℕ) : Type 0 where
 
 -- ---- signed
 
--- the varint of the value is at the front, and has so many bytes
+-- The varint of the value is at the front, and has so many bytes.
 pub record IsSignedAt (bytes : List ℕ) (value : ℤ) (count : ℕ) : Type 0 where
   pub fits : FitsSigned w64 value
   pub front : BeginsWith bytes (signed_varint value)
   pub whole : count ≡ length (signed_varint value)
 
--- how many bytes are to follow a first byte: one for each one that it begins with but the first, and after eight ones eight
-abbrev pub natural_follows : ℕ → ℕ
-natural_follows first = if leading_ones w8 first == 8 then 8 else leading_ones w8 first - 1
+-- How many bytes a first byte demands behind it: one for each one that it begins with but the first, and
+-- after eight ones eight.
+abbrev pub natural_demand : ℕ → ℕ
+natural_demand first = if leading_ones w8 first == 8 then 8 else leading_ones w8 first - 1
 
--- the codes of negative numbers have each bit turned
-abbrev pub signed_follows : ℕ → ℕ
-signed_follows first = natural_follows (if nat_lt first 128 then 255 - first else first)
+-- The codes of negative numbers have each bit turned.
+abbrev pub signed_demand : ℕ → ℕ
+signed_demand first = natural_demand (if nat_lt first 128 then 255 - first else first)
 
--- there is no first byte, or fewer bytes follow it than are to
+-- There is no first byte, or fewer bytes follow it than are to.
 abbrev pub IsSignedCut : List ℕ → Type 0
 IsSignedCut [] = Unit {0}
-IsSignedCut (first ∷ rest) = length rest < signed_follows first
+IsSignedCut (first ∷ rest) = length rest < signed_demand first
 
--- a number is at the front in a form that is longer than its shortest
+-- A number is at the front in a form that is longer than its shortest.
 pub record IsSignedLong (bytes : List ℕ) : Type 0 where
   pub tail : ℕ
   pub value : ℤ
@@ -55,19 +57,21 @@ pub record IsSignedLong (bytes : List ℕ) : Type 0 where
   pub longer : signed_tail value < tail
   pub front : BeginsWith bytes (signed_form tail value)
 
--- the form with eight bytes behind the first is at the front, and they hold 2 ^ 63 or more
+-- The form with eight bytes behind the first is at the front, and they hold 2 ^ 63 or more.
 pub record IsSignedOut (bytes : List ℕ) : Type 0 where
   pub number : ℕ
   pub eight : number < 2 ^ 64
   pub beyond : 2 ^ 63 ≤ number
-  pub front : BeginsWith bytes (signed_form 8 (pos number)) ⊎ BeginsWith bytes (signed_form 8 (negsuc number))
+  pub front :
+      BeginsWith bytes (signed_form 8 (pos number))
+      ⊎ BeginsWith bytes (signed_form 8 (negsuc number))
 
--- the bytes with each bit turned where they are to be
+-- The bytes with each bit turned where they are to be.
 abbrev pub turned : Bool → List ℕ → List ℕ
 turned true bytes = complement bytes
 turned false bytes = bytes
 
--- the number itself, or the one on the other side of zero
+-- The number itself, or the one on the other side of zero.
 abbrev pub with_sign : Bool → ℕ → ℤ
 with_sign false n = pos n
 with_sign true n = negsuc n

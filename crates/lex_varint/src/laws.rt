@@ -1,38 +1,35 @@
 //! Laws of the codes over all numbers, each the contract of a function that does nothing.
 
-ghost use Rattle.std.specs.Prelude.{◌≡◌, ℕ, ℤ, ◌^◌, ◌<◌, List, ◌++◌, length, FitsSigned};
-ghost use Rattle.std.specs.Int.{w64};
-ghost use Rattle.std.specs.Ordering.{nat_cmp, int_cmp, ordering_then};
-ghost use Rattle.std.specs.Cmp.Lexicographic.{slice_cmp};
-ghost use Rattle.context_model.specs.Varints.{unsigned_varint, signed_varint};
-ghost use Rattle.lex_varint.specs.Fronts.{IsUnsignedAt, IsSignedAt};
+ghost use Rattle.lex_varint.specs.Laws.{UnsignedReadsBack, SignedReadsBack};
+ghost use Rattle.lex_varint.specs.Laws.{UnsignedCodesStandApart, SignedCodesStandApart};
+ghost use Rattle.lex_varint.specs.Laws.{UnsignedCodesKeepOrder, SignedCodesKeepOrder};
 
 /// The code of an unsigned number is read back, whatever follows it.
 pub fn unsigned_reads_back()
-    ensures { (value : ℕ) (rest : List ℕ) → value < 2 ^ 64 → IsUnsignedAt (unsigned_varint value ++ rest) value (length (unsigned_varint value)) }
+    ensures { UnsignedReadsBack }
 {}
 
 /// The code of a signed number is read back, whatever follows it.
 pub fn signed_reads_back()
-    ensures { (value : ℤ) (rest : List ℕ) → FitsSigned w64 value → IsSignedAt (signed_varint value ++ rest) value (length (signed_varint value)) }
+    ensures { SignedReadsBack }
 {}
 
 /// No code of an unsigned number begins that of another.
 pub fn unsigned_codes_stand_apart()
-    ensures { (m n : ℕ) (s t : List ℕ) → m < 2 ^ 64 → n < 2 ^ 64 → unsigned_varint m ++ s ≡ unsigned_varint n ++ t → m ≡ n }
+    ensures { UnsignedCodesStandApart }
 {}
 
 /// No code of a signed number begins that of another.
 pub fn signed_codes_stand_apart()
-    ensures { (y z : ℤ) (s t : List ℕ) → FitsSigned w64 y → FitsSigned w64 z → signed_varint y ++ s ≡ signed_varint z ++ t → y ≡ z }
+    ensures { SignedCodesStandApart }
 {}
 
 /// The order of two codes of unsigned numbers is that of the numbers, and where these are equal that of what follows.
 pub fn unsigned_codes_keep_order()
-    ensures { (m n : ℕ) (s t : List ℕ) → m < 2 ^ 64 → n < 2 ^ 64 → slice_cmp nat_cmp (unsigned_varint m ++ s) (unsigned_varint n ++ t) ≡ ordering_then (nat_cmp m n) (slice_cmp nat_cmp s t) }
+    ensures { UnsignedCodesKeepOrder }
 {}
 
 /// The order of two codes of signed numbers is that of the numbers, and where these are equal that of what follows.
 pub fn signed_codes_keep_order()
-    ensures { (y z : ℤ) (s t : List ℕ) → FitsSigned w64 y → FitsSigned w64 z → slice_cmp nat_cmp (signed_varint y ++ s) (signed_varint z ++ t) ≡ ordering_then (int_cmp y z) (slice_cmp nat_cmp s t) }
+    ensures { SignedCodesKeepOrder }
 {}

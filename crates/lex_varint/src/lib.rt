@@ -1,14 +1,15 @@
 //! Numbers as byte strings whose order is the order of the numbers.
 //!
-//! An unsigned number has one code of one to nine bytes. The first byte begins with a one for each byte that follows it,
-//! then comes a zero, and the other bits are the number, most significant first. A signed number from 0 on has one more
-//! one in its first byte, and a negative number `n` is the code of `-1 - n` with each bit turned. Only the shortest code
-//! of a number is valid, so no code begins another and each number has one.
+//! An unsigned number has one code of one to nine bytes. The first byte begins with a one for each byte that follows it
+//! and, where there is room, a zero; the other bits of all bytes are the number, most significant first. A signed number
+//! from 0 on has the same code with one more one in its first byte, where there is room: with eight bytes behind it the
+//! first byte is `ff`, and no signed code has seven. A negative number `n` has the code of `-1 - n` with each bit turned.
+//! Only the shortest code of a number is valid, so no code begins another and each number has one.
 #![tactic(auto)]
 
-ghost use Rattle.std.specs.Prelude.{◌≡◌, ◌↔◌, ℕ, ℤ, ◌+◌, ◌-◌, ◌*◌, ◌/◌, ◌^◌, ◌<◌, ◌≤◌, List, ◌∷◌, ◌++◌, length, map, pos, negsuc, if◌then◌else◌, ◌≤ℤ◌, unsigned_abs};
+ghost use Rattle.std.specs.Prelude.{◌≡◌, ◌≢◌, ◌↔◌, ℕ, ℤ, ◌+◌, ◌-◌, ◌*◌, ◌/◌, ◌^◌, ◌<◌, ◌≤◌, List, ◌∷◌, ◌++◌, length, map, pos, negsuc, if◌then◌else◌, ◌≤ℤ◌, unsigned_abs};
 ghost use Rattle.context_model.specs.Varints.{big_endian, unsigned_tail, unsigned_varint, natural_form, natural_tail, signed_varint, complement};
-ghost use Rattle.lex_varint.specs.Fronts.{IsUnsignedAt, IsUnsignedCut, IsUnsignedLong, IsSignedAt, IsSignedCut, IsSignedLong, IsSignedOut, natural_follows, turned, with_sign};
+ghost use Rattle.lex_varint.specs.Fronts.{IsUnsignedAt, IsUnsignedCut, IsUnsignedLong, IsSignedAt, IsSignedCut, IsSignedLong, IsSignedOut, natural_demand, turned, with_sign};
 
 use std::marker::Model;
 
@@ -83,7 +84,7 @@ const NATURAL_LIMITS: [u64; 8] = [
 
 /// How many bytes follow the first in the code of an unsigned number.
 #[tactic(auto, unfolding(context_model::specs::Varints::unsigned_tail))]
-fn unsigned_follows(value: u64) -> usize
+fn unsigned_tail(value: u64) -> usize
     ensures { result ≡ unsigned_tail value }
 {
     UNSIGNED_LIMITS
@@ -94,7 +95,7 @@ fn unsigned_follows(value: u64) -> usize
 
 /// How many bytes follow the first in the code of a signed number from 0 on.
 #[tactic(auto, unfolding(context_model::specs::Varints::natural_tail))]
-fn natural_follows(value: u64) -> usize
+fn natural_tail(value: u64) -> usize
     ensures { result ≡ natural_tail value }
 {
     NATURAL_LIMITS
@@ -124,7 +125,7 @@ fn code_of(ones: u8, follows: usize, value: u64) -> Spelled
 pub fn put_u64(value: u64) -> Spelled
     ensures { result ≡ unsigned_varint value }
 {
-    let follows = unsigned_follows(value);
+    let follows = unsigned_tail(value);
     code_of(ONES[follows], follows, value)
 }
 
@@ -132,7 +133,7 @@ pub fn put_u64(value: u64) -> Spelled
 fn put_natural(value: u64) -> Spelled
     ensures { result ≡ natural_form (natural_tail value) value }
 {
-    let follows = natural_follows(value);
+    let follows = natural_tail(value);
     code_of(ONES[(follows + 1).min(8)], follows, value)
 }
 
@@ -180,11 +181,12 @@ fn number_behind(high: u64, bytes: &[u8], negative: bool) -> u64
 }
 
 /// Reads the code of an unsigned number at the front of the bytes, and answers the number and how many bytes it takes.
-/// `VarintFault::OutOfRange` doesn't occur.
+/// All that nine bytes can hold fits.
 pub fn take_u64(bytes: &[u8]) -> Result<(u64, usize), VarintFault>
-    ensures taken { (value count : ℕ) → (result ≡ Ok (value, count)) ↔ IsUnsignedAt bytes.now value count }
+    ensures taken { (n count : ℕ) → (result ≡ Ok (n, count)) ↔ IsUnsignedAt bytes.now n count }
     ensures cut { (result ≡ Err VarintFault.Cut) ↔ IsUnsignedCut bytes.now }
     ensures long { (result ≡ Err VarintFault.LongForm) ↔ IsUnsignedLong bytes.now }
+    ensures in_range { result ≢ Err VarintFault.OutOfRange }
 {
     let Some((first, rest)) = bytes.split_first() else {
         return Err(VarintFault::Cut);
@@ -195,7 +197,7 @@ pub fn take_u64(bytes: &[u8]) -> Result<(u64, usize), VarintFault>
     }
     let high = first - ONES[follows];
     let value = number_behind(high as u64, &rest[..follows], false);
-    if unsigned_follows(value) < follows {
+    if unsigned_tail(value) < follows {
         return Err(VarintFault::LongForm);
     }
     Ok((value, follows + 1))
@@ -209,10 +211,10 @@ fn signed(number: i64, negative: bool) -> i64
     if negative { -1 - number } else { number }
 }
 
-/// How many bytes are to follow the first byte of a signed number from 0 on.
+/// How many bytes the first byte of a signed number from 0 on demands behind it.
 fn natural_demand(first: u8) -> usize
     requires { 128 ≤ first }
-    ensures { result ≡ natural_follows first }
+    ensures { result ≡ natural_demand first }
 {
     let ones = first.leading_ones() as usize;
     if ones == 8 { 8 } else { ones - 1 }
@@ -220,7 +222,7 @@ fn natural_demand(first: u8) -> usize
 
 /// Reads the code of a signed number at the front of the bytes, and answers the number and how many bytes it takes.
 pub fn take_i64(bytes: &[u8]) -> Result<(i64, usize), VarintFault>
-    ensures taken { (value : ℤ) (count : ℕ) → (result ≡ Ok (value, count)) ↔ IsSignedAt bytes.now value count }
+    ensures taken { (z : ℤ) (count : ℕ) → (result ≡ Ok (z, count)) ↔ IsSignedAt bytes.now z count }
     ensures cut { (result ≡ Err VarintFault.Cut) ↔ IsSignedCut bytes.now }
     ensures long { (result ≡ Err VarintFault.LongForm) ↔ IsSignedLong bytes.now }
     ensures out { (result ≡ Err VarintFault.OutOfRange) ↔ IsSignedOut bytes.now }
@@ -236,7 +238,7 @@ pub fn take_i64(bytes: &[u8]) -> Result<(i64, usize), VarintFault>
     }
     let high = first - ONES[(follows + 1).min(8)];
     let number = number_behind(high as u64, &rest[..follows], negative);
-    if natural_follows(number) < follows {
+    if natural_tail(number) < follows {
         return Err(VarintFault::LongForm);
     }
     let Ok(number) = i64::try_from(number) else {

@@ -36,8 +36,8 @@ number_behind-number-requires c =
     (table_room c.turned_byte-first.result c.natural_demand-follows.result (length (take c.natural_demand-follows.result c.in-Some.rest.now)) high.1 high.0 c.natural_demand-follows.ensures
     (length-take-le c.natural_demand-follows.result c.in-Some.rest.now c.if-rest-follows.false))
 
-pub returns-then-natural_follows-follows : goal.returns-then-natural_follows-follows
-returns-then-natural_follows-follows c =
+pub returns-then-natural_tail-follows : goal.returns-then-natural_tail-follows
+returns-then-natural_tail-follows c =
     let s : Stands c.args.bytes.now c.natural_demand-follows.result (with_sign (ltb c.in-Some.first.now 128) c.number_behind-number.result) =
     Stands-read c.args.bytes.now c.in-Some.first.now c.in-Some.rest.now (ltb c.in-Some.first.now 128) c.turned_byte-first.result c.natural_demand-follows.result c.number_behind-number.result
     c.in-Some.ensures.cases.0 (λ i. (c.type_inv.bytes i).fits) (λ i. ltb c.in-Some.first.now 128) c.turned_byte-first.ensures c.natural_demand-follows.ensures c.if-rest-follows.false

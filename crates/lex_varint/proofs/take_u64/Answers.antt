@@ -7,13 +7,13 @@ use Rattle.lex_varint.proofs.take_u64.Goals as goal
 pub returns-in_default : goal.returns-in_default
 returns-in_default c =
     let a : Answers c.args.bytes.now (Err Cut) = answers_cut c.args.bytes.now (empty_cut c.args.bytes.now c.in_default.ensures.cases) in
-    record { taken = a.taken; cut = a.cut; long = a.long }
+    record { taken = a.taken; cut = a.cut; long = a.long; in_range = λ e. cc }
 
 pub returns-then-rest-follows : goal.returns-then-rest-follows
 returns-then-rest-follows c =
     let a : Answers c.args.bytes.now (Err Cut) = answers_cut c.args.bytes.now
     (short_cut c.args.bytes.now c.in-Some.first.now c.in-Some.rest.now c.leading_ones-follows.result c.in-Some.ensures.cases.0 c.leading_ones-follows.ensures c.if-rest-follows.true) in
-    record { taken = a.taken; cut = a.cut; long = a.long }
+    record { taken = a.taken; cut = a.cut; long = a.long; in_range = λ e. cc }
 
 pub overflow_sub-high : goal.overflow_sub-high
 overflow_sub-high c =
@@ -26,14 +26,14 @@ number_behind-value-requires c =
     (byte_first c.args.bytes.now c.in-Some.first.now c.in-Some.rest.now c.in-Some.ensures.cases.0 (c.type_inv.bytes 0).fits) c.leading_ones-follows.ensures
     (length-take-le c.leading_ones-follows.result c.in-Some.rest.now c.if-rest-follows.false)
 
-pub returns-then-unsigned_follows-follows : goal.returns-then-unsigned_follows-follows
-returns-then-unsigned_follows-follows c =
+pub returns-then-unsigned_tail-follows : goal.returns-then-unsigned_tail-follows
+returns-then-unsigned_tail-follows c =
     let s : Stands c.args.bytes.now c.leading_ones-follows.result c.number_behind-value.result =
     Stands-read c.args.bytes.now c.in-Some.first.now c.in-Some.rest.now c.leading_ones-follows.result c.number_behind-value.result c.in-Some.ensures.cases.0
     (byte_first c.args.bytes.now c.in-Some.first.now c.in-Some.rest.now c.in-Some.ensures.cases.0 (c.type_inv.bytes 0).fits) c.leading_ones-follows.ensures c.if-rest-follows.false
     c.number_behind-value.ensures.low c.number_behind-value.ensures.high in
     let a : Answers c.args.bytes.now (Err LongForm) = answers_long c.args.bytes.now c.leading_ones-follows.result c.number_behind-value.result s (omega arith) in
-    record { taken = a.taken; cut = a.cut; long = a.long }
+    record { taken = a.taken; cut = a.cut; long = a.long; in_range = λ e. cc }
 
 pub returns : goal.returns
 returns c =
@@ -43,4 +43,4 @@ returns c =
     c.number_behind-value.ensures.low c.number_behind-value.ensures.high in
     let a : Answers c.args.bytes.now (Ok (c.number_behind-value.result, c.leading_ones-follows.result + 1)) =
     answers_taken c.args.bytes.now c.leading_ones-follows.result c.number_behind-value.result s (omega arith) in
-    record { taken = a.taken; cut = a.cut; long = a.long }
+    record { taken = a.taken; cut = a.cut; long = a.long; in_range = λ e. cc }
