@@ -8,16 +8,16 @@ use Rattle.context_model.proofs.KindLaws.{HasKind-unique}
 use Rattle.atom_kinds.specs.declared.Kind.{Kind}
 use Rattle.atom_kinds.specs.declared.KindFault.{KindFault}
 use Rattle.atom_kinds.specs.declared.KindFault.TheVariants.{BadPrefix, BadIndex}
-use Rattle.atom_kinds.specs.Told.{told, TellsKind}
+use Rattle.atom_kinds.specs.Told.{outer_kind, TellsKind}
 
 pub record Answers (atom : List ℕ) (result : Result Kind KindFault) : Type 0 where
   pub kind : (kind : Kind) → (result ≡ Ok kind) ↔ TellsKind atom kind
   pub prefix : (result ≡ Err BadPrefix) ↔ HasBadPrefix atom
   pub index : (result ≡ Err BadIndex) ↔ HasBadIndex atom
 
-pub kind_at : (atom : List ℕ) (k : PlainKind) → IsKind k → atom ≡ atom_of k → Answers atom (Ok (told k))
+pub kind_at : (atom : List ℕ) (k : PlainKind) → IsKind k → atom ≡ atom_of k → Answers atom (Ok (outer_kind k))
 kind_at atom k f e = record {
-  kind = λ kind. ((λ s. let t : told k ≡ kind = cc in (has, t)), λ (g, t). ap Ok (ap told (HasKind-unique atom has g) ∙ t));
+  kind = λ kind. ((λ s. let t : outer_kind k ≡ kind = cc in (has, t)), λ (g, t). ap Ok (ap outer_kind (HasKind-unique atom has g) ∙ t));
   prefix = ((λ s. cc), λ b. absurd (b.none has));
   index = ((λ s. cc), λ b. absurd (b.none has));
 }

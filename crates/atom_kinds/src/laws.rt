@@ -3,12 +3,12 @@
 ghost use Rattle.std.specs.Prelude.{◌≡◌, ℕ, List};
 ghost use Rattle.context_model.specs.Kinds.{atom_of, IsKind};
 ghost use Rattle.context_model.specs.Kinds.{Kind as PlainKind};
-ghost use Rattle.atom_kinds.specs.Told.{told, TellsKind};
+ghost use Rattle.atom_kinds.specs.Told.{outer_kind, TellsKind};
 ghost use Rattle.atom_kinds.specs.declared.Kind.{Kind as AnyKind};
 
 /// The atom of a kind is told to be of that kind.
 pub fn atoms_tell_their_kind()
-    ensures { (kind : PlainKind) → IsKind kind → TellsKind (atom_of kind) (told kind) }
+    ensures { (kind : PlainKind) → IsKind kind → TellsKind (atom_of kind) (outer_kind kind) }
 {}
 
 /// An atom is told to be of one kind at most.

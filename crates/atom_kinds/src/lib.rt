@@ -5,12 +5,13 @@
 //! its key. No other byte begins an atom.
 #![tactic(auto)]
 
-ghost use Rattle.std.specs.Prelude.{◌≡◌, ◌↔◌, ℕ, ◌^◌, ◌<◌, ◌≤◌, ◌∷◌, length, IfOk, MatchOption};
+ghost use Rattle.std.specs.Prelude.{◌≡◌, ◌↔◌, ◌-◌, ◌/◌, ℕ, ◌^◌, ◌<◌, ◌≤◌, ◌∷◌, drop, false, length, IfOk, MatchOption};
 ghost use Rattle.context_model.specs.Kinds.{atom_of, HasBadPrefix, HasBadIndex};
 ghost use Rattle.context_model.specs.Kinds.Kind.{Datum as PlainDatum, Indexed as PlainIndexed, Keyed as PlainKeyed};
 ghost use Rattle.context_model.specs.Varints.{unsigned_varint};
 ghost use Rattle.context_model.specs.Orders.{atom_cmp};
-ghost use Rattle.atom_kinds.specs.Told.{TellsKind};
+ghost use Rattle.context_model.specs.Paths.{is_header};
+ghost use Rattle.atom_kinds.specs.Told.{TellsKind, IsHeaderOfLevel, IsNumber};
 ghost use Rattle.atom_kinds.specs.declared.Kind.{Kind as AnyKind};
 
 use lex_varint::{put_u64, take_u64};
@@ -49,13 +50,41 @@ const LOWEST_HEADER: u8 = 0x80;
 
 /// The number whose code the bytes are, from the first to the last.
 fn whole_number(bytes: &[u8]) -> Option<u64>
-    ensures { MatchOption result ((number : ℕ) → number < 2 ^ 64 → bytes.now ≡ unsigned_varint number → ⊥) (λ number. (number < 2 ^ 64) × (bytes.now ≡ unsigned_varint number)) }
+    ensures { MatchOption result ((number : ℕ) → ¬ (IsNumber bytes.now number)) (IsNumber bytes.now) }
 {
     let (number, count) = take_u64(bytes).ok()?;
     if count == bytes.len() {
         Some(number)
     } else {
         None
+    }
+}
+
+/// The level of a header with this first byte.
+fn level_of(first: u8) -> u8
+    ensures { result ≡ (255 - first) / 8 }
+{
+    (0xff - first) / 8
+}
+
+/// The level of an atom that is a header, 0 to 15.
+pub fn header_level(atom: &[u8]) -> Option<usize>
+    ensures { MatchOption result (is_header atom.now ≡ false) (IsHeaderOfLevel atom.now) }
+{
+    match atom.first() {
+        Some(first) if *first >= LOWEST_HEADER => Some(usize::from(level_of(*first))),
+        _ => None,
+    }
+}
+
+/// What follows the first byte of an atom: the payload of a datum, the key of a keyed header, the varint of an indexed one,
+/// and nothing in a marker.
+pub fn rest(atom: &[u8]) -> &[u8]
+    ensures { result.now ≡ drop 1 atom.now }
+{
+    match atom.split_first() {
+        Some((_, rest)) => rest,
+        None => atom,
     }
 }
 
@@ -74,7 +103,7 @@ pub fn kind_of(atom: &[u8]) -> Result<Kind, KindFault>
     if *first < LOWEST_HEADER {
         return Err(KindFault::BadPrefix);
     }
-    let level = (0xff - *first) / 8;
+    let level = level_of(*first);
     match *first % 8 {
         0 => match whole_number(rest) {
             Some(number) => Ok(Kind::Indexed { level, number }),
@@ -95,7 +124,8 @@ pub fn compare(a: &[u8], b: &[u8]) -> Ordering
 /// The atom with this first byte and these bytes behind it.
 fn atom_from(alloc: Global, first: u8, rest: &[u8]) -> Result<Octets, Memory>
     requires { length rest.now < ATOM_MAX }
-    ensures { IfOk result (λ made. made ≡ first ∷ rest.now) }
+    ensures atom { IfOk result (λ made. made ≡ first ∷ rest.now) }
+    ensures short { IfOk result (λ made. length made ≤ ATOM_MAX) }
 {
     let mut bytes = Vec::with_capacity(alloc, rest.len() + 1)?;
     bytes.push(first)?;
@@ -106,7 +136,8 @@ fn atom_from(alloc: Global, first: u8, rest: &[u8]) -> Result<Octets, Memory>
 /// The indexed header of a level and a number.
 pub fn indexed(alloc: Global, level: u8, number: u64) -> Result<Octets, Memory>
     requires { level ≤ 15 }
-    ensures { IfOk result (λ made. made ≡ atom_of (PlainIndexed level number)) }
+    ensures atom { IfOk result (λ made. made ≡ atom_of (PlainIndexed level number)) }
+    ensures short { IfOk result (λ made. length made ≤ ATOM_MAX) }
 {
     atom_from(alloc, 0xf8 - 8 * level, put_u64(number).as_slice())
 }
@@ -115,7 +146,8 @@ pub fn indexed(alloc: Global, level: u8, number: u64) -> Result<Octets, Memory>
 pub fn keyed(alloc: Global, level: u8, key: &[u8]) -> Result<Octets, Memory>
     requires level { level ≤ 15 }
     requires key { length key.now < ATOM_MAX }
-    ensures { IfOk result (λ made. made ≡ atom_of (PlainKeyed level key.now)) }
+    ensures atom { IfOk result (λ made. made ≡ atom_of (PlainKeyed level key.now)) }
+    ensures short { IfOk result (λ made. length made ≤ ATOM_MAX) }
 {
     atom_from(alloc, 0xf9 - 8 * level, key)
 }
@@ -123,7 +155,8 @@ pub fn keyed(alloc: Global, level: u8, key: &[u8]) -> Result<Octets, Memory>
 /// The datum of a payload of fewer than [`ATOM_MAX`] bytes.
 pub fn datum(alloc: Global, payload: &[u8]) -> Result<Octets, Memory>
     requires { length payload.now < ATOM_MAX }
-    ensures { IfOk result (λ made. made ≡ atom_of (PlainDatum payload.now)) }
+    ensures atom { IfOk result (λ made. made ≡ atom_of (PlainDatum payload.now)) }
+    ensures short { IfOk result (λ made. length made ≤ ATOM_MAX) }
 {
     atom_from(alloc, 0, payload)
 }

@@ -1,4 +1,4 @@
-use crate::{Kind, KindFault, compare, datum, indexed, keyed, kind_of};
+use crate::{Kind, KindFault, compare, datum, header_level, indexed, keyed, kind_of, rest};
 use std::cmp::Ordering;
 use std::test::Fail;
 
@@ -42,4 +42,16 @@ fn atoms(rt: HostRuntime) -> Result<(), Fail> {
     assert!(rt; compare(b"", b"\x00") == Ordering::Less);
     assert!(rt; compare(b"\xf8\x01", b"\xf8") == Ordering::Greater);
     Ok(())
+}
+
+#[test]
+fn parts(rt: HostRuntime) {
+    assert!(rt; header_level(b"") == None);
+    assert!(rt; header_level(b"\x7f") == None);
+    assert!(rt; header_level(b"\x80\x00") == Some(15));
+    assert!(rt; header_level(b"\xf1w") == Some(1));
+    assert!(rt; header_level(b"\xf9") == Some(0));
+    assert!(rt; rest(b"") == b"".as_slice());
+    assert!(rt; rest(b"\x00") == b"".as_slice());
+    assert!(rt; rest(b"\x00ab") == b"ab".as_slice());
 }

@@ -19,9 +19,10 @@ returns-then-first-eq0 c =
 pub returns-in-Some-whole_number : goal.returns-in-Some-whole_number
 returns-in-Some-whole_number c =
     let byte : c.in-Some.first.now < 256 = first_byte c.args.atom.now c.in-Some.first.now c.in-Some.rest.now c.in-Some.ensures.cases.0 (c.type_inv.atom 0).fits in
-    let a : Answers c.args.atom.now (Ok (Indexed ((255 - c.in-Some.first.now) / 8) c.in-Some-whole_number.number)) =
-    kind_at c.args.atom.now (PlainIndexed ((255 - c.in-Some.first.now) / 8) c.in-Some-whole_number.number) (level_below c.in-Some.first.now c.if-first-lt-LOWEST_HEADER.false, c.in-Some-whole_number.ensures.0)
-    (c.in-Some.ensures.cases.0 ∙ header_indexed c.in-Some.first.now c.in-Some.rest.now c.in-Some-whole_number.number c.if-first-lt-LOWEST_HEADER.false byte c.in-0.is (c.in-Some-whole_number.ensures.1)) in
+    let a : Answers c.args.atom.now (Ok (Indexed c.level_of-level.result c.in-Some-whole_number.number)) =
+    subst (λ level. Answers c.args.atom.now (Ok (Indexed level c.in-Some-whole_number.number))) (sym c.level_of-level.ensures)
+    (kind_at c.args.atom.now (PlainIndexed ((255 - c.in-Some.first.now) / 8) c.in-Some-whole_number.number) (level_below c.in-Some.first.now c.if-first-lt-LOWEST_HEADER.false, c.in-Some-whole_number.ensures.0)
+    (c.in-Some.ensures.cases.0 ∙ header_indexed c.in-Some.first.now c.in-Some.rest.now c.in-Some-whole_number.number c.if-first-lt-LOWEST_HEADER.false byte c.in-0.is (c.in-Some-whole_number.ensures.1))) in
     record { kind = a.kind; prefix = a.prefix; index = a.index }
 
 pub returns-in-None : goal.returns-in-None
@@ -29,13 +30,14 @@ returns-in-None c =
     let byte : c.in-Some.first.now < 256 = first_byte c.args.atom.now c.in-Some.first.now c.in-Some.rest.now c.in-Some.ensures.cases.0 (c.type_inv.atom 0).fits in
     let a : Answers c.args.atom.now (Err BadIndex) =
     subst (λ v. Answers v (Err BadIndex)) (sym c.in-Some.ensures.cases.0)
-    (bad_index (c.in-Some.first.now ∷ c.in-Some.rest.now) (no_number c.in-Some.first.now c.in-Some.rest.now c.if-first-lt-LOWEST_HEADER.false byte c.in-0.is c.in-None.ensures)) in
+    (bad_index (c.in-Some.first.now ∷ c.in-Some.rest.now) (no_number c.in-Some.first.now c.in-Some.rest.now c.if-first-lt-LOWEST_HEADER.false byte c.in-0.is (λ number h e. c.in-None.ensures number (h, e)))) in
     record { kind = a.kind; prefix = a.prefix; index = a.index }
 
 pub returns-in-1 : goal.returns-in-1
 returns-in-1 c =
     let byte : c.in-Some.first.now < 256 = first_byte c.args.atom.now c.in-Some.first.now c.in-Some.rest.now c.in-Some.ensures.cases.0 (c.type_inv.atom 0).fits in
-    let a : Answers c.args.atom.now (Ok (Keyed ((255 - c.in-Some.first.now) / 8))) =
-    kind_at c.args.atom.now (PlainKeyed ((255 - c.in-Some.first.now) / 8) c.in-Some.rest.now) (level_below c.in-Some.first.now c.if-first-lt-LOWEST_HEADER.false)
-    (c.in-Some.ensures.cases.0 ∙ header_keyed c.in-Some.first.now c.in-Some.rest.now c.if-first-lt-LOWEST_HEADER.false byte c.in-1.is) in
+    let a : Answers c.args.atom.now (Ok (Keyed c.level_of-level.result)) =
+    subst (λ level. Answers c.args.atom.now (Ok (Keyed level))) (sym c.level_of-level.ensures)
+    (kind_at c.args.atom.now (PlainKeyed ((255 - c.in-Some.first.now) / 8) c.in-Some.rest.now) (level_below c.in-Some.first.now c.if-first-lt-LOWEST_HEADER.false)
+    (c.in-Some.ensures.cases.0 ∙ header_keyed c.in-Some.first.now c.in-Some.rest.now c.if-first-lt-LOWEST_HEADER.false byte c.in-1.is)) in
     record { kind = a.kind; prefix = a.prefix; index = a.index }

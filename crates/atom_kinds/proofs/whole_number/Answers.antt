@@ -5,7 +5,7 @@ use Rattle.atom_kinds.proofs.whole_number.Goals as goal
 
 pub returns-in_err-number : goal.returns-in_err-number
 returns-in_err-number c = rw c.from_residual.ensures
-    (λ number h e. none_from c.take_u64.result (number, length c.args.bytes.now) (sym c.ok.ensures.value ∙ c.in_err-number.was)
+    (λ number (h, e). none_from c.take_u64.result (number, length c.args.bytes.now) (sym c.ok.ensures.value ∙ c.in_err-number.was)
     ((c.take_u64.ensures.taken number (length c.args.bytes.now)).1 (front_whole c.args.bytes.now number h e)))
 
 pub returns-then-count-bytes : goal.returns-then-count-bytes
@@ -15,7 +15,7 @@ returns-then-count-bytes c =
     (at.fits, whole_front c.args.bytes.now c.in_ok-number.number c.in_ok-number.count at c.if-count-bytes.true)
 
 pub returns-else-count-bytes : goal.returns-else-count-bytes
-returns-else-count-bytes c = λ number h e.
+returns-else-count-bytes c = λ number (h, e).
     c.if-count-bytes.false (count_of c.in_ok-number.number c.in_ok-number.count number (length c.args.bytes.now)
     (sym (ok_from c.take_u64.result (c.in_ok-number.number, c.in_ok-number.count) (sym c.ok.ensures.value ∙ c.in_ok-number.was))
     ∙ (c.take_u64.ensures.taken number (length c.args.bytes.now)).1 (front_whole c.args.bytes.now number h e)))
