@@ -1,14 +1,15 @@
 -- What a step of taking atoms out of a list leaves.
-use Rattle.std.proofs.Common.{◌≡◌, ℕ, zero, suc, ◌+◌, ◌<◌, ◌≤◌, ◌==◌, ◌||◌, Bool, true, false, cond, List, [], ◌∷◌, ◌++◌, length, take, drop, get_or, set, Less, refl, sym, ◌∙◌, ap, subst, arith, eq-eqb, ne_eqb, ◌⊎◌, inl, inr}
-use Rattle.std.specs.List.{list_any, swap}
+use Rattle.std.proofs.Common.{◌≡◌, ℕ, zero, suc, ◌+◌, ◌<◌, ◌≤◌, ◌==◌, ◌||◌, None, slice_get, Bool, true, false, cond, List, [], ◌∷◌, ◌++◌, length, take, drop, get_or, set, Less, refl, sym, ◌∙◌, ap, arith, eq-eqb, ne_eqb, ◌⊎◌, inl, inr}
+use Rattle.std.specs.List.{list_any}
 use Rattle.std.specs.Ordering.{nat_cmp}
 use Rattle.std.proofs.lemmas.Bool.{cases_eq, cases_order}
 use Rattle.std.proofs.lemmas.Cmp.{ranked}
-use Rattle.std.proofs.lemmas.List.{take_more, take_more_set, take-set-le, drop-set-lt, append-nil, drop_more, set-set}
-use Rattle.std.proofs.lemmas.List.Edits.{swap_is, length-swap}
+use Rattle.std.proofs.lemmas.List.{take_more, take_more_set, drop-set-lt, append-nil, drop_more, length-set, length-map, map-set, get_or-map, take-map, take_all}
 use Rattle.std.proofs.lemmas.Option.{slice_get_within}
-use Rattle.context_model.specs.Atoms.{Atom, AreAtoms}
+use Rattle.context_model.specs.Atoms.{Atom}
 use Rattle.context_model.specs.Orders.{Rises}
+use Rattle.atom_list.specs.declared.spans.Span.{Span}
+use Rattle.atom_list.specs.Spans.{span_atom, atoms_at, IsSpan, AreSpans}
 use Rattle.context_model.specs.WithoutData.{without_from, without, AreDataPlaces}
 
 -- ---- numbers that rise
@@ -84,23 +85,15 @@ pub without-kept : (gone : List ℕ) (list : List Atom) (at : ℕ) → at < leng
 without-kept gone list at within none =
     without-next gone list at within ∙ ap (λ b. without gone (take at list) ++ cond b [] (get_or list at [] ∷ [])) (gone_nowhere gone at none)
 
--- ---- an atom that moves forward
-
-pub take-swap : (xs : List Atom) (kept at : ℕ) → kept ≤ at → at < length xs → take (kept + 1) (swap xs kept at) ≡ take kept xs ++ get_or xs at [] ∷ []
-take-swap xs kept at upto within =
-    ap (take (kept + 1)) (sym (swap_is xs kept at [] (omega arith) within)) ∙ by (cases_eq kept at)
-  where
-    by : (kept ≡ at) ⊎ (kept ≡ at → ⊥) → take (kept + 1) (set (set xs kept (get_or xs at [])) at (get_or xs kept [])) ≡ take kept xs ++ get_or xs at [] ∷ []
-    by (inl same) =
-        subst (λ n. take (n + 1) (set (set xs n (get_or xs at [])) at (get_or xs n [])) ≡ take n xs ++ get_or xs at [] ∷ []) (sym same)
-        (ap (take (at + 1)) (set-set xs at (get_or xs at []) (get_or xs at [])) ∙ take_more_set xs at (get_or xs at []) within)
-    by (inr apart) = take-set-le (kept + 1) (set xs kept (get_or xs at [])) at (get_or xs kept []) (omega arith) ∙ take_more_set xs kept (get_or xs at []) (omega arith)
-
-pub drop-swap : (xs : List Atom) (kept at : ℕ) → kept ≤ at → at < length xs → drop (at + 1) (swap xs kept at) ≡ drop (at + 1) xs
-drop-swap xs kept at upto within =
-    ap (drop (at + 1)) (sym (swap_is xs kept at [] (omega arith) within))
-    ∙ drop-set-lt (at + 1) (set xs kept (get_or xs at [])) at (get_or xs kept []) (omega arith)
-    ∙ drop-set-lt (at + 1) xs kept (get_or xs at []) (omega arith)
+-- Before the first place nothing goes.
+pub without-before : (gone : List ℕ) (list : List Atom) (n : ℕ) → n ≤ length list → ((k : ℕ) → k < length gone → n ≤ get_or gone k 0) → without gone (take n list) ≡ take n list
+without-before gone list zero within none = refl
+without-before gone list (suc n) within none =
+    let next : suc n ≡ n + 1 = omega arith in
+    ap (λ m. without gone (take m list)) next
+    ∙ without-kept gone list n (omega arith) (λ k below there. absurd (omega (arith, none k below, there)))
+    ∙ ap (λ v. v ++ get_or list n [] ∷ []) (without-before gone list n (omega arith) (λ k below. omega (arith, none k below)))
+    ∙ sym (take_more list n [] (omega arith)) ∙ ap (λ m. take m list) (sym next)
 
 -- two lists that are one from a place on are one there and behind
 pub same_at : (xs ys : List Atom) (at : ℕ) → at < length xs → at < length ys → drop at xs ≡ drop at ys → (get_or xs at [] ≡ get_or ys at []) × (drop (at + 1) xs ≡ drop (at + 1) ys)
@@ -108,15 +101,7 @@ same_at xs ys at within within' e =
     let both : get_or xs at [] ∷ drop (at + 1) xs ≡ get_or ys at [] ∷ drop (at + 1) ys = sym (drop_more xs at [] within) ∙ e ∙ drop_more ys at [] within' in
     (cc, cc)
 
--- ---- what is left
-
-pub without-atoms : (i : ℕ) (gone : List ℕ) (list : List Atom) → AreAtoms list → AreAtoms (without_from i gone list)
-without-atoms i gone [] all = tt
-without-atoms i gone (a ∷ list) all = by (list_any (λ place. place == i) gone) (without-atoms (i + 1) gone list all.1)
-  where
-    by : (b : Bool) → AreAtoms (without_from (i + 1) gone list) → AreAtoms (cond b (without_from (i + 1) gone list) (a ∷ without_from (i + 1) gone list))
-    by true rest = rest
-    by false rest = (all.0, rest)
+-- ---- places of data
 
 -- Places of data are places of the list.
 pub data_within : (gone : List ℕ) (list : List Atom) → AreDataPlaces gone list → (k : ℕ) → k < length gone → get_or gone k 0 < length list
@@ -152,17 +137,18 @@ module _ (gone : List ℕ) (start now : List Atom) (at kept taken : ℕ) where
     behind = λ k from less. omega (arith, there, rises_by_places gone rises taken k (omega arith) less);
   }
 
-  pub done_kept : Done gone start now at kept taken → at < length start → ((k : ℕ) → k < length gone → get_or gone k 0 ≡ at → ⊥) → Done gone start (swap now kept at) (at + 1) (kept + 1) taken
+  pub done_kept : Done gone start now at kept taken → at < length start → ((k : ℕ) → k < length gone → get_or gone k 0 ≡ at → ⊥) → Done gone start (set now kept (get_or now at [])) (at + 1) (kept + 1) taken
   done_kept done within none =
       let same = same_at now start at (omega (arith, done.whole)) within done.back in
+      let next = get_or now at [] in
       record {
-        whole = length-swap now kept at ∙ done.whole;
+        whole = length-set now kept next ∙ done.whole;
         upto = omega (arith, done.upto);
-        front = take-swap now kept at done.upto (omega (arith, done.whole))
-            ∙ ap (λ v. v ++ get_or now at [] ∷ []) done.front
+        front = take_more_set now kept next (omega (arith, done.whole, done.upto))
+            ∙ ap (λ v. v ++ next ∷ []) done.front
             ∙ ap (λ v. without gone (take at start) ++ v ∷ []) same.0
             ∙ sym (without-kept gone start at within none);
-        back = drop-swap now kept at done.upto (omega (arith, done.whole)) ∙ same.1;
+        back = drop-set-lt (at + 1) now kept next (omega (arith, done.upto)) ∙ same.1;
         some = done.some;
         before = λ k less. omega (arith, done.before k less);
         behind = λ k from less. more k (done.behind k from less) (none k less);
@@ -180,3 +166,56 @@ module _ (gone : List ℕ) (start now : List Atom) (at kept taken : ℕ) where
     | inr (inl earlier) ↦ absurd (omega (arith, done.before k earlier))
     | inr (inr later) ↦ absurd (omega (arith, rises_by_places gone rises taken k later less, done.behind taken (omega arith) below))
   ]
+
+-- Before the loop, which begins at the first place that goes.
+pub done_first : (gone : List ℕ) (start : List Atom) → Rises nat_cmp gone → 0 < length gone → get_or gone 0 0 ≤ length start → Done gone start start (get_or gone 0 0) (get_or gone 0 0) 0
+done_first gone start rises some within =
+    let first = get_or gone 0 0 in
+    let behind : (k : ℕ) → k < length gone → first ≤ get_or gone k 0 = λ k below. first_least k below (cases_eq 0 k) in
+    record {
+      whole = refl;
+      upto = omega arith;
+      front = sym (without-before gone start first within behind);
+      back = refl;
+      some = omega arith;
+      before = λ k below. absurd (omega arith);
+      behind = λ k from below. behind k below;
+    }
+  where
+    first_least : (k : ℕ) → k < length gone → (0 ≡ k) ⊎ (0 ≡ k → ⊥) → get_or gone 0 0 ≤ get_or gone k 0
+    first_least k below (inl same) = omega (arith, ap (λ n. get_or gone n 0) same)
+    first_least k below (inr apart) = omega (arith, rises_by_places gone rises 0 k (omega arith) below)
+
+-- ---- the same of spans
+
+pub spans_at : (len : ℕ) (spans : List Span) (k : ℕ) (d : Span) → AreSpans len spans → k < length spans → IsSpan len (get_or spans k d)
+spans_at len [] k d fit below = absurd (omega arith)
+spans_at len (span ∷ spans) zero d fit below = fit.0
+spans_at len (span ∷ spans) (suc k) d fit below = spans_at len spans k d fit.1 (omega arith)
+
+-- A span is written to an earlier place.
+pub atoms_at-set : (bytes : List ℕ) (now : List Span) (kept at : ℕ) (span : Span) → at < length now → span ≡ get_or now at span
+    → atoms_at bytes (set now kept span) ≡ set (atoms_at bytes now) kept (get_or (atoms_at bytes now) at [])
+atoms_at-set bytes now kept at span within read =
+    map-set (span_atom bytes) now kept span
+    ∙ ap (λ v. set (atoms_at bytes now) kept v) (ap (span_atom bytes) read ∙ sym (get_or-map (span_atom bytes) now at span [] within))
+
+-- As many spans as atoms are left.
+pub as_many : (gone : List ℕ) (start now : List Span) (at kept taken : ℕ) → ((bytes : List ℕ) → Done gone (atoms_at bytes start) (atoms_at bytes now) at kept taken) → (length now ≡ length start) × (kept ≤ at)
+as_many gone start now at kept taken done =
+    let whole = (done []).whole in
+    (omega (arith, length-map now (span_atom []), length-map start (span_atom [])), (done []).upto)
+
+-- The loop's end.
+pub left_out : (gone : List ℕ) (start now : List Span) (at kept taken : ℕ) (bytes : List ℕ) → Done gone (atoms_at bytes start) (atoms_at bytes now) at kept taken → length start ≤ at → atoms_at bytes (take kept now) ≡ without gone (atoms_at bytes start)
+left_out gone start now at kept taken bytes done all =
+    sym (take-map (span_atom bytes) kept now) ∙ done.front ∙ ap (without gone) (take_all at (atoms_at bytes start) (omega (arith, length-map start (span_atom bytes))))
+
+-- Where nothing goes, all is left.
+pub without-none : (i : ℕ) (list : List Atom) → without_from i [] list ≡ list
+without-none i [] = refl
+without-none i (a ∷ list) = ap (λ v. a ∷ v) (without-none (i + 1) list)
+
+pub none_first : (xs : List ℕ) → None ≡ slice_get xs 0 → xs ≡ []
+none_first [] none = refl
+none_first (x ∷ xs) none = cc

@@ -11,7 +11,7 @@ use Rattle.context_model.specs.Nearest.{IsNearestPlace}
 use Rattle.context_model.proofs.PathPlaces.{IsNearestPlace-here, IsNearestPlace-later}
 use Rattle.atom_list.specs.declared.places.Place.{Place}
 use Rattle.atom_list.specs.Open.{atom_at, path_before}
-use Rattle.atom_list.specs.Walk.{nearest_place, nearest_places, headers_around, padded, place_of, places_behind, IsPlaceAt, WalksFindNearest}
+use Rattle.atom_list.specs.Walk.{nearest_place, nearest_places, headers_around, padded, place_of, places_behind, depth_from, depth_behind, IsPlaceAt, WalksFindNearest}
 use Rattle.atom_list.proofs.Walking.{nearest_place-more, fits_at, header_count-next}
 
 -- ---- the open headers are the nearest ones
@@ -91,6 +91,20 @@ zeros zero i = refl
 zeros (suc count) zero = refl
 zeros (suc count) (suc i) = zeros count i
 
+depth_from-more : (depth : ℕ) (list : List Atom) (a : Atom) → depth_from depth (list ++ a ∷ []) ≡ cond (is_header a) (level a + 1) (depth_from depth list)
+depth_from-more depth [] a = refl
+depth_from-more depth (x ∷ list) a = depth_from-more (cond (is_header x) (level x + 1) depth) list a
+
+-- So many headers are open.
+depth_is : (list : List Atom) → IsWellFormed list → (at : ℕ) → at ≤ length list → depth_behind (take at list) ≡ header_count (path_before list at)
+depth_is list w zero within = refl
+depth_is list w (suc at) within =
+    let next : suc at ≡ at + 1 = omega arith in
+    let here : at < length list = omega arith in
+    ap (λ n. depth_behind (take n list)) next ∙ ap depth_behind (take_more list at [] here) ∙ depth_from-more 0 (take at list) (atom_at list at)
+    ∙ ap (cond (is_header (atom_at list at)) (level (atom_at list at) + 1)) (depth_is list w at (omega arith))
+    ∙ sym (header_count-next list at w here) ∙ ap (λ n. header_count (path_before list n)) (sym next)
+
 module _ (list : List Atom) (w : IsWellFormed list) (at : ℕ) (within : at < length list) where
   few_around : headers_around (path_before list at) (atom_at list at) ≤ header_count (path_before list at)
   few_around = by (is_header (atom_at list at)) refl
@@ -116,6 +130,8 @@ module _ (list : List Atom) (w : IsWellFormed list) (at : ℕ) (within : at < le
   place_found = record {
     number = length-take-le at list (omega arith);
     few = omega (arith, few_around, open_few list w at (omega arith));
+    header = λ e. ap (λ b. cond b (level (atom_at list at)) (header_count (path_before list at))) e;
+    other = λ e. ap (λ b. cond b (level (atom_at list at)) (header_count (path_before list at))) e ∙ sym (depth_is list w at (omega arith));
     nearest = λ n below. subst (IsNearestPlace list at n) (sym (padded_below (headers_around (path_before list at) (atom_at list at)) n below)) (open_nearest list w at n (omega arith) (omega (arith, few_around)));
     others = λ n upto. padded_above (headers_around (path_before list at) (atom_at list at)) n upto;
   }

@@ -1,5 +1,8 @@
+pub mod Builder
 pub mod Codes
 pub mod Open
+pub mod Scan
+pub mod Spans
 pub mod Walk
 pub use Rattle.context_model.specs.Atoms
 pub use Rattle.context_model.specs.WellFormed

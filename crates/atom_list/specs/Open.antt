@@ -1,18 +1,21 @@
 -- The headers that are open behind the atoms before a place.
-use Rattle.std.specs.Prelude.{◌≡◌, ◌⊎◌, ℕ, ◌<◌, ◌≤◌, true, List, [], ◌∷◌, length, take, slice_get, slice_index, slice_index_or, Option, Some, None}
+use Rattle.std.specs.Prelude.{◌≡◌, ◌⊎◌, ℕ, ◌-◌, ◌<◌, ◌≤◌, true, List, [], ◌∷◌, length, map, drop, replicate, slice_get, slice_index, Option, Some, None}
 use Rattle.std.specs.declared.cmp.Ordering.TheVariants.{Less}
 use Rattle.context_model.specs.Atoms.{Atom}
+use Rattle.context_model.specs.ByteCodes.{ByteCode}
 use Rattle.context_model.specs.Kinds.{HasKind}
-use Rattle.context_model.specs.Orders.{Path, path_cmp}
-use Rattle.context_model.specs.Paths.{is_header, level, header_count, path_after, last_path_after}
+use Rattle.context_model.specs.ShapeFault.{IsWrong}
+use Rattle.context_model.specs.Orders.{Path, atom_cmp, path_cmp}
+use Rattle.context_model.specs.Paths.{is_header, level, header_count, path_after}
+pub use Rattle.context_model.specs.Paths.{atom_at, path_before}
 
--- The atom at a place.
-abbrev pub atom_at : List Atom → ℕ → Atom
-atom_at list at = slice_index_or list at []
+-- The atoms at these places.
+abbrev pub atoms_of : List Atom → List ℕ → List Atom
+atoms_of list places = map (atom_at list) places
 
--- The path of the atom before a place, and the empty path before the first.
-abbrev pub path_before : List Atom → ℕ → Path
-path_before list at = last_path_after [] (take at list)
+-- Each of these is a place of the list.
+abbrev pub ArePlaces : List ℕ → List Atom → Type 0
+ArePlaces places list = (k : ℕ) → k < length places → slice_index places k < length list
 
 -- The atom is a header of this level.
 pub record IsHeaderOf (a : Atom) (n : ℕ) : Type 0 where
@@ -20,6 +23,10 @@ pub record IsHeaderOf (a : Atom) (n : ℕ) : Type 0 where
   pub header : is_header a ≡ true
   pub level : level a ≡ n
   pub few : n < 16
+
+-- The places of the levels from this one on are 0.
+abbrev pub AreClosed : ℕ → List ℕ → Type 0
+AreClosed count above = drop count above ≡ replicate (16 - count) 0
 
 -- The atom may stand behind one with the path q.
 pub record MayFollow (q : Path) (a : Atom) : Type 0 where
@@ -37,8 +44,26 @@ EndsWith list q count (Some place) = (payload : List ℕ) × StandsAt list place
 EndsWith list q count None = (length q ≡ count) ⊎ (slice_get q count ≡ Some [])
 
 -- These are the places of a path's headers by their levels, and of the datum behind them.
-pub record IsOpen (list : List Atom) (q : Path) (count : ℕ) (above : List ℕ) (datum : Option ℕ) : Type 0 where
-  pub number : count ≡ header_count q
-  pub few : count ≤ 16
-  pub headers : (k : ℕ) → k < count → (a : Atom) × StandsAt list (slice_index above k) q k a
-  pub behind : EndsWith list q count datum
+pub record IsOpen (list : List Atom) (q : Path) (headers : List ℕ) (datum : Option ℕ) : Type 0 where
+  pub number : length headers ≡ header_count q
+  pub few : length headers ≤ 16
+  pub stand : (k : ℕ) → k < length headers
+      → (a : Atom) × StandsAt list (slice_index headers k) q k a
+  pub behind : EndsWith list q (length headers) datum
+
+-- These are the places of the headers that are open before a place of the list, and of the datum behind them.
+abbrev pub IsOpenAt : List Atom → ℕ → List ℕ → Option ℕ → Type 0
+IsOpenAt list at headers datum = IsOpen list (path_before list at) headers datum
+
+-- The atom at a place may stand there.
+abbrev pub MayStand : List Atom → ℕ → Type 0
+MayStand list at = MayFollow (path_before list at) (atom_at list at)
+
+-- This is wrong with the atom at a place.
+abbrev pub IsWrongAt : ByteCode → List Atom → ℕ → Type 0
+IsWrongAt code list at = IsWrong code (path_before list at) (atom_at list at)
+
+-- The atom at a place is greater than the one at the earlier place, where there is such a place.
+abbrev pub RisesAt : List Atom → Option ℕ → ℕ → Type 0
+RisesAt list earlier at =
+    (place : ℕ) → earlier ≡ Some place → atom_cmp (atom_at list place) (atom_at list at) ≡ Less

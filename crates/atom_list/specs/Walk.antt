@@ -1,11 +1,12 @@
 -- The places of a walk over a list: each atom's, with those of the headers around it.
-use Rattle.std.specs.Prelude.{◌≡◌, ℕ, ◌+◌, ◌-◌, ◌<◌, ◌≤◌, ◌==◌, ◌&&◌, if◌then◌else◌, List, [], ◌∷◌, ◌++◌, length, map, replicate, take, slice_get, slice_index, Some}
+use Rattle.std.specs.Prelude.{◌≡◌, ℕ, ◌+◌, ◌-◌, ◌<◌, ◌≤◌, ◌==◌, ◌&&◌, true, false, if◌then◌else◌, List, [], ◌∷◌, ◌++◌, length, map, replicate, take, slice_get, slice_index, Some}
 use Rattle.std.specs.List.{range_with_len}
 use Rattle.context_model.specs.Atoms.{Atom}
 use Rattle.context_model.specs.Orders.{Path}
 use Rattle.context_model.specs.Paths.{is_header, level, header_count, last_path_after}
 use Rattle.context_model.specs.WellFormed.{IsWellFormed}
 use Rattle.context_model.specs.Nearest.{IsNearestPlace}
+use Rattle.atom_list.specs.Open.{atom_at}
 use Rattle.atom_list.specs.declared.places.Place.{Place}
 
 -- The place of the last header of level n in a list whose first atom has the place i, or the one given where there is none.
@@ -50,10 +51,22 @@ pub record IsWalk (list : List Atom) (at : ℕ) (headers : List ℕ) : Type 0 wh
   pub within : at ≤ length list
   pub open_places : headers ≡ nearest_places (header_count (last_path_after [] (take at list))) (take at list)
 
+-- How many levels are open behind a list that follows so many: one more than the level of its last header, or the same where it has none.
+abbrev pub depth_from : ℕ → List Atom → ℕ
+depth_from depth [] = depth
+depth_from depth (a ∷ list) = depth_from (if is_header a then level a + 1 else depth) list
+
+-- How many levels are open behind a list: one more than the level of its last header, and none where it has none.
+abbrev pub depth_behind : List Atom → ℕ
+depth_behind = depth_from 0
+
+-- A header stands within as many headers as its level, and any other atom within one more than the level of the last header before it.
 -- At each level below its own a place has that of the nearest header of that level before the atom, and 0 at the others.
 pub record IsPlaceAt (list : List Atom) (at : ℕ) (place : Place) : Type 0 where
   pub number : place.at ≡ at
   pub few : place.level ≤ 16
+  pub header : is_header (atom_at list at) ≡ true → place.level ≡ level (atom_at list at)
+  pub other : is_header (atom_at list at) ≡ false → place.level ≡ depth_behind (take at list)
   pub nearest : (n : ℕ) → n < place.level → IsNearestPlace list at n (slice_index place.above n)
   pub others : (n : ℕ) → place.level ≤ n → slice_index place.above n ≡ 0
 

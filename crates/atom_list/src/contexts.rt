@@ -68,12 +68,12 @@ impl Context {
     pub fn check(list: AtomList) -> Result<Context, (ShapeFault, usize, AtomList)>
         ensures ok { IfOk result (λ context. context ≡ list) }
         ensures well_formed { IfOk result IsWellFormed }
-        ensures fault { IfErr result (λ refused. IsFirstShapeFault list refused.1 (code_of refused.0)) }
+        ensures fault { IfErr result (λ no. IsFirstShapeFault list no.1 (code_of no.0)) }
         ensures back { IfErr result (λ refused. refused.2 ≡ list) }
     {
         let mut open = OpenHeaders::new();
         for at in 0..list.len() {
-            if let Err(fault) = open.take(&list, at) {
+            if let Err(fault) = open.admit(&list, at) {
                 return Err((fault, at, list));
             }
         }

@@ -1,16 +1,16 @@
 //! Which fields of a context can't have lost anything to a cut.
 
-ghost use Rattle.std.specs.Prelude.{◌≡◌, ◌↔◌, ℕ, ◌<◌, ◌≤◌, IsTrue, length, map, slice_index};
+ghost use Rattle.std.specs.Prelude.{◌≡◌, ◌↔◌, ◌<◌, ◌≤◌, IsTrue, length};
 ghost use Rattle.context_model.specs.Ended.{field_path, IsBeyond, IsEnded};
 ghost use Rattle.context_model.specs.Kinds.{atom_of};
 ghost use Rattle.context_model.specs.Kinds.Kind.{Indexed};
 ghost use Rattle.context_model.specs.Orders.{atom_cmp};
-ghost use Rattle.atom_list.specs.Open.{atom_at};
+ghost use Rattle.atom_list.specs.Open.{ArePlaces, atoms_of};
 
 use crate::contexts::Context;
 use crate::lists::AtomList;
-use crate::open_places::{OpenPlaces, header_level};
-use atom_kinds::compare;
+use crate::open_places::OpenPlaces;
+use atom_kinds::{compare, header_level};
 use lex_varint::put_u64;
 use std::cmp::Ordering;
 
@@ -31,8 +31,8 @@ fn compare_field(level: u8, number: u64, atom: &[u8]) -> Ordering
 /// Whether the headers at these places are beyond the field with these numbers.
 fn are_beyond(list: &AtomList, headers: &OpenPlaces, numbers: &[u64]) -> bool
     requires few { length numbers.now ≤ 16 }
-    requires within { (level : ℕ) → level < length headers.now → slice_index headers.now level < length list.now }
-    ensures { IsTrue result ↔ IsBeyond (field_path numbers.now) (map (atom_at list.now) headers.now) }
+    requires within { ArePlaces headers.now list.now }
+    ensures { IsTrue result ↔ IsBeyond (field_path numbers.now) (atoms_of list.now headers.now) }
 {
     for level in 0..numbers.len().min(headers.len()) {
         let header = list.get(headers.get(level)).unwrap();

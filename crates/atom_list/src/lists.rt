@@ -1,32 +1,42 @@
 //! Lists of atoms, whatever they hold.
 
-ghost use Rattle.std.specs.Prelude.{◌≡◌, ◌+◌, ◌<◌, ◌≤◌, ◌↔◌, [], ◌∷◌, ◌++◌, length, take, IsTrue, IsSome, IfOk, IfSome, OnOk, OnErr, slice_get, slice_index, ℕ};
+ghost use Rattle.std.specs.Prelude.{◌≡◌, ◌+◌, ◌*◌, ◌<◌, ◌≤◌, ◌↔◌, [], ◌∷◌, ◌++◌, length, take, IsTrue, IsSome, IfOk, IfSome, OnOk, OnErr, slice_get, slice_index, ℕ};
 ghost use Rattle.std.specs.Ordering.{nat_cmp};
 ghost use Rattle.std.specs.Option.{option_copied};
 ghost use Rattle.context_model.specs.Atoms.{AreAtoms};
+ghost use Rattle.context_model.specs.Framing.{bytes_of};
 ghost use Rattle.context_model.specs.Orders.{Rises};
 ghost use Rattle.context_model.specs.WithoutData.{without};
+ghost use Rattle.atom_list.specs.Builder.{room_of};
 
-use outside::{ATOM_MAX, Memory, Octets};
+use crate::builder::Builder;
+use crate::spans::{Span, keep_others};
+use bytes::Bytes;
+use outside::{ATOM_MAX, Memory};
 use std::alloc::Global;
 use std::marker::Model;
 
 /// A list of atoms: byte strings of at most [`ATOM_MAX`] bytes each. Contracts see it as a list of byte strings.
+///
+/// The atoms stand in one buffer, which copies share.
 #[derive(Drop)]
 pub struct AtomList {
-    alloc: Global,
-    atoms: Vec<Octets>,
+    pub(crate) alloc: Global,
+    pub(crate) bytes: Bytes,
+    pub(crate) spans: Vec<Span>,
+    /// The buffer begins with the frames of so many first atoms, one behind the other.
+    pub(crate) laid: usize,
 }
 
 impl Model for AtomList {
     ghost use Rattle.std.specs.Prelude.{List, ℕ};
-    ghost use Rattle.context_model.specs.Atoms.{AreAtoms};
+    ghost use Rattle.atom_list.specs.Spans.{atoms_at, IsFlat};
 
     ghost Value = { List (List ℕ) };
 
-    ghost view = { λ list. list.atoms.items };
+    ghost view = { λ list. atoms_at list.bytes list.spans.items };
 
-    ghost invariant = { λ list. AreAtoms list.atoms.items };
+    ghost invariant = { λ list. IsFlat list.bytes list.spans.items list.laid };
 }
 
 impl AtomList {
@@ -36,7 +46,9 @@ impl AtomList {
     {
         AtomList {
             alloc,
-            atoms: Vec::new(alloc),
+            bytes: Bytes::new(),
+            spans: Vec::new(alloc),
+            laid: 0,
         }
     }
 
@@ -45,14 +57,14 @@ impl AtomList {
         ensures len { result ≡ length self.now }
         ensures atoms { AreAtoms self.now }
     {
-        self.atoms.len()
+        self.spans.len()
     }
 
     /// Whether there is no atom.
     pub fn is_empty(&self) -> bool
         ensures { IsTrue result ↔ (self.now ≡ []) }
     {
-        self.atoms.is_empty()
+        self.spans.is_empty()
     }
 
     /// The atom at a place, `None` where there are not so many.
@@ -61,22 +73,32 @@ impl AtomList {
         ensures value { option_copied result ≡ slice_get self.now at }
         ensures short { IfSome result (λ atom. length atom.now ≤ ATOM_MAX) }
     {
-        if at < self.atoms.len() {
-            Some(self.atoms[at].as_slice())
-        } else {
-            None
-        }
+        let span = self.spans.get(at)?;
+        Some(&self.bytes.as_slice()[span.start as usize..span.end as usize])
     }
 
-    /// Adds an atom at the end. Want of memory leaves the list as it was.
+    /// Adds an atom at the end, in a new buffer. Want of memory leaves the list as it was.
     pub fn push(&mut self, atom: &[u8]) -> Result<(), Memory>
         requires { length atom.now ≤ ATOM_MAX }
         ensures ok { OnOk result (self.new ≡ self.old ++ atom.now ∷ []) }
         ensures err { OnErr result (self.new ≡ self.old) }
     {
-        let atom = Octets::of(self.alloc, atom)?;
-        self.atoms.push(atom)?;
+        *self = self.with_one_more(atom)?;
         Ok(())
+    }
+
+    /// The list with one atom more.
+    fn with_one_more(&self, atom: &[u8]) -> Result<AtomList, Memory>
+        requires { length atom.now ≤ ATOM_MAX }
+        ensures { IfOk result (λ made. made ≡ self.now ++ atom.now ∷ []) }
+    {
+        let room = self.room().ok_or(Memory)?;
+        let room = room.checked_add(atom.len() + 3).ok_or(Memory)?;
+        let count = self.len().checked_add(1).ok_or(Memory)?;
+        let mut built = Builder::with_room(self.alloc, room, count)?;
+        built.push_rest(self, 0);
+        built.push(atom);
+        built.finish()
     }
 
     /// Keeps the first `keep` atoms and puts a marker behind them. It takes no memory, since at least one atom leaves
@@ -85,8 +107,21 @@ impl AtomList {
         requires { keep < length self.old }
         ensures { self.new ≡ take keep self.old ++ [] ∷ [] }
     {
-        self.atoms.truncate(keep + 1);
-        self.atoms[keep] = Octets::empty(self.alloc);
+        self.spans.truncate(keep + 1);
+        self.spans[keep] = Span { start: 0, end: 0 };
+        self.laid = self.laid.min(keep);
+    }
+
+    /// The same list again. The buffer isn't copied.
+    pub fn copy(&self) -> Result<AtomList, Memory>
+        ensures { IfOk result (λ made. made ≡ self.now) }
+    {
+        Ok(AtomList {
+            alloc: self.alloc,
+            bytes: self.bytes.clone()?,
+            spans: self.spans.clone()?,
+            laid: self.laid,
+        })
     }
 
     /// Takes out the atoms at these places, which rise; all others stay, in order. It takes no memory, and goes over the
@@ -96,30 +131,10 @@ impl AtomList {
         requires within { (k : ℕ) → k < length gone.now → slice_index gone.now k < length self.old }
         ensures { self.new ≡ without gone.now self.old }
     {
-        let mut kept = 0;
-        let mut taken = 0;
-        for at in 0..self.atoms.len() {
-            if taken < gone.len() && gone[taken] == at {
-                taken += 1;
-            } else {
-                self.atoms.swap(kept, at);
-                kept += 1;
-            }
-        }
-        self.atoms.truncate(kept);
-    }
-
-    /// The same list again.
-    pub fn copy(&self) -> Result<AtomList, Memory>
-        ensures { IfOk result (λ made. made ≡ self.now) }
-    {
-        let mut atoms = Vec::with_capacity(self.alloc, self.atoms.len())?;
-        for atom in &self.atoms {
-            atoms.push(atom.copy()?)?;
-        }
-        Ok(AtomList {
-            alloc: self.alloc,
-            atoms,
-        })
+        let Some(first) = gone.first() else {
+            return;
+        };
+        keep_others(&mut self.spans, gone);
+        self.laid = self.laid.min(*first);
     }
 }

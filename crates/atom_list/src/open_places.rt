@@ -1,27 +1,12 @@
 //! The places of the headers that are open while a list is walked.
 
-ghost use Rattle.std.specs.Prelude.{◌≡◌, ◌+◌, ◌<◌, ◌≤◌, [], ◌∷◌, ◌++◌, length, take, MatchOption, true, false, slice_index};
-ghost use Rattle.context_model.specs.Paths.{is_header, level};
+ghost use Rattle.std.specs.Prelude.{◌≡◌, ◌<◌, ◌≤◌, [], ◌∷◌, ◌++◌, length, take, slice_index};
 ghost use Rattle.atom_list.specs.Walk.{padded};
 
-use crate::open_headers::LEVELS;
 use std::marker::Model;
 
-/// The least first byte of a header, which is that of level 15.
-const LOWEST_HEADER: u8 = 0x80;
-
-/// The level of an atom that is a header.
-pub(crate) fn header_level(atom: &[u8]) -> Option<usize>
-    ensures { MatchOption result (is_header atom.now ≡ false) (λ found. (is_header atom.now ≡ true) × (found ≡ level atom.now) × (found < 16)) }
-{
-    let Some(first) = atom.first() else {
-        return None;
-    };
-    if *first < LOWEST_HEADER {
-        return None;
-    }
-    Some(usize::from((0xff - *first) / 8))
-}
+/// How many levels headers have.
+pub(crate) const LEVELS: usize = 16;
 
 /// The places of the open headers by their levels, and 0 at each level that isn't open. Contracts see it as the list of
 /// these places.
@@ -32,13 +17,14 @@ pub(crate) struct OpenPlaces {
 }
 
 impl Model for OpenPlaces {
-    ghost use Rattle.std.specs.Prelude.{List, ℕ, take, drop, replicate, ◌≤◌, ◌≡◌, ◌-◌};
+    ghost use Rattle.std.specs.Prelude.{List, ℕ, take, ◌≤◌};
+    ghost use Rattle.atom_list.specs.Open.{AreClosed};
 
     ghost Value = { List ℕ };
 
     ghost view = { λ places. take places.count places.above };
 
-    ghost invariant = { λ places. (places.count ≤ 16) × (drop places.count places.above ≡ replicate (16 - places.count) 0) };
+    ghost invariant = { λ places. (places.count ≤ 16) × AreClosed places.count places.above };
 }
 
 impl OpenPlaces {
@@ -74,8 +60,9 @@ impl OpenPlaces {
         requires { level ≤ length self.old }
         ensures { self.new ≡ take level self.old }
     {
+        let open = self.count;
         self.count = level;
-        self.above[level..].fill(0);
+        self.above[level..open].fill(0);
     }
 
     /// Opens the next level by the header at a place.

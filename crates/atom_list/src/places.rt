@@ -6,8 +6,8 @@ ghost use Rattle.atom_list.specs.Walk.{places, padded};
 
 use crate::contexts::Context;
 use crate::lists::AtomList;
-use crate::open_headers::LEVELS;
-use crate::open_places::{OpenPlaces, header_level};
+use crate::open_places::{LEVELS, OpenPlaces};
+use atom_kinds::header_level;
 use std::marker::Model;
 
 /// Where an atom stands in a context: at place `at` of the list, within `level` headers. Their places are the first

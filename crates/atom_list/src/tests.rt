@@ -2,7 +2,7 @@
 
 ghost use Rattle.std.specs.Prelude.{◌≡◌, ◌<◌, ℕ, List, ◌∷◌, IsTrue, Some, slice_get};
 
-use crate::{AtomList, Context, Place, ShapeFault, cross_threads};
+use crate::{AtomList, Builder, Context, Place, Scan, ShapeFault};
 use outside::{ATOM_MAX, Memory};
 use std::alloc::Global;
 use std::process::Abort;
@@ -27,27 +27,111 @@ fn context_of(rt: &impl Abort, alloc: Global, atoms: &[&'static [u8]]) -> Result
     }
 }
 
+/// That a list has these atoms, by their places and one by one.
+fn list_row(rt: &impl Abort, list: &AtomList, atoms: &[&'static [u8]]) {
+    assert_eq!(rt; list.len(), atoms.len());
+    for at in 0..atoms.len() {
+        assert!(rt;
+            list.get(at).is_some_and(|atom| atom == atoms[at]),
+            "at {at}"
+        );
+    }
+    assert!(rt; list.get(atoms.len()).is_none());
+    assert_eq!(rt; list.iter().count(), atoms.len());
+    for (atom, expected) in list.iter().zip(atoms) {
+        assert!(rt; atom == *expected);
+    }
+}
+
+/// Cuts a list to so many atoms and a marker.
+fn cut(rt: &impl Abort, list: &mut AtomList, keep: usize) {
+    assert!(rt; keep < list.len());
+    list.cut_to_marker(keep);
+}
+
 #[test]
 fn a_list_of_atoms(rt: HostRuntime) -> Result<(), Fail> {
     let alloc = rt.alloc();
-    let mut list = AtomList::new(alloc);
-    assert!(rt; list.is_empty());
-    for atom in [[0xf8u8, 0].as_slice(), &[0, 0, 0, 0, 7], &[]] {
-        if atom.len() <= 5 {
-            list.push(atom)?;
-        }
-    }
-    assert_eq!(rt; list.len(), 3);
-    let copy = list.copy()?;
-    if 1 < list.len() {
-        list.cut_to_marker(1);
-    }
-    assert_eq!(rt; list.len(), 2);
-    assert!(rt; matches!(list.get(0), Some([0xf8, 0])));
-    assert!(rt; matches!(list.get(1), Some([])));
-    assert!(rt; list.get(2).is_none());
-    assert!(rt; matches!(copy.get(1), Some([0, 0, 0, 0, 7])));
-    assert_eq!(rt; copy.len(), 3);
+    let atoms: [&[u8]; 3] = [b"\xf8\x00", b"\0\0\0\0\x07", b""];
+    assert!(rt; AtomList::new(alloc).is_empty());
+    let mut list = list_of(&rt, alloc, &atoms)?;
+    assert!(rt; !list.is_empty());
+    assert!(rt; list.framed() == Some(b"\x02\xf8\x00\x05\0\0\0\0\x07\0"));
+    let mut copy = list.copy()?;
+    cut(&rt, &mut list, 1);
+    list_row(&rt, &list, &[b"\xf8\x00", b""]);
+    assert!(rt; list.framed().is_none());
+    list_row(&rt, &copy, &atoms);
+    drop(list);
+    cut(&rt, &mut copy, 0);
+    list_row(&rt, &copy, &[b""]);
+    Ok(())
+}
+
+#[test]
+fn lists_that_are_built(rt: HostRuntime) -> Result<(), Fail> {
+    let alloc = rt.alloc();
+    let mut built = Builder::with_room(alloc, 8, 1)?;
+    built.push(b"\xf8\x00");
+    list_row(&rt, &built.finish()?, &[b"\xf8\x00"]);
+    let mut exact = Builder::with_room(alloc, 5, 1)?;
+    exact.push(b"\xf8\x00");
+    assert_eq!(rt; exact.into_bytes().as_slice(), b"\x02\xf8\x00".as_slice());
+    assert!(rt; Builder::with_room(alloc, 1 << 32, 0).is_err());
+    Ok(())
+}
+
+/// The atoms of a list from a place on, in a list of their own.
+fn rest_of(alloc: Global, list: &AtomList) -> Result<AtomList, Memory> {
+    let room = list.room().ok_or(Memory)?;
+    let mut built = Builder::with_room(alloc, room, list.len())?;
+    built.push_rest(list, 0);
+    built.finish()
+}
+
+/// The atoms of a list from one place to another, in a list of their own.
+#[tactic(auto, using(crate::proofs::Rooms::room_of_part))]
+fn run_of(
+    rt: &impl Abort,
+    alloc: Global,
+    list: &AtomList,
+    from: usize,
+    to: usize,
+) -> Result<AtomList, Memory> {
+    assert!(rt; from <= to);
+    assert!(rt; to <= list.len());
+    let room = list.room().ok_or(Memory)?;
+    let mut built = Builder::with_room(alloc, room, list.len())?;
+    built.push_run(list, from, to);
+    built.finish()
+}
+
+#[test]
+fn lists_of_other_lists(rt: HostRuntime) -> Result<(), Fail> {
+    let alloc = rt.alloc();
+    let mut origin = list_of(&rt, alloc, &[b"\xf8\x00", b"\0a", b"\0b", b""])?;
+    assert_eq!(rt; origin.room(), Some(10 + 2 * 4));
+    list_row(&rt, &run_of(&rt, alloc, &origin, 1, 3)?, &[b"\0a", b"\0b"]);
+    let copy = origin.copy()?;
+    cut(&rt, &mut origin, 2);
+    list_row(&rt, &run_of(&rt, alloc, &origin, 1, 3)?, &[b"\0a", b""]);
+    assert_eq!(rt; origin.room(), Some(6 + 2 * 2 + 3));
+    list_row(&rt, &rest_of(alloc, &origin)?, &[b"\xf8\x00", b"\0a", b""]);
+    drop(origin);
+    let rest = rest_of(alloc, &copy)?;
+    drop(copy);
+    list_row(&rt, &rest, &[b"\xf8\x00", b"\0a", b"\0b", b""]);
+    assert!(rt; rest.framed() == Some(b"\x02\xf8\x00\x02\0a\x02\0b\0"));
+    Ok(())
+}
+
+#[test]
+fn lists_that_are_found(rt: HostRuntime) -> Result<(), Fail> {
+    let alloc = rt.alloc();
+    let mut scan = Scan::over(alloc, b"\x80\0".as_slice().to_vec(alloc)?)?;
+    assert_eq!(rt; scan.offset(), 0);
+    assert_eq!(rt; scan.rest(), b"\x80\0".as_slice());
+    list_row(&rt, &scan.finish()?, &[]);
     Ok(())
 }
 
@@ -166,7 +250,6 @@ fn place_row(
             let expected = around.get(n).copied().unwrap_or(0);
             assert_eq!(rt; place.above[n], expected, "at {at}");
         }
-        cross_threads(&context, context.list(), &context.walk(), &place);
         return Ok(());
     }
     panic!(rt; "no place at {at}")
@@ -208,16 +291,6 @@ fn walks_at_the_ends(rt: HostRuntime) -> Result<(), Fail> {
     Ok(())
 }
 
-fn list_row(rt: &impl Abort, list: &AtomList, atoms: &[&'static [u8]]) {
-    assert_eq!(rt; list.len(), atoms.len());
-    for at in 0..atoms.len() {
-        assert!(rt;
-            list.get(at).is_some_and(|atom| atom == atoms[at]),
-            "at {at}"
-        );
-    }
-}
-
 /// Whether a datum stands at a place.
 fn is_datum(context: &Context, at: usize) -> bool
     ensures { IsTrue result → (payload : List ℕ) × (slice_get context.now at ≡ Some (0 ∷ payload)) }
@@ -241,16 +314,30 @@ fn drop_both(rt: &impl Abort, context: &mut Context, first: usize, second: usize
 #[test]
 fn data_that_go(rt: HostRuntime) -> Result<(), Fail> {
     let alloc = rt.alloc();
-    let mut context = context_of(
-        &rt,
-        alloc,
-        &[b"\x00\x01", b"\x00\x02", b"\xf8\x00", b"\x00", b""],
-    )?;
+    let atoms: [&[u8]; 5] = [b"\x00\x01", b"\x00\x02", b"\xf8\x00", b"\x00", b""];
+    let mut context = context_of(&rt, alloc, &atoms)?;
+    let copy = context.copy()?;
+    context.drop_data(&[]);
+    list_row(&rt, context.list(), &atoms);
     drop_both(&rt, &mut context, 0, 3);
     list_row(&rt, context.list(), &[b"\x00\x02", b"\xf8\x00", b""]);
-    let mut data = context_of(&rt, alloc, &[b"\x00\x01", b"\x00\x02"])?;
-    drop_both(&rt, &mut data, 0, 1);
-    list_row(&rt, data.list(), &[]);
+    list_row(&rt, copy.list(), &atoms);
+    let mut data = context_of(&rt, alloc, &[b"\x00\x01", b"\x00\x02", b"\x00\x03"])?;
+    drop_both(&rt, &mut data, 0, 2);
+    list_row(&rt, &data.into_list(), &[b"\x00\x02"]);
+    Ok(())
+}
+
+#[test]
+fn contexts_that_are_cut(rt: HostRuntime) -> Result<(), Fail> {
+    let alloc = rt.alloc();
+    let atoms: [&[u8]; 3] = [b"\xf8\x00", b"\x00\x01", b"\xf8\x01"];
+    let mut context = context_of(&rt, alloc, &atoms)?;
+    let copy = context.copy()?;
+    assert!(rt; 2 < context.list().len());
+    context.cut_to_marker(2);
+    list_row(&rt, context.list(), &[b"\xf8\x00", b"\x00\x01", b""]);
+    list_row(&rt, &copy.into_list(), &atoms);
     Ok(())
 }
 

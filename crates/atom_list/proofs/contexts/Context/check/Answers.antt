@@ -4,8 +4,7 @@ use Rattle.std.proofs.lemmas.Option.{slice_get-get_or}
 use Rattle.context_model.specs.Atoms.{Atom}
 use Rattle.context_model.specs.WellFormed.{IsWellFormed}
 use Rattle.context_model.proofs.Following.{Fits, IsWellFormed-empty, IsWellFormed-more}
-use Rattle.atom_list.specs.Open.{IsOpen, MayFollow, atom_at, path_before}
-use Rattle.atom_list.proofs.Walking.{path_next}
+use Rattle.atom_list.specs.Open.{MayFollow, atom_at, path_before}
 use Rattle.atom_list.proofs.contexts.Context.check.Goals as goal
 
 more_well_formed : (list : List Atom) (at : ℕ) → at < length list → IsWellFormed (take at list) → MayFollow (path_before list at) (atom_at list at) → IsWellFormed (take (at + 1) list)
@@ -33,5 +32,5 @@ loop-at-preserved c =
     let at = c.loop-at.at in
     record {
       before = more_well_formed list at (omega arith) c.loop-at.invariant.before c.in_default.ensures.ok;
-      headers = subst (λ q. IsOpen list q c.take.new.self.count c.take.new.self.above c.take.new.self.datum) (sym (path_next list at (omega arith))) c.in_default.ensures.«open»;
+      headers = c.in_default.ensures.«open»;
     }

@@ -6,5 +6,5 @@ use Rattle.atom_list.proofs.contexts.Context.check.Given as goal
 abbrev pub invariant-loop-at : goal.invariant-loop-at
 invariant-loop-at l = record {
   before : IsWellFormed (take l.at l.list);
-  headers : IsOpen l.list (path_before l.list l.at) l.«open».count l.«open».above l.«open».datum;
+  headers : IsOpen l.list (path_before l.list l.at) l.«open».headers l.«open».datum;
 }

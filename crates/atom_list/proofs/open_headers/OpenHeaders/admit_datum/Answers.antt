@@ -1,0 +1,22 @@
+use Rattle.std.proofs.Common.{Some, refl, sym, subst}
+use Rattle.atom_list.specs.Open.{IsOpen, atom_at, path_before}
+use Rattle.atom_list.proofs.Opening.{datum_wrong, datum_follows, datum_taken, datum_within}
+use Rattle.atom_list.proofs.Walking.{path_next}
+use Rattle.atom_list.proofs.open_headers.OpenHeaders.admit_datum.Goals as goal
+
+pub rises_behind-requires-clause-earlier : goal.rises_behind-requires-clause-earlier
+rises_behind-requires-clause-earlier c = datum_within c.args.list.now _ _ _ c.requires.«open»
+
+pub returns-then-not-rises_behind-clause-err : goal.returns-then-not-rises_behind-clause-err
+returns-then-not-rises_behind-clause-err c =
+    datum_wrong c.args.list.now _ _ _ (atom_at c.args.list.now c.args.at) c.requires.«open» c.requires.datum (λ less. cc (c.if-not-rises_behind.ensures.1 less))
+
+pub returns-clause-ok : goal.returns-clause-ok
+returns-clause-ok c =
+    datum_follows c.args.list.now _ _ _ (atom_at c.args.list.now c.args.at) c.requires.«open» c.requires.datum (c.if-not-rises_behind.ensures.0 refl)
+
+pub returns-clause-open : goal.returns-clause-open
+returns-clause-open c =
+    let list = c.args.list.now in
+    subst (λ q. IsOpen list q c.args.self.now.headers (Some c.args.at)) (sym (path_next list c.args.at c.requires.at))
+    (datum_taken list (path_before list c.args.at) _ _ c.args.at c.requires.«open» c.requires.at c.requires.datum)

@@ -1,0 +1,34 @@
+-- Lists in the making.
+use Rattle.std.specs.Prelude.{◌≡◌, ℕ, ◌+◌, ◌≤◌, ◌++◌, List, [], ◌∷◌, length, slice_range}
+use Rattle.context_model.specs.Atoms.{Atom, AreAtoms}
+use Rattle.context_model.specs.Framing.{bytes_of}
+use Rattle.atom_list.specs.Spans.{atoms_at, spans_from, IsPieceOf}
+use Rattle.atom_list.specs.declared.builder.TheConstants.{BUFFER_MAX}
+use Rattle.atom_list.specs.declared.spans.Span.{Span}
+
+-- A list in the making, and the room that is left for bytes and for atoms.
+pub record Built : Type 0 where
+  pub atoms : List Atom
+  pub byte_room : ℕ
+  pub atom_room : ℕ
+
+-- The room for bytes that atoms are given: each its own bytes and three of its length.
+abbrev pub room_of : List Atom → ℕ
+room_of [] = 0
+room_of (atom ∷ list) = length atom + 3 + room_of list
+
+-- The room for bytes that the atoms from one place to another are given.
+abbrev pub run_room : List Atom → ℕ → ℕ → ℕ
+run_room list from to = room_of (slice_range list from to)
+
+-- Whatever list these frames are, it was added.
+abbrev pub AddsPiece : List ℕ → ℕ → List Span → List Atom → List Atom → Type 0
+AddsPiece piece at spans old new =
+    (list : List Atom) → IsPieceOf piece at spans list → new ≡ old ++ list
+
+-- The buffer is the bytes of its atoms, and no longer than a buffer may be.
+pub record IsBuilt (bytes : List ℕ) (spans : List Span) : Type 0 where
+  pub short : AreAtoms (atoms_at bytes spans)
+  pub there : spans ≡ spans_from 0 (atoms_at bytes spans)
+  pub framed : bytes ≡ bytes_of (atoms_at bytes spans)
+  pub few : length bytes ≤ BUFFER_MAX

@@ -1,0 +1,154 @@
+//! Lists that are built atom by atom in room that was taken first.
+
+ghost use Rattle.std.specs.Prelude.{◌≡◌, ℕ, List, ◌+◌, ◌≤◌, [], ◌∷◌, ◌++◌, length, drop, slice_range, IfOk};
+ghost use Rattle.context_model.specs.Framing.{bytes_of};
+ghost use Rattle.atom_list.specs.Builder.{room_of, run_room, AddsPiece};
+ghost use Rattle.atom_list.specs.Spans.{IsPieceOf};
+
+use crate::lengths::{put_bytes, put_length};
+use crate::lists::AtomList;
+use crate::spans::{Span, put_moved};
+use bytes::Bytes;
+use outside::{ATOM_MAX, Memory};
+use std::alloc::Global;
+use std::marker::Model;
+
+/// The most bytes of a buffer.
+pub(crate) const BUFFER_MAX: usize = 0xffff_ffff;
+
+/// A list in the making. Contracts see it as the list, the room for bytes and the room for atoms: an atom takes its own
+/// bytes and at most three of its length.
+#[derive(Drop)]
+pub struct Builder {
+    alloc: Global,
+    bytes: Vec<u8>,
+    spans: Vec<Span>,
+}
+
+impl Model for Builder {
+    ghost use Rattle.std.specs.Prelude.{◌-◌, length, vec_capacity, min};
+    ghost use Rattle.atom_list.specs.Spans.{atoms_at};
+    ghost use Rattle.atom_list.specs.Builder.{Built, IsBuilt};
+    ghost use Rattle.atom_list.specs.declared.builder.TheConstants.{BUFFER_MAX};
+
+    ghost Value = { Built };
+
+    ghost view = { λ b. record {
+      atoms = atoms_at b.bytes.items b.spans.items;
+      byte_room = min (vec_capacity b.bytes) BUFFER_MAX - length b.bytes.items;
+      atom_room = vec_capacity b.spans - length b.spans.items;
+    } };
+
+    ghost invariant = { λ b. IsBuilt b.bytes.items b.spans.items };
+}
+
+impl Builder {
+    /// The empty list with room for so many bytes and atoms. A buffer holds fewer than 2 ^ 32 bytes: for more there is no
+    /// memory.
+    pub fn with_room(alloc: Global, bytes: usize, atoms: usize) -> Result<Builder, Memory>
+        ensures atoms { IfOk result (λ built. built.atoms ≡ []) }
+        ensures byte_room { IfOk result (λ built. bytes ≤ built.byte_room) }
+        ensures atom_room { IfOk result (λ built. atoms ≤ built.atom_room) }
+    {
+        if BUFFER_MAX < bytes {
+            return Err(Memory);
+        }
+        Ok(Builder {
+            alloc,
+            bytes: Vec::with_capacity(alloc, bytes)?,
+            spans: Vec::with_capacity(alloc, atoms)?,
+        })
+    }
+
+    /// Adds an atom at the end. It takes no memory.
+    pub fn push(&mut self, atom: &[u8])
+        requires short { length atom.now ≤ ATOM_MAX }
+        requires byte_room { length atom.now + 3 ≤ self.old.byte_room }
+        requires atom_room { 1 ≤ self.old.atom_room }
+        ensures atoms { self.new.atoms ≡ self.old.atoms ++ atom.now ∷ [] }
+        ensures byte_room { self.old.byte_room ≤ self.new.byte_room + (length atom.now + 3) }
+        ensures atom_room { self.new.atom_room + 1 ≡ self.old.atom_room }
+    {
+        put_length(&mut self.bytes, atom.len());
+        let start = self.bytes.len() as u32;
+        put_bytes(&mut self.bytes, atom);
+        let end = self.bytes.len() as u32;
+        self.spans.push_reserved(Span { start, end });
+    }
+
+    /// Adds frames that follow one another, with their spans in a buffer where they begin at `at`. It takes no memory.
+    fn push_piece(&mut self, piece: &[u8], at: u32, spans: &[Span])
+        requires piece { (list : List (List ℕ)) × IsPieceOf piece.now at spans.now list }
+        requires byte_room { length piece.now ≤ self.old.byte_room }
+        requires atom_room { length spans.now ≤ self.old.atom_room }
+        ensures atoms { AddsPiece piece.now at spans.now self.old.atoms self.new.atoms }
+        ensures byte_room { self.old.byte_room ≤ self.new.byte_room + length piece.now }
+        ensures atom_room { self.new.atom_room + length spans.now ≡ self.old.atom_room }
+    {
+        let to = self.bytes.len() as u32;
+        put_bytes(&mut self.bytes, piece);
+        put_moved(&mut self.spans, spans, at, to);
+    }
+
+    /// Adds the atoms of a list from one place to another, those of its untouched front as one piece. It takes no memory.
+    pub fn push_run(&mut self, list: &AtomList, from: usize, to: usize)
+        requires order { from ≤ to }
+        requires within { to ≤ length list.now }
+        requires byte_room { run_room list.now from to ≤ self.old.byte_room }
+        requires atom_room { to ≤ from + self.old.atom_room }
+        ensures atoms { self.new.atoms ≡ self.old.atoms ++ slice_range list.now from to }
+        ensures byte_room { self.old.byte_room ≤ self.new.byte_room + run_room list.now from to }
+        ensures atom_room { self.new.atom_room + to ≡ self.old.atom_room + from }
+    {
+        let piece = list.piece(from, to);
+        let count = piece.spans.len();
+        self.push_piece(piece.bytes, piece.at, piece.spans);
+        for at in from + count..to {
+            self.push(list.get(at).unwrap());
+        }
+    }
+
+    /// Adds the atoms of a list from a place on. It takes no memory.
+    pub fn push_rest(&mut self, list: &AtomList, from: usize)
+        requires from { from ≤ length list.now }
+        requires byte_room { room_of (drop from list.now) ≤ self.old.byte_room }
+        requires atom_room { length list.now ≤ from + self.old.atom_room }
+        ensures atoms { self.new.atoms ≡ self.old.atoms ++ drop from list.now }
+        ensures byte_room { self.old.byte_room ≤ self.new.byte_room + room_of (drop from list.now) }
+        ensures atom_room { self.new.atom_room + length list.now ≡ self.old.atom_room + from }
+    {
+        self.push_run(list, from, list.len());
+    }
+
+    /// The bytes of the list.
+    pub fn into_bytes(self) -> Vec<u8>
+        ensures { result.items ≡ bytes_of self.atoms }
+    {
+        let Builder {
+            alloc: _,
+            bytes,
+            spans: _spans,
+        } = self;
+        bytes
+    }
+
+    /// The list, which keeps no room.
+    pub fn finish(self) -> Result<AtomList, Memory>
+        ensures { IfOk result (λ list. list ≡ self.atoms) }
+    {
+        let Builder {
+            alloc,
+            mut bytes,
+            mut spans,
+        } = self;
+        bytes.shrink_to_fit();
+        spans.shrink_to_fit();
+        let laid = spans.len();
+        Ok(AtomList {
+            alloc,
+            bytes: Bytes::from_vec(bytes)?,
+            spans,
+            laid,
+        })
+    }
+}

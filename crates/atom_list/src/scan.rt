@@ -1,0 +1,113 @@
+//! Lists that are found in bytes as they stand.
+
+ghost use Rattle.std.specs.Prelude.{◌≡◌, ◌+◌, ◌≤◌, [], ◌∷◌, ◌++◌, length, take, drop, slice_range, IfOk, OnOk, OnErr};
+ghost use Rattle.context_model.specs.Atoms.{AreAtoms};
+ghost use Rattle.context_model.specs.Framing.{length_code, size_of};
+ghost use Rattle.atom_list.specs.Scan.{with_part};
+
+use crate::builder::BUFFER_MAX;
+use crate::lists::AtomList;
+use crate::spans::Span;
+use bytes::Bytes;
+use outside::{ATOM_MAX, Memory};
+use std::alloc::Global;
+use std::marker::Model;
+
+/// A list whose frames are found one by one at the front of bytes that it takes over and doesn't copy. Contracts see it as
+/// the list so far and the bytes behind it.
+#[derive(Drop)]
+pub struct Scan {
+    alloc: Global,
+    bytes: Vec<u8>,
+    at: usize,
+    spans: Vec<Span>,
+}
+
+impl Model for Scan {
+    ghost use Rattle.std.specs.Prelude.{take, drop};
+    ghost use Rattle.atom_list.specs.Scan.{Scanned, IsScan};
+    ghost use Rattle.atom_list.specs.Spans.{atoms_at};
+
+    ghost Value = { Scanned };
+
+    ghost view = { λ s. record {
+      atoms = atoms_at (take s.at s.bytes.items) s.spans.items;
+      rest = drop s.at s.bytes.items;
+    } };
+
+    ghost invariant = { λ s. IsScan s.bytes.items s.at s.spans.items };
+}
+
+impl Scan {
+    /// Over these bytes, of which none is looked at yet. A buffer holds fewer than 2 ^ 32 bytes: for more there is no memory.
+    pub fn over(alloc: Global, bytes: Vec<u8>) -> Result<Scan, Memory>
+        ensures atoms { IfOk result (λ scan. scan.atoms ≡ []) }
+        ensures rest { IfOk result (λ scan. scan.rest ≡ bytes.items) }
+    {
+        if BUFFER_MAX < bytes.len() {
+            return Err(Memory);
+        }
+        Ok(Scan {
+            alloc,
+            bytes,
+            at: 0,
+            spans: Vec::new(alloc),
+        })
+    }
+
+    /// The bytes behind the list.
+    pub fn rest(&self) -> &[u8]
+        ensures { result.now ≡ self.now.rest }
+    {
+        &self.bytes[self.at..]
+    }
+
+    /// How many bytes the list has.
+    pub fn offset(&self) -> usize
+        ensures { result ≡ size_of self.now.atoms }
+    {
+        self.at
+    }
+
+    /// Notes the frame at the front of the rest: `skip` bytes of a length, and `len` bytes of an atom. Want of memory leaves
+    /// all as it was.
+    pub fn note(&mut self, skip: usize, len: usize) -> Result<(), Memory>
+        requires within { skip + len ≤ length self.old.rest }
+        requires short { len ≤ ATOM_MAX }
+        requires framed { take skip self.old.rest ≡ length_code len }
+        ensures atoms { OnOk result (self.new.atoms ≡ with_part self.old skip len) }
+        ensures rest { OnOk result (self.new.rest ≡ drop (skip + len) self.old.rest) }
+        ensures err { OnErr result (self.new ≡ self.old) }
+    {
+        let start = self.at + skip;
+        let end = start + len;
+        self.spans.push(Span {
+            start: start as u32,
+            end: end as u32,
+        })?;
+        self.at = end;
+        Ok(())
+    }
+
+    /// The list. The bytes behind it are let go.
+    pub fn finish(self) -> Result<AtomList, Memory>
+        ensures list { IfOk result (λ list. list ≡ self.atoms) }
+        ensures short { IfOk result AreAtoms }
+    {
+        let Scan {
+            alloc,
+            mut bytes,
+            at,
+            mut spans,
+        } = self;
+        bytes.truncate(at);
+        spans.shrink_to_fit();
+        let laid = spans.len();
+        Ok(AtomList {
+            alloc,
+            bytes: Bytes::from_vec(bytes)?,
+            spans,
+            laid,
+        })
+    }
+}
