@@ -1,11 +1,11 @@
 -- What the enums of faults say.
-use Rattle.std.specs.Prelude.{◌≡◌, ℕ, ◌<◌, List, ◌++◌, length, Option, Some, None}
-use Rattle.context_model.specs.Atoms.{Atom}
+use Rattle.std.specs.Prelude.{◌≡◌, ℕ, ◌<◌, List, ◌++◌, length, Option, Some, None, Result, MatchResult}
+use Rattle.context_model.specs.Atoms.{Atom, AreAtoms}
 use Rattle.context_model.specs.Framing.{bytes_of}
 use Rattle.context_model.specs.ByteCodes.{ByteCode as PlainCode}
 use Rattle.context_model.specs.ByteCodes as plain
 use Rattle.context_model.specs.WireFault.{wire_code, IsFirstWireFault}
-use Rattle.context_model.specs.ContextFault.{IsFirstContextFault}
+use Rattle.context_model.specs.ContextFault.{IsContextOf, IsFirstContextFault}
 use Rattle.wire_bytes.specs.declared.reading.WireCode.{WireCode}
 use Rattle.wire_bytes.specs.declared.reading.WireCode.TheVariants.{CutLength, AtomTooLong, LongForm, CutBody}
 use Rattle.wire_bytes.specs.declared.reading.WireFault.{WireFault}
@@ -40,11 +40,26 @@ IsFaultOf input Memory = Unit {0}
 
 -- The answer names the first fault of a context; want of memory claims nothing.
 abbrev pub IsContextFaultOf : List ℕ → ContextFault → Type 0
-IsContextFaultOf input (contexts.At offset code) = IsFirstContextFault input offset (byte_code_of code)
+IsContextFaultOf input (contexts.At offset code) =
+    IsFirstContextFault input offset (byte_code_of code)
 IsContextFaultOf input contexts.Memory = Unit {0}
+
+-- A list whose bytes these are is the answer, unless there was no memory.
+abbrev pub ReadsAny : List ℕ → Result (List Atom) WireFault → Type 0
+ReadsAny input answer =
+    (list : List Atom) → AreAtoms list → input ≡ bytes_of list
+    → MatchResult answer (λ made. made ≡ list) (λ fault. fault ≡ Memory)
+
+-- A context whose bytes these are is the answer, unless there was no memory.
+abbrev pub ReadsAnyContext : List ℕ → Result (List Atom) ContextFault → Type 0
+ReadsAnyContext input answer =
+    (list : List Atom) → IsContextOf list input
+    → MatchResult answer (λ made. made ≡ list) (λ fault. fault ≡ contexts.Memory)
 
 -- The input is the bytes of the list, or it goes on behind them with what can't be read.
 abbrev pub StopsAt : List ℕ → List Atom → Option (ℕ × WireCode) → Type 0
 StopsAt input list None = input ≡ bytes_of list
 StopsAt input list (Some fault) =
-    (fault.0 ≡ length (bytes_of list)) × ((rest : List ℕ) × (input ≡ bytes_of list ++ rest) × (0 < length rest) × (wire_code rest ≡ Some (code_of fault.1)))
+    (fault.0 ≡ length (bytes_of list))
+    × ((rest : List ℕ) × (input ≡ bytes_of list ++ rest) × (0 < length rest)
+    × (wire_code rest ≡ Some (code_of fault.1)))

@@ -1,9 +1,9 @@
 //! A context from its bytes, or their first fault.
 
-ghost use Rattle.std.specs.Prelude.{◌≡◌, List, ℕ, IfOk, IfErr, MatchResult};
+ghost use Rattle.std.specs.Prelude.{◌≡◌, List, ℕ, IfOk, IfErr};
 ghost use Rattle.context_model.specs.Framing.{bytes_of};
 ghost use Rattle.context_model.specs.ContextFault.{IsContextOf, HasOneContext};
-ghost use Rattle.wire_bytes.specs.Codes.{IsContextFaultOf};
+ghost use Rattle.wire_bytes.specs.Codes.{IsContextFaultOf, ReadsAnyContext};
 
 use crate::reading::{FrontList, WireCode, read_front};
 use crate::writing::offset;
@@ -107,12 +107,12 @@ impl From<Memory> for ContextFault {
     }
 }
 
-/// The context whose bytes these are. The refusal is the first fault: the longest front that is the bytes of a context ends
-/// at its offset.
-pub fn read_context(alloc: Global, bytes: &[u8]) -> Result<Context, ContextFault>
-    ensures found { IfOk result (λ context. IsContextOf context bytes.now) }
-    ensures fault { IfErr result (IsContextFaultOf bytes.now) }
-    ensures only { (list : List (List ℕ)) → IsContextOf list bytes.now → MatchResult result (λ made. made ≡ list) (λ fault. fault ≡ ContextFault.Memory) }
+/// The context whose bytes these are, which become its buffer and aren't copied. The refusal is the first fault: the
+/// longest front that is the bytes of a context ends at its offset.
+pub fn read_context_owned(alloc: Global, bytes: Vec<u8>) -> Result<Context, ContextFault>
+    ensures found { IfOk result (λ context. IsContextOf context bytes.items) }
+    ensures fault { IfErr result (IsContextFaultOf bytes.items) }
+    ensures only { ReadsAnyContext bytes.items result }
 {
     let FrontList { list, fault } = read_front(alloc, bytes)?;
     let context = match Context::check(list) {
@@ -131,6 +131,16 @@ pub fn read_context(alloc: Global, bytes: &[u8]) -> Result<Context, ContextFault
             code: ByteCode::from(wire),
         }),
     }
+}
+
+/// The context whose bytes these are, as [`read_context_owned`] reads it from a copy of them.
+pub fn read_context(alloc: Global, bytes: &[u8]) -> Result<Context, ContextFault>
+    ensures found { IfOk result (λ context. IsContextOf context bytes.now) }
+    ensures fault { IfErr result (IsContextFaultOf bytes.now) }
+    ensures only { ReadsAnyContext bytes.now result }
+{
+    let bytes = Vec::from_slice(alloc, bytes).map_err(|_| ContextFault::Memory)?;
+    read_context_owned(alloc, bytes)
 }
 
 /// Bytes are those of at most one context, have at most one first fault, and never both.

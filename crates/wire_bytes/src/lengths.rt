@@ -1,13 +1,12 @@
 //! Lengths in base 128.
 
-ghost use Rattle.std.specs.Prelude.{◌≡◌, ◌+◌, ◌<◌, ◌≤◌, ◌++◌, length, Some, OnOk, OnErr, IfOk, IfErr};
+ghost use Rattle.std.specs.Prelude.{◌≡◌, ◌≤◌, ◌++◌, length, Some, IfOk, IfErr};
 ghost use Rattle.context_model.specs.Framing.{length_code};
 ghost use Rattle.context_model.specs.WireFault.{wire_code};
 ghost use Rattle.wire_bytes.specs.Codes.{code_of};
 
-use crate::LENGTH_MAX;
 use crate::reading::WireCode;
-use outside::Memory;
+use context_model::LENGTH_MAX;
 
 /// How many bytes a length has.
 #[tactic(auto, unfolding(context_model::specs::Framing::length_code))]
@@ -21,28 +20,6 @@ pub(crate) fn length_len(len: usize) -> usize
         128..16_384 => 2,
         _ => 3,
     }
-}
-
-/// Appends a length. Want of memory leaves the bytes as they were.
-#[tactic(auto, unfolding(context_model::specs::Framing::length_code))]
-pub(crate) fn put_length(bytes: &mut Vec<u8>, len: usize) -> Result<(), Memory>
-    requires { len ≤ LENGTH_MAX }
-    ensures ok { OnOk result (bytes.new.items ≡ bytes.old.items ++ length_code len) }
-    ensures err { OnErr result (bytes.new.items ≡ bytes.old.items) }
-{
-    let low = (len % 128) as u8;
-    if len < 128 {
-        bytes.extend_from_slice(&[low])?;
-    } else if len < 16_384 {
-        bytes.extend_from_slice(&[low + 128, (len / 128) as u8])?;
-    } else {
-        bytes.extend_from_slice(&[
-            low + 128,
-            (len / 128 % 128) as u8 + 128,
-            (len / 16_384) as u8,
-        ])?;
-    }
-    Ok(())
 }
 
 /// The length at the front and the bytes behind it, or what is wrong with the length.

@@ -8,9 +8,7 @@ mod reading;
 mod tests;
 mod writing;
 
-pub use contexts::{ByteCode, ContextFault, read_context, reads_one_context};
-pub use reading::{WireCode, WireFault, read, reads_one_way};
+pub use context_model::LENGTH_MAX;
+pub use contexts::{ByteCode, ContextFault, read_context, read_context_owned, reads_one_context};
+pub use reading::{WireCode, WireFault, read, read_owned, reads_one_way};
 pub use writing::{frame_len, offset, size, write};
-
-/// The most bytes of an atom that the framing has a length for.
-pub const LENGTH_MAX: usize = 65_535;

@@ -1,7 +1,8 @@
 //! That lists are written and read again, at the limits of a length's bytes; which bytes are those of a context.
 
 use crate::{
-    ByteCode, ContextFault, LENGTH_MAX, frame_len, offset, read, read_context, size, write,
+    ByteCode, ContextFault, LENGTH_MAX, frame_len, offset, read, read_context, read_context_owned,
+    read_owned, size, write,
 };
 use atom_list::AtomList;
 use std::test::Fail;
@@ -35,6 +36,23 @@ fn lists_at_the_limits(rt: HostRuntime) -> Result<(), Fail> {
         assert_eq!(rt; again.len(), 2, "{len}");
         assert!(rt; again.get(0).is_some_and(|atom| atom.len() == len), "{len}");
     }
+    Ok(())
+}
+
+#[test]
+fn many_markers(rt: HostRuntime) -> Result<(), Fail> {
+    let alloc = rt.alloc();
+    let bytes = vec![in alloc; 0u8; 65_536]?;
+    let Ok(mut list) = read_owned(alloc, bytes) else {
+        panic!(&rt; "they are the bytes of a list");
+    };
+    assert_eq!(rt; list.len(), 65_536);
+    assert_eq!(rt; size(&list), 65_536);
+    assert_eq!(rt; write(alloc, &list)?.len(), 65_536);
+    assert!(rt; 2 < list.len());
+    list.cut_to_marker(2);
+    assert_eq!(rt; size(&list), 3);
+    assert_eq!(rt; write(alloc, &list)?.as_slice(), b"\0\0\0".as_slice());
     Ok(())
 }
 

@@ -1,11 +1,11 @@
 //! The bytes of a list, and how many they are.
 
-ghost use Rattle.std.specs.Prelude.{◌≡◌, ◌+◌, ◌≤◌, ◌++◌, length, take, OnOk, OnErr, IfOk};
+ghost use Rattle.std.specs.Prelude.{◌≡◌, ◌+◌, ◌≤◌, length, take, IfOk};
 ghost use Rattle.context_model.specs.Framing.{frame, bytes_of, size_of};
 
-use crate::LENGTH_MAX;
-use crate::lengths::{length_len, put_length};
-use atom_list::AtomList;
+use crate::lengths::length_len;
+use atom_list::{AtomList, Builder};
+use context_model::LENGTH_MAX;
 use outside::Memory;
 use std::alloc::Global;
 
@@ -23,6 +23,7 @@ pub fn offset(list: &AtomList, at: usize) -> u128
     requires { at ≤ length list.now }
     ensures { result ≡ size_of (take at list.now) }
 {
+    // It says that no atom is longer than the limit.
     let _count = list.len();
     let mut total: u128 = 0;
     for i in 0..at {
@@ -31,31 +32,25 @@ pub fn offset(list: &AtomList, at: usize) -> u128
     total
 }
 
-/// How many bytes a list has. It takes no memory.
+/// How many bytes a list has. It takes no memory, and no look at the atoms where nothing was cut from the list.
 pub fn size(list: &AtomList) -> u128
     ensures { result ≡ size_of list.now }
 {
-    offset(list, list.len())
-}
-
-/// Appends an atom behind its length. Want of memory may leave a part of it.
-fn put_frame(bytes: &mut Vec<u8>, atom: &[u8]) -> Result<(), Memory>
-    requires { length atom.now ≤ LENGTH_MAX }
-    ensures { OnOk result (bytes.new.items ≡ bytes.old.items ++ frame atom.now) }
-{
-    put_length(bytes, atom.len())?;
-    bytes.extend_from_slice(atom)?;
-    Ok(())
+    match list.framed() {
+        Some(bytes) => bytes.len() as u128,
+        None => offset(list, list.len()),
+    }
 }
 
 /// The bytes of a list.
 pub fn write(alloc: Global, list: &AtomList) -> Result<Vec<u8>, Memory>
     ensures { IfOk result (λ bytes. bytes.items ≡ bytes_of list.now) }
 {
-    let room = usize::try_from(size(list)).map_err(|_| Memory)?;
-    let mut bytes = Vec::with_capacity(alloc, room)?;
-    for i in 0..list.len() {
-        put_frame(&mut bytes, list.get(i).unwrap())?;
+    if let Some(bytes) = list.framed() {
+        return Ok(Vec::from_slice(alloc, bytes)?);
     }
-    Ok(bytes)
+    let room = list.room().ok_or(Memory)?;
+    let mut built = Builder::with_room(alloc, room, list.len())?;
+    built.push_rest(list, 0);
+    Ok(built.into_bytes())
 }

@@ -1,6 +1,5 @@
-use Rattle.std.proofs.Common.{◌≡◌, ◌+◌, ◌<◌, ◌≤◌, ◌++◌, length, List, ℕ, Some, ◌∙◌, ap, arith}
+use Rattle.std.proofs.Common.{arith}
 use Rattle.std.proofs.lemmas.Bool.Decides.{nat_tests}
-use Rattle.context_model.specs.WireFault.{wire_code}
 use Rattle.context_model.proofs.Frames.{wire_code-length}
 use Rattle.wire_bytes.proofs.reading.front.Goals as goal
 

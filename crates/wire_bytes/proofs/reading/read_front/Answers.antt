@@ -1,17 +1,18 @@
-use Rattle.std.proofs.Common.{◌≡◌, ℕ, ◌-◌, ◌<◌, ◌≤◌, Bool, true, false, ◌==◌, [], List, ◌++◌, length, sym, ◌∙◌, ap, arith}
-use Rattle.std.proofs.lemmas.List.{append-nil, nil_from_length}
-use Rattle.std.proofs.lemmas.Bool.Decides.{nat_tests}
-use Rattle.context_model.specs.Framing.{bytes_of}
-use Rattle.context_model.specs.WireFault.{IsFirstWireFault}
-use Rattle.context_model.proofs.Frames.{first_fault, no_fault, bytes_of_cancel, front_shorter}
-use Rattle.wire_bytes.specs.Codes.{code_of}
+use Rattle.std.proofs.Common.{◌≡◌, ◌+◌, ◌≤◌, length, take, subst}
+use Rattle.context_model.specs.Framing.{length_code}
+use Rattle.wire_bytes.proofs.Stops.{frame_shortens, frame_read}
 use Rattle.wire_bytes.proofs.reading.read_front.Goals as goal
 
-some_left : (n : ℕ) (none : Bool) → none ≡ (n == 0) → none ≡ false → 0 < n
-some_left n none is not = grind (arith, nat_tests)
+pub loop-scan-smaller : goal.loop-scan-smaller
+loop-scan-smaller c =
+    let seen = c.rest-in-loop-scan.ensures in
+    frame_shortens c.loop-scan.scan.rest c.note.new.self.rest c.in-Ok.skip c.in-Ok.len
+    (subst (λ v. take c.in-Ok.skip v ≡ length_code c.in-Ok.len) seen c.in-Ok.ensures.code) (subst (λ v. c.in-Ok.skip + c.in-Ok.len ≤ length v) seen c.in-Ok.ensures.within)
+    c.in_ok-note-in-Ok.ensures.rest
 
-none_left : (n : ℕ) (none : Bool) → none ≡ (n == 0) → none ≡ true → n ≡ 0
-none_left n none is holds = grind (arith, nat_tests)
-
-pub loop-rest-smaller : goal.loop-rest-smaller
-loop-rest-smaller c = front_shorter c.loop-rest.rest.now c.in-Ok.atom.now c.in-Ok.behind.now c.in-Ok.ensures.found
+pub loop-scan-preserved : goal.loop-scan-preserved
+loop-scan-preserved c =
+    let seen = c.rest-in-loop-scan.ensures in
+    frame_read c.args.bytes.items c.loop-scan.scan.atoms c.note.new.self.atoms c.loop-scan.scan.rest c.note.new.self.rest c.in-Ok.skip c.in-Ok.len c.loop-scan.invariant
+    (subst (λ v. take c.in-Ok.skip v ≡ length_code c.in-Ok.len) seen c.in-Ok.ensures.code) (subst (λ v. c.in-Ok.skip + c.in-Ok.len ≤ length v) seen c.in-Ok.ensures.within)
+    c.in_ok-note-in-Ok.ensures.atoms c.in_ok-note-in-Ok.ensures.rest

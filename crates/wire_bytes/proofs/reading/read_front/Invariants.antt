@@ -1,13 +1,9 @@
-use Rattle.std.proofs.Common.{◌≡◌, ℕ, ◌++◌, length}
-use Rattle.context_model.specs.Atoms.{AreAtoms}
+use Rattle.std.proofs.Common.{◌≡◌, ◌++◌, length}
 use Rattle.context_model.specs.Framing.{bytes_of}
 use Rattle.wire_bytes.proofs.reading.read_front.Given as goal
 
-abbrev pub invariant-loop-rest : goal.invariant-loop-rest
-invariant-loop-rest l = record {
-  atoms : AreAtoms l.list;
-  split : l.bytes ≡ bytes_of l.list ++ l.rest;
-}
+abbrev pub invariant-loop-scan : goal.invariant-loop-scan
+invariant-loop-scan l = l.fn.bytes.items ≡ bytes_of l.scan.atoms ++ l.scan.rest
 
-abbrev pub decreases-loop-rest : goal.decreases-loop-rest
-decreases-loop-rest l = length l.rest
+abbrev pub decreases-loop-scan : goal.decreases-loop-scan
+decreases-loop-scan l = length l.scan.rest

@@ -1,4 +1,4 @@
-use Rattle.std.proofs.Common.{◌≡◌, ℕ, ◌+◌, ◌*◌, ◌<◌, ◌≤◌, List, length, take, slice_get, option_copied, Some, sym, ◌∙◌, ap, arith}
+use Rattle.std.proofs.Common.{◌≡◌, ◌+◌, ◌≤◌, length, take, slice_get, option_copied, Some, sym, ◌∙◌, ap, arith}
 use Rattle.context_model.specs.Framing.{frame, size_of}
 use Rattle.context_model.proofs.FramingLaws.{size_of-next}
 use Rattle.wire_bytes.proofs.writing.offset.Goals as goal

@@ -1,4 +1,4 @@
-use Rattle.std.proofs.Common.{◌≡◌, ℕ, ◌*◌, ◌≤◌, take}
+use Rattle.std.proofs.Common.{◌≡◌, ◌*◌, ◌≤◌, take}
 use Rattle.context_model.specs.Atoms.{AreAtoms}
 use Rattle.context_model.specs.Framing.{size_of}
 use Rattle.wire_bytes.proofs.writing.offset.Given as goal
