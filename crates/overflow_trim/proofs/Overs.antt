@@ -1,5 +1,5 @@
 -- Lists that don't fit.
-use Rattle.std.proofs.Common.{◌≡◌, ◌⊎◌, inl, inr, ℕ, ◌<◌, ◌≤◌, List, length, arith}
+use Rattle.std.proofs.Common.{◌≡◌, inl, inr, ℕ, ◌<◌, List, length, arith}
 use Rattle.std.proofs.lemmas.Bool.{cases_lt}
 use Rattle.context_model.specs.Atoms.{Atom}
 use Rattle.context_model.specs.Framing.{size_of}

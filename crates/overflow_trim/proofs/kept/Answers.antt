@@ -1,6 +1,7 @@
-use Rattle.std.proofs.Common.{◌≡◌, ℕ, ◌+◌, ◌-◌, ◌*◌, ◌<◌, ◌≤◌, List, length, take, slice_get, nat_lt, if◌then◌else◌, option_copied, Some, sym, ◌∙◌, ap, subst, arith}
+use Rattle.std.proofs.Common.{◌≡◌, ℕ, ◌+◌, ◌-◌, ◌<◌, ◌≤◌, List, length, take, slice_get, nat_lt, if◌then◌else◌, option_copied, Some, sym, ◌∙◌, ap, subst, arith}
 use Rattle.std.proofs.lemmas.List.{take_all}
 use Rattle.std.proofs.lemmas.Bool.Decides.{nat_tests}
+use Rattle.outside.specs.declared.TheConstants.{ATOM_MAX}
 use Rattle.context_model.specs.Framing.{frame, size_of}
 use Rattle.context_model.specs.Trimmed.{kept_of}
 use Rattle.context_model.proofs.FramingLaws.{size_of-next}
@@ -40,7 +41,7 @@ loop-at-preserved c =
     let atom = c.unwrap.result.now in
     let there : slice_get list c.loop-at.at ≡ Some atom = sym c.get.ensures.value ∙ ap option_copied c.unwrap.ensures in
     let more : size_of (take (c.loop-at.at + 1) list) ≡ size_of (take c.loop-at.at list) + length (frame atom) = size_of-next list c.loop-at.at atom there in
-    let short : length atom ≤ 65535 = rw c.unwrap.ensures at c.get.ensures.short in
+    let short : length atom ≤ ATOM_MAX = rw c.unwrap.ensures at c.get.ensures.short in
     record {
       sum = omega arith;
       fits = omega arith;

@@ -1,4 +1,4 @@
-use Rattle.std.proofs.Common.{◌≡◌, ◌≤◌, length, sym, ◌∙◌, ap, arith}
+use Rattle.std.proofs.Common.{◌≤◌, length, sym, ◌∙◌, ap, arith}
 use Rattle.context_model.specs.Trimmed.{cut_at, kept_of}
 use Rattle.context_model.proofs.TrimmedLaws.{kept_of-all, trimmed-fits, trimmed-cut}
 use Rattle.overflow_trim.proofs.Overs.{over}

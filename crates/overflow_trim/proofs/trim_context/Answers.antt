@@ -1,4 +1,4 @@
-use Rattle.std.proofs.Common.{◌≡◌, ◌<◌, ◌≤◌, length, sym, ◌∙◌, ap, subst, arith}
+use Rattle.std.proofs.Common.{◌≤◌, length, sym, ◌∙◌, ap, subst, arith}
 use Rattle.context_model.specs.Trimmed.{cut_at, kept_of}
 use Rattle.context_model.specs.WellFormed.{IsWellFormed}
 use Rattle.context_model.proofs.Following.{IsWellFormed-cut}
