@@ -1,0 +1,17 @@
+-- What a forwarding service sends on.
+use Rattle.std.specs.Prelude.{◌≡◌, ℕ, List, [], ◌∷◌}
+use Rattle.context_model.specs.Atoms.{Atom}
+use Rattle.context_model.specs.ContextFault.{IsContextOf}
+use Rattle.context_model.specs.Framing.{bytes_of}
+use Rattle.context_model.specs.Merged.{IsMerged}
+use Rattle.context_model.specs.Trimmed.{trimmed}
+
+-- Both are the bytes of contexts, and what is sent are those of their merge, trimmed to the budget.
+pub record Forwards (first second : List ℕ) (budget : ℕ) (sent : List ℕ) : Type 0 where
+  pub one : List Atom
+  pub other : List Atom
+  pub merged : List Atom
+  pub is_first : IsContextOf one first
+  pub is_second : IsContextOf other second
+  pub is_merged : IsMerged (one ∷ other ∷ []) merged
+  pub is_sent : sent ≡ bytes_of (trimmed merged budget)
