@@ -1,0 +1,17 @@
+//! Texts that are read line by line: their lines with numbers, the first bad one of them, and bytes as
+//! hexadecimal digits.
+#![tactic(auto)]
+
+mod hex_lines;
+mod lines;
+#[cfg(test)]
+mod tests;
+
+pub use hex_lines::{HexCode, HexFault, hex_bytes, hex_line, push_hex};
+pub use lines::{Line, Lines, lines_of};
+
+/// The most bytes of an input.
+pub const INPUT_MAX: usize = 16_777_216;
+
+/// The most bytes of a text of hexadecimal digits.
+pub const DIGITS_MAX: usize = 2_097_152;
