@@ -1,13 +1,14 @@
 -- Name paths: where a field stands that is reached through bags, and how a path tells its names.
-use Rattle.std.proofs.Common.{◌≡◌, inl, inr, ℕ, ◌+◌, ◌<◌, ◌≤◌, zero, suc, Bool, true, false, ◌||◌, ◌&&◌, ◌==◌, List, [], ◌∷◌, ◌++◌, length, map, Option, Some, None, refl, sym, ◌∙◌, ap, subst, arith}
+use Rattle.std.proofs.Common.{◌≡◌, inl, inr, ℕ, ◌+◌, ◌<◌, ◌≤◌, zero, suc, Bool, true, false, ◌||◌, ◌&&◌, ◌==◌, List, [], ◌∷◌, ◌++◌, length, map, Some, refl, sym, ◌∙◌, ap, subst, arith}
 use Rattle.std.specs.Prelude.{◌≢◌}
 use Rattle.std.specs.Char.{is_ascii_digit}
 use Rattle.std.specs.List.{AllByRecursion, slice_get, list_any, list_all}
 use Rattle.std.proofs.lemmas.Bool.{eqb-true}
 use Rattle.bag_model.specs.Shapes.{Shape, Nodes, Field, fields, Taint, Scalar, Set, Counter, Map, Bag, no_node, node}
 use Rattle.std.proofs.lemmas.List.{length-append, length-map}
-use Rattle.bag_model.specs.Slots.{slots_of, slots_in, within, slot_count, starts, dotted, HasNoDot, IsSplit, IsWithin, IsReached, FindsField}
-use Rattle.bag_model.specs.Tables.{is_letter, is_word, is_name, IsShape, AreFields}
+use Rattle.bag_model.specs.Slots.{slots_of, slots_in, within, slot_count, starts, IsWithin, IsReached}
+use Rattle.bag_model.specs.Tables.{IsShape, AreFields}
+use Rattle.bag_model.specs.Words.{is_letter, is_word, is_name, HasNoDot}
 
 -- ---- the field at a place
 
@@ -46,7 +47,7 @@ is_field (node name number own nodes) zero f h at =
     subst (λ (g : Field). (is_name g.name ≡ true) × IsShape g.shape) same (h.0, h.2)
 is_field (node name number own nodes) (suc i) f h at = is_field nodes i f h.4 at
 
-all_there : (P : Field → Type 0) (fs : List Field) (i : ℕ) (f : Field) → AllByRecursion P fs → slice_get fs i ≡ Some f → P f
+pub all_there : (P : Field → Type 0) (fs : List Field) (i : ℕ) (f : Field) → AllByRecursion P fs → slice_get fs i ≡ Some f → P f
 all_there P [] i f h at = absurd (cc at)
 all_there P (g ∷ gs) zero f h at = subst P (cc at) h.0
 all_there P (g ∷ gs) (suc i) f h at = all_there P gs i f h.1 at
@@ -76,7 +77,7 @@ or_left : (a b : Bool) → (a || b) ≡ false → a ≡ false
 or_left false b p = refl
 or_left true b p = p
 
-or_right : (a b : Bool) → (a || b) ≡ false → b ≡ false
+pub or_right : (a b : Bool) → (a || b) ≡ false → b ≡ false
 or_right false b p = p
 or_right true b p = absurd (cc p)
 
@@ -144,75 +145,6 @@ one_split (x ∷ a) (y ∷ c) r s h k is =
     let both = one_split a c r s (or_right (is_dot x) (list_any is_dot a) h) (or_right (is_dot y) (list_any is_dot c) k) rest in
     ((λ i. first i ∷ both.0 i), both.1)
 
--- ---- what a path finds
-
--- The names behind the first are the rest of a path.
-abbrev pub AreRest : List (List ℕ) → Option (List ℕ) → Type 0
-AreRest [] None = Unit {0}
-AreRest (m ∷ ms) (Some rest) = dotted (m ∷ ms) ≡ rest
-AreRest [] (Some rest) = ⊥
-AreRest (m ∷ ms) None = ⊥
-
-first_name : (path own : List ℕ) (names : List (List ℕ)) (name : List ℕ) (rest : Option (List ℕ)) → HasNoDot own → HasNoDot name → dotted (own ∷ names) ≡ path → IsSplit path name rest → (own ≡ name) × AreRest names rest
-first_name path own [] name None h k is split = (is ∙ split, tt)
-first_name path own [] name (Some rest) h k is split = absurd (dot_there own name rest h (is ∙ split))
-first_name path own (m ∷ ms) name None h k is split = absurd (dot_there name own (dotted (m ∷ ms)) k (sym (is ∙ split)))
-first_name path own (m ∷ ms) name (Some rest) h k is split = one_split own name (dotted (m ∷ ms)) rest h k (is ∙ split)
-
--- Where a field is reached by a path, it is by the field with the first name.
-module _ (nodes : Nodes) (h : AreFields nodes) (path name : List ℕ) (rest : Option (List ℕ)) (no_dot : HasNoDot name) (split : IsSplit path name rest) where
-  pub finds_none : ((place : ℕ) (f : Field) → slice_get (fields nodes) place ≡ Some f → f.name ≢ name) → FindsField nodes path None
-  finds_none none own names before shape reached is =
-      let r = reached_from nodes own names before shape reached in
-      let clear : HasNoDot own = subst HasNoDot r.named (name_no_dot r.field.name (is_field nodes r.place r.field h r.at).0) in
-      none r.place r.field r.at (r.named ∙ (first_name path own names name rest clear no_dot is split).0)
-
-  module _ (i : ℕ) (f : Field) (at : slice_get (fields nodes) i ≡ Some f) (named : f.name ≡ name) where
-    -- Whatever has the path is in that field.
-    pub only_there : (own : List ℕ) (names : List (List ℕ)) (before : ℕ) (shape : Shape) → IsReached nodes own names before shape → dotted (own ∷ names) ≡ path → AreRest names rest × ((b : ℕ) × IsWithin f.shape names b shape)
-    only_there own names before shape reached is =
-        let r = reached_from nodes own names before shape reached in
-        let clear : HasNoDot own = subst HasNoDot r.named (name_no_dot r.field.name (is_field nodes r.place r.field h r.at).0) in
-        let first = first_name path own names name rest clear no_dot is split in
-        let place : r.place ≡ i = one_place nodes r.place i r.field f h r.at at (r.named ∙ first.0 ∙ sym named) in
-        let also : slice_get (fields nodes) i ≡ Some r.field = subst (λ (n : ℕ). slice_get (fields nodes) n ≡ Some r.field) place r.at in
-        let same : r.field ≡ f = (let e : Some r.field ≡ Some f = sym also ∙ at in cc e) in
-        (first.1, (r.inside, subst (λ (g : Field). IsWithin g.shape names r.inside shape) same r.within))
-
-    -- Nothing else than that field has the path.
-    pub finds_only : ((names : List (List ℕ)) (b : ℕ) (shape : Shape) → AreRest names rest → IsWithin f.shape names b shape → ⊥) → FindsField nodes path None
-    finds_only nothing own names before shape reached is = let r = only_there own names before shape reached is in nothing names r.1.0 shape r.0 r.1.1
-
-pub finds_own : (nodes : Nodes) (i : ℕ) (f : Field) (path name : List ℕ) → slice_get (fields nodes) i ≡ Some f → f.name ≡ name → path ≡ name → FindsField nodes path (Some (starts (fields nodes) i, f.shape))
-finds_own nodes i f path name at named is =
-    (f.name, [], named ∙ sym is, subst (λ (n : ℕ). IsReached nodes f.name [] n f.shape) (omega arith) (reached_at nodes i f [] 0 f.shape at (refl, refl)))
-
-pub finds_inside : (nodes inner : Nodes) (i : ℕ) (f : Field) (path name rest : List ℕ) (b : ℕ) (shape : Shape) → slice_get (fields nodes) i ≡ Some f → f.name ≡ name → f.shape ≡ Bag inner → path ≡ name ++ 46 ∷ rest
-    → FindsField inner rest (Some (b, shape)) → FindsField nodes path (Some (starts (fields nodes) i + b, shape))
-finds_inside nodes inner i f path name rest b shape at named bag is found =
-    let m = found.0 in
-    let ms = found.1 in (
-      f.name,
-      m ∷ ms,
-      ap (λ l. l ++ 46 ∷ dotted (m ∷ ms)) named ∙ ap (λ l. name ++ 46 ∷ l) found.2 ∙ sym is,
-      reached_at nodes i f (m ∷ ms) b shape at (subst (λ (s : Shape). IsWithin s (m ∷ ms) b shape) (sym bag) found.3),
-    )
-
--- A field that is no bag has nothing inside.
-pub nothing_inside : (own : Shape) → ((nodes : Nodes) → own ≢ Bag nodes) → (rest : List ℕ) (names : List (List ℕ)) (b : ℕ) (shape : Shape) → AreRest names (Some rest) → IsWithin own names b shape → ⊥
-nothing_inside own h rest [] b shape are within = are
-nothing_inside Taint h rest (m ∷ ms) b shape are within = within
-nothing_inside (Scalar kind) h rest (m ∷ ms) b shape are within = within
-nothing_inside (Set kind) h rest (m ∷ ms) b shape are within = within
-nothing_inside Counter h rest (m ∷ ms) b shape are within = within
-nothing_inside (Map key value) h rest (m ∷ ms) b shape are within = within
-nothing_inside (Bag nodes) h rest (m ∷ ms) b shape are within = h nodes refl
-
--- A bag in which nothing has the rest of a path has nothing inside for it.
-pub nothing_in_bag : (inner : Nodes) (own : Shape) → own ≡ Bag inner → (rest : List ℕ) → FindsField inner rest None → (names : List (List ℕ)) (b : ℕ) (shape : Shape) → AreRest names (Some rest) → IsWithin own names b shape → ⊥
-nothing_in_bag inner own bag rest none [] b shape are within = are
-nothing_in_bag inner own bag rest none (m ∷ ms) b shape are within = none m ms b shape (subst (λ (s : Shape). IsWithin s (m ∷ ms) b shape) bag within) are
-
 -- What is reached has its slots among those of the bag.
 mutual
   pub reached_bound : (nodes : Nodes) (name : List ℕ) (names : List (List ℕ)) (before : ℕ) (shape : Shape) → IsReached nodes name names before shape → before + slot_count shape ≤ length (slots_of nodes)
@@ -222,7 +154,7 @@ mutual
   reached_bound (node field number own nodes) name names before shape (inr (behind, is, h)) =
       omega (arith, is, reached_bound nodes name names behind shape h, length-append (map (within field number) (slots_in own)) (slots_of nodes), length-map (slots_in own) (within field number))
 
-  within_bound : (own : Shape) (names : List (List ℕ)) (before : ℕ) (shape : Shape) → IsWithin own names before shape → before + slot_count shape ≤ slot_count own
+  pub within_bound : (own : Shape) (names : List (List ℕ)) (before : ℕ) (shape : Shape) → IsWithin own names before shape → before + slot_count shape ≤ slot_count own
   within_bound own [] before shape h = omega (arith, h.0, ap slot_count h.1)
   within_bound (Bag nodes) (name ∷ names) before shape h = reached_bound nodes name names before shape h
   within_bound Taint (name ∷ names) before shape h = absurd h
@@ -230,15 +162,3 @@ mutual
   within_bound (Set kind) (name ∷ names) before shape h = absurd h
   within_bound Counter (name ∷ names) before shape h = absurd h
   within_bound (Map key value) (name ∷ names) before shape h = absurd h
-
--- Without a rest it is that field.
-pub own_alone : (own : Shape) (names : List (List ℕ)) (b : ℕ) (shape : Shape) → AreRest names None → IsWithin own names b shape → shape ≡ own
-own_alone own [] b shape are within = within.1
-own_alone own (m ∷ ms) b shape are within = absurd are
-
--- With a rest it is what the bag has alone.
-pub inside_alone : (inner : Nodes) (own : Shape) → own ≡ Bag inner → (rest : List ℕ) (found : Shape)
-    → ((name : List ℕ) (names : List (List ℕ)) (before : ℕ) (shape : Shape) → IsReached inner name names before shape → dotted (name ∷ names) ≡ rest → shape ≡ found)
-    → (names : List (List ℕ)) (b : ℕ) (shape : Shape) → AreRest names (Some rest) → IsWithin own names b shape → shape ≡ found
-inside_alone inner own bag rest found only [] b shape are within = absurd are
-inside_alone inner own bag rest found only (m ∷ ms) b shape are within = only m ms b shape (subst (λ (s : Shape). IsWithin s (m ∷ ms) b shape) bag within) are

@@ -6,10 +6,10 @@ use Rattle.std.proofs.lemmas.Option.{slice_get-map}
 use Rattle.std.proofs.lemmas.List.{length-append, length-map}
 use Rattle.bag_model.specs.Shapes.{Shape, Nodes, Field, fields, nodes_from, no_node, node, Taint, Scalar, Set, Counter, Map, Bag}
 use Rattle.bag_model.specs.Tables.{nodes_under, node_count}
-use Rattle.bag_model.specs.Slots.{Slot, slots_of, slots_in, slot_count, starts, within}
+use Rattle.bag_model.specs.Slots.{SlotAt, slots_of, slots_in, slot_count, starts, within}
 
 -- The slots of a list of fields.
-abbrev pub slots_list : List Field → List Slot
+abbrev pub slots_list : List Field → List SlotAt
 slots_list [] = []
 slots_list (f ∷ fs) = map (within f.name f.number) (slots_in f.shape) ++ slots_list fs
 

@@ -7,7 +7,7 @@ use Rattle.std.proofs.lemmas.Bool.{cases_lt}
 use Rattle.std.proofs.lemmas.List.{length-map}
 use Rattle.std.proofs.lemmas.Option.{slice_get-map, slice_get_within}
 use Rattle.bag_model.specs.Shapes.{Shape, Nodes, Taint, Scalar, Set, Counter, Map, Bag, no_node, node}
-use Rattle.bag_model.specs.Slots.{Slot, slots_of, slots_in, slot_count, within, IsWithin, IsReached, IsOnly, FindsField, FindsSlot, dotted}
+use Rattle.bag_model.specs.Slots.{SlotAt, slots_of, slots_in, slot_count, within, IsWithin, IsReached, FindsField, FindsSlot, dotted}
 use Rattle.bag_model.proofs.SlotLaws.{get_front, get_back}
 
 -- The shape is no bag.
@@ -15,34 +15,34 @@ abbrev pub IsNoBag : Shape → Type 0
 IsNoBag shape = (nodes : Nodes) → shape ≢ Bag nodes
 
 -- A slot, seen from a field: its names lead to its shape.
-pub record LeadsTo (own : Shape) (place : ℕ) (slot : Slot) : Type 0 where
+pub record LeadsTo (own : Shape) (place : ℕ) (slot : SlotAt) : Type 0 where
   pub within : IsWithin own slot.names place slot.shape
   pub no_bag : IsNoBag slot.shape
 
 -- The same, seen from a bag.
-pub record LeadsFrom (nodes : Nodes) (place : ℕ) (slot : Slot) : Type 0 where
+pub record LeadsFrom (nodes : Nodes) (place : ℕ) (slot : SlotAt) : Type 0 where
   pub name : List ℕ
   pub names : List (List ℕ)
   pub is : slot.names ≡ name ∷ names
   pub reached : IsReached nodes name names place slot.shape
   pub no_bag : IsNoBag slot.shape
 
-one_slot : (own : Shape) (place : ℕ) (slot : Slot) → IsNoBag own → slice_get (record { names = []; numbers = []; shape = own } ∷ []) place ≡ Some slot → LeadsTo own place slot
+one_slot : (own : Shape) (place : ℕ) (slot : SlotAt) → IsNoBag own → slice_get (record { names = []; numbers = []; shape = own } ∷ []) place ≡ Some slot → LeadsTo own place slot
 one_slot own zero slot no_bag at =
     let same : record { names = []; numbers = []; shape = own } ≡ slot = cc at in
     subst (LeadsTo own 0) same (record { within = (refl, refl); no_bag = no_bag })
 one_slot own (suc place) slot no_bag at = absurd (cc at)
 
-from_inside : (name : List ℕ) (number : ℕ) (o : Option Slot) (slot : Slot) → option_map (within name number) o ≡ Some slot → (inner : Slot) × (o ≡ Some inner) × (within name number inner ≡ slot)
+from_inside : (name : List ℕ) (number : ℕ) (o : Option SlotAt) (slot : SlotAt) → option_map (within name number) o ≡ Some slot → (inner : SlotAt) × (o ≡ Some inner) × (within name number inner ≡ slot)
 from_inside name number None slot e = absurd (cc e)
 from_inside name number (Some inner) slot e = (inner, refl, cc e)
 
-first_or_later : (name : List ℕ) (number : ℕ) (own : Shape) (nodes : Nodes) (place : ℕ) (slot : Slot) → slice_get (slots_of (node name number own nodes)) place ≡ Some slot
-    → ((inner : Slot) → slice_get (slots_in own) place ≡ Some inner → LeadsTo own place inner) → ((later : ℕ) → slice_get (slots_of nodes) later ≡ Some slot → LeadsFrom nodes later slot)
+first_or_later : (name : List ℕ) (number : ℕ) (own : Shape) (nodes : Nodes) (place : ℕ) (slot : SlotAt) → slice_get (slots_of (node name number own nodes)) place ≡ Some slot
+    → ((inner : SlotAt) → slice_get (slots_in own) place ≡ Some inner → LeadsTo own place inner) → ((later : ℕ) → slice_get (slots_of nodes) later ≡ Some slot → LeadsFrom nodes later slot)
     → LeadsFrom (node name number own nodes) place slot
 first_or_later name number own nodes place slot at inside behind = by (cases_lt place (slot_count own))
   where
-    front : List Slot
+    front : List SlotAt
     front = map (within name number) (slots_in own)
 
     long : length front ≡ slot_count own
@@ -58,12 +58,12 @@ first_or_later name number own nodes place slot at inside behind = by (cases_lt 
         record { name = r.name; names = r.names; is = r.is; reached = inr (place - slot_count own, omega (arith, more), r.reached); no_bag = r.no_bag }
 
 mutual
-  pub slot_leads : (nodes : Nodes) (place : ℕ) (slot : Slot) → slice_get (slots_of nodes) place ≡ Some slot → LeadsFrom nodes place slot
+  pub slot_leads : (nodes : Nodes) (place : ℕ) (slot : SlotAt) → slice_get (slots_of nodes) place ≡ Some slot → LeadsFrom nodes place slot
   slot_leads no_node place slot at = absurd (cc at)
   slot_leads (node name number own nodes) place slot at =
       first_or_later name number own nodes place slot at (λ inner found. inside_leads own place inner found) (λ later found. slot_leads nodes later slot found)
 
-  pub inside_leads : (own : Shape) (place : ℕ) (slot : Slot) → slice_get (slots_in own) place ≡ Some slot → LeadsTo own place slot
+  pub inside_leads : (own : Shape) (place : ℕ) (slot : SlotAt) → slice_get (slots_in own) place ≡ Some slot → LeadsTo own place slot
   inside_leads (Bag nodes) place slot at =
       let r = slot_leads nodes place slot at in
       record { within = subst (λ (names : List (List ℕ)). IsWithin (Bag nodes) names place slot.shape) (sym r.is) r.reached; no_bag = r.no_bag }
@@ -74,8 +74,8 @@ mutual
   inside_leads (Map key value) place slot at = one_slot (Map key value) place slot (λ nodes e. cc e) at
 
 -- A slot with these names.
-pub record HasSlot (slots : List Slot) (names : List (List ℕ)) (place : ℕ) : Type 0 where
-  pub slot : Slot
+pub record HasSlot (slots : List SlotAt) (names : List (List ℕ)) (place : ℕ) : Type 0 where
+  pub slot : SlotAt
   pub at : slice_get slots place ≡ Some slot
   pub named : slot.names ≡ names
 
@@ -128,9 +128,3 @@ pub finds_no_slot : (nodes : Nodes) (path : List ℕ) → FindsField nodes path 
 finds_no_slot nodes path none place slot at is =
     let r = slot_leads nodes place slot at in
     none r.name r.names place slot.shape r.reached (ap dotted (sym r.is) ∙ is)
-
--- Where a path finds a bag alone, no slot has it.
-pub bag_no_slot : (nodes : Nodes) (path : List ℕ) (before : ℕ) (own : Shape) (inner : Nodes) → own ≡ Bag inner → IsOnly nodes path (before, own) → FindsSlot nodes path None
-bag_no_slot nodes path before own inner bag only place slot at is =
-    let r = slot_leads nodes place slot at in
-    r.no_bag inner (only r.name r.names place slot.shape r.reached (ap dotted (sym r.is) ∙ is) ∙ bag)

@@ -1,22 +1,22 @@
 -- The slots of a table: the fields that are reached through bags and are no bags.
-use Rattle.std.specs.Prelude.{◌≡◌, ◌≢◌, ◌⊎◌, ℕ, zero, suc, ◌+◌, ◌==◌, false, List, [], ◌∷◌, ◌++◌, map, length, Option, Some, None}
-use Rattle.std.specs.List.{slice_get, list_any}
+use Rattle.std.specs.Prelude.{◌≡◌, ◌≢◌, ◌⊎◌, ℕ, zero, suc, ◌+◌, ◌<◌, ◌≤◌, List, [], ◌∷◌, ◌++◌, map, length, Option, Some, None}
+use Rattle.std.specs.List.{slice_get}
 use Rattle.std.specs.Option.{option_map}
 use Rattle.bag_model.specs.Shapes.{Shape, Nodes, Field, Taint, Scalar, Set, Counter, Map, Bag, no_node, node}
 
 -- The names and the numbers of the fields from the outermost bag on, and the shape of the last.
-pub record Slot : Type 0 where
+pub record SlotAt : Type 0 where
   pub names : List (List ℕ)
   pub numbers : List ℕ
   pub shape : Shape
 
 -- A slot of a field, seen from the bag that the field stands in.
-abbrev pub within : List ℕ → ℕ → Slot → Slot
+abbrev pub within : List ℕ → ℕ → SlotAt → SlotAt
 within name number slot = record { names = name ∷ slot.names; numbers = number ∷ slot.numbers; shape = slot.shape }
 
 abbrev mutual
   -- The slots of a field, seen from the field: those of a bag, and else the field itself.
-  pub slots_in : Shape → List Slot
+  pub slots_in : Shape → List SlotAt
   slots_in (Bag nodes) = slots_of nodes
   slots_in Taint = record { names = []; numbers = []; shape = Taint } ∷ []
   slots_in (Scalar kind) = record { names = []; numbers = []; shape = Scalar kind } ∷ []
@@ -25,7 +25,7 @@ abbrev mutual
   slots_in (Map key value) = record { names = []; numbers = []; shape = Map key value } ∷ []
 
   -- The slots of a bag, in the order of its fields.
-  pub slots_of : Nodes → List Slot
+  pub slots_of : Nodes → List SlotAt
   slots_of no_node = []
   slots_of (node name number shape nodes) = map (within name number) (slots_in shape) ++ slots_of nodes
 
@@ -45,23 +45,14 @@ dotted [] = []
 dotted (name ∷ []) = name
 dotted (name ∷ other ∷ names) = name ++ 46 ∷ dotted (other ∷ names)
 
--- No byte is a dot.
-abbrev pub HasNoDot : List ℕ → Type 0
-HasNoDot bytes = list_any (λ byte. byte == 46) bytes ≡ false
-
--- A path is a name alone, or a name, a dot and the rest.
-abbrev pub IsSplit : List ℕ → List ℕ → Option (List ℕ) → Type 0
-IsSplit path name None = path ≡ name
-IsSplit path name (Some rest) = path ≡ name ++ 46 ∷ rest
-
 -- The name path of a slot.
-abbrev pub name_path : Slot → List ℕ
+abbrev pub name_path : SlotAt → List ℕ
 name_path slot = dotted slot.names
 
 -- The slot with this name path, or none where no slot has it.
 abbrev pub FindsSlot : Nodes → List ℕ → Option ℕ → Type 0
-FindsSlot nodes path (Some place) = (slot : Slot) × (slice_get (slots_of nodes) place ≡ Some slot) × (name_path slot ≡ path)
-FindsSlot nodes path None = (place : ℕ) (slot : Slot) → slice_get (slots_of nodes) place ≡ Some slot → name_path slot ≢ path
+FindsSlot nodes path (Some place) = (slot : SlotAt) × (slice_get (slots_of nodes) place ≡ Some slot) × (name_path slot ≡ path)
+FindsSlot nodes path None = (place : ℕ) (slot : SlotAt) → slice_get (slots_of nodes) place ≡ Some slot → name_path slot ≢ path
 
 abbrev mutual
   -- The field with these names, seen from a field of the first shape, has the second shape; so many slots stand before it.
@@ -88,10 +79,6 @@ FindsField nodes path (Some found) = (name : List ℕ) × (names : List (List �
 FindsField nodes path None =
     (name : List ℕ) (names : List (List ℕ)) (before : ℕ) (shape : Shape) → IsReached nodes name names before shape → dotted (name ∷ names) ≢ path
 
--- All fields with this name path have the shape of the one that was found.
-abbrev pub IsOnly : Nodes → List ℕ → ℕ × Shape → Type 0
-IsOnly nodes path found = (name : List ℕ) (names : List (List ℕ)) (before : ℕ) (shape : Shape) → IsReached nodes name names before shape → dotted (name ∷ names) ≡ path → shape ≡ found.1
-
 -- The slots of a field: from the number before it on, and up to that and its own.
 abbrev pub range_of : ℕ × Shape → ℕ × ℕ
 range_of found = (found.0, found.0 + slot_count found.1)
@@ -99,3 +86,12 @@ range_of found = (found.0, found.0 + slot_count found.1)
 -- The slots of the field with this name path, or none where no field that is reached through bags has it.
 abbrev pub FindsRange : Nodes → List ℕ → Option (ℕ × ℕ) → Type 0
 FindsRange nodes path range = (found : Option (ℕ × Shape)) × FindsField nodes path found × (range ≡ option_map range_of found)
+
+-- A name path is this one, or begins with this one and a dot.
+abbrev pub IsUnder : List ℕ → List ℕ → Type 0
+IsUnder path other = (other ≡ path) ⊎ ((rest : List ℕ) × (other ≡ path ++ 46 ∷ rest))
+
+-- The number is in the range, if there is one.
+abbrev pub IsInRange : Option (ℕ × ℕ) → ℕ → Type 0
+IsInRange None place = ⊥
+IsInRange (Some range) place = (range.0 ≤ place) × (place < range.1)

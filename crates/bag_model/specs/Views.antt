@@ -8,6 +8,7 @@ pub data View : Type 0 where
   Nothing : View
   Only : List ℕ → View
 
+-- A service with the view knows the slot with this number.
 abbrev pub Knows : View → ℕ → Type 0
 Knows All slot = Unit {0}
 Knows Nothing slot = ⊥

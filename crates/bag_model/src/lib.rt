@@ -1,3 +1,10 @@
-// Definitions and laws of what a context means: scalars, their order and their spellings; and no code. The definitions
-// stand in `specs/`, and what is proved of them in `proofs/`. The crates above cite both.
+//! Definitions and laws of what a context means: scalars with their order and their spellings, the words of the definition
+//! language, shapes of fields and what makes a table of them, slots with their name paths, and views. They stand in
+//! `specs/`, and what is proved of them in `proofs/`. The crates above cite both. The code has their limits alone.
 #![tactic(auto)]
+
+/// The most levels of headers that the fields of a table take, those of the keys of counters and maps included.
+pub const MAX_LEVELS: usize = 16;
+
+/// The most fields that a table has, with those of all bags inside it.
+pub const MAX_FIELDS: usize = 16_384;

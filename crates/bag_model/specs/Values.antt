@@ -1,0 +1,101 @@
+-- What fields hold: a value has the shape of its field.
+use Rattle.std.specs.Prelude.{◌≡◌, ℕ, ◌+◌, ◌^◌, ◌<◌, Bool, false, List, [], ◌∷◌, Option, Some, None}
+use Rattle.std.specs.List.{AllByRecursion}
+use Rattle.context_model.specs.Orders.{atom_cmp, Rises}
+use Rattle.context_model.specs.KeyedMerge.{keys_of, EachPair}
+use Rattle.bag_model.specs.Scalars.{ScalarKind, ScalarValue, scalar_cmp, IsScalarOf}
+use Rattle.bag_model.specs.Shapes.{Shape, Nodes, no_node, node}
+
+-- A taint is on or off, a scalar is there or not, a set has a kind and its scalars, a counter has a count for each writer,
+-- a map has a value for each key, and a bag has one for each field.
+mutual
+  pub data Value : Type 0 where
+    Taint : Bool → Value
+    Scalar : Option ScalarValue → Value
+    Set : ScalarKind → List ScalarValue → Value
+    Counter : List (List ℕ × ℕ) → Value
+    Map : Entries → Value
+    Bag : Values → Value
+
+  -- Keys with their values.
+  pub data Entries : Type 0 where
+    no_entry : Entries
+    entry : ScalarValue → Value → Entries → Entries
+
+  -- The values of a bag's fields, in order.
+  pub data Values : Type 0 where
+    no_value : Values
+    value : Value → Values → Values
+
+-- The keys of a map with their values, as a list.
+abbrev pub pairs : Entries → List (ScalarValue × Value)
+pairs no_entry = []
+pairs (entry key v es) = (key, v) ∷ pairs es
+
+-- The values of a bag's fields as a list.
+abbrev pub values_list : Values → List Value
+values_list no_value = []
+values_list (value v vs) = v ∷ values_list vs
+
+-- Bottom, the value of a field of which nothing is said: off, absent, empty, and bottom in each field of a bag.
+abbrev mutual
+  pub bottom : Shape → Value
+  bottom Shape.Taint = Taint false
+  bottom (Shape.Scalar kind) = Scalar None
+  bottom (Shape.Set kind) = Set kind []
+  bottom Shape.Counter = Counter []
+  bottom (Shape.Map key shape) = Map no_entry
+  bottom (Shape.Bag nodes) = Bag (bottoms nodes)
+
+  pub bottoms : Nodes → Values
+  bottoms no_node = no_value
+  bottoms (node name number shape nodes) = value (bottom shape) (bottoms nodes)
+
+-- The writers rise, and each has a count of 64 bits.
+abbrev pub AreCounts : List (List ℕ × ℕ) → Type 0
+AreCounts counts = Rises atom_cmp (keys_of counts) × EachPair (λ writer n. n < 2 ^ 64) counts
+
+-- The value is of the shape: each scalar is of its kind, the scalars of a set, the writers of a counter and the keys of a
+-- map rise, a count has 64 bits, and a bag has a value for each field.
+abbrev mutual
+  pub IsOfShape : Shape → Value → Type 0
+  IsOfShape Shape.Taint (Taint on) = Unit {0}
+  IsOfShape Shape.Taint other = ⊥
+  IsOfShape (Shape.Scalar kind) (Scalar None) = Unit {0}
+  IsOfShape (Shape.Scalar kind) (Scalar (Some v)) = IsScalarOf kind v
+  IsOfShape (Shape.Scalar kind) other = ⊥
+  IsOfShape (Shape.Set kind) (Set own vs) =
+      (own ≡ kind) × Rises scalar_cmp vs × AllByRecursion (IsScalarOf kind) vs
+  IsOfShape (Shape.Set kind) other = ⊥
+  IsOfShape Shape.Counter (Counter counts) = AreCounts counts
+  IsOfShape Shape.Counter other = ⊥
+  IsOfShape (Shape.Map kind shape) (Map es) =
+      Rises scalar_cmp (keys_of (pairs es))
+      × EachPair (λ key v. IsScalarOf kind key × IsOfShape shape v) (pairs es)
+  IsOfShape (Shape.Map kind shape) other = ⊥
+  IsOfShape (Shape.Bag nodes) (Bag vs) = AreOfShapes nodes vs
+  IsOfShape (Shape.Bag nodes) other = ⊥
+
+  pub AreOfShapes : Nodes → Values → Type 0
+  AreOfShapes no_node no_value = Unit {0}
+  AreOfShapes no_node (value v vs) = ⊥
+  AreOfShapes (node name number shape nodes) no_value = ⊥
+  AreOfShapes (node name number shape nodes) (value v vs) = IsOfShape shape v × AreOfShapes nodes vs
+
+-- How many values there are: a value and all those inside it.
+abbrev mutual
+  pub size_of : Value → ℕ
+  size_of (Taint on) = 1
+  size_of (Scalar v) = 1
+  size_of (Set kind vs) = 1
+  size_of (Counter counts) = 1
+  size_of (Map es) = 1 + size_of_entries es
+  size_of (Bag vs) = 1 + size_of_values vs
+
+  pub size_of_entries : Entries → ℕ
+  size_of_entries no_entry = 0
+  size_of_entries (entry key v es) = size_of v + size_of_entries es
+
+  pub size_of_values : Values → ℕ
+  size_of_values no_value = 0
+  size_of_values (value v vs) = size_of v + size_of_values vs
