@@ -1,0 +1,9 @@
+pub mod Inside
+pub mod Bridge
+pub mod Stops
+pub mod Gathering
+pub mod Sets
+pub mod Absent
+pub mod Turns
+pub mod EachSlot
+pub mod Going

@@ -1,0 +1,5 @@
+pub mod Parts
+pub mod Searches
+pub mod Gathered
+pub mod Slots
+pub mod Going
