@@ -1,0 +1,13 @@
+pub mod ReachLaws
+pub mod LayoutFronts
+pub mod SlotParts
+pub mod PlainEnds
+pub mod CutLists
+pub mod Telling
+pub mod Arrivals
+pub mod TruthLaws
+pub mod FaithfulLaws
+pub mod RunLaws
+pub mod ShownLaws
+pub mod GivenLaws
+mod GraphRows
