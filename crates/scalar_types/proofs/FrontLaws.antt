@@ -1,10 +1,8 @@
 -- From what begins some bytes to what is spelled by all of them.
 use Rattle.std.proofs.Common.{◌≡◌, ℕ, List, [], ◌++◌, sym, ap, ◌∙◌}
 use Rattle.std.proofs.lemmas.List.{append-nil}
-use Rattle.bag_model.proofs.Codes.{KeepsOrder, code_rest}
 use Rattle.scalar_types.specs.Spelling.{Spells, IsSpelled}
-use Rattle.scalar_types.specs.Fronts.{Begins, BeginsWithSome}
-use Rattle.std.specs.declared.cmp.Ordering.{Ordering}
+use Rattle.scalar_types.specs.Fronts.{Begins, BeginsWithSome, OneRest}
 
 module _ {V : Type 0} {fits : V → Type 0} {spelling : V → List ℕ} where
   -- with nothing left over the value is spelled by all the bytes
@@ -16,7 +14,6 @@ module _ {V : Type 0} {fits : V → Type 0} {spelling : V → List ℕ} where
   none_whole bytes none s = none (s.0, ([], record { fit = s.1.fit; same = append-nil (spelling s.0) ∙ s.1.same }))
 
   -- with something left over the bytes are no spelling
-  pub left_over : {cmp : V → V → Ordering} → KeepsOrder fits spelling cmp → (bytes : List ℕ) (v : V) (rest : List ℕ)
-      → Begins fits spelling bytes v rest → (rest ≡ [] → ⊥) → IsSpelled fits spelling bytes → ⊥
-  left_over keeps bytes v rest b some s =
-      some (code_rest keeps v s.0 rest [] b.fit s.1.fit (b.same ∙ sym s.1.same ∙ sym (append-nil (spelling s.0))))
+  pub left_over : OneRest fits spelling → (bytes : List ℕ) (v : V) (rest : List ℕ) → Begins fits spelling bytes v rest → (rest ≡ [] → ⊥) → IsSpelled fits spelling bytes → ⊥
+  left_over one bytes v rest b some s =
+      some (one v s.0 rest [] b.fit s.1.fit (b.same ∙ sym s.1.same ∙ sym (append-nil (spelling s.0))))

@@ -9,3 +9,7 @@ pub record Begins {V : Type 0} (fits : V → Type 0) (spelling : V → List ℕ)
 -- The bytes begin with the spelling of some value that fits.
 abbrev pub BeginsWithSome : {V : Type 0} → (V → Type 0) → (V → List ℕ) → List ℕ → Type 0
 BeginsWithSome {V} fits spelling bytes = (value : V) × ((rest : List ℕ) × Begins fits spelling bytes value rest)
+
+-- What follows a spelling is determined.
+abbrev pub OneRest : {V : Type 0} → (V → Type 0) → (V → List ℕ) → Type 0
+OneRest {V} fits spelling = (v w : V) (s t : List ℕ) → fits v → fits w → spelling v ++ s ≡ spelling w ++ t → s ≡ t

@@ -1,8 +1,5 @@
 -- What a codec says of its values: which fit, and how each that fits is spelled in bytes.
 use Rattle.std.specs.Prelude.{◌≡◌, ℕ, List}
-use Rattle.std.specs.Ordering.{nat_cmp}
-use Rattle.std.specs.declared.cmp.Ordering.{Ordering}
-use Rattle.std.specs.Cmp.Lexicographic.{slice_cmp}
 
 -- The value fits, and these bytes are its spelling.
 pub record Spells {V : Type 0} (fits : V → Type 0) (spelling : V → List ℕ) (bytes : List ℕ) (value : V) : Type 0 where
@@ -12,10 +9,6 @@ pub record Spells {V : Type 0} (fits : V → Type 0) (spelling : V → List ℕ)
 -- Some value that fits has this spelling.
 abbrev pub IsSpelled : {V : Type 0} → (V → Type 0) → (V → List ℕ) → List ℕ → Type 0
 IsSpelled {V} fits spelling bytes = (value : V) × Spells fits spelling bytes value
-
--- Byte by byte, and a byte string before each longer one that begins with it.
-abbrev pub byte_order : List ℕ → List ℕ → Ordering
-byte_order = slice_cmp nat_cmp
 
 -- Two values that fit and have one spelling are one value.
 abbrev pub OneValue : {V : Type 0} → (V → Type 0) → (V → List ℕ) → Type 0

@@ -1,7 +1,8 @@
 //! The trait of a codec, and its laws as calls.
 
 ghost use Rattle.std.specs.Prelude.{◌≡◌, ◌≢◌, ℕ, List, ◌++◌, IfOk, OnOk, OnErr, IsTrue, ◌↔◌};
-ghost use Rattle.scalar_types.specs.Spelling.{Spells, IsSpelled, byte_order, OneValue};
+ghost use Rattle.scalar_types.specs.Spelling.{Spells, IsSpelled, OneValue};
+ghost use Rattle.context_model.specs.Orders.{atom_cmp};
 
 use outside::Memory;
 use std::alloc::{AllocError, AllocFailed, Global};
@@ -49,8 +50,8 @@ impl<T: Drop> From<AllocFailed<T>> for TakeFault {
     }
 }
 
-/// A type of values, each of which that fits has one spelling in bytes. A codec is a value of its own, so
-/// that one type can serve numbers of 32 and of 64 bits, or structs of any fields.
+/// A type of values. Each value that fits has one spelling in bytes. A codec is a value of its own, so that
+/// one type can serve numbers of 32 and of 64 bits, or structs of any fields.
 ///
 /// `fits` and `spelling` are what an implementation says of itself, and `one_value` is the law that it
 /// proves: a spelling belongs to one value.
@@ -85,7 +86,7 @@ pub trait Codec: Drop {
     fn compare(&self, a: &Self::Value, b: &Self::Value) -> Ordering
         requires a_fits { fits self.now a.now }
         requires b_fits { fits self.now b.now }
-        ensures { result ≡ byte_order (spelling self.now a.now) (spelling self.now b.now) };
+        ensures { result ≡ atom_cmp (spelling self.now a.now) (spelling self.now b.now) };
 
     /// The same value again.
     fn copy(&self, value: &Self::Value) -> Result<Self::Value, Memory>

@@ -1,11 +1,10 @@
 //! Codecs of numbers in four or eight bytes, most significant first.
 
-ghost use Rattle.std.specs.Prelude.{◌≡◌, IfSome, IsNone};
+ghost use Rattle.std.specs.Prelude.{◌≡◌};
 ghost use Rattle.bag_model.specs.Scalars.{IsUnsigned, IsSigned, fixed_bytes, sign_flipped, signed_fixed_bytes};
-ghost use Rattle.scalar_types.specs.Spelling.{Spells, IsSpelled};
-ghost use Rattle.scalar_types.specs.Fronts.{Begins, BeginsWithSome};
 
 use crate::codec::{Codec, TakeFault};
+use crate::fronts::{Front, whole};
 use outside::Memory;
 use std::alloc::Global;
 use std::cmp::Ordering;
@@ -15,41 +14,6 @@ use std::cmp::Ordering;
 pub struct Fixed {
     /// Whether numbers have 64 bits, else 32.
     pub wide: bool,
-}
-
-impl Fixed {
-    /// The number that begins these bytes, and what follows it; `None` where they are too few.
-    pub fn front<'a>(&self, bytes: &'a [u8]) -> Option<(u64, &'a [u8])>
-        ensures found { IfSome result (λ read. Begins (IsUnsigned self.now.wide) (fixed_bytes self.now.wide) bytes.now read.0 read.1.now) }
-        ensures none { IsNone result → ¬ BeginsWithSome (IsUnsigned self.now.wide) (fixed_bytes self.now.wide) bytes.now }
-    {
-        if self.wide {
-            match bytes {
-                [a, b, c, d, e, f, g, h, rest @ ..] => {
-                    let number = u64::from_be_bytes([*a, *b, *c, *d, *e, *f, *g, *h]);
-                    Some((number, rest))
-                }
-                _ => None,
-            }
-        } else {
-            match bytes {
-                [a, b, c, d, rest @ ..] => {
-                    let number = u32::from_be_bytes([*a, *b, *c, *d]);
-                    Some((number as u64, rest))
-                }
-                _ => None,
-            }
-        }
-    }
-
-    /// The number whose spelling is the whole slice.
-    fn read(&self, bytes: &[u8]) -> Option<u64>
-        ensures found { IfSome result (Spells (IsUnsigned self.now.wide) (fixed_bytes self.now.wide) bytes.now) }
-        ensures none { IsNone result → ¬ IsSpelled (IsUnsigned self.now.wide) (fixed_bytes self.now.wide) bytes.now }
-    {
-        let (number, rest) = self.front(bytes)?;
-        if rest.is_empty() { Some(number) } else { None }
-    }
 }
 
 impl Codec for Fixed {
@@ -79,11 +43,11 @@ impl Codec for Fixed {
     }
 
     fn spelled(&self, bytes: &[u8]) -> bool {
-        self.read(bytes).is_some()
+        whole(self, bytes).is_some()
     }
 
     fn take(&self, _alloc: Global, bytes: &[u8]) -> Result<u64, TakeFault> {
-        self.read(bytes).ok_or(TakeFault::NotSpelled)
+        whole(self, bytes).ok_or(TakeFault::NotSpelled)
     }
 
     fn compare(&self, a: &u64, b: &u64) -> Ordering {
@@ -99,6 +63,39 @@ impl Codec for Fixed {
     }
 }
 
+impl Front for Fixed {
+    ghost use Rattle.bag_model.proofs.Codes.{code_rest};
+    ghost use Rattle.bag_model.proofs.NumberCodes.{fixed_code};
+
+    type Value = u64;
+
+    ghost fits = { λ codec number. IsUnsigned codec.wide number };
+
+    ghost spelling = { λ codec number. fixed_bytes codec.wide number };
+
+    ghost one_rest = { λ codec. code_rest (fixed_code codec.wide) };
+
+    fn front<'a>(&self, bytes: &'a [u8]) -> Option<(u64, &'a [u8])> {
+        if self.wide {
+            match bytes {
+                [a, b, c, d, e, f, g, h, rest @ ..] => {
+                    let number = u64::from_be_bytes([*a, *b, *c, *d, *e, *f, *g, *h]);
+                    Some((number, rest))
+                }
+                _ => None,
+            }
+        } else {
+            match bytes {
+                [a, b, c, d, rest @ ..] => {
+                    let number = u32::from_be_bytes([*a, *b, *c, *d]);
+                    Some((number as u64, rest))
+                }
+                _ => None,
+            }
+        }
+    }
+}
+
 /// The codec of numbers of either sign in eight bytes, or in four where it isn't wide: two's complement
 /// with the sign bit flipped, so that the negative numbers come first.
 #[derive(Clone, Copy, Debug, PartialEq, Eq)]
@@ -108,24 +105,6 @@ pub struct SignedFixed {
 }
 
 impl SignedFixed {
-    /// The number that begins these bytes, and what follows it; `None` where they are too few.
-    pub fn front<'a>(&self, bytes: &'a [u8]) -> Option<(i64, &'a [u8])>
-        ensures found { IfSome result (λ read. Begins (IsSigned self.now.wide) (signed_fixed_bytes self.now.wide) bytes.now read.0 read.1.now) }
-        ensures none { IsNone result → ¬ BeginsWithSome (IsSigned self.now.wide) (signed_fixed_bytes self.now.wide) bytes.now }
-    {
-        let (bits, rest) = self.flipped().front(bytes)?;
-        Some((self.number(bits), rest))
-    }
-
-    /// The number whose spelling is the whole slice.
-    fn read(&self, bytes: &[u8]) -> Option<i64>
-        ensures found { IfSome result (Spells (IsSigned self.now.wide) (signed_fixed_bytes self.now.wide) bytes.now) }
-        ensures none { IsNone result → ¬ IsSpelled (IsSigned self.now.wide) (signed_fixed_bytes self.now.wide) bytes.now }
-    {
-        let (number, rest) = self.front(bytes)?;
-        if rest.is_empty() { Some(number) } else { None }
-    }
-
     /// The codec of the bits with the sign bit flipped.
     fn flipped(&self) -> Fixed
         ensures { result.wide ≡ self.now.wide }
@@ -181,11 +160,11 @@ impl Codec for SignedFixed {
     }
 
     fn spelled(&self, bytes: &[u8]) -> bool {
-        self.read(bytes).is_some()
+        whole(self, bytes).is_some()
     }
 
     fn take(&self, _alloc: Global, bytes: &[u8]) -> Result<i64, TakeFault> {
-        self.read(bytes).ok_or(TakeFault::NotSpelled)
+        whole(self, bytes).ok_or(TakeFault::NotSpelled)
     }
 
     fn compare(&self, a: &i64, b: &i64) -> Ordering {
@@ -198,5 +177,23 @@ impl Codec for SignedFixed {
 
     fn copy_codec(&self) -> Result<SignedFixed, Memory> {
         Ok(*self)
+    }
+}
+
+impl Front for SignedFixed {
+    ghost use Rattle.bag_model.proofs.Codes.{code_rest};
+    ghost use Rattle.bag_model.proofs.NumberCodes.{signed_fixed_code};
+
+    type Value = i64;
+
+    ghost fits = { λ codec number. IsSigned codec.wide number };
+
+    ghost spelling = { λ codec number. signed_fixed_bytes codec.wide number };
+
+    ghost one_rest = { λ codec. code_rest (signed_fixed_code codec.wide) };
+
+    fn front<'a>(&self, bytes: &'a [u8]) -> Option<(i64, &'a [u8])> {
+        let (bits, rest) = self.flipped().front(bytes)?;
+        Some((self.number(bits), rest))
     }
 }

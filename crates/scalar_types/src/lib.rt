@@ -4,6 +4,7 @@
 mod codec;
 mod escapes;
 mod fixed_codecs;
+mod fronts;
 mod kind_codec;
 mod kinds;
 mod laws;
@@ -22,5 +23,4 @@ pub use kinds::{KindList, ScalarKind};
 pub use laws::spellings_keep_order;
 pub use plain_codecs::{Flag, Raw, Unit, Utf8};
 pub use scalars::{Scalar, ScalarList};
-pub use sharing::kinds_cross_threads;
 pub use varint_codecs::{LexI, LexU};

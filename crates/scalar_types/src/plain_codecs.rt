@@ -3,6 +3,7 @@
 ghost use Rattle.scalar_types.specs.Spelling.{AlwaysFits};
 
 use crate::codec::{Codec, TakeFault};
+use crate::fronts::{Front, whole};
 use outside::{Memory, Octets, Text};
 use std::alloc::Global;
 use std::cmp::Ordering;
@@ -59,24 +60,6 @@ impl Codec for Unit {
 #[derive(Clone, Copy, Debug, PartialEq, Eq)]
 pub struct Flag;
 
-impl Flag {
-    ghost use Rattle.std.specs.Prelude.{IfSome, IsNone};
-    ghost use Rattle.bag_model.specs.Scalars.{truth_bytes};
-    ghost use Rattle.scalar_types.specs.Fronts.{Begins, BeginsWithSome};
-
-    /// The truth value that begins these bytes, and what follows it.
-    pub fn front<'a>(&self, bytes: &'a [u8]) -> Option<(bool, &'a [u8])>
-        ensures found { IfSome result (λ read. Begins AlwaysFits truth_bytes bytes.now read.0 read.1.now) }
-        ensures none { IsNone result → ¬ BeginsWithSome AlwaysFits truth_bytes bytes.now }
-    {
-        match bytes {
-            [0, rest @ ..] => Some((false, rest)),
-            [1, rest @ ..] => Some((true, rest)),
-            _ => None,
-        }
-    }
-}
-
 impl Codec for Flag {
     ghost use Rattle.bag_model.specs.Scalars.{truth_bytes};
     ghost use Rattle.bag_model.proofs.Codes.{code_one};
@@ -100,19 +83,11 @@ impl Codec for Flag {
     }
 
     fn spelled(&self, bytes: &[u8]) -> bool {
-        match bytes {
-            [0] => true,
-            [1] => true,
-            _ => false,
-        }
+        whole(self, bytes).is_some()
     }
 
     fn take(&self, _alloc: Global, bytes: &[u8]) -> Result<bool, TakeFault> {
-        match bytes {
-            [0] => Ok(false),
-            [1] => Ok(true),
-            _ => Err(TakeFault::NotSpelled),
-        }
+        whole(self, bytes).ok_or(TakeFault::NotSpelled)
     }
 
     fn compare(&self, a: &bool, b: &bool) -> Ordering {
@@ -128,9 +103,47 @@ impl Codec for Flag {
     }
 }
 
+impl Front for Flag {
+    ghost use Rattle.bag_model.specs.Scalars.{truth_bytes};
+    ghost use Rattle.bag_model.proofs.Codes.{code_rest};
+    ghost use Rattle.bag_model.proofs.NumberCodes.{truth_code};
+
+    type Value = bool;
+
+    ghost fits = { λ _. AlwaysFits };
+
+    ghost spelling = { λ _ value. truth_bytes value };
+
+    ghost one_rest = { λ _. code_rest truth_code };
+
+    fn front<'a>(&self, bytes: &'a [u8]) -> Option<(bool, &'a [u8])> {
+        match bytes {
+            [0, rest @ ..] => Some((false, rest)),
+            [1, rest @ ..] => Some((true, rest)),
+            _ => None,
+        }
+    }
+}
+
 /// The codec of texts: the bytes of their UTF-8.
 #[derive(Clone, Copy, Debug, PartialEq, Eq)]
 pub struct Utf8;
+
+impl Utf8 {
+    ghost use Rattle.std.specs.Prelude.{◌≡◌, IsUtf8, IfOk};
+    ghost use Rattle.scalar_types.specs.Spelling.{Spells, IsSpelled};
+
+    /// The text with these bytes, which aren't copied.
+    pub(crate) fn take_owned(&self, bytes: Vec<u8>) -> Result<Text, TakeFault>
+        ensures taken { IfOk result (Spells IsUtf8 (λ text. text) bytes.items) }
+        ensures refused { result ≡ Err TakeFault.NotSpelled → ¬ IsSpelled IsUtf8 (λ text. text) bytes.items }
+    {
+        match String::from_utf8(bytes) {
+            Ok(text) => Ok(Text::from_string(text)?),
+            Err(_) => Err(TakeFault::NotSpelled),
+        }
+    }
+}
 
 impl Codec for Utf8 {
     ghost use Rattle.std.specs.Prelude.{IsUtf8};
@@ -144,6 +157,7 @@ impl Codec for Utf8 {
     ghost one_value = { λ _ _ _ _ _ same. same };
 
     fn fits(&self, value: &Text) -> bool {
+        // for the proof: it tells that the text is UTF-8, as each text is
         let _utf8 = value.as_str();
         true
     }

@@ -1,6 +1,7 @@
 //! Values of scalars, and lists of them.
 
-ghost use Rattle.std.specs.Prelude.{◌≡◌, List, [], ◌∷◌, ◌++◌, length, map, All, IfOk, OnOk, OnErr, IsTrue, ◌↔◌};
+ghost use Rattle.std.specs.Prelude.{◌≡◌, List, [], ◌∷◌, ◌++◌, length, map, All, IfOk, IfSome, OnOk, OnErr, IsTrue, ◌↔◌, slice_get};
+ghost use Rattle.std.specs.Option.{option_map};
 ghost use Rattle.std.specs.Cmp.Lexicographic.{slice_cmp};
 ghost use Rattle.bag_model.specs.Scalars.{plain_rank, plain_cmp, scalar_cmp};
 ghost use Rattle.scalar_types.specs.ScalarViews.{IsPlain, plain_of, value_of};
@@ -80,6 +81,14 @@ impl ScalarList {
         self.scalars.is_empty()
     }
 
+    /// The value at this place, from 0 on; `None` exactly where there are not so many.
+    pub fn get(&self, at: usize) -> Option<&Scalar>
+        ensures value { option_map (λ scalar. plain_of scalar.now) result ≡ slice_get self.now at }
+        ensures plain { IfSome result (λ scalar. IsPlain scalar.now) }
+    {
+        self.as_slice().get(at)
+    }
+
     /// The values in order.
     pub fn as_slice(&self) -> &[Scalar]
         ensures values { map plain_of result.now ≡ self.now }
@@ -102,11 +111,12 @@ impl ScalarList {
     pub fn copy(&self) -> Result<ScalarList, Memory>
         ensures { IfOk result (λ copied. copied ≡ self.now) }
     {
-        let mut copied = ScalarList::new(*self.scalars.allocator());
+        let alloc = *self.scalars.allocator();
+        let mut copied = Vec::with_capacity(alloc, self.scalars.len())?;
         for scalar in &self.scalars {
             copied.push(scalar.copy_plain()?)?;
         }
-        Ok(copied)
+        Ok(ScalarList { scalars: copied })
     }
 }
 

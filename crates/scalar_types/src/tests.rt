@@ -2,7 +2,7 @@
 
 use crate::{
     Codec, Fixed, Flag, KindList, LexI, LexU, Raw, Scalar, ScalarKind, ScalarList, SignedFixed,
-    TakeFault, Unit, Utf8, kinds_cross_threads, respelled, round_trip, spellings_keep_order,
+    TakeFault, Unit, Utf8, respelled, round_trip, spellings_keep_order,
 };
 use outside::{Memory, Octets, Text};
 use std::alloc::Global;
@@ -31,6 +31,19 @@ fn spells<C: Codec>(
     let taken = round_trip(alloc, codec, value)?;
     assert!(rt; codec.fits(&taken));
     assert!(rt; respelled(alloc, codec, spelling)?.as_slice() == spelling);
+    Ok(())
+}
+
+/// Each value has its spelling.
+fn spells_all<C: Codec>(
+    rt: &impl Abort,
+    alloc: Global,
+    codec: &C,
+    rows: &[(C::Value, &[u8])],
+) -> Result<(), Fail> {
+    for (value, spelling) in rows {
+        spells(rt, alloc, codec, value, spelling)?;
+    }
     Ok(())
 }
 
@@ -84,11 +97,11 @@ fn plain_values(rt: HostRuntime) -> Result<(), Fail> {
 }
 
 #[test]
-fn varints(rt: HostRuntime) -> Result<(), Fail> {
+fn unsigned_varints(rt: HostRuntime) -> Result<(), Fail> {
     let alloc = rt.alloc();
     let narrow = LexU { wide: false };
     let wide = LexU { wide: true };
-    let unsigned = [
+    let rows = [
         (0, b"\x00".as_slice()),
         (1, b"\x01"),
         (63, b"\x3f"),
@@ -99,35 +112,38 @@ fn varints(rt: HostRuntime) -> Result<(), Fail> {
         (16_384, b"\xc0\x40\x00"),
         (4_294_967_295, b"\xf0\xff\xff\xff\xff"),
     ];
-    for (value, spelling) in unsigned {
-        spells(&rt, alloc, &narrow, &value, spelling)?;
-        spells(&rt, alloc, &wide, &value, spelling)?;
+    spells_all(&rt, alloc, &narrow, &rows)?;
+    spells_all(&rt, alloc, &wide, &rows)?;
+    let greater = [
+        (4_294_967_296, b"\xf1\x00\x00\x00\x00".as_slice()),
+        (u64::MAX, b"\xff\xff\xff\xff\xff\xff\xff\xff\xff"),
+    ];
+    spells_all(&rt, alloc, &wide, &greater)?;
+    for (value, spelling) in greater {
+        assert!(rt; !narrow.fits(&value));
+        refuses(&rt, alloc, &narrow, spelling);
     }
-    spells(&rt, alloc, &wide, &4_294_967_296, b"\xf1\x00\x00\x00\x00")?;
-    spells(
-        &rt,
-        alloc,
-        &wide,
-        &u64::MAX,
-        b"\xff\xff\xff\xff\xff\xff\xff\xff\xff",
-    )?;
-    assert!(rt; !narrow.fits(&4_294_967_296));
-    for bytes in [
+    let unspelled = [
         b"\x7f\x00".as_slice(),
         b"",
         b"\x80\x00",
         b"\x80\x7f",
         b"\xbf",
-    ] {
+    ];
+    for bytes in unspelled {
         refuses(&rt, alloc, &narrow, bytes);
         refuses(&rt, alloc, &wide, bytes);
     }
-    refuses(&rt, alloc, &narrow, b"\xf1\x00\x00\x00\x00");
     rises(&rt, &narrow, &127, &128);
+    Ok(())
+}
 
+#[test]
+fn signed_varints(rt: HostRuntime) -> Result<(), Fail> {
+    let alloc = rt.alloc();
     let narrow = LexI { wide: false };
     let wide = LexI { wide: true };
-    let signed = [
+    let rows = [
         (-2_147_483_648, b"\x07\x80\x00\x00\x00".as_slice()),
         (-65, b"\x3f\xbf"),
         (-64, b"\x40"),
@@ -138,37 +154,23 @@ fn varints(rt: HostRuntime) -> Result<(), Fail> {
         (64, b"\xc0\x40"),
         (2_147_483_647, b"\xf8\x7f\xff\xff\xff"),
     ];
-    for (value, spelling) in signed {
-        spells(&rt, alloc, &narrow, &value, spelling)?;
-        spells(&rt, alloc, &wide, &value, spelling)?;
+    spells_all(&rt, alloc, &narrow, &rows)?;
+    spells_all(&rt, alloc, &wide, &rows)?;
+    let greater = [
+        (i64::MIN, b"\x00\x80\x00\x00\x00\x00\x00\x00\x00".as_slice()),
+        (2_147_483_648, b"\xf8\x80\x00\x00\x00"),
+        (i64::MAX, b"\xff\x7f\xff\xff\xff\xff\xff\xff\xff"),
+    ];
+    spells_all(&rt, alloc, &wide, &greater)?;
+    for (value, spelling) in greater {
+        assert!(rt; !narrow.fits(&value));
+        refuses(&rt, alloc, &narrow, spelling);
     }
-    spells(
-        &rt,
-        alloc,
-        &wide,
-        &i64::MIN,
-        b"\x00\x80\x00\x00\x00\x00\x00\x00\x00",
-    )?;
-    spells(
-        &rt,
-        alloc,
-        &wide,
-        &i64::MAX,
-        b"\xff\x7f\xff\xff\xff\xff\xff\xff\xff",
-    )?;
-    assert!(rt; !narrow.fits(&2_147_483_648));
     assert!(rt; !narrow.fits(&-2_147_483_649));
-    for bytes in [
-        b"\xbf\x00".as_slice(),
-        b"",
-        b"\xc0\x3f",
-        b"\x3f\xc0",
-        b"\xc0",
-    ] {
+    for bytes in [b"\xbf\x00".as_slice(), b"", b"\xc0\x3f", b"\x3f\xc0"] {
         refuses(&rt, alloc, &narrow, bytes);
         refuses(&rt, alloc, &wide, bytes);
     }
-    refuses(&rt, alloc, &narrow, b"\xf8\x80\x00\x00\x00");
     rises(&rt, &narrow, &-65, &-64);
     rises(&rt, &narrow, &-1, &0);
     Ok(())
@@ -179,51 +181,45 @@ fn fixed_numbers(rt: HostRuntime) -> Result<(), Fail> {
     let alloc = rt.alloc();
     let narrow = Fixed { wide: false };
     let wide = Fixed { wide: true };
-    spells(&rt, alloc, &narrow, &0, b"\x00\x00\x00\x00")?;
-    spells(&rt, alloc, &narrow, &7, b"\x00\x00\x00\x07")?;
-    spells(&rt, alloc, &narrow, &4_294_967_295, b"\xff\xff\xff\xff")?;
-    spells(
-        &rt,
-        alloc,
-        &wide,
-        &4_294_967_296,
-        b"\x00\x00\x00\x01\x00\x00\x00\x00",
-    )?;
-    spells(
-        &rt,
-        alloc,
-        &wide,
-        &u64::MAX,
-        b"\xff\xff\xff\xff\xff\xff\xff\xff",
-    )?;
+    let rows = [
+        (0, b"\x00\x00\x00\x00".as_slice()),
+        (7, b"\x00\x00\x00\x07"),
+        (4_294_967_295, b"\xff\xff\xff\xff"),
+    ];
+    spells_all(&rt, alloc, &narrow, &rows)?;
+    let wide_rows = [
+        (7, b"\x00\x00\x00\x00\x00\x00\x00\x07".as_slice()),
+        (4_294_967_296, b"\x00\x00\x00\x01\x00\x00\x00\x00"),
+        (u64::MAX, b"\xff\xff\xff\xff\xff\xff\xff\xff"),
+    ];
+    spells_all(&rt, alloc, &wide, &wide_rows)?;
     assert!(rt; !narrow.fits(&4_294_967_296));
     refuses(&rt, alloc, &narrow, b"\x00\x00\x00");
     refuses(&rt, alloc, &narrow, b"\x00\x00\x00\x00\x00");
     refuses(&rt, alloc, &wide, b"\x00\x00\x00\x07");
     rises(&rt, &narrow, &255, &256);
+    Ok(())
+}
 
+#[test]
+fn signed_fixed_numbers(rt: HostRuntime) -> Result<(), Fail> {
+    let alloc = rt.alloc();
     let narrow = SignedFixed { wide: false };
     let wide = SignedFixed { wide: true };
-    spells(&rt, alloc, &narrow, &-2_147_483_648, b"\x00\x00\x00\x00")?;
-    spells(&rt, alloc, &narrow, &-1, b"\x7f\xff\xff\xff")?;
-    spells(&rt, alloc, &narrow, &0, b"\x80\x00\x00\x00")?;
-    spells(&rt, alloc, &narrow, &1, b"\x80\x00\x00\x01")?;
-    spells(&rt, alloc, &narrow, &2_147_483_647, b"\xff\xff\xff\xff")?;
-    spells(
-        &rt,
-        alloc,
-        &wide,
-        &i64::MIN,
-        b"\x00\x00\x00\x00\x00\x00\x00\x00",
-    )?;
-    spells(&rt, alloc, &wide, &-1, b"\x7f\xff\xff\xff\xff\xff\xff\xff")?;
-    spells(
-        &rt,
-        alloc,
-        &wide,
-        &i64::MAX,
-        b"\xff\xff\xff\xff\xff\xff\xff\xff",
-    )?;
+    let rows = [
+        (-2_147_483_648, b"\x00\x00\x00\x00".as_slice()),
+        (-1, b"\x7f\xff\xff\xff"),
+        (0, b"\x80\x00\x00\x00"),
+        (1, b"\x80\x00\x00\x01"),
+        (2_147_483_647, b"\xff\xff\xff\xff"),
+    ];
+    spells_all(&rt, alloc, &narrow, &rows)?;
+    let wide_rows = [
+        (i64::MIN, b"\x00\x00\x00\x00\x00\x00\x00\x00".as_slice()),
+        (-1, b"\x7f\xff\xff\xff\xff\xff\xff\xff"),
+        (i64::MAX, b"\xff\xff\xff\xff\xff\xff\xff\xff"),
+    ];
+    spells_all(&rt, alloc, &wide, &wide_rows)?;
     assert!(rt; !narrow.fits(&2_147_483_648));
     assert!(rt; !narrow.fits(&-2_147_483_649));
     refuses(&rt, alloc, &wide, b"\x80\x00\x00\x00");
@@ -234,99 +230,52 @@ fn fixed_numbers(rt: HostRuntime) -> Result<(), Fail> {
 #[test]
 fn kinds_of_words(rt: HostRuntime) -> Result<(), Fail> {
     let alloc = rt.alloc();
-    spells(&rt, alloc, &ScalarKind::Bool, &Scalar::Bool(true), b"\x01")?;
+    let least = b"\x00\x80\x00\x00\x00\x00\x00\x00\x00".as_slice();
+    let large = b"\xf1\x00\x00\x00\x00".as_slice();
+    let seven = b"\x00\x00\x00\x00\x00\x00\x00\x07".as_slice();
+    let middle = b"\x80\x00\x00\x00\x00\x00\x00\x00".as_slice();
+    let texts = text(alloc, "a\0")?;
+    let bytes = octets(alloc, b"\x00\xff")?;
+    let rows = [
+        (ScalarKind::Bool, Scalar::Bool(true), b"\x01".as_slice()),
+        (ScalarKind::Int32, Scalar::Signed(-1), b"\x7f"),
+        (ScalarKind::Sint32, Scalar::Signed(-1), b"\x7f"),
+        (ScalarKind::Int64, Scalar::Signed(i64::MIN), least),
+        (ScalarKind::Sint64, Scalar::Signed(i64::MIN), least),
+        (ScalarKind::Uint32, Scalar::Unsigned(16_383), b"\xbf\xff"),
+        (ScalarKind::Uint64, Scalar::Unsigned(4_294_967_296), large),
+        (ScalarKind::Fixed32, Scalar::Unsigned(7), &seven[4..]),
+        (ScalarKind::Fixed64, Scalar::Unsigned(7), seven),
+        (ScalarKind::Sfixed32, Scalar::Signed(0), &middle[..4]),
+        (ScalarKind::Sfixed64, Scalar::Signed(0), middle),
+        (ScalarKind::Str, texts, b"a\x00"),
+        (ScalarKind::Bytes, bytes, b"\x00\xff"),
+    ];
+    for (kind, value, spelling) in &rows {
+        spells(&rt, alloc, kind, value, spelling)?;
+    }
+    Ok(())
+}
+
+#[test]
+fn words_refuse_other_values(rt: HostRuntime) {
+    let alloc = rt.alloc();
     for kind in [ScalarKind::Int32, ScalarKind::Sint32] {
-        spells(&rt, alloc, &kind, &Scalar::Signed(-1), b"\x7f")?;
         assert!(rt; !kind.fits(&Scalar::Signed(2_147_483_648)));
         assert!(rt; !kind.fits(&Scalar::Unsigned(1)));
     }
-    for kind in [ScalarKind::Int64, ScalarKind::Sint64] {
-        spells(
-            &rt,
-            alloc,
-            &kind,
-            &Scalar::Signed(i64::MIN),
-            b"\x00\x80\x00\x00\x00\x00\x00\x00\x00",
-        )?;
-    }
-    spells(
-        &rt,
-        alloc,
-        &ScalarKind::Uint32,
-        &Scalar::Unsigned(16_383),
-        b"\xbf\xff",
-    )?;
-    spells(
-        &rt,
-        alloc,
-        &ScalarKind::Uint64,
-        &Scalar::Unsigned(4_294_967_296),
-        b"\xf1\x00\x00\x00\x00",
-    )?;
-    spells(
-        &rt,
-        alloc,
-        &ScalarKind::Fixed32,
-        &Scalar::Unsigned(7),
-        b"\x00\x00\x00\x07",
-    )?;
-    spells(
-        &rt,
-        alloc,
-        &ScalarKind::Fixed64,
-        &Scalar::Unsigned(7),
-        b"\x00\x00\x00\x00\x00\x00\x00\x07",
-    )?;
-    spells(
-        &rt,
-        alloc,
-        &ScalarKind::Sfixed32,
-        &Scalar::Signed(-1),
-        b"\x7f\xff\xff\xff",
-    )?;
-    spells(
-        &rt,
-        alloc,
-        &ScalarKind::Sfixed64,
-        &Scalar::Signed(0),
-        b"\x80\x00\x00\x00\x00\x00\x00\x00",
-    )?;
-    spells(&rt, alloc, &ScalarKind::Str, &text(alloc, "a\0")?, b"a\x00")?;
-    spells(
-        &rt,
-        alloc,
-        &ScalarKind::Bytes,
-        &octets(alloc, b"\x00\xff")?,
-        b"\x00\xff",
-    )?;
     refuses(&rt, alloc, &ScalarKind::Bool, b"\x02");
     refuses(&rt, alloc, &ScalarKind::Uint32, b"\xf1\x00\x00\x00\x00");
-    refuses(
-        &rt,
-        alloc,
-        &ScalarKind::Fixed32,
-        b"\x00\x00\x00\x00\x00\x00\x00\x07",
-    );
+    refuses(&rt, alloc, &ScalarKind::Fixed32, b"\x00\x00\x00\x00\x07");
     refuses(&rt, alloc, &ScalarKind::Str, b"\xff");
-    rises(
-        &rt,
-        &ScalarKind::Sint64,
-        &Scalar::Signed(-65),
-        &Scalar::Signed(64),
-    );
-    Ok(())
+    let less = Scalar::Signed(-65);
+    rises(&rt, &ScalarKind::Sint64, &less, &Scalar::Signed(64));
 }
 
 #[test]
 fn structs(rt: HostRuntime) -> Result<(), Fail> {
     let alloc = rt.alloc();
-    let mut kinds = KindList::new(alloc);
-    assert!(rt; kinds.is_empty());
-    kinds.push(ScalarKind::Str)?;
-    kinds.push(ScalarKind::Int32)?;
-    assert_eq!(rt; kinds.len(), 2);
-    assert_eq!(rt; kinds.as_slice().len(), 2);
-    let kind = ScalarKind::Packed(kinds);
+    let kind = pair_kind(alloc)?;
     let rows = [
         ("a\0", -1, b"\x61\x00\xff\x00\x01\x7f".as_slice()),
         ("", 0, b"\x00\x01\x80"),
@@ -334,7 +283,7 @@ fn structs(rt: HostRuntime) -> Result<(), Fail> {
         ("\u{1}a", 64, b"\x01\x61\x00\x01\xc0\x40"),
         (
             "\u{e4}",
-            -2_147_483_648,
+            i32::MIN as i64,
             b"\xc3\xa4\x00\x01\x07\x80\x00\x00\x00",
         ),
     ];
@@ -356,6 +305,13 @@ fn structs(rt: HostRuntime) -> Result<(), Fail> {
     for bytes in unspelled {
         refuses(&rt, alloc, &kind, bytes);
     }
+    Ok(())
+}
+
+#[test]
+fn order_of_structs(rt: HostRuntime) -> Result<(), Fail> {
+    let alloc = rt.alloc();
+    let kind = pair_kind(alloc)?;
     let rising = [
         ("", 64),
         ("a", -1),
@@ -374,6 +330,11 @@ fn structs(rt: HostRuntime) -> Result<(), Fail> {
     assert!(rt; !kind.fits(&text(alloc, "a")?));
     assert!(rt; !kind.fits(&Scalar::Packed(ScalarList::new(alloc))));
     assert!(rt; !ScalarKind::Str.fits(&less));
+    assert!(rt; less.order(&Scalar::Bool(true)) == Ordering::Greater);
+    assert!(rt; Scalar::Bool(true).order(&less) == Ordering::Less);
+    assert!(rt; Scalar::Signed(1).order(&Scalar::Unsigned(0)) == Ordering::Less);
+    assert!(rt; less.copy()?.order(&less) == Ordering::Equal);
+    spellings_keep_order();
     Ok(())
 }
 
@@ -393,7 +354,6 @@ fn shared_kinds(rt: HostRuntime) -> Result<(), Fail> {
     assert_eq!(rt; shared.len(), 2);
     assert!(rt; matches!(shared.get(1), Some(ScalarKind::Int32)));
     assert!(rt; shared.get(2).is_none());
-    kinds_cross_threads(&ScalarKind::Bool, &shared);
     let kind = ScalarKind::Packed(shared);
     let spelling = b"\x61\x00\x01\x7f".as_slice();
     spells(&rt, alloc, &kind, &pair(alloc, "a", -1)?, spelling)?;
@@ -404,11 +364,12 @@ fn shared_kinds(rt: HostRuntime) -> Result<(), Fail> {
 fn empty_fields(rt: HostRuntime) -> Result<(), Fail> {
     let alloc = rt.alloc();
     let mut kinds = KindList::new(alloc);
+    assert!(rt; kinds.is_empty());
     kinds.push(ScalarKind::Bytes)?;
     kinds.push(ScalarKind::Str)?;
     kinds.push(ScalarKind::Bool)?;
     kinds.push(ScalarKind::Fixed32)?;
-    let kind = ScalarKind::Packed(kinds);
+    assert_eq!(rt; kinds.as_slice().len(), 4);
     let mut values = ScalarList::new(alloc);
     assert!(rt; values.is_empty());
     values.push(Scalar::Bytes(Octets::of(alloc, b"\x00\xff\xff")?))?;
@@ -417,30 +378,26 @@ fn empty_fields(rt: HostRuntime) -> Result<(), Fail> {
     values.push(Scalar::Unsigned(7))?;
     assert_eq!(rt; values.len(), 4);
     assert_eq!(rt; values.as_slice().len(), 4);
+    assert!(rt; matches!(values.get(3), Some(Scalar::Unsigned(7))));
+    assert!(rt; values.get(4).is_none());
+    let kind = ScalarKind::Packed(kinds);
     let value = Scalar::Packed(values);
-    spells(
-        &rt,
-        alloc,
-        &kind,
-        &value,
-        b"\x00\xff\xff\xff\x00\x01\x00\x01\x01\x00\x00\x00\x07",
-    )?;
+    let spelling = b"\x00\xff\xff\xff\x00\x01\x00\x01\x01\x00\x00\x00\x07";
+    spells(&rt, alloc, &kind, &value, spelling)?;
     refuses(&rt, alloc, &kind, b"\x00\x01\x00\x01\x02\x00\x00\x00\x07");
-    assert!(rt; value.order(&Scalar::Bool(true)) == Ordering::Greater);
-    assert!(rt; Scalar::Bool(true).order(&value) == Ordering::Less);
-    assert!(rt; Scalar::Signed(1).order(&Scalar::Unsigned(0)) == Ordering::Less);
-    assert!(rt; value.copy()?.order(&value) == Ordering::Equal);
     let nothing = ScalarKind::Packed(KindList::new(alloc));
-    spells(
-        &rt,
-        alloc,
-        &nothing,
-        &Scalar::Packed(ScalarList::new(alloc)),
-        b"",
-    )?;
+    let none = Scalar::Packed(ScalarList::new(alloc));
+    spells(&rt, alloc, &nothing, &none, b"")?;
     refuses(&rt, alloc, &nothing, b"\x00");
-    spellings_keep_order();
     Ok(())
+}
+
+/// The kind of structs of a text and a number with a sign.
+fn pair_kind(alloc: Global) -> Result<ScalarKind, Memory> {
+    let mut kinds = KindList::new(alloc);
+    kinds.push(ScalarKind::Str)?;
+    kinds.push(ScalarKind::Int32)?;
+    Ok(ScalarKind::Packed(kinds))
 }
 
 /// The value of a struct of a text and a number with a sign.

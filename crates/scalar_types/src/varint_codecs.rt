@@ -1,12 +1,11 @@
 //! Codecs of numbers as varints: the shorter a number, the fewer bytes.
 
-ghost use Rattle.std.specs.Prelude.{◌≡◌, IfSome, IsNone, IsTrue, ◌↔◌};
+ghost use Rattle.std.specs.Prelude.{IsTrue, ◌↔◌};
 ghost use Rattle.context_model.specs.Varints.{unsigned_varint, signed_varint};
 ghost use Rattle.bag_model.specs.Scalars.{IsUnsigned, IsSigned};
-ghost use Rattle.scalar_types.specs.Spelling.{Spells, IsSpelled};
-ghost use Rattle.scalar_types.specs.Fronts.{Begins, BeginsWithSome};
 
 use crate::codec::{Codec, TakeFault};
+use crate::fronts::{Front, whole};
 use lex_varint::{put_i64, put_u64, take_i64, take_u64};
 use outside::Memory;
 use std::alloc::Global;
@@ -20,32 +19,6 @@ pub struct LexU {
 }
 
 impl LexU {
-    /// The number that begins these bytes, and what follows it.
-    pub fn front<'a>(&self, bytes: &'a [u8]) -> Option<(u64, &'a [u8])>
-        ensures found { IfSome result (λ read. Begins (IsUnsigned self.now.wide) unsigned_varint bytes.now read.0 read.1.now) }
-        ensures none { IsNone result → ¬ BeginsWithSome (IsUnsigned self.now.wide) unsigned_varint bytes.now }
-    {
-        match take_u64(bytes) {
-            Ok((number, count)) => {
-                if self.in_range(number) {
-                    Some((number, &bytes[count..]))
-                } else {
-                    None
-                }
-            }
-            Err(_) => None,
-        }
-    }
-
-    /// The number whose spelling is the whole slice.
-    fn read(&self, bytes: &[u8]) -> Option<u64>
-        ensures found { IfSome result (Spells (IsUnsigned self.now.wide) unsigned_varint bytes.now) }
-        ensures none { IsNone result → ¬ IsSpelled (IsUnsigned self.now.wide) unsigned_varint bytes.now }
-    {
-        let (number, rest) = self.front(bytes)?;
-        if rest.is_empty() { Some(number) } else { None }
-    }
-
     /// Whether the number has so many bits.
     fn in_range(&self, number: u64) -> bool
         ensures { IsTrue result ↔ IsUnsigned self.now.wide number }
@@ -76,11 +49,11 @@ impl Codec for LexU {
     }
 
     fn spelled(&self, bytes: &[u8]) -> bool {
-        self.read(bytes).is_some()
+        whole(self, bytes).is_some()
     }
 
     fn take(&self, _alloc: Global, bytes: &[u8]) -> Result<u64, TakeFault> {
-        self.read(bytes).ok_or(TakeFault::NotSpelled)
+        whole(self, bytes).ok_or(TakeFault::NotSpelled)
     }
 
     fn compare(&self, a: &u64, b: &u64) -> Ordering {
@@ -96,20 +69,20 @@ impl Codec for LexU {
     }
 }
 
-/// The codec of numbers of either sign, as signed varints.
-#[derive(Clone, Copy, Debug, PartialEq, Eq)]
-pub struct LexI {
-    /// Whether numbers have 64 bits, else 32.
-    pub wide: bool,
-}
+impl Front for LexU {
+    ghost use Rattle.bag_model.proofs.Codes.{code_rest};
+    ghost use Rattle.bag_model.proofs.NumberCodes.{unsigned_code};
 
-impl LexI {
-    /// The number that begins these bytes, and what follows it.
-    pub fn front<'a>(&self, bytes: &'a [u8]) -> Option<(i64, &'a [u8])>
-        ensures found { IfSome result (λ read. Begins (IsSigned self.now.wide) signed_varint bytes.now read.0 read.1.now) }
-        ensures none { IsNone result → ¬ BeginsWithSome (IsSigned self.now.wide) signed_varint bytes.now }
-    {
-        match take_i64(bytes) {
+    type Value = u64;
+
+    ghost fits = { λ codec number. IsUnsigned codec.wide number };
+
+    ghost spelling = { λ _ number. unsigned_varint number };
+
+    ghost one_rest = { λ codec. code_rest (unsigned_code codec.wide) };
+
+    fn front<'a>(&self, bytes: &'a [u8]) -> Option<(u64, &'a [u8])> {
+        match take_u64(bytes) {
             Ok((number, count)) => {
                 if self.in_range(number) {
                     Some((number, &bytes[count..]))
@@ -120,16 +93,16 @@ impl LexI {
             Err(_) => None,
         }
     }
+}
 
-    /// The number whose spelling is the whole slice.
-    fn read(&self, bytes: &[u8]) -> Option<i64>
-        ensures found { IfSome result (Spells (IsSigned self.now.wide) signed_varint bytes.now) }
-        ensures none { IsNone result → ¬ IsSpelled (IsSigned self.now.wide) signed_varint bytes.now }
-    {
-        let (number, rest) = self.front(bytes)?;
-        if rest.is_empty() { Some(number) } else { None }
-    }
+/// The codec of numbers of either sign, as signed varints.
+#[derive(Clone, Copy, Debug, PartialEq, Eq)]
+pub struct LexI {
+    /// Whether numbers have 64 bits, else 32.
+    pub wide: bool,
+}
 
+impl LexI {
     /// Whether the number has so many bits.
     fn in_range(&self, number: i64) -> bool
         ensures { IsTrue result ↔ IsSigned self.now.wide number }
@@ -160,11 +133,11 @@ impl Codec for LexI {
     }
 
     fn spelled(&self, bytes: &[u8]) -> bool {
-        self.read(bytes).is_some()
+        whole(self, bytes).is_some()
     }
 
     fn take(&self, _alloc: Global, bytes: &[u8]) -> Result<i64, TakeFault> {
-        self.read(bytes).ok_or(TakeFault::NotSpelled)
+        whole(self, bytes).ok_or(TakeFault::NotSpelled)
     }
 
     fn compare(&self, a: &i64, b: &i64) -> Ordering {
@@ -177,5 +150,31 @@ impl Codec for LexI {
 
     fn copy_codec(&self) -> Result<LexI, Memory> {
         Ok(*self)
+    }
+}
+
+impl Front for LexI {
+    ghost use Rattle.bag_model.proofs.Codes.{code_rest};
+    ghost use Rattle.bag_model.proofs.NumberCodes.{signed_code};
+
+    type Value = i64;
+
+    ghost fits = { λ codec number. IsSigned codec.wide number };
+
+    ghost spelling = { λ _ number. signed_varint number };
+
+    ghost one_rest = { λ codec. code_rest (signed_code codec.wide) };
+
+    fn front<'a>(&self, bytes: &'a [u8]) -> Option<(i64, &'a [u8])> {
+        match take_i64(bytes) {
+            Ok((number, count)) => {
+                if self.in_range(number) {
+                    Some((number, &bytes[count..]))
+                } else {
+                    None
+                }
+            }
+            Err(_) => None,
+        }
     }
 }

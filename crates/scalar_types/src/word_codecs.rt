@@ -11,6 +11,7 @@ ghost use Rattle.scalar_types.specs.WordCodecs.{form};
 use crate::codec::{Codec, TakeFault};
 use crate::escapes::{put_ended, skip_ended, take_ended};
 use crate::fixed_codecs::{Fixed, SignedFixed};
+use crate::fronts::Front;
 use crate::kinds::ScalarKind;
 use crate::plain_codecs::{Flag, Raw, Utf8};
 use crate::scalars::Scalar;
@@ -32,7 +33,7 @@ pub enum WordCodec {
 
 impl ScalarKind {
     /// The codec of a kind that is no struct.
-    pub fn word_codec(&self) -> WordCodec
+    pub(crate) fn word_codec(&self) -> WordCodec
         requires { IsWord self.now }
         ensures { form result ≡ form_of (word_of self.now) }
     {
@@ -150,7 +151,7 @@ impl WordCodec {
         match self {
             WordCodec::Utf8(codec) => {
                 let (text, rest) = take_ended(alloc, bytes)?;
-                Ok((Scalar::Str(codec.take(alloc, &text)?), rest))
+                Ok((Scalar::Str(codec.take_owned(text)?), rest))
             }
             WordCodec::Raw(_) => {
                 let (bytes, rest) = take_ended(alloc, bytes)?;

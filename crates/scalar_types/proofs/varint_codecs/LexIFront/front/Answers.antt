@@ -5,7 +5,7 @@ use Rattle.context_model.specs.Varints.{signed_varint}
 use Rattle.lex_varint.specs.Fronts.{IsSignedAt}
 use Rattle.bag_model.specs.Scalars.{IsSigned}
 use Rattle.scalar_types.proofs.VarintFronts.{signed_count, signed_begins, signed_at, signed_out, ok_is_no_err}
-use Rattle.scalar_types.proofs.varint_codecs.LexI.front.Goals as goal
+use Rattle.scalar_types.proofs.varint_codecs.LexIFront.front.Goals as goal
 
 pub slice_bounds-result-count : goal.slice_bounds-result-count
 slice_bounds-result-count c =
