@@ -1,1 +1,3 @@
 mod Pushed
+pub mod EntryLaws
+mod Searching

@@ -1,30 +1,26 @@
 //! Counts of writers.
 
-ghost use Rattle.std.specs.Prelude.{◌≡◌, ◌+◌, ◌<◌, ◌≤◌, ℕ, max, vec_len, vec_capacity, List, [], ◌∷◌, ◌++◌, length, sum_by, IfOk, OnOk, OnErr, slice_get};
+ghost use Rattle.std.specs.Prelude.{◌≡◌, ◌≤◌, ℕ, max, List, [], ◌∷◌, ◌++◌, length, sum_by, IfOk, OnOk, OnErr, slice_get};
 ghost use Rattle.std.specs.Option.{option_map};
-ghost use Rattle.std.specs.VecDeque.{deque_len};
-ghost use Rattle.context_model.specs.Merge.{AllBelow, Finds, IsUnion, brings, keys_of, later, merge_with};
+ghost use Rattle.context_model.specs.Merge.{AllBelow};
+ghost use Rattle.context_model.specs.KeyedMerge.{Finds, IsUnion, keys_of};
 ghost use Rattle.context_model.specs.Orders.{atom_cmp};
 ghost use Rattle.counter_type.specs.Counted.{IsCounted, counts_joined};
 
+use crate::entries::{copied_entries, join_entries};
+use crate::keys::Keys;
 use crate::lattice::Lattice;
-use crate::moves::{move_first, move_rest, room_for};
 use outside::{Memory, Octets};
 use std::alloc::Global;
 use std::cmp::Ordering;
-use std::collections::VecDeque;
 use std::marker::Model;
-use std::mem;
 
 /// The count of each of some writers. Contracts see it as the list of the writers with their counts, in the byte order
-/// of the writers, each once. All take their memory from one allocator, and a join keeps a writer's greatest count.
+/// of the writers, each once. A join keeps a writer's greatest count.
 #[derive(Drop)]
 pub struct Counts {
-    entries: Vec<Entry>,
+    entries: Vec<(Octets, u64)>,
 }
-
-/// A writer with its count.
-type Entry = (Octets, u64);
 
 impl Model for Counts {
     ghost use Rattle.std.specs.Prelude.{ℕ, List};
@@ -73,7 +69,13 @@ impl Counts {
     pub fn get(&self, writer: &[u8]) -> Option<u64>
         ensures { Finds self.now writer.now result }
     {
-        count_of(&self.entries, writer)
+        let found = self
+            .entries
+            .binary_search_by(|(held, _)| held.as_slice().cmp(writer));
+        match found {
+            Ok(place) => Some(self.entries[place].1),
+            Err(_) => None,
+        }
     }
 
     /// How many writers there are.
@@ -87,12 +89,8 @@ impl Counts {
     pub fn nth(&self, at: usize) -> Option<(&[u8], u64)>
         ensures { option_map (λ e. (e.0.now, e.1)) result ≡ slice_get self.now at }
     {
-        if at < self.entries.len() {
-            let (writer, count) = &self.entries[at];
-            Some((writer.as_slice(), *count))
-        } else {
-            None
-        }
+        let (writer, count) = self.entries.get(at)?;
+        Some((writer.as_slice(), *count))
     }
 
     /// Adds a writer, greater than each writer held, with its count. Want of memory leaves the counts unchanged.
@@ -104,6 +102,62 @@ impl Counts {
         let writer = Octets::of(*self.entries.allocator(), writer)?;
         self.entries.push((writer, count))?;
         Ok(())
+    }
+}
+
+/// A count. A join keeps the greater one, and 0 says nothing.
+impl Lattice for u64 {
+    ghost use Rattle.std.specs.Prelude.{◌≡◌, max};
+    ghost use Rattle.counter_type.specs.Counted.{IsCount, count_laws};
+
+    ghost proper = { IsCount };
+
+    ghost alike = { λ _ _. Unit {0} };
+
+    ghost joined = { max };
+
+    ghost bottom = { λ count. count ≡ 0 };
+
+    ghost laws = { count_laws };
+
+    fn join(&mut self, other: &u64) -> Result<(), Memory> {
+        *self = (*self).max(*other);
+        Ok(())
+    }
+
+    fn is_bottom(&self) -> bool {
+        *self == 0
+    }
+
+    fn copy(&self) -> Result<u64, Memory> {
+        Ok(*self)
+    }
+}
+
+/// Writers, in byte order.
+struct Writers;
+
+impl Keys for Writers {
+    ghost use Rattle.std.proofs.lemmas.Cmp.{nat_list_cmp_total};
+    ghost use Rattle.std.proofs.lemmas.Map.Lookups.{exact_bytes};
+    ghost use Rattle.context_model.specs.Orders.{atom_cmp};
+
+    type Key = Octets;
+
+    ghost fits = { λ _ _. Unit {0} };
+
+    ghost order = { λ _. atom_cmp };
+
+    ghost total = { λ _. nat_list_cmp_total };
+
+    ghost exact = { λ _ k j _ _ tie. exact_bytes k j tie };
+
+    fn compare(&self, a: &Octets, b: &Octets) -> Ordering {
+        a.as_slice().cmp(b.as_slice())
+    }
+
+    fn copy_key(&self, key: &Octets) -> Result<Octets, Memory> {
+        key.copy()
     }
 }
 
@@ -122,11 +176,7 @@ impl Lattice for Counts {
     ghost laws = { counts_laws };
 
     fn join(&mut self, other: &Counts) -> Result<(), Memory> {
-        let alloc = *self.entries.allocator();
-        let news = brought(alloc, &self.entries, &other.entries)?;
-        let room = room_for(alloc, self.entries.len(), news.len())?;
-        let entries = mem::replace(&mut self.entries, Vec::new(alloc));
-        self.entries = merged(VecDeque::from(entries), VecDeque::from(news), room);
+        join_entries(&Writers, &mut self.entries, &other.entries)?;
         Ok(())
     }
 
@@ -135,15 +185,15 @@ impl Lattice for Counts {
     }
 
     fn copy(&self) -> Result<Counts, Memory> {
-        let mut entries = Vec::new(*self.entries.allocator());
-        append(&mut entries, &self.entries)?;
+        let entries = copied_entries(*self.entries.allocator(), &Writers, &self.entries)?;
         Ok(Counts { entries })
     }
 }
 
 /// A join of counts is their union: the writers of both, and at a writer of both the greater count.
 pub fn counts_join_is_union()
-    ensures { (a b : List (List ℕ × ℕ)) → IsCounted a → IsCounted b → IsUnion max a b (counts_joined a b) }
+    ensures { (a b : List (List ℕ × ℕ)) → IsCounted a → IsCounted b
+        → IsUnion max a b (counts_joined a b) }
 {}
 
 /// The count as a part of a total.
@@ -152,92 +202,4 @@ fn widened(count: u64) -> u128
     ensures bound { result ≤ 18446744073709551615 }
 {
     u128::from(count)
-}
-
-/// The count of a writer among entries in order, by binary search.
-fn count_of(entries: &[Entry], writer: &[u8]) -> Option<u64>
-    requires { IsCounted entries.now }
-    ensures { Finds entries.now writer.now result }
-{
-    let mut low = 0;
-    let mut high = entries.len();
-    while low < high {
-        let middle = low + (high - low) / 2;
-        let (held, count) = &entries[middle];
-        match held.as_slice().cmp(writer) {
-            Ordering::Less => low = middle + 1,
-            Ordering::Equal => return Some(*count),
-            Ordering::Greater => high = middle,
-        }
-    }
-    None
-}
-
-/// What a join brings to our entries: a copy of each of theirs, with the greater count where we have the writer.
-fn brought(alloc: Global, ours: &[Entry], theirs: &[Entry]) -> Result<Vec<Entry>, Memory>
-    ensures { IfOk result (λ news. news.items ≡ brings atom_cmp max ours.now theirs.now) }
-{
-    let mut news = Vec::new(alloc);
-    let mut i = 0;
-    let mut j = 0;
-    while i < ours.len() && j < theirs.len() {
-        let (our_writer, our_count) = &ours[i];
-        let (writer, count) = &theirs[j];
-        match our_writer.as_slice().cmp(writer.as_slice()) {
-            Ordering::Less => i += 1,
-            Ordering::Equal => {
-                push_copy(&mut news, writer, (*our_count).max(*count))?;
-                i += 1;
-                j += 1;
-            }
-            Ordering::Greater => {
-                push_copy(&mut news, writer, *count)?;
-                j += 1;
-            }
-        }
-    }
-    append(&mut news, &theirs[j..])?;
-    Ok(news)
-}
-
-/// Both lists in one, in the order of their writers, moved into a list that has room for them. It takes no memory. At a
-/// writer of both the count of the news stands.
-fn merged(mut ours: VecDeque<Entry>, mut news: VecDeque<Entry>, room: Vec<Entry>) -> Vec<Entry>
-    requires empty { room.items ≡ [] }
-    requires capacity { deque_len ours + deque_len news ≤ vec_capacity room }
-    ensures { result.items ≡ merge_with atom_cmp later ours.items news.items }
-{
-    let mut entries = room;
-    while !ours.is_empty() && !news.is_empty() {
-        match ours[0].0.as_slice().cmp(news[0].0.as_slice()) {
-            Ordering::Less => move_first(&mut ours, &mut entries),
-            Ordering::Equal => {
-                ours[0].1 = news[0].1;
-                move_first(&mut ours, &mut entries);
-                let _ = news.pop_front();
-            }
-            Ordering::Greater => move_first(&mut news, &mut entries),
-        }
-    }
-    move_rest(ours, &mut entries);
-    move_rest(news, &mut entries);
-    entries
-}
-
-/// Adds copies of the entries at the end.
-fn append(into: &mut Vec<Entry>, entries: &[Entry]) -> Result<(), Memory>
-    ensures { OnOk result (into.new.items ≡ into.old.items ++ entries.now) }
-{
-    for (writer, count) in entries {
-        push_copy(into, writer, *count)?;
-    }
-    Ok(())
-}
-
-/// Adds a copy of the writer with a count at the end.
-fn push_copy(into: &mut Vec<Entry>, writer: &Octets, count: u64) -> Result<(), Memory>
-    ensures { OnOk result (into.new.items ≡ into.old.items ++ (writer.now, count) ∷ []) }
-{
-    into.push((writer.copy()?, count))?;
-    Ok(())
 }

@@ -76,6 +76,7 @@ pub fn joins_commute<L: Lattice>(a: &L, b: &L) -> Result<(L, L), Memory>
     ensures second { IfOk result (λ joins. joins.1 ≡ L.joined b.now a.now) }
     ensures same { IfOk result (λ joins. joins.0 ≡ joins.1) }
 {
+    // for the proof: these calls tell that the values are proper
     let _ = a.is_bottom();
     let _ = b.is_bottom();
     let mut first = a.copy()?;
@@ -94,6 +95,7 @@ pub fn joins_regroup<L: Lattice>(a: &L, b: &L, c: &L) -> Result<(L, L), Memory>
     ensures second { IfOk result (λ joins. joins.1 ≡ L.joined a.now (L.joined b.now c.now)) }
     ensures same { IfOk result (λ joins. joins.0 ≡ joins.1) }
 {
+    // for the proof: these calls tell that the values are proper
     let _ = a.is_bottom();
     let _ = b.is_bottom();
     let _ = c.is_bottom();
@@ -111,6 +113,7 @@ pub fn joins_regroup<L: Lattice>(a: &L, b: &L, c: &L) -> Result<(L, L), Memory>
 pub fn join_repeats<L: Lattice>(value: &L) -> Result<L, Memory>
     ensures { IfOk result (λ joined. joined ≡ value.now) }
 {
+    // for the proof: this call tells that the value is proper
     let _ = value.is_bottom();
     let mut joined = value.copy()?;
     joined.join(value)?;

@@ -1,11 +1,15 @@
-//! Values that are joined, and the counts of writers.
+//! Values that are joined, entries of keys with such values, and the counts of writers.
 #![tactic(auto)]
 
 mod counts;
+pub mod entries;
+mod keys;
 mod lattice;
-pub mod moves;
+mod moves;
+mod sharing;
 #[cfg(test)]
 mod tests;
 
 pub use counts::{Counts, counts_join_is_union};
+pub use keys::Keys;
 pub use lattice::{Lattice, join_repeats, joins_commute, joins_regroup, keeps_join_laws};

@@ -64,7 +64,13 @@ fn joins_of_counts(rt: HostRuntime) -> Result<(), Fail> {
     seen(&rt, &second, &[(b"a", 3), (b"b", 2), (b"c", 5)]);
     let (back, _) = joins_commute(&c, &a)?;
     seen(&rt, &back, &[(b"a", 3), (b"c", 5)]);
+    let mut alone = a.copy()?;
+    alone.join(&Counts::new(alloc))?;
+    seen(&rt, &alone, &[(b"a", 3), (b"c", 1)]);
     let _ = joins(&rt, &(), &(), &())?;
+    let (greatest, again) = joins(&rt, &3_u64, &5, &4)?;
+    assert_eq!(rt; (greatest, again), (5, 5));
+    assert!(rt; 0_u64.is_bottom() && !greatest.is_bottom());
     counts_join_is_union();
     Ok(())
 }
