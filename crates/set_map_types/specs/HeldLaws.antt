@@ -9,7 +9,8 @@ use Rattle.std.proofs.lemmas.Map.Lookups.{exact_bytes}
 use Rattle.scalar_types.specs.Spelling.{OneValue}
 use Rattle.counter_type.specs.Laws.{LatticeLaws}
 use Rattle.context_model.specs.Orders.{IsIn, Rises}
-use Rattle.context_model.specs.Merge.{greedy_merge, merge_with, keys_of, EachPair, IsAt, AtOneKey, AllBelow, IsUnion}
+use Rattle.context_model.specs.Merge.{greedy_merge, AllBelow}
+use Rattle.context_model.specs.KeyedMerge.{merge_with, keys_of, EachPair, IsAt, AtOneKey, IsUnion}
 use Rattle.context_model.proofs.Rising.{Rises-greedy, Rises-push}
 use Rattle.context_model.proofs.GreedyLaws.{greedy-comm, greedy-assoc, greedy-idem, greedy-from}
 use Rattle.context_model.proofs.Meets.{greedy-holds, with-union}

@@ -1,6 +1,6 @@
 use Rattle.std.specs.Prelude.{◌≡◌, ℕ, List, Option, Some, None}
 use Rattle.std.specs.declared.cmp.Ordering.{Ordering}
-use Rattle.context_model.specs.Orders.{by_order}
+use Rattle.context_model.specs.Merge.{first_of}
 use Rattle.set_map_types.specs.Held.{value_cmp}
 
 -- a codec, and one of its values or none
@@ -12,12 +12,6 @@ pub record HeldOne (C V : Type 0) : Type 0 where
 abbrev pub IfThere : {V : Type 0} → (V → Type 0) → Option V → Type 0
 IfThere P None = Unit {0}
 IfThere P (Some v) = P v
-
--- the one value, or of two values the one that comes first
-abbrev pub first_of : {V : Type 0} → (V → V → Ordering) → Option V → Option V → Option V
-first_of R None w = w
-first_of R (Some v) None = Some v
-first_of R (Some v) (Some w) = by_order (R v w) (Some v) (Some v) (Some w)
 
 abbrev pub one_proper : {C V : Type 0} → (C → V → Type 0) → HeldOne C V → Type 0
 one_proper fits s = IfThere (fits s.codec) s.value

@@ -6,7 +6,8 @@ use Rattle.std.specs.declared.cmp.Ordering.{Ordering}
 use Rattle.std.specs.declared.cmp.Ordering.TheVariants.{Less, Equal, Greater}
 use Rattle.std.proofs.Common.{refl, sym, ◌∙◌, ap, subst}
 use Rattle.counter_type.specs.Laws.{LatticeLaws}
-use Rattle.set_map_types.specs.Picked.{HeldOne, IfThere, first_of, one_proper, one_joined, SameCodecOfOne, IsAbsent}
+use Rattle.context_model.specs.Merge.{first_of}
+use Rattle.set_map_types.specs.Picked.{HeldOne, IfThere, one_proper, one_joined, SameCodecOfOne, IsAbsent}
 
 module _ {V : Type 0} (R : V → V → Ordering) (total : IsTotalOrder R) where
   picks_first : (v w : V) → R v w ≡ Less → first_of R (Some v) (Some w) ≡ Some v

@@ -1,10 +1,11 @@
 //! Scalars, sets and maps over any codec, as values that are joined.
 #![tactic(auto)]
 
-mod entries;
+mod codec_keys;
 mod least;
 mod map_of;
 mod set_of;
+mod sharing;
 #[cfg(test)]
 mod tests;
 

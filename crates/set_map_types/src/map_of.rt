@@ -3,11 +3,12 @@
 ghost use Rattle.std.specs.Prelude.{◌≡◌, ◌↔◌, List, [], ◌∷◌, length, IsTrue, IfOk};
 ghost use Rattle.std.specs.Option.{option_copied};
 ghost use Rattle.context_model.specs.Orders.{IsIn};
-ghost use Rattle.context_model.specs.Merge.{Finds, IsUnion, keys_of};
+ghost use Rattle.context_model.specs.KeyedMerge.{Finds, IsUnion, keys_of};
 ghost use Rattle.set_map_types.specs.Held.{Held, map_joined, map_proper};
 
-use crate::entries::{append, join_entries, value_at};
+use crate::codec_keys::CodecKeys;
 use counter_type::Lattice;
+use counter_type::entries::{copied_entries, join_entries, value_at};
 use outside::Memory;
 use scalar_types::Codec;
 use std::alloc::Global;
@@ -15,7 +16,8 @@ use std::marker::Model;
 
 /// A finite map from values of a codec to values that are joined. Contracts see it as its codec and the list of its
 /// entries, each key with its value, in the codec's order of the keys. Each key fits the codec. A join has the keys of
-/// both, and at a common key the join of the two values; it copies what comes, and moves what is there.
+/// both, and at a common key the join of the two values. It copies what comes and moves the keys that are there; at a
+/// common key it joins the coming value to a copy of the one that is there.
 #[derive(Drop)]
 pub struct MapOf<C: Codec, L: Lattice> {
     codec: C,
@@ -48,6 +50,7 @@ impl<C: Codec, L: Lattice> MapOf<C, L> {
         requires { C.fits codec key }
         ensures { IfOk result (λ map. (map.codec ≡ codec) × (map.items ≡ (key, value) ∷ [])) }
     {
+        // for the proof: it tells that the value is proper
         let _ = value.is_bottom();
         let mut entries = Vec::new(alloc);
         entries.push((key, value))?;
@@ -74,7 +77,7 @@ impl<C: Codec, L: Lattice> MapOf<C, L> {
         requires { C.fits self.now.codec key.now }
         ensures { Finds self.now.items key.now (option_copied result) }
     {
-        value_at(&self.codec, &self.entries, key)
+        value_at(&CodecKeys(&self.codec), &self.entries, key)
     }
 }
 
@@ -93,7 +96,7 @@ impl<C: Codec, L: Lattice> Lattice for MapOf<C, L> {
     ghost laws = { map_laws C.fits C.spelling C.one_value L.proper L.alike L.joined L.bottom L.laws };
 
     fn join(&mut self, other: &MapOf<C, L>) -> Result<(), Memory> {
-        join_entries(&self.codec, &mut self.entries, &other.entries)?;
+        join_entries(&CodecKeys(&self.codec), &mut self.entries, &other.entries)?;
         Ok(())
     }
 
@@ -103,8 +106,8 @@ impl<C: Codec, L: Lattice> Lattice for MapOf<C, L> {
 
     fn copy(&self) -> Result<MapOf<C, L>, Memory> {
         let codec = self.codec.copy_codec()?;
-        let mut entries = Vec::new(*self.entries.allocator());
-        append(&self.codec, &mut entries, &self.entries)?;
+        let alloc = *self.entries.allocator();
+        let entries = copied_entries(alloc, &CodecKeys(&self.codec), &self.entries)?;
         Ok(MapOf { codec, entries })
     }
 }

@@ -6,8 +6,9 @@ ghost use Rattle.context_model.specs.Orders.{IsIn};
 ghost use Rattle.context_model.specs.Merge.{AllBelow};
 ghost use Rattle.set_map_types.specs.Held.{Held, set_joined, set_proper, value_cmp};
 
-use crate::entries::{append, join_entries, value_at};
+use crate::codec_keys::CodecKeys;
 use counter_type::Lattice;
+use counter_type::entries::{copied_entries, join_entries, value_at};
 use outside::Memory;
 use scalar_types::Codec;
 use std::alloc::Global;
@@ -22,7 +23,7 @@ pub struct SetOf<C: Codec> {
 }
 
 impl<C: Codec> Model for SetOf<C> {
-    ghost use Rattle.context_model.specs.Merge.{keys_of};
+    ghost use Rattle.context_model.specs.KeyedMerge.{keys_of};
     ghost use Rattle.set_map_types.specs.Held.{Held, IsSet};
 
     ghost Value = { Held C C.Value };
@@ -65,18 +66,15 @@ impl<C: Codec> SetOf<C> {
         requires { C.fits self.now.codec value.now }
         ensures { IsTrue result ↔ IsIn value.now self.now.items }
     {
-        value_at(&self.codec, &self.entries, value).is_some()
+        value_at(&CodecKeys(&self.codec), &self.entries, value).is_some()
     }
 
     /// The value that has `at` values before it; `None` where there are not so many.
     pub fn get(&self, at: usize) -> Option<&C::Value>
         ensures { option_copied result ≡ slice_get self.now.items at }
     {
-        if at < self.entries.len() {
-            Some(&self.entries[at].0)
-        } else {
-            None
-        }
+        let (value, _) = self.entries.get(at)?;
+        Some(value)
     }
 
     /// Adds a value, which fits the codec and is greater than each value held. Want of memory leaves the set unchanged.
@@ -106,7 +104,7 @@ impl<C: Codec> Lattice for SetOf<C> {
     ghost laws = { set_laws C.fits C.spelling C.one_value };
 
     fn join(&mut self, other: &SetOf<C>) -> Result<(), Memory> {
-        join_entries(&self.codec, &mut self.entries, &other.entries)?;
+        join_entries(&CodecKeys(&self.codec), &mut self.entries, &other.entries)?;
         Ok(())
     }
 
@@ -116,8 +114,8 @@ impl<C: Codec> Lattice for SetOf<C> {
 
     fn copy(&self) -> Result<SetOf<C>, Memory> {
         let codec = self.codec.copy_codec()?;
-        let mut entries = Vec::new(*self.entries.allocator());
-        append(&self.codec, &mut entries, &self.entries)?;
+        let alloc = *self.entries.allocator();
+        let entries = copied_entries(alloc, &CodecKeys(&self.codec), &self.entries)?;
         Ok(SetOf { codec, entries })
     }
 }

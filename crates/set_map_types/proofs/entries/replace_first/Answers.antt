@@ -1,5 +1,0 @@
-use Rattle.std.proofs.Common.{rules}
-use Rattle.set_map_types.proofs.entries.replace_first.Goals as goal
-
-pub returns-in-Some-pop_front-clause-moved : goal.returns-in-Some-pop_front-clause-moved
-returns-in-Some-pop_front-clause-moved g c = (c.in-Some.our, c.in-Some-pop_front.new, c.in-Some.ensures.items, c.in-Some-pop_front.ensures.items, search rules)
