@@ -5,8 +5,10 @@ use Rattle.std.specs.List.{slice_get}
 use Rattle.std.specs.Option.{option_map}
 use Rattle.std.proofs.lemmas.List.{length-map}
 use Rattle.std.proofs.lemmas.Option.{slice_get-map, slice_get_within}
+use Rattle.bag_model.specs.declared.TheConstants.{MAX_FIELDS}
 use Rattle.bag_model.specs.Shapes as model
-use Rattle.bag_model.specs.Slots.{slots_of, slot_count, starts, IsSplit, FindsField}
+use Rattle.bag_model.specs.Slots.{slots_of, slot_count, starts, FindsField}
+use Rattle.field_table.specs.Paths.{IsSplit}
 use Rattle.bag_model.specs.Tables.{IsTable}
 use Rattle.bag_model.proofs.SlotLaws.{slots_few}
 use Rattle.bag_model.proofs.PathLaws.{reached_bound}
@@ -67,5 +69,5 @@ pub count_of : (s : Slots) → IsTable (nodes_of s) → capped (length (slots_of
 count_of s table = omega (arith, slots_few (nodes_of s), table.small)
 
 -- The count of the slots of a field that is found.
-pub counted : (nodes : model.Nodes) (path : List ℕ) (before : ℕ) (shape : model.Shape) → length (slots_of nodes) ≤ 16384 → FindsField nodes path (Some (before, shape)) → capped (slot_count shape) ≡ slot_count shape
+pub counted : (nodes : model.Nodes) (path : List ℕ) (before : ℕ) (shape : model.Shape) → length (slots_of nodes) ≤ MAX_FIELDS → FindsField nodes path (Some (before, shape)) → capped (slot_count shape) ≡ slot_count shape
 counted nodes path before shape small found = omega (arith, small, reached_bound nodes found.0 found.1 before shape found.3)

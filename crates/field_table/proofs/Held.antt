@@ -7,7 +7,7 @@ use Rattle.std.proofs.lemmas.Option.{slice_get-get_or, slice_get-map}
 use Rattle.std.proofs.lemmas.Bool.{cases_lt}
 use Rattle.std.proofs.lemmas.List.{length-map}
 use Rattle.bag_model.specs.Shapes as model
-use Rattle.bag_model.specs.Slots.{Slot as SlotAt, slots_of, slots_in, slot_count, starts, within, dotted, name_path}
+use Rattle.bag_model.specs.Slots.{SlotAt, slots_of, slots_in, slot_count, starts, within, dotted, name_path}
 use Rattle.bag_model.specs.Tables.{IsShape, levels, levels_under, nodes_under, node_count}
 use Rattle.bag_model.proofs.SlotLaws.{slots_list, slots_of-list, slot_there, starts-zero, length-slots, get_front, get_back}
 use Rattle.bag_model.proofs.PathLaws.{is_field}
@@ -30,7 +30,8 @@ shape_bag inner = ap kept_shape (sym (variants.rolls-Bag inner)) ∙ fold-roll-S
 pub field_open : (x : Slot) → kept_field x ≡ record { name = x.name; number = x.number; shape = kept_shape x.shape }
 field_open x = fold_out-Slot Kept KeptField KeptBag shape_step slot_step slots_step x
 
-field_is : (x : Slot) → field_of x ≡ record { name = x.name; number = x.number; shape = shape_of x.shape }
+-- A field of the code as a plain one.
+pub field_is : (x : Slot) → field_of x ≡ record { name = x.name; number = x.number; shape = shape_of x.shape }
 field_is x = ap (λ (k : KeptField). record { name = k.name; number = k.number; shape = plain k.shape }) (field_open x)
 
 -- The item at a place is the field there.

@@ -4,6 +4,7 @@ pub mod Ends
 pub mod Held
 pub mod Dots
 pub mod Found
+pub mod PathFinding
 pub mod Sets
 pub mod Places
 pub mod Pushed

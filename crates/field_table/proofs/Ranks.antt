@@ -1,10 +1,11 @@
 -- Names in order: what one comparison says of all places on its one side.
-use Rattle.std.proofs.Common.{◌≡◌, ◌⊎◌, inl, inr, ℕ, ◌+◌, ◌<◌, ◌≤◌, suc, List, [], ◌∷◌, length, get_or, Some, None, refl, sym, ◌∙◌, ap, subst, arith}
+use Rattle.std.proofs.Common.{◌≡◌, ◌⊎◌, inl, inr, ℕ, ◌+◌, ◌<◌, ◌≤◌, zero, suc, Bool, true, false, List, [], ◌∷◌, length, get_or, Some, None, refl, sym, ◌∙◌, ap, subst, arith}
 use Rattle.std.specs.Prelude.{◌≢◌}
 use Rattle.std.specs.Cmp.{tied_itself}
 use Rattle.std.specs.Cmp.Lexicographic.{slice_cmp}
-use Rattle.std.specs.List.{slice_get, slice_index}
-use Rattle.std.specs.Ordering.{nat_cmp}
+use Rattle.std.specs.List.{slice_get, slice_index, slice_index_or}
+use Rattle.std.specs.List.Sorted.{IsPartitionedBy, IsPartitionPoint}
+use Rattle.std.specs.Ordering.{nat_cmp, is_lt}
 use Rattle.std.specs.declared.cmp.Ordering.{Ordering}
 use Rattle.std.specs.declared.cmp.Ordering.TheVariants.{Less, Equal, Greater}
 use Rattle.std.proofs.lemmas.Bool.{cases_lt}
@@ -48,6 +49,39 @@ less_before names places name m order h less k below = not_behind (ranked names 
 pub not_less_behind : (names : List (List ℕ)) (places : List ℕ) (name : List ℕ) (m : ℕ) → IsNameOrder names places → m < length places → name_cmp (ranked names places m) name ≢ Less
     → (k : ℕ) → m ≤ k → k < length places → name_cmp (ranked names places k) name ≢ Less
 not_less_behind names places name m order h more k above within less = more (not_behind (ranked names places m) (ranked names places k) name (sorted_upto names places order m k above within) less)
+
+is_less : (o : Ordering) → is_lt o ≡ true → o ≡ Less
+is_less Less e = refl
+is_less Equal e = absurd (cc e)
+is_less Greater e = absurd (cc e)
+
+is_not_less : (o : Ordering) → is_lt o ≡ false → o ≢ Less
+is_not_less o e less = let bad : true ≡ false = ap is_lt (sym less) ∙ e in cc bad
+
+any_default : (places : List ℕ) (i d : ℕ) → i < length places → slice_index_or places i d ≡ slice_index places i
+any_default [] i d h = absurd (omega arith)
+any_default (p ∷ places) zero d h = refl
+any_default (p ∷ places) (suc i) d h = any_default places i d (omega arith)
+
+-- The name at a place is less than this one.
+abbrev pub comes_before : List (List ℕ) → List ℕ → ℕ → Bool
+comes_before names name place = is_lt (name_cmp (get_or names place []) name)
+
+-- In the order of names the lesser names come first.
+pub lesser_first : (names : List (List ℕ)) (places : List ℕ) (name : List ℕ) → IsNameOrder names places → IsPartitionedBy (comes_before names name) places
+lesser_first names places name order i j d upto within before =
+    let there : comes_before names name (slice_index places j) ≡ true = ap (comes_before names name) (sym (any_default places j d within)) ∙ before in
+    let less = less_before names places name j order within (is_less (name_cmp (ranked names places j) name) there) i (omega arith) in
+    ap (comes_before names name) (any_default places i d (omega arith)) ∙ ap is_lt less
+
+-- As many names come before this one as stand up to there.
+pub rank_there : (names : List (List ℕ)) (places : List ℕ) (name : List ℕ) (rank : ℕ) → rank ≤ length places
+    → IsPartitionPoint (λ place. comes_before names name place ≡ true) (λ place. comes_before names name place ≡ false) places rank → IsRank names places name rank
+rank_there names places name rank bound point = record {
+  within = bound;
+  before = λ k less. is_less (name_cmp (ranked names places k) name) (ap (comes_before names name) (sym (any_default places k 0 (omega arith))) ∙ point.0 k 0 (omega arith) less);
+  behind = λ k above within. is_not_less (name_cmp (ranked names places k) name) (ap (comes_before names name) (sym (any_default places k 0 within)) ∙ point.1 k 0 above within);
+}
 
 -- Where a place stands in a list.
 pub record StandsAt (place : ℕ) (places : List ℕ) : Type 0 where

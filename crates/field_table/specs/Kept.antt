@@ -5,12 +5,14 @@ use Rattle.std.specs.Cmp.Lexicographic.{slice_cmp}
 use Rattle.std.specs.Ordering.{nat_cmp}
 use Rattle.std.specs.declared.cmp.Ordering.TheVariants.{Less, Greater}
 use Rattle.context_model.specs.Orders.{IsIn}
+use Rattle.bag_model.specs.declared.TheConstants.{MAX_FIELDS}
 use Rattle.bag_model.specs.Scalars as scalars
 use Rattle.bag_model.specs.Shapes as model
 use Rattle.bag_model.specs.Slots.{slot_count, slots_of, starts}
 use Rattle.bag_model.specs.Tables.{AreFields}
 
 mutual
+  -- A shape, with the indexes of all bags in it.
   pub data Kept : Type 0 where
     Taint : Kept
     Scalar : scalars.ScalarKind → Kept
@@ -23,6 +25,7 @@ mutual
   pub data KeptBag : Type 0 where
     kept : KeptNodes → List ℕ → List ℕ → KeptBag
 
+  -- The fields, each with its name, its number and its shape.
   pub data KeptNodes : Type 0 where
     no_node : KeptNodes
     node : List ℕ → ℕ → Kept → KeptNodes → KeptNodes
@@ -125,7 +128,7 @@ pub record IsReady (bag : KeptBag) : Type 0 where
   pub fields : AreFields (plain_bag bag)
   pub indexed : IsKeptBag bag
   pub in_order : IsInOrder bag
-  pub small : length (slots_of (plain_bag bag)) ≤ 16384
+  pub small : length (slots_of (plain_bag bag)) ≤ MAX_FIELDS
 
 -- How many slots there are before the field at this place, as the ends say.
 abbrev pub start_at : List ℕ → ℕ → ℕ

@@ -1,3 +1,4 @@
+pub mod Paths
 pub mod Kept
 pub mod Plain
 pub mod Views

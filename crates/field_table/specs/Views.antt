@@ -3,6 +3,7 @@ use Rattle.bag_model.specs.Views as model
 use Rattle.field_table.specs.declared.views.View.{View}
 use Rattle.field_table.specs.declared.views.View.TheVariants.{All, Nothing, Only}
 
+-- The plain view.
 abbrev pub view_of : View → model.View
 view_of All = model.View.All
 view_of Nothing = model.View.Nothing

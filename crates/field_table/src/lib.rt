@@ -1,6 +1,7 @@
 //! Tables: the fields of a bag with all nested bags in place, their slots, and the views of services.
 #![tactic(auto)]
 
+mod laws;
 mod shapes;
 mod sharing;
 mod slot_paths;
@@ -9,8 +10,8 @@ mod tables;
 mod tests;
 mod views;
 
+pub use laws::{name_paths_differ, ranges_are_exact};
 pub use shapes::{Shape, Slot, Slots};
-pub use sharing::{cross_threads, views_cross_threads};
 pub use slot_paths::SlotPath;
 pub use tables::Table;
 pub use views::{SlotSet, View};

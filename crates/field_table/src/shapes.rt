@@ -7,18 +7,22 @@ ghost use Rattle.std.specs.Cmp.Lexicographic.{slice_cmp};
 ghost use Rattle.std.specs.Ordering.{nat_cmp};
 ghost use Rattle.std.specs.declared.cmp.Ordering.TheVariants.{Less};
 ghost use Rattle.bag_model.specs.Shapes.{fields, no_node};
-ghost use Rattle.bag_model.specs.Slots.{slots_of, slot_count, name_path, FindsField, IsOnly, IsSplit, HasNoDot};
+ghost use Rattle.bag_model.specs.Slots.{slots_of, slot_count, name_path, FindsField};
+ghost use Rattle.bag_model.specs.Words.{HasNoDot};
+ghost use Rattle.field_table.specs.Paths.{IsOnly, IsSplit};
 ghost use Rattle.bag_model.specs.Tables.{levels};
 ghost use Rattle.field_table.specs.Kept.{capped, ends_of, HasPlaces, IsKept, IsNameOrder, IsPlaceOf, IsRank, IsReady, Holds, start_at};
 ghost use Rattle.field_table.specs.Plain.{shape_of, kept_shape, name_of, field_of, nodes_of, kept_bag, IsIndexed, IsIndexedShape, IsIndexedField, IsOrdered};
 
 use crate::slot_paths::SlotPath;
+use bag_model::MAX_LEVELS;
 use outside::{Memory, Text};
 use scalar_types::ScalarKind;
 use std::alloc::Global;
 use std::cmp::Ordering;
 
-/// A field of a bag.
+/// A field of a bag, which may be a bag itself. A slot of a table is a field that is no bag, seen with its path from the
+/// outermost bag on: calls of `Table` know it by its number.
 #[cycle(shape)]
 #[derive(Drop)]
 pub struct Slot {
@@ -40,7 +44,8 @@ pub enum Shape {
     Bag(Slots),
 }
 
-/// The fields of a bag, in order. Indexes find a field by its name and by the number of a slot.
+/// The fields of a bag, in order, those that are bags among them. Indexes find a field by its name and by the number of a
+/// slot.
 #[cycle(shape)]
 #[derive(Drop)]
 pub struct Slots {
@@ -186,7 +191,7 @@ impl Slots {
     pub(crate) fn put_numbers(&self, slot: usize, path: &mut SlotPath)
         requires ready { IsReady (kept_bag self.now) }
         requires slot { slot < length (slots_of (nodes_of self.now)) }
-        requires room { length path.old + levels (nodes_of self.now) ≤ 16 }
+        requires room { length path.old + levels (nodes_of self.now) ≤ MAX_LEVELS }
         ensures { Some path.new ≡ option_map (λ found. path.old ++ found.numbers) (slice_get (slots_of (nodes_of self.now)) slot) }
     {
         let place = self.place_holding(slot);
@@ -293,17 +298,7 @@ fn rank_of(items: &[Slot], by_name: &[usize], name: &[u8]) -> usize
     ensures bound { result ≤ length by_name.now }
     ensures rank { IsNameOrder (map name_of items.now) by_name.now → IsRank (map name_of items.now) by_name.now name.now result }
 {
-    let mut low = 0;
-    let mut high = by_name.len();
-    while low < high {
-        let middle = low + (high - low) / 2;
-        if name_at(items, by_name[middle]).cmp(name).is_lt() {
-            low = middle + 1;
-        } else {
-            high = middle;
-        }
-    }
-    low
+    by_name.partition_point(|place| name_at(items, *place).cmp(name).is_lt())
 }
 
 /// The place of the field with this name.

@@ -9,7 +9,7 @@ use crate::views::{SlotSet, View};
 fn crosses_threads<T: Send + Sync>(_value: &T) {}
 
 /// Compiles as long as tables with their fields and shapes, paths of slots, and views may be sent and shared.
-pub fn cross_threads(table: &Table, slots: &Slots, slot: &Slot, shape: &Shape, path: &SlotPath) {
+fn tables_cross_threads(table: &Table, slots: &Slots, slot: &Slot, shape: &Shape, path: &SlotPath) {
     crosses_threads(table);
     crosses_threads(slots);
     crosses_threads(slot);
@@ -18,7 +18,7 @@ pub fn cross_threads(table: &Table, slots: &Slots, slot: &Slot, shape: &Shape, p
 }
 
 /// The same of views and their sets of slots.
-pub fn views_cross_threads(view: &View, set: &SlotSet) {
+fn views_cross_threads(view: &View, set: &SlotSet) {
     crosses_threads(view);
     crosses_threads(set);
 }

@@ -1,13 +1,14 @@
 //! The numbers on the way to a slot.
 
-ghost use Rattle.std.specs.Prelude.{◌≡◌, ◌<◌, [], ◌∷◌, ◌++◌, length};
+ghost use Rattle.std.specs.Prelude.{◌≡◌, ◌<◌, ◌≤◌, [], ◌∷◌, ◌++◌, length};
 
+use bag_model::MAX_LEVELS;
 use std::marker::Model;
 
-/// The numbers of the fields on the way to a slot, from the outermost bag on: at most 16. It takes no memory.
+/// The numbers of the fields on the way to a slot, from the outermost bag on: at most `MAX_LEVELS`. It takes no memory.
 #[derive(Drop)]
 pub struct SlotPath {
-    numbers: [u64; 16],
+    numbers: [u64; MAX_LEVELS],
     len: usize,
 }
 
@@ -16,9 +17,11 @@ impl Model for SlotPath {
 
     ghost Value = { List ℕ };
 
+    ghost use Rattle.bag_model.specs.declared.TheConstants.{MAX_LEVELS};
+
     ghost view = { λ path. take path.len path.numbers };
 
-    ghost invariant = { λ path. path.len ≤ 16 };
+    ghost invariant = { λ path. path.len ≤ MAX_LEVELS };
 }
 
 impl SlotPath {
@@ -27,14 +30,14 @@ impl SlotPath {
         ensures { result ≡ [] }
     {
         SlotPath {
-            numbers: [0; 16],
+            numbers: [0; MAX_LEVELS],
             len: 0,
         }
     }
 
     /// Adds a number at the end.
     pub(crate) fn push(&mut self, number: u64)
-        requires { length self.old < 16 }
+        requires { length self.old < MAX_LEVELS }
         ensures { self.new ≡ self.old ++ number ∷ [] }
     {
         self.numbers[self.len] = number;
@@ -43,7 +46,8 @@ impl SlotPath {
 
     /// The numbers, that of the outermost field first.
     pub fn as_slice(&self) -> &[u64]
-        ensures { result.now ≡ self.now }
+        ensures numbers { result.now ≡ self.now }
+        ensures few { length self.now ≤ MAX_LEVELS }
     {
         &self.numbers[..self.len]
     }

@@ -90,7 +90,8 @@ impl Table {
         self.nodes.shape_at(slot)
     }
 
-    /// The numbers of the fields on the way to a slot, that of the outermost field first: at most 16. It takes no memory.
+    /// The numbers of the fields on the way to a slot, that of the outermost field first: at most `MAX_LEVELS`. It takes
+    /// no memory.
     pub fn numbers(&self, slot: usize) -> SlotPath
         requires { slot < length (slots_of self.now) }
         ensures { Some result ≡ option_map (λ found. found.numbers) (slice_get (slots_of self.now) slot) }
@@ -107,6 +108,6 @@ impl Table {
     {
         let mut path = String::new(alloc);
         self.nodes.put_name(slot, &mut path)?;
-        Text::of(alloc, path.as_str())
+        Text::from_string(path)
     }
 }

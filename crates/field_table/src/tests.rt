@@ -4,7 +4,7 @@ ghost use Rattle.std.specs.Prelude.{◌≡◌, ◌++◌, [], ◌∷◌, OnOk};
 ghost use Rattle.bag_model.specs.Shapes.{fields};
 ghost use Rattle.field_table.specs.Plain.{nodes_of, shape_of, IsIndexed, IsIndexedShape};
 
-use crate::{Shape, Slot, SlotSet, Slots, Table, View};
+use crate::{Shape, Slot, SlotSet, Slots, Table, View, name_paths_differ, ranges_are_exact};
 use outside::{Memory, Text};
 use scalar_types::ScalarKind;
 use std::alloc::Global;
@@ -91,6 +91,8 @@ fn slots_of_nested_bags(rt: HostRuntime) -> Result<(), Fail> {
     assert!(rt; table.numbers(0).as_slice() == [1, 2].as_slice());
     assert!(rt; table.name(alloc, 0)?.as_str() == "sub.ok");
     assert!(rt; matches!(table.shape(0), Shape::Scalar(ScalarKind::Bool)));
+    name_paths_differ();
+    ranges_are_exact();
     Ok(())
 }
 

@@ -1,5 +1,5 @@
 use Rattle.std.proofs.Common.{sym, subst, arith}
-use Rattle.bag_model.specs.Slots.{HasNoDot}
+use Rattle.bag_model.specs.Words.{HasNoDot}
 use Rattle.field_table.proofs.Dots.{before_no_dot, all_no_dot}
 use Rattle.field_table.proofs.shapes.split_name.Goals as goal
 

@@ -2,8 +2,9 @@ use Rattle.std.proofs.Common.{◌≡◌, ℕ, ◌+◌, ◌++◌, Bor, List, ◌�
 use Rattle.std.specs.List.{slice_get}
 use Rattle.std.specs.Option.{option_map}
 use Rattle.bag_model.specs.Shapes as model
-use Rattle.bag_model.specs.Slots.{FindsField, IsSplit}
-use Rattle.bag_model.proofs.PathLaws.{finds_none, finds_only, finds_own, finds_inside, nothing_inside, nothing_in_bag, only_there, own_alone, inside_alone}
+use Rattle.bag_model.specs.Slots.{FindsField}
+use Rattle.field_table.specs.Paths.{IsSplit}
+use Rattle.field_table.proofs.PathFinding.{finds_none, finds_only, finds_own, finds_inside, nothing_inside, nothing_in_bag, only_there, own_alone, inside_alone}
 use Rattle.bag_model.proofs.SlotLaws.{starts-bound, slots_of-list}
 use Rattle.field_table.specs.declared.shapes.Shape.TheViews.{out-Slots}
 use Rattle.field_table.specs.declared.shapes.Slot.{Slot}

@@ -1,7 +1,7 @@
 use Rattle.std.proofs.Common.{◌≡◌, ℕ, ◌-◌, ◌++◌, List, [], ◌∷◌, Some, sym, ◌∙◌, ap, arith, string_bytes}
 use Rattle.std.specs.List.{slice_get}
 use Rattle.std.specs.Option.{option_map}
-use Rattle.bag_model.specs.Slots.{slots_of, name_path, Slot as SlotAt}
+use Rattle.bag_model.specs.Slots.{slots_of, name_path, SlotAt}
 use Rattle.field_table.specs.declared.shapes.Shape.TheViews.{out-Slots}
 use Rattle.field_table.specs.Plain.{nodes_of}
 use Rattle.field_table.proofs.Opened.{length_fields}

@@ -2,7 +2,7 @@ use Rattle.std.proofs.Common.{◌≡◌, ℕ, ◌-◌, ◌++◌, List, [], ◌�
 use Rattle.std.specs.List.{slice_get}
 use Rattle.std.specs.Option.{option_map}
 use Rattle.std.proofs.lemmas.List.{length-append}
-use Rattle.bag_model.specs.Slots.{slots_of, Slot as SlotAt}
+use Rattle.bag_model.specs.Slots.{slots_of, SlotAt}
 use Rattle.field_table.specs.declared.shapes.Shape.TheViews.{out-Slots}
 use Rattle.field_table.specs.Plain.{nodes_of}
 use Rattle.field_table.proofs.Opened.{length_fields}

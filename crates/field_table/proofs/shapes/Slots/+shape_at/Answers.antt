@@ -1,6 +1,6 @@
 use Rattle.std.proofs.Common.{◌≡◌, ℕ, ◌-◌, ◌<◌, length, sym, ◌∙◌, ap, subst, arith}
 use Rattle.bag_model.specs.Shapes as model
-use Rattle.bag_model.specs.Slots.{starts, slots_of, slots_in, slot_count, within, Slot as SlotAt}
+use Rattle.bag_model.specs.Slots.{starts, slots_of, slots_in, slot_count, within, SlotAt}
 use Rattle.field_table.specs.declared.shapes.Shape.TheViews.{out-Slots}
 use Rattle.std.specs.List.{slice_get}
 use Rattle.std.specs.Option.{option_map}

@@ -1,7 +1,8 @@
 use Rattle.std.proofs.Common.{◌≡◌, ℕ, Option, Some, None, sym, ◌∙◌, ap, subst}
 use Rattle.bag_model.specs.Shapes as model
 use Rattle.bag_model.specs.Slots.{FindsSlot}
-use Rattle.bag_model.proofs.SlotPaths.{finds_slot, finds_no_slot, bag_no_slot}
+use Rattle.bag_model.proofs.SlotPaths.{finds_slot, finds_no_slot}
+use Rattle.field_table.proofs.PathFinding.{bag_no_slot}
 use Rattle.field_table.specs.Kept.{plain}
 use Rattle.field_table.specs.Plain.{nodes_of, shape_of}
 use Rattle.field_table.proofs.Held.{shape_bag, no_bag}
