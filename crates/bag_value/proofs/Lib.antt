@@ -1,0 +1,4 @@
+pub mod Known
+pub mod ListLaws
+pub mod Unions
+pub mod Joining

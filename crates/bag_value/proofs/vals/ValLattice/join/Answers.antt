@@ -1,0 +1,7 @@
+use Rattle.std.proofs.Common.{sym, ap, ◌∙◌}
+use Rattle.bag_value.specs.Plain.{val_of}
+use Rattle.bag_value.specs.PlainLaws.{val_back}
+use Rattle.bag_value.proofs.vals.ValLattice.join.Goals as goal
+
+pub returns-clause-ok : goal.returns-clause-ok
+returns-clause-ok c = sym (val_back c.in_ok-joined.joined) ∙ ap val_of c.in_ok-joined.ensures

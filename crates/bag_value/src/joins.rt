@@ -1,0 +1,144 @@
+//! Joins of values, built from copies, so that want of memory leaves what is joined unchanged.
+
+ghost use Rattle.std.specs.Prelude.{◌≡◌, ◌++◌, IfOk, OnOk};
+ghost use Rattle.std.specs.Option.{option_map};
+ghost use Rattle.context_model.specs.Merge.{first_of};
+ghost use Rattle.bag_model.specs.Joins.{Alike, AlikeEntries, AreAlike, join, join_entries, join_values};
+ghost use Rattle.bag_model.specs.Scalars.{scalar_cmp};
+ghost use Rattle.scalar_types.specs.KindViews.{kind_of};
+ghost use Rattle.scalar_types.specs.ScalarViews.{value_of};
+ghost use Rattle.bag_value.specs.Plain.{plain};
+
+use crate::lists::{Entries, Entry, Vals};
+use crate::vals::{ScalarSet, Val};
+use counter_type::{Counts, Lattice};
+use outside::Memory;
+use scalar_types::Scalar;
+use std::cmp::Ordering;
+
+impl Val {
+    /// The join of both.
+    #[cycle(join)]
+    pub(crate) fn joined(&self, other: &Val) -> Result<Val, Memory>
+        requires { Alike (plain self.now) (plain other.now) }
+        ensures { IfOk result (λ joined. plain joined ≡ join (plain self.now) (plain other.now)) }
+    {
+        match (self, other) {
+            (Val::Taint(ours), Val::Taint(theirs)) => Ok(Val::Taint(*ours || *theirs)),
+            (Val::Scalar(ours), Val::Scalar(theirs)) => {
+                Ok(Val::Scalar(first_scalar(ours, theirs)?))
+            }
+            (Val::Set(ours), Val::Set(theirs)) => Ok(Val::Set(union_of(ours, theirs)?)),
+            (Val::Counter(ours), Val::Counter(theirs)) => {
+                Ok(Val::Counter(greater_counts(ours, theirs)?))
+            }
+            (Val::Map(ours), Val::Map(theirs)) => Ok(Val::Map(ours.joined(theirs)?)),
+            (Val::Bag(ours), Val::Bag(theirs)) => Ok(Val::Bag(ours.joined(theirs)?)),
+            _ => unreachable!(),
+        }
+    }
+}
+
+impl Entries {
+    /// The keys of both, and at a common key the join of its values.
+    #[cycle(join)]
+    fn joined(&self, other: &Entries) -> Result<Entries, Memory>
+        requires { AlikeEntries self.now other.now }
+        ensures { IfOk result (λ joined. joined ≡ join_entries self.now other.now) }
+    {
+        let ours = self.items.as_slice();
+        let theirs = other.items.as_slice();
+        let mut items = Vec::with_capacity(*self.items.allocator(), ours.len())?;
+        let mut i = 0;
+        let mut j = 0;
+        while i < ours.len() && j < theirs.len() {
+            let our = &ours[i];
+            let their = &theirs[j];
+            match our.key.order(&their.key) {
+                Ordering::Less => {
+                    items.push(our.copy()?)?;
+                    i += 1;
+                }
+                Ordering::Equal => {
+                    let key = our.key.copy()?;
+                    let value = our.value.joined(&their.value)?;
+                    items.push(Entry { key, value })?;
+                    i += 1;
+                    j += 1;
+                }
+                Ordering::Greater => {
+                    items.push(their.copy()?)?;
+                    j += 1;
+                }
+            }
+        }
+        append(&mut items, &ours[i..])?;
+        append(&mut items, &theirs[j..])?;
+        Ok(Entries { items })
+    }
+}
+
+impl Vals {
+    /// The joins of both, field by field.
+    #[cycle(join)]
+    fn joined(&self, other: &Vals) -> Result<Vals, Memory>
+        requires { AreAlike self.now other.now }
+        ensures { IfOk result (λ joined. joined ≡ join_values self.now other.now) }
+    {
+        let ours = self.items.as_slice();
+        let theirs = other.items.as_slice();
+        let mut items = Vec::with_capacity(*self.items.allocator(), ours.len())?;
+        for at in 0..ours.len() {
+            items.push(ours[at].joined(&theirs[at])?)?;
+        }
+        Ok(Vals { items })
+    }
+}
+
+/// Adds copies of the entries at the end.
+fn append(into: &mut Vec<Entry>, entries: &[Entry]) -> Result<(), Memory>
+    ensures { OnOk result (into.new.items ≡ into.old.items ++ entries.now) }
+{
+    for entry in entries {
+        into.push(entry.copy()?)?;
+    }
+    Ok(())
+}
+
+/// The scalar that comes first, of those that are there.
+fn first_scalar(ours: &Option<Scalar>, theirs: &Option<Scalar>) -> Result<Option<Scalar>, Memory>
+    ensures { IfOk result (λ first. option_map value_of first ≡ first_of scalar_cmp (option_map value_of ours.now) (option_map value_of theirs.now)) }
+{
+    match (ours, theirs) {
+        (None, None) => Ok(None),
+        (Some(our), None) => Ok(Some(our.copy()?)),
+        (None, Some(their)) => Ok(Some(their.copy()?)),
+        (Some(our), Some(their)) => match our.order(their) {
+            Ordering::Less => Ok(Some(our.copy()?)),
+            Ordering::Equal => Ok(Some(our.copy()?)),
+            Ordering::Greater => Ok(Some(their.copy()?)),
+        },
+    }
+}
+
+/// The elements of both sets, which are of one kind.
+fn union_of(ours: &ScalarSet, theirs: &ScalarSet) -> Result<ScalarSet, Memory>
+    requires { kind_of ours.now.codec ≡ kind_of theirs.now.codec }
+    ensures { IfOk result (λ union. plain (Val.Set union) ≡ join (plain (Val.Set ours.now)) (plain (Val.Set theirs.now))) }
+{
+    // These tell the proof that the elements are in order.
+    let _ = ours.is_bottom();
+    let _ = theirs.is_bottom();
+    let mut union = ours.copy()?;
+    union.join(theirs)?;
+    Ok(union)
+}
+
+/// The writers of both, each with its greater count.
+fn greater_counts(ours: &Counts, theirs: &Counts) -> Result<Counts, Memory>
+    ensures { IfOk result (λ counts. plain (Val.Counter counts) ≡ join (plain (Val.Counter ours.now)) (plain (Val.Counter theirs.now))) }
+{
+    let mut counts = ours.copy()?;
+    counts.join(theirs)?;
+    Ok(counts)
+}
