@@ -8,79 +8,79 @@ pub record Form (T A : Type 0) : Type 1 where
   pub reads : List T → A → List T → Type 0
   pub begins : List T → Type 0
 
--- the list has a first token, which says this
+-- The list has a first token, which says this.
 pub record IsOne {T A : Type 0} (meant : T → Option A) (ts : List T) (a : A) (rest : List T) : Type 0 where
   pub first : T
   pub is : ts ≡ first ∷ rest
   pub means : meant first ≡ Some a
 
--- no token yet, or one that says something
+-- No token yet, or one that says something.
 abbrev pub BeginsOne : {T A : Type 0} → (T → Option A) → List T → Type 0
 BeginsOne meant [] = Unit {0}
 BeginsOne meant (t ∷ []) = is_some (meant t) ≡ true
 BeginsOne meant (t ∷ u ∷ more) = ⊥
 
--- one token that says something
+-- One token that says something.
 abbrev pub token : {T A : Type 0} → (T → Option A) → Form T A
 token meant = record { reads = IsOne meant; begins = BeginsOne meant }
 
--- a sentence of the first form, and then one of the second
+-- A sentence of the first form, and then one of the second.
 pub record AreTwo {T A B : Type 0} (f : Form T A) (g : Form T B) (ts : List T) (both : A × B) (rest : List T) : Type 0 where
   pub between : List T
   pub first : f.reads ts both.0 between
   pub second : g.reads between both.1 rest
 
--- a sentence of the first form, and then what begins the second
+-- A sentence of the first form, and then what begins the second.
 pub record BeginsSecond {T A B : Type 0} (f : Form T A) (g : Form T B) (ts : List T) : Type 0 where
   pub said : A
   pub between : List T
   pub first : f.reads ts said between
   pub second : g.begins between
 
--- one form and then another
+-- One form and then another.
 abbrev pub two : {T A B : Type 0} → Form T A → Form T B → Form T (A × B)
 two f g = record { reads = AreTwo f g; begins = λ ts. f.begins ts ⊎ BeginsSecond f g ts }
 
--- one of two forms
+-- One of two forms.
 abbrev pub either : {T A : Type 0} → Form T A → Form T A → Form T A
 either f g = record { reads = λ ts a rest. f.reads ts a rest ⊎ g.reads ts a rest; begins = λ ts. f.begins ts ⊎ g.begins ts }
 
--- what a sentence says makes this
+-- What a sentence says makes this.
 pub record IsMade {T A B : Type 0} (make : A → B) (f : Form T A) (ts : List T) (b : B) (rest : List T) : Type 0 where
   pub said : A
   pub reads : f.reads ts said rest
   pub is : b ≡ make said
 
--- a form whose sentences say something else
+-- A form whose sentences say something else.
 abbrev pub made : {T A B : Type 0} → (A → B) → Form T A → Form T B
 made make f = record { reads = IsMade make f; begins = f.begins }
 
--- sentences of a form, one after another
+-- Sentences of a form, one after another.
 abbrev pub Repeats : {T A : Type 0} → Form T A → List T → List A → List T → Type 0
 Repeats f ts [] rest = ts ≡ rest
 Repeats {T} f ts (a ∷ items) rest = (between : List T) × f.reads ts a between × Repeats f between items rest
 
--- sentences of the first form, and then one of the second
+-- Sentences of the first form, and then one of the second.
 pub record AreMany {T A B : Type 0} (f : Form T A) (g : Form T B) (ts : List T) (all : List A × B) (rest : List T) : Type 0 where
   pub between : List T
   pub items : Repeats f ts all.0 between
   pub last : g.reads between all.1 rest
 
--- sentences of the first form, and then what begins either
+-- Sentences of the first form, and then what begins either.
 pub record BeginsMany {T A B : Type 0} (f : Form T A) (g : Form T B) (ts : List T) : Type 0 where
   pub said : List A
   pub between : List T
   pub items : Repeats f ts said between
   pub next : f.begins between ⊎ g.begins between
 
--- any number of sentences of one form, and then one of another
+-- Any number of sentences of one form, and then one of another.
 abbrev pub many : {T A B : Type 0} → Form T A → Form T B → Form T (List A × B)
 many f g = record { reads = AreMany f g; begins = BeginsMany f g }
 
--- a form without sentences
+-- A form without sentences.
 abbrev pub nothing : {T A : Type 0} → Form T A
 nothing = record { reads = λ ts a rest. ⊥; begins = λ ts. ts ≡ [] }
 
--- the end of the list
+-- The end of the list.
 abbrev pub ended : {T : Type 0} → Form T (Unit {0})
 ended = record { reads = λ ts a rest. (ts ≡ []) × (rest ≡ []); begins = λ ts. ts ≡ [] }

@@ -2,12 +2,12 @@
 use Rattle.std.specs.Prelude.{◌≡◌, ℕ, ◌≤◌, Bool, false, List, [], ◌∷◌, ◌++◌}
 use Rattle.grammar_model.specs.Forms.{Form}
 
--- the token at which a list goes wrong, if there is one, and then any others
+-- The token at which a list goes wrong, if there is one, and then any others.
 abbrev pub behind : {T : Type 0} → List T → List T → List T
 behind [] more = []
 behind (bad ∷ rest) more = bad ∷ more
 
--- whether there is a first token that passes
+-- Whether there is a first token that passes.
 abbrev pub first_passes : {T : Type 0} → (T → Bool) → List T → Bool
 first_passes test [] = false
 first_passes test (t ∷ more) = test t
