@@ -7,6 +7,7 @@ use Rattle.std.proofs.lemmas.Bool.Decides.{nat_tests}
 use Rattle.std.proofs.lemmas.List.{get_or-take, get_or-drop, length-take-le, length-drop, take-append-drop}
 use Rattle.std.proofs.lemmas.List.Elements.{All-tail}
 use Rattle.std.proofs.lemmas.List.Sums.{fold-append, fold_more}
+use Rattle.bdl_lexer.specs.declared.TheConstants.{MAX_NUMBER}
 use Rattle.bdl_lexer.specs.declared.TokenClass.TheVariants.{Word, Number, Text, Sign}
 use Rattle.bdl_lexer.specs.Bytes.{is_blank, is_letter, is_word_byte, is_text_byte, is_line_byte, is_sign}
 use Rattle.bdl_lexer.specs.Faults.{IsOpenComment, IsOpenString, IsLargeNumber}
@@ -64,7 +65,7 @@ digits_of (first ∷ more) n some e len =
     let full = length-take-le n (first ∷ more) run.within in
     record { some = positive; within = run.within; number = record { nonempty = omega arith; each = run.each; value_is = refl }; stops = run.stops }
 
-pub number_stands : (s : List ℕ) (n value : ℕ) → 0 < length s → is_ascii_digit (get_or s 0 0) ≡ true → n ≡ length (take_while is_ascii_digit s) → value ≡ value_of (take n s) → value ≤ 65535 → Stands (Some (Number value)) n s
+pub number_stands : (s : List ℕ) (n value : ℕ) → 0 < length s → is_ascii_digit (get_or s 0 0) ≡ true → n ≡ length (take_while is_ascii_digit s) → value ≡ value_of (take n s) → value ≤ MAX_NUMBER → Stands (Some (Number value)) n s
 number_stands s n value some e len is small =
     let digits = digits_of s n some e len in
     record {
@@ -76,7 +77,7 @@ number_stands s n value some e len is small =
       };
     }
 
-pub number_large : (s : List ℕ) (n : ℕ) → 0 < length s → is_ascii_digit (get_or s 0 0) ≡ true → n ≡ length (take_while is_ascii_digit s) → 65535 < value_of (take n s) → IsLargeNumber s
+pub number_large : (s : List ℕ) (n : ℕ) → 0 < length s → is_ascii_digit (get_or s 0 0) ≡ true → n ≡ length (take_while is_ascii_digit s) → MAX_NUMBER < value_of (take n s) → IsLargeNumber s
 number_large s n some e len large =
     let digits = digits_of s n some e len in
     record {
@@ -101,7 +102,7 @@ front_no_more xs i =
     let more = grows (value_of (take i xs)) (drop i xs) in
     omega arith
 
-pub one_more_digit : (xs : List ℕ) (i value : ℕ) → i < length xs → value ≡ value_of (take i xs) → 65535 < 10 * value + (get_or xs i 0 - 48) → 65535 < value_of xs
+pub one_more_digit : (xs : List ℕ) (i value : ℕ) → i < length xs → value ≡ value_of (take i xs) → MAX_NUMBER < 10 * value + (get_or xs i 0 - 48) → MAX_NUMBER < value_of xs
 one_more_digit xs i value short is large =
     let next = fold_more (λ value digit. 10 * value + (digit - 48)) 0 xs i 0 short in
     let most = front_no_more xs (i + 1) in

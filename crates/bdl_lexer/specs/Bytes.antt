@@ -15,26 +15,26 @@ star = 42
 abbrev pub slash : ℕ
 slash = 47
 
--- space, tab, carriage return and line feed are blanks
+-- Space, tab, carriage return and line feed are blanks.
 abbrev pub is_blank : ℕ → Bool
 is_blank b = b == 32 || b == 9 || b == 13 || b == line_feed
 
--- a letter is A to Z, a to z or `_`
+-- A letter is A to Z, a to z or `_`.
 abbrev pub is_letter : ℕ → Bool
 is_letter b = is_ascii_alphabetic b || b == 95
 
--- a letter or a decimal digit
+-- A letter or a decimal digit.
 abbrev pub is_word_byte : ℕ → Bool
 is_word_byte b = is_letter b || is_ascii_digit b
 
--- a Text holds any bytes but quotes and line feeds
+-- A Text holds any bytes but quotes and line feeds.
 abbrev pub is_text_byte : ℕ → Bool
 is_text_byte b = not (b == quote || b == line_feed)
 
--- a line holds any bytes but line feeds
+-- A line holds any bytes but line feeds.
 abbrev pub is_line_byte : ℕ → Bool
 is_line_byte b = not (b == line_feed)
 
--- the signs
+-- The signs.
 abbrev pub is_sign : ℕ → Bool
 is_sign b = list_any (λ sign. b == sign) (codes "{}<>,;=")

@@ -7,36 +7,37 @@ use Rattle.bdl_lexer.specs.declared.LexCode.{LexCode}
 use Rattle.bdl_lexer.specs.declared.LexCode.TheVariants.{NotUtf8, BadByte, OpenComment, OpenString, NumberRange}
 use Rattle.bdl_lexer.specs.declared.LexFault.{LexFault}
 use Rattle.bdl_lexer.specs.declared.LexFault.TheVariants.{At, Memory}
+use Rattle.bdl_lexer.specs.declared.TheConstants.{MAX_NUMBER}
 use Rattle.bdl_lexer.specs.declared.TokenClass.TheVariants.{Number}
 use Rattle.bdl_lexer.specs.Bytes.{quote, star, slash, is_blank, is_letter, is_text_byte, is_sign}
 use Rattle.bdl_lexer.specs.Pieces.{IsLongest, EndsLine, HasNoClose}
 use Rattle.bdl_lexer.specs.Places.{first_place, place_behind}
 use Rattle.bdl_lexer.specs.Tokens.{Piece, Begins, text_of}
 
--- behind a slash, a slash or a star begins a comment
+-- Behind a slash, a slash or a star begins a comment.
 abbrev pub begins_comment : List ℕ → Bool
 begins_comment [] = false
 begins_comment (byte ∷ _) = byte == slash || byte == star
 
--- a blank, a token or a comment begins here
+-- A blank, a token or a comment begins here.
 abbrev pub begins_piece : ℕ → List ℕ → Bool
 begins_piece byte more =
     is_blank byte || is_letter byte || is_ascii_digit byte || byte == quote || is_sign byte || (byte == slash && begins_comment more)
 
--- there is a byte, and nothing begins with it
+-- There is a byte, and nothing begins with it.
 pub record IsBadByte (rest : List ℕ) : Type 0 where
   pub byte : ℕ
   pub more : List ℕ
   pub is : rest ≡ byte ∷ more
   pub none : begins_piece byte more ≡ false
 
--- "/*", and no "*/" behind it
+-- "/*", and no "*/" behind it.
 pub record IsOpenComment (rest : List ℕ) : Type 0 where
   pub inner : List ℕ
   pub is : rest ≡ slash ∷ star ∷ inner
   pub open_ : HasNoClose inner
 
--- a quote, and no other on its line
+-- A quote, and no other on its line.
 pub record IsOpenString (rest : List ℕ) : Type 0 where
   pub inner : List ℕ
   pub after : List ℕ
@@ -44,16 +45,16 @@ pub record IsOpenString (rest : List ℕ) : Type 0 where
   pub each : AllPass is_text_byte inner
   pub ends : EndsLine after
 
--- the longest token here is a number above 65,535
+-- The longest token here is a number above `MAX_NUMBER`.
 pub record IsLargeNumber (rest : List ℕ) : Type 0 where
   pub value : ℕ
   pub digits : List ℕ
   pub after : List ℕ
   pub is : rest ≡ digits ++ after
   pub longest : IsLongest (Number value) digits after
-  pub large : 65535 < value
+  pub large : MAX_NUMBER < value
 
--- a fault that stands where no further piece is whole
+-- A fault that stands where no further piece is whole.
 abbrev pub IsFault : LexCode → List ℕ → Type 0
 IsFault NotUtf8 rest = ⊥
 IsFault BadByte rest = IsBadByte rest
@@ -61,14 +62,14 @@ IsFault OpenComment rest = IsOpenComment rest
 IsFault OpenString rest = IsOpenString rest
 IsFault NumberRange rest = IsLargeNumber rest
 
--- a source that isn't UTF-8 has its fault behind its longest front that is
+-- A source that isn't UTF-8 has its fault behind its longest front that is.
 pub record IsNotUtf8 (source : List ℕ) (line column : ℕ) : Type 0 where
   pub valid : ℕ
   pub longest : IsValidUpTo source valid
   pub line_is : line ≡ (place_behind first_place (take valid source)).line
   pub column_is : column ≡ (place_behind first_place (take valid source)).column
 
--- one that is has its fault behind the pieces that are whole
+-- One that is has its fault behind the pieces that are whole.
 pub record IsFaultBehind (source : List ℕ) (line column : ℕ) (code : LexCode) : Type 0 where
   pub text : IsUtf8 source
   pub pieces : List Piece
@@ -78,12 +79,12 @@ pub record IsFaultBehind (source : List ℕ) (line column : ℕ) (code : LexCode
   pub line_is : line ≡ (place_behind first_place (text_of pieces)).line
   pub column_is : column ≡ (place_behind first_place (text_of pieces)).column
 
--- the first lexical fault of a source, with its line, column and code
+-- The first lexical fault of a source, with its line, column and code.
 abbrev pub FirstFault : List ℕ → ℕ → ℕ → LexCode → Type 0
 FirstFault source line column NotUtf8 = IsNotUtf8 source line column
 FirstFault source line column code = IsFaultBehind source line column code
 
--- what a refusal says: the first fault, or that there is no memory
+-- What a refusal says: the first fault, or that there is no memory.
 abbrev pub IsRefusalOf : List ℕ → LexFault → Type 0
 IsRefusalOf source (At line column code) = FirstFault source line column code
 IsRefusalOf source Memory = Unit {0}

@@ -2,15 +2,16 @@
 use Rattle.std.specs.Prelude.{◌≡◌, ℕ, ◌+◌, ◌*◌, ◌-◌, ◌<◌, ◌≤◌, true, Option, None, Some, List, [], ◌∷◌, ◌++◌, length, slice_index, ◌⊎◌}
 use Rattle.std.specs.Char.{is_ascii_digit}
 use Rattle.std.specs.List.{AllPass, fold}
+use Rattle.bdl_lexer.specs.declared.TheConstants.{MAX_NUMBER}
 use Rattle.bdl_lexer.specs.declared.TokenClass.{TokenClass}
 use Rattle.bdl_lexer.specs.declared.TokenClass.TheVariants.{Word, Number, Text, Sign}
 use Rattle.bdl_lexer.specs.Bytes.{line_feed, quote, star, slash, is_blank, is_letter, is_word_byte, is_text_byte, is_line_byte, is_sign}
 
--- the number that these decimal digits spell
+-- The number that these decimal digits spell.
 abbrev pub value_of : List ℕ → ℕ
 value_of digits = fold (λ value digit. 10 * value + (digit - 48)) 0 digits
 
--- a Word is a letter, and then letters and digits
+-- A Word is a letter, and then letters and digits.
 pub record IsWord (text : List ℕ) : Type 0 where
   pub first : ℕ
   pub more : List ℕ
@@ -18,74 +19,74 @@ pub record IsWord (text : List ℕ) : Type 0 where
   pub letter : is_letter first ≡ true
   pub each : AllPass is_word_byte more
 
--- a Number is one or more decimal digits, with the value that they spell
+-- A Number is one or more decimal digits, with the value that they spell.
 pub record IsNumber (value : ℕ) (text : List ℕ) : Type 0 where
   pub nonempty : 0 < length text
   pub each : AllPass is_ascii_digit text
   pub value_is : value ≡ value_of text
 
--- a Text is a quote, bytes that a Text may hold, and a quote
+-- A Text is a quote, bytes that a Text may hold, and a quote.
 pub record IsText (text : List ℕ) : Type 0 where
   pub inner : List ℕ
   pub is : text ≡ quote ∷ (inner ++ quote ∷ [])
   pub each : AllPass is_text_byte inner
 
--- a Sign is one of the signs
+-- A Sign is one of the signs.
 pub record IsSign (byte : ℕ) (text : List ℕ) : Type 0 where
   pub is : text ≡ byte ∷ []
   pub sign : is_sign byte ≡ true
 
--- the text has the form of such a token, whatever its number
+-- The text has the form of such a token, whatever its number.
 abbrev pub HasForm : TokenClass → List ℕ → Type 0
 HasForm Word text = IsWord text
 HasForm (Number value) text = IsNumber value text
 HasForm Text text = IsText text
 HasForm (Sign byte) text = IsSign byte text
 
--- the text has the form of such a token, and no longer one begins where it begins
+-- The text has the form of such a token, and no longer one begins where it begins.
 pub record IsLongest (class : TokenClass) (text rest : List ℕ) : Type 0 where
   pub form : HasForm class text
   pub longest : (other : TokenClass) (longer after : List ℕ) → text ++ rest ≡ longer ++ after → HasForm other longer → length longer ≤ length text
 
--- a number is at most 65,535
+-- A number is at most `MAX_NUMBER`.
 abbrev pub IsInRange : TokenClass → Type 0
-IsInRange (Number value) = value ≤ 65535
+IsInRange (Number value) = value ≤ MAX_NUMBER
 IsInRange _ = Unit {0}
 
--- a token is the longest one at its place, its number in range
+-- A token is the longest one at its place, its number in range.
 pub record IsToken (class : TokenClass) (text rest : List ℕ) : Type 0 where
   pub longest : IsLongest class text rest
   pub in_range : IsInRange class
 
--- one blank
+-- One blank.
 pub record IsBlank (text : List ℕ) : Type 0 where
   pub byte : ℕ
   pub is : text ≡ byte ∷ []
   pub blank : is_blank byte ≡ true
 
--- a line ends here: the source does, or a line feed follows
+-- A line ends here: the source does, or a line feed follows.
 abbrev pub EndsLine : List ℕ → Type 0
 EndsLine [] = Unit {0}
 EndsLine (byte ∷ _) = byte ≡ line_feed
 
--- from "//" to the end of the line
+-- From "//" to the end of the line.
 pub record IsLineComment (text rest : List ℕ) : Type 0 where
   pub inner : List ℕ
   pub is : text ≡ slash ∷ slash ∷ inner
   pub each : AllPass is_line_byte inner
   pub ends : EndsLine rest
 
--- nowhere a star with a slash behind it
+-- Nowhere a star with a slash behind it.
 abbrev pub HasNoClose : List ℕ → Type 0
 HasNoClose text = (k : ℕ) → k + 1 < length text → slice_index text k ≡ star → slice_index text (k + 1) ≡ slash → ⊥
 
--- from "/*" to the first "*/" behind it
+-- From "/*" to the first "*/" behind it.
 pub record IsBlockComment (text : List ℕ) : Type 0 where
   pub inner : List ℕ
   pub is : text ≡ slash ∷ star ∷ (inner ++ star ∷ slash ∷ [])
   pub first : HasNoClose (inner ++ star ∷ [])
 
--- a piece of a source, with what follows it: a token of that class, or else a blank or a comment
+-- A piece of a source, with what follows it: a token of that class, or else a blank or a comment.
 abbrev pub IsPiece : Option TokenClass → List ℕ → List ℕ → Type 0
 IsPiece None text rest = IsBlank text ⊎ (IsLineComment text rest ⊎ IsBlockComment text)
 IsPiece (Some class) text rest = IsToken class text rest

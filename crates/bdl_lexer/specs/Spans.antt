@@ -6,31 +6,31 @@ use Rattle.bdl_lexer.specs.declared.TokenClass.{TokenClass}
 use Rattle.bdl_lexer.specs.declared.TokenClass.TheVariants.{Word, Text}
 use Rattle.bdl_lexer.specs.Pieces.{IsToken}
 
--- the bytes of a token
+-- The bytes of a token.
 abbrev pub token_text : List ℕ → Token → List ℕ
 token_text source token = take token.len (drop token.at source)
 
--- the bytes behind a token
+-- The bytes behind a token.
 abbrev pub behind_token : List ℕ → Token → List ℕ
 behind_token source token = drop token.len (drop token.at source)
 
--- the bytes between the first and the last
+-- The bytes between the first and the last.
 abbrev pub between_quotes : List ℕ → List ℕ
 between_quotes text = take (length text - 2) (drop 1 text)
 
--- a Word, and what stands between the quotes of a Text, is UTF-8
+-- A Word, and what stands between the quotes of a Text, is UTF-8.
 abbrev pub IsSpelled : TokenClass → List ℕ → Type 0
 IsSpelled Word text = IsUtf8 text
 IsSpelled Text text = (2 ≤ length text) × IsUtf8 (between_quotes text)
 IsSpelled _ text = Unit {0}
 
--- a token's bytes stand in the source, are the longest token there, and are spelled in UTF-8
+-- A token's bytes stand in the source, are the longest token there, and are spelled in UTF-8.
 pub record LiesIn (source : List ℕ) (token : Token) : Type 0 where
   pub within : token.at + token.len ≤ length source
   pub longest : IsToken token.class (token_text source token) (behind_token source token)
   pub spelled : IsSpelled token.class (token_text source token)
 
--- each token begins at or behind this byte, and the next one at or behind its end
+-- Each token begins at or behind this byte, and the next one at or behind its end.
 abbrev pub AreInOrder : ℕ → List Token → Type 0
 AreInOrder from [] = Unit {0}
 AreInOrder from (token ∷ tokens) = (from ≤ token.at) × AreInOrder (token.at + token.len) tokens

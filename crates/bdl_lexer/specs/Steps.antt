@@ -11,20 +11,20 @@ use Rattle.bdl_lexer.specs.Pieces.{IsPiece, HasNoClose}
 use Rattle.bdl_lexer.specs.Places.{place_behind}
 use Rattle.bdl_lexer.specs.Tokens.{Piece, token_at}
 
--- the first len bytes are a piece of that class
+-- The first len bytes are a piece of that class.
 pub record Stands (class : Option TokenClass) (len : ℕ) (bytes : List ℕ) : Type 0 where
   pub some : 0 < len
   pub within : len ≤ length bytes
   pub piece : IsPiece class (take len bytes) (drop len bytes)
 
--- the first "*/" begins at this byte
+-- The first "*/" begins at this byte.
 pub record ClosesAt (bytes : List ℕ) (at : ℕ) : Type 0 where
   pub within : at + 1 < length bytes
   pub star_is : slice_index bytes at ≡ star
   pub slash_is : slice_index bytes (at + 1) ≡ slash
   pub first : HasNoClose (take (at + 1) bytes)
 
--- a piece was taken from the front of the bytes, and the answer is its token
+-- A piece was taken from the front of the bytes, and the answer is its token.
 pub record IsTaken (before : List ℕ) (place : Place) (after : List ℕ) (next : Place) (answer : Option Token) : Type 0 where
   pub piece : Piece
   pub is : before ≡ piece.text ++ after
@@ -33,7 +33,7 @@ pub record IsTaken (before : List ℕ) (place : Place) (after : List ℕ) (next 
   pub next_is : next ≡ place_behind place piece.text
   pub answer_is : answer ≡ token_at place piece
 
--- the fault is of what is left, at its place
+-- The fault is of what is left, at its place.
 abbrev pub IsFaultHere : List ℕ → Place → LexFault → Type 0
 IsFaultHere rest place (At line column code) = (line ≡ place.line) × (column ≡ place.column) × IsFault code rest
 IsFaultHere rest place Memory = ⊥

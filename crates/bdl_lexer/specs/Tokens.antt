@@ -9,36 +9,36 @@ use Rattle.bdl_lexer.specs.declared.TokenClass.{TokenClass}
 use Rattle.bdl_lexer.specs.Pieces.{IsPiece}
 use Rattle.bdl_lexer.specs.Places.{first_place, place_behind}
 
--- a piece: its bytes, and its class where it is a token
+-- A piece: its bytes, and its class where it is a token.
 pub record Piece : Type 0 where
   pub class : Option TokenClass
   pub text : List ℕ
 
--- the source begins with these pieces, one after another, and then comes the rest
+-- The source begins with these pieces, one after another, and then comes the rest.
 abbrev pub Begins : List Piece → List ℕ → List ℕ → Type 0
 Begins [] source rest = source ≡ rest
 Begins (piece ∷ pieces) source rest =
     (after : List ℕ) × (source ≡ piece.text ++ after) × IsPiece piece.class piece.text after × Begins pieces after rest
 
--- a token of that length and class at this place
+-- A token of that length and class at this place.
 abbrev pub token_of : Place → ℕ → TokenClass → Token
 token_of place len class = record { class = class; at = place.at; len = len; line = place.line; column = place.column }
 
--- the token that a piece at this place is, if it is one
+-- The token that a piece at this place is, if it is one.
 abbrev pub token_at : Place → Piece → Option Token
 token_at place piece = option_map (token_of place (length piece.text)) piece.class
 
--- the tokens among pieces that begin at this place
+-- The tokens among pieces that begin at this place.
 abbrev pub tokens_from : Place → List Piece → List Token
 tokens_from place [] = []
 tokens_from place (piece ∷ pieces) =
     option_to_list (token_at place piece) ++ tokens_from (place_behind place piece.text) pieces
 
--- the bytes of these pieces
+-- The bytes of these pieces.
 abbrev pub text_of : List Piece → List ℕ
 text_of pieces = flat_map (λ piece. piece.text) pieces
 
--- the tokens of a source: it is UTF-8, pieces make it up, and these are the tokens among them
+-- The tokens of a source: it is UTF-8, pieces make it up, and these are the tokens among them.
 pub record AreTokensOf (source : List ℕ) (tokens : List Token) : Type 0 where
   pub text : IsUtf8 source
   pub pieces : List Piece

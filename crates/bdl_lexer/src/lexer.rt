@@ -1,6 +1,7 @@
 //! A walk over the pieces of a source.
 
 ghost use Rattle.std.specs.Prelude.{◌≡◌, ℕ, ◌+◌, ◌<◌, ◌≤◌, ◌↔◌, IsTrue, length, take, drop, IfOk, IfErr};
+ghost use Rattle.bdl_lexer.specs.declared.TheConstants.{MAX_SOURCE};
 
 use crate::scan::{Found, scan};
 use crate::{LexCode, LexFault, Token};
@@ -37,7 +38,7 @@ impl Place {
 pub(crate) struct Lexer<'a> {
     pub rest: &'a [u8],
     pub place: Place,
-    ghost small: { place.at + length rest.now ≤ 1048576 },
+    ghost small: { place.at + length rest.now ≤ MAX_SOURCE },
     ghost line_small: { place.line ≤ place.at + 1 },
     ghost column_small: { place.column ≤ place.at + 1 },
 }
@@ -48,7 +49,7 @@ impl<'a> Lexer<'a> {
     ghost use Rattle.bdl_lexer.specs.declared.LexFault.TheVariants.{At};
 
     pub fn new(source: &'a [u8]) -> Self
-        requires { length source.now ≤ 1048576 }
+        requires { length source.now ≤ MAX_SOURCE }
         ensures rest { result.rest.now ≡ source.now }
         ensures place { result.place ≡ first_place }
     {

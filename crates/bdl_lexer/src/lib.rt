@@ -52,7 +52,7 @@ pub enum LexCode {
     OpenComment,
     /// A `"` without another on its line.
     OpenString,
-    /// A number above 65,535.
+    /// A number above [`MAX_NUMBER`].
     NumberRange,
 }
 
@@ -81,6 +81,9 @@ impl From<AllocFailed<Token>> for LexFault {
 
 /// The longest source that is read, in bytes.
 pub const MAX_SOURCE: usize = 1_048_576;
+
+/// The largest number that a token may spell.
+pub const MAX_NUMBER: u32 = 65_535;
 
 /// Reads a source once, from its first byte to its last or to its first fault.
 pub fn lex(alloc: Global, source: &[u8]) -> Result<Vec<Token>, LexFault>

@@ -8,7 +8,7 @@ ghost use Rattle.bdl_lexer.specs.Pieces.{value_of, HasNoClose};
 ghost use Rattle.bdl_lexer.specs.Faults.{IsFault};
 ghost use Rattle.bdl_lexer.specs.Steps.{Stands, ClosesAt};
 
-use crate::{LexCode, TokenClass};
+use crate::{LexCode, MAX_NUMBER, TokenClass};
 
 /// A piece at the front of some bytes: its class where it is a token, and its length.
 #[derive(Clone, Copy)]
@@ -74,15 +74,15 @@ fn line_len(bytes: &[u8]) -> usize
     bytes.iter().take_while(|byte| **byte != b'\n').count()
 }
 
-/// The number that decimal digits spell, if it is below 2^16.
+/// The number that decimal digits spell, if it is in range.
 fn number_of(digits: &[u8]) -> Option<u16>
     requires { AllPass is_ascii_digit digits.now }
-    ensures { MatchOption result (65535 < value_of digits.now) (λ value. value ≡ value_of digits.now) }
+    ensures { MatchOption result (MAX_NUMBER < value_of digits.now) (λ value. value ≡ value_of digits.now) }
 {
     let mut value: u32 = 0;
     for digit in digits {
         value = 10 * value + u32::from(*digit - b'0');
-        if value > 65_535 {
+        if value > MAX_NUMBER {
             return None;
         }
     }

@@ -61,7 +61,7 @@ static FAULTS: [Row; 52] = [
 ];
 
 // The tokens of each source: class, first byte, length, line, column.
-static TOKENS: [(&[u8], &[(TokenClass, usize, usize, u32, u32)]); 32] = [
+static TOKENS: [(&[u8], &[(TokenClass, usize, usize, u32, u32)]); 33] = [
     (b"", &[]),
     (b" \t\r\n", &[]),
     (b"// end", &[]),
@@ -74,6 +74,15 @@ static TOKENS: [(&[u8], &[(TokenClass, usize, usize, u32, u32)]); 32] = [
     (b"x1_Z", &[(Word, 0, 4, 1, 1)]),
     (b"x65536", &[(Word, 0, 6, 1, 1)]),
     (b"bag B", &[(Word, 0, 3, 1, 1), (Word, 4, 1, 1, 5)]),
+    (
+        b"bag B { }",
+        &[
+            (Word, 0, 3, 1, 1),
+            (Word, 4, 1, 1, 5),
+            (Sign(b'{'), 6, 1, 1, 7),
+            (Sign(b'}'), 8, 1, 1, 9),
+        ],
+    ),
     (b"a/**/b", &[(Word, 0, 1, 1, 1), (Word, 5, 1, 1, 6)]),
     (b"1x", &[(Number(1), 0, 1, 1, 1), (Word, 1, 1, 1, 2)]),
     (b"65535", &[(Number(65535), 0, 5, 1, 1)]),
