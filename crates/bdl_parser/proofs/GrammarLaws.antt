@@ -3,13 +3,14 @@ use Rattle.std.proofs.Common.{◌≡◌, ℕ, zero, suc, Bool, true, false, cond
 use Rattle.std.specs.Option.{is_some, option_map}
 use Rattle.std.specs.Str.{bytes_eq}
 use Rattle.std.proofs.lemmas.Slice.Eq.{bytes_eq-Decides}
+use Rattle.bag_model.specs.Words.{reserved_of}
 use Rattle.bdl_parser.specs.declared.trees.Decl.{Decl}
 use Rattle.bdl_parser.specs.declared.trees.Spot.{Spot}
 use Rattle.bdl_parser.specs.Grammar.{is_word, is_mark, key, mark, a_name, a_number, a_text, a_leaf, leaf_in, set_of, map_of, a_type, a_bag_field, a_struct_field, bag_fields, struct_fields, a_bag, a_struct, a_decl, an_import, the_decls, a_module}
 use Rattle.bdl_parser.specs.Lexemes.{What, Lexeme, word, number, quoted, sign}
 use Rattle.bdl_parser.specs.Refusals.{is_type_first}
 use Rattle.bdl_parser.specs.Trees.{Leaf, TypeTree, BagFieldTree, StructFieldTree}
-use Rattle.bdl_parser.specs.Words.{integer_of, other_scalar_of, plain_of, opens_form, leaf_of}
+use Rattle.bdl_parser.specs.Words.{leaf_of}
 use Rattle.grammar_model.specs.Forms.{Form, token, two, either, made, nothing, ended}
 use Rattle.grammar_model.proofs.ChoiceLaws.{lawful_either, lawful_many, ender_ended, ender_many}
 use Rattle.grammar_model.proofs.FormLaws.{IsLawful, IsEnder, Apart, lawful_token, lawful_nothing, lawful_made, lawful_two}
@@ -70,11 +71,11 @@ leaf_keys : (t : Lexeme) (text : List ℕ) → is_some (leaf_of text) ≡ false 
 leaf_keys t text none p q = leaf_none t text none (key_says text t q) p
 
 set_no_leaf : is_some (leaf_of (codes "set")) ≡ false
-unfolding integer_of other_scalar_of plain_of opens_form
+unfolding reserved_of
 set_no_leaf = refl
 
 map_no_leaf : is_some (leaf_of (codes "map")) ≡ false
-unfolding integer_of other_scalar_of plain_of opens_form
+unfolding reserved_of
 map_no_leaf = refl
 
 by_either : (t : Lexeme) → is_some (a_leaf t) ≡ true → (is_some (key (codes "set") t) ≡ true) ⊎ (is_some (key (codes "map") t) ≡ true) → ⊥

@@ -1,3 +1,4 @@
+pub mod NameLaws
 pub mod GrammarLaws
 pub mod Families
 pub mod Chains

@@ -1,20 +1,21 @@
 -- Tokens have one outcome: a module, or one place at which they go wrong.
-use Rattle.std.proofs.Common.{◌≡◌, ℕ, zero, suc, ◌+◌, ◌<◌, ◌≤◌, Bool, Option, List, [], ◌++◌, length, take, drop, codes, refl, sym, ap, ◌∙◌, subst, ⊎_elim, arith}
-use Rattle.std.proofs.lemmas.List.{take-append-drop, take-take, length-drop}
+use Rattle.std.proofs.Common.{◌≡◌, ℕ, zero, suc, ◌+◌, ◌≤◌, Bool, Option, List, [], ◌++◌, take, drop, codes, refl, sym, ap, ◌∙◌, ⊎_elim, arith}
+use Rattle.std.proofs.lemmas.List.{take-append-drop, take-take}
 use Rattle.std.proofs.str.Laws.{order}
 use Rattle.std.specs.Option.{is_some}
+use Rattle.bdl_parser.specs.declared.TheConstants.{MAX_NESTING}
 use Rattle.bdl_parser.specs.declared.ParseCode.{ParseCode}
 use Rattle.bdl_parser.specs.declared.ParseCode.TheVariants.{Expected, TypeNesting}
 use Rattle.bdl_parser.specs.declared.trees.Module.{Module}
-use Rattle.bdl_parser.specs.FirstFault.{IsModuleOf, ExpectedAt, NestsAt, FaultAt}
-use Rattle.bdl_parser.specs.Grammar.{key, mark, a_name, a_number, a_text, a_leaf, set_of, map_of, a_type, a_bag_field, a_struct_field, bag_fields, struct_fields, a_bag, a_struct, a_decl, an_import, the_decls, a_module}
+use Rattle.bdl_parser.specs.FirstFault.{IsModuleOf, NestsAt, FaultAt}
+use Rattle.bdl_parser.specs.Grammar.{key, mark, a_name, a_number, a_text, a_leaf, set_of, map_of, a_type, a_bag_field, a_struct_field, a_bag, a_struct, a_decl, an_import, the_decls, a_module}
 use Rattle.bdl_parser.specs.Lexemes.{Lexeme}
 use Rattle.bdl_parser.specs.Refusals.{is_type_first}
 use Rattle.bdl_parser.specs.Trees.{TypeTree}
-use Rattle.grammar_model.specs.Forms.{Form, token, two, either, made, many, ended}
+use Rattle.grammar_model.specs.Forms.{Form, token, two, either, made, ended}
 use Rattle.grammar_model.proofs.FormLaws.{IsLawful}
 use Rattle.grammar_model.proofs.Fronts.{IsFronted, fronted_token, fronted_nothing, fronted_ended, fronted_made, fronted_either, fronted_two, fronted_many}
-use Rattle.bdl_parser.proofs.GrammarLaws.{law_token, law_two, lawful_type, lawful_bag_field, lawful_struct_field, is_decl_first, lawful_decl, lawful_import}
+use Rattle.bdl_parser.proofs.GrammarLaws.{law_token, lawful_type, lawful_bag_field, lawful_struct_field, is_decl_first, lawful_decl, lawful_import}
 
 f_token : {A : Type 0} (meant : Lexeme → Option A) → IsFronted (token meant)
 f_token meant = fronted_token meant
@@ -72,15 +73,15 @@ fronted_module n =
 -- a module is too deep nowhere
 pub module_or_nesting : (ts : List Lexeme) (module_ : Module) (k : ℕ) → IsModuleOf ts module_ → NestsAt ts k → ⊥
 module_or_nesting ts module_ k m f =
-    f.deep ((fronted_module 32).read ts module_ [] (take (k + 1) ts) (drop (k + 1) ts) m (sym (take-append-drop (k + 1) ts)) (omega arith))
+    f.deep ((fronted_module MAX_NESTING).read ts module_ [] (take (k + 1) ts) (drop (k + 1) ts) m (sym (take-append-drop (k + 1) ts)) (omega arith))
 
 -- a front of a front
-shorter : (ts : List Lexeme) (j k : ℕ) → j ≤ k → (a_module 32).begins (take k ts) → (a_module 32).begins (take j ts)
+shorter : (ts : List Lexeme) (j k : ℕ) → j ≤ k → (a_module MAX_NESTING).begins (take k ts) → (a_module MAX_NESTING).begins (take j ts)
 shorter ts j k le b =
-    (fronted_module 32).begun (take k ts) (take j ts) (drop j (take k ts)) b
+    (fronted_module MAX_NESTING).begun (take k ts) (take j ts) (drop j (take k ts)) b
     (sym (take-append-drop j (take k ts)) ∙ ap (λ xs. xs ++ drop j (take k ts)) (take-take j k ts le))
 
-nests_no_later : (ts : List Lexeme) (j k : ℕ) → NestsAt ts j → (a_module 32).begins (take k ts) → k ≤ j
+nests_no_later : (ts : List Lexeme) (j k : ℕ) → NestsAt ts j → (a_module MAX_NESTING).begins (take k ts) → k ≤ j
 nests_no_later ts j k f b =
     ⊎_elim (λ past. absurd (f.deep (shorter ts (j + 1) k (omega arith) b))) (λ fine. fine) (order j k)
 
@@ -108,5 +109,5 @@ pub one_fault : (ts : List Lexeme) (j k : ℕ) (code other : ParseCode) → Faul
 one_fault = fault_same
 
 pub module_or_fault : (ts : List Lexeme) (module_ : Module) (k : ℕ) (code : ParseCode) → IsModuleOf ts module_ → FaultAt ts k code → ⊥
-module_or_fault ts module_ k Expected m f = f.none 32 module_ m
+module_or_fault ts module_ k Expected m f = f.none MAX_NESTING module_ m
 module_or_fault ts module_ k TypeNesting m f = module_or_nesting ts module_ k m f

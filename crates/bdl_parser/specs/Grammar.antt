@@ -12,30 +12,30 @@ use Rattle.bdl_parser.specs.Trees.{Leaf, TypeTree, BagFieldTree, StructFieldTree
 use Rattle.bdl_parser.specs.Words.{name_of, leaf_of}
 use Rattle.grammar_model.specs.Forms.{Form, token, two, either, made, many, nothing, ended}
 
--- whether it is this word
+-- Whether it is this word.
 abbrev pub is_word : List ℕ → What → Bool
 is_word text (word found) = bytes_eq found text
 is_word text _ = false
 
--- whether it is this sign
+-- Whether it is this sign.
 abbrev pub is_mark : ℕ → What → Bool
 is_mark byte (sign found) = found == byte
 is_mark byte _ = false
 
--- this word
+-- This word.
 abbrev pub key : List ℕ → Lexeme → Option Spot
 key text lexeme = if is_word text lexeme.what then Some lexeme.spot else None
 
--- this sign
+-- This sign.
 abbrev pub mark : ℕ → Lexeme → Option Spot
 mark byte lexeme = if is_mark byte lexeme.what then Some lexeme.spot else None
 
--- the name that a word is
+-- The name that a word is.
 abbrev pub name_in : What → Option (List ℕ)
 name_in (word text) = name_of text
 name_in _ = None
 
--- a name, with its place
+-- A name, with its place.
 abbrev pub a_name : Lexeme → Option (List ℕ × Spot)
 a_name lexeme = option_map (λ text. (text, lexeme.spot)) (name_in lexeme.what)
 
@@ -43,7 +43,7 @@ abbrev pub number_in : What → Option ℕ
 number_in (number value) = Some value
 number_in _ = None
 
--- a number, with its place
+-- A number, with its place.
 abbrev pub a_number : Lexeme → Option (ℕ × Spot)
 a_number lexeme = option_map (λ value. (value, lexeme.spot)) (number_in lexeme.what)
 
@@ -51,7 +51,7 @@ abbrev pub quoted_in : What → Option (List ℕ)
 quoted_in (quoted text) = Some text
 quoted_in _ = None
 
--- a text, with its place
+-- A text, with its place.
 abbrev pub a_text : Lexeme → Option (List ℕ × Spot)
 a_text lexeme = option_map (λ text. (text, lexeme.spot)) (quoted_in lexeme.what)
 
@@ -59,67 +59,67 @@ abbrev pub leaf_in : What → Option Leaf
 leaf_in (word text) = leaf_of text
 leaf_in _ = None
 
--- a type of one word, with its place
+-- A type of one word, with its place.
 abbrev pub a_leaf : Lexeme → Option TypeTree
 a_leaf lexeme = option_map (λ found. leaf found lexeme.spot) (leaf_in lexeme.what)
 
--- "set" "<" type ">"
+-- "set" "<" type ">".
 abbrev pub set_of : Form Lexeme TypeTree → Form Lexeme TypeTree
 set_of inner =
     made (λ p. set p.1.1.0 p.0) (two (token (key (codes "set"))) (two (token (mark 60)) (two inner (token (mark 62)))))
 
--- "map" "<" type "," type ">"
+-- "map" "<" type "," type ">".
 abbrev pub map_of : Form Lexeme TypeTree → Form Lexeme TypeTree
 map_of inner =
     made (λ p. map p.1.1.0 p.1.1.1.1.0 p.0) (two (token (key (codes "map"))) (two (token (mark 60)) (two inner (two (token (mark 44)) (two inner (token (mark 62)))))))
 
--- a type in which at most so many types stand inside one another, itself among them
+-- A type in which at most so many types stand inside one another, itself among them.
 unfoldable pub a_type : ℕ → Form Lexeme TypeTree
 a_type zero = nothing
 a_type (suc n) = either (token a_leaf) (either (set_of (a_type n)) (map_of (a_type n)))
 
--- type NAME "=" Number ";"
+-- Type NAME "=" Number ";".
 abbrev pub a_bag_field : ℕ → Form Lexeme BagFieldTree
 a_bag_field n =
     made (λ p. record { kind = p.0; name = p.1.0.0; name_at = p.1.0.1; number = p.1.1.1.0.0; number_at = p.1.1.1.0.1 })
     (two (a_type n) (two (token a_name) (two (token (mark 61)) (two (token a_number) (token (mark 59))))))
 
--- type NAME ";"
+-- Type NAME ";".
 abbrev pub a_struct_field : ℕ → Form Lexeme StructFieldTree
 a_struct_field n =
     made (λ p. record { kind = p.0; name = p.1.0.0; name_at = p.1.0.1 }) (two (a_type n) (two (token a_name) (token (mark 59))))
 
--- { type NAME "=" Number ";" } "}"
+-- { type NAME "=" Number ";" } "}".
 abbrev pub bag_fields : ℕ → Form Lexeme (List BagFieldTree)
 bag_fields n = made (λ p. p.0) (many (a_bag_field n) (token (mark 125)))
 
--- { type NAME ";" } "}"
+-- { type NAME ";" } "}".
 abbrev pub struct_fields : ℕ → Form Lexeme (List StructFieldTree)
 struct_fields n = made (λ p. p.0) (many (a_struct_field n) (token (mark 125)))
 
--- "bag" NAME "{" fields
+-- "bag" NAME "{" fields.
 abbrev pub a_bag : ℕ → Form Lexeme Decl
 a_bag n =
     made (λ p. Bag p.1.0.0 p.1.0.1 p.1.1.1) (two (token (key (codes "bag"))) (two (token a_name) (two (token (mark 123)) (bag_fields n))))
 
--- "struct" NAME "{" fields
+-- "struct" NAME "{" fields.
 abbrev pub a_struct : ℕ → Form Lexeme Decl
 a_struct n =
     made (λ p. Struct p.1.0.0 p.1.0.1 p.1.1.1) (two (token (key (codes "struct"))) (two (token a_name) (two (token (mark 123)) (struct_fields n))))
 
--- bag | struct
+-- Bag | struct.
 abbrev pub a_decl : ℕ → Form Lexeme Decl
 a_decl n = either (a_bag n) (a_struct n)
 
--- "import" Text ";"
+-- "import" Text ";".
 abbrev pub an_import : Form Lexeme Import
 an_import =
     made (λ p. record { file = p.1.0.0; at = p.1.0.1 }) (two (token (key (codes "import"))) (two (token a_text) (token (mark 59))))
 
--- { bag | struct }, to the end
+-- { bag | struct }, to the end.
 abbrev pub the_decls : ℕ → Form Lexeme (List Decl)
 the_decls n = made (λ p. p.0) (many (a_decl n) ended)
 
--- { import } { bag | struct }, to the end
+-- { import } { bag | struct }, to the end.
 abbrev pub a_module : ℕ → Form Lexeme Module
 a_module n = made (λ p. record { imports = p.0; decls = p.1 }) (many an_import (the_decls n))

@@ -6,33 +6,33 @@ use Rattle.bdl_lexer.specs.declared.TokenClass.TheVariants.{Word, Number, Text, 
 use Rattle.bdl_lexer.specs.Spans.{token_text, between_quotes}
 use Rattle.bdl_parser.specs.declared.trees.Spot.{Spot}
 
--- a word, a number, the characters between two quotes, or a sign
+-- A word, a number, the characters between two quotes, or a sign.
 pub data What : Type 0 where
   word : List ℕ → What
   number : ℕ → What
   quoted : List ℕ → What
   sign : ℕ → What
 
--- what a token says, and where it stands
+-- What a token says, and where it stands.
 pub record Lexeme : Type 0 where
   pub what : What
   pub spot : Spot
 
--- what a token of that class and text says
+-- What a token of that class and text says.
 abbrev pub what_of : TokenClass → List ℕ → What
 what_of Word text = word text
 what_of (Number value) text = number value
 what_of Text text = quoted (between_quotes text)
 what_of (Sign byte) text = sign byte
 
--- the place of a token
+-- The place of a token.
 abbrev pub spot_of : Token → Spot
 spot_of token = record { line = token.line; column = token.column }
 
--- what a token of this source says, and where
+-- What a token of this source says, and where.
 abbrev pub lexeme_of : List ℕ → Token → Lexeme
 lexeme_of source token = record { what = what_of token.class (token_text source token); spot = spot_of token }
 
--- the same of each token
+-- The same of each token.
 abbrev pub lexemes_of : List ℕ → List Token → List Lexeme
 lexemes_of source tokens = map (lexeme_of source) tokens

@@ -51,7 +51,7 @@ scalar_undone Bytes = refl
 abbrev pub scalar_code : Coded ScalarWord
 scalar_code = code_by ℕ coded_ℕ scalar_number scalar_back scalar_undone
 
--- a word of one value, a name, or one of four others
+-- A word of one value, a name, or one of four others.
 abbrev pub LeafParts : Type 0
 LeafParts = ScalarWord ⊎ (List ℕ ⊎ ℕ)
 

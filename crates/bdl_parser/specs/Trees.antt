@@ -3,7 +3,7 @@ use Rattle.std.specs.Prelude.{ℕ, List}
 use Rattle.bdl_parser.specs.declared.trees.ScalarWord.{ScalarWord}
 use Rattle.bdl_parser.specs.declared.trees.Spot.{Spot}
 
--- a type of one word
+-- A type of one word.
 pub data Leaf : Type 0 where
   scalar : ScalarWord → Leaf
   float : Leaf
@@ -12,13 +12,13 @@ pub data Leaf : Type 0 where
   counter : Leaf
   name : List ℕ → Leaf
 
--- a type, with the place of its first token: of one word, a set of elements, or a map from keys to values
+-- A type, with the place of its first token: of one word, a set of elements, or a map from keys to values.
 pub data TypeTree : Type 0 where
   leaf : Leaf → Spot → TypeTree
   set : TypeTree → Spot → TypeTree
   map : TypeTree → TypeTree → Spot → TypeTree
 
--- a field of a bag
+-- A field of a bag.
 pub record BagFieldTree : Type 0 where
   pub kind : TypeTree
   pub name : List ℕ
@@ -26,7 +26,7 @@ pub record BagFieldTree : Type 0 where
   pub number : ℕ
   pub number_at : Spot
 
--- a field of a struct
+-- A field of a struct.
 pub record StructFieldTree : Type 0 where
   pub kind : TypeTree
   pub name : List ℕ

@@ -6,7 +6,7 @@ use Rattle.bdl_parser.specs.declared.trees.TypeForm.{TypeForm, Scalar, Float, Do
 use Rattle.bdl_parser.specs.declared.trees.TypeNode.{TypeNode}
 use Rattle.bdl_parser.specs.Trees.{TypeTree, BagFieldTree, StructFieldTree, scalar, float, double, taint, counter, name, leaf, set, map}
 
--- the tree of a form at this place
+-- The tree of a form at this place.
 abbrev pub tree_at : Spot → TypeForm → TypeTree
 tree_at spot (Scalar word) = leaf (scalar word) spot
 tree_at spot Float = leaf float spot
@@ -17,15 +17,15 @@ tree_at spot (Name text) = leaf (name text) spot
 tree_at spot (Set' p inner form) = set (tree_at inner form) spot
 tree_at spot (Map' p key form q value body) = map (tree_at key form) (tree_at value body) spot
 
--- the tree of a type
+-- The tree of a type.
 abbrev pub tree_of : TypeNode → TypeTree
 tree_of node = tree_at node.at node.form
 
--- the tree of a bag's field
+-- The tree of a bag's field.
 abbrev pub bag_field_of : BagField → BagFieldTree
 bag_field_of field =
     record { kind = tree_of field.kind; name = field.name; name_at = field.name_at; number = field.number; number_at = field.number_at }
 
--- the tree of a struct's field
+-- The tree of a struct's field.
 abbrev pub struct_field_of : StructField → StructFieldTree
 struct_field_of field = record { kind = tree_of field.kind; name = field.name; name_at = field.name_at }

@@ -5,6 +5,7 @@ ghost use Rattle.std.specs.Prelude.{All, IfOk, IfErr};
 ghost use Rattle.bdl_lexer.specs.Spans.{LiesIn};
 ghost use Rattle.bdl_parser.specs.FirstFault.{IsModuleOf, IsFaultOf};
 ghost use Rattle.bdl_parser.specs.Lexemes.{lexemes_of};
+ghost use Rattle.bdl_parser.specs.Spelled.{AreSpelledDecls};
 
 mod decls;
 pub mod laws;
@@ -16,7 +17,7 @@ mod words;
 
 use bdl_lexer::Token;
 pub use lists::{BagFields, Decls, Imports, StructFields};
-use parser::{Parser, Refusal};
+use parser::{FormFault, Parser};
 use std::alloc::Global;
 pub use trees::{
     BagField, Decl, Import, Module, ScalarWord, Spot, StructField, TypeForm, TypeNode,
@@ -30,7 +31,7 @@ pub const MAX_NESTING: u32 = 32;
 pub enum ParseCode {
     /// No module goes on with this token, or none ends here.
     Expected,
-    /// Here a type begins inside 32 others.
+    /// Here a type begins inside [`MAX_NESTING`] others.
     TypeNesting,
 }
 
@@ -48,20 +49,17 @@ pub enum ParseFault {
 pub fn parse(alloc: Global, source: &[u8], tokens: &[Token]) -> Result<Module, ParseFault>
     requires { All (LiesIn source.now) tokens.now }
     ensures module { IfOk result (IsModuleOf (lexemes_of source.now tokens.now)) }
+    ensures spelled { IfOk result (λ module_. AreSpelledDecls module_.decls) }
     ensures fault { IfErr result (IsFaultOf (lexemes_of source.now tokens.now)) }
 {
     let mut parser = Parser::new(source, tokens);
     match parser.module(alloc) {
         Ok(module) => Ok(module),
-        Err(Refusal::Expected) => Err(ParseFault::At {
+        Err(FormFault::Wrong(code)) => Err(ParseFault::At {
             token: tokens.len() - parser.left(),
-            code: ParseCode::Expected,
+            code,
         }),
-        Err(Refusal::TypeNesting) => Err(ParseFault::At {
-            token: tokens.len() - parser.left(),
-            code: ParseCode::TypeNesting,
-        }),
-        Err(Refusal::Memory) => Err(ParseFault::Memory),
+        Err(FormFault::Memory) => Err(ParseFault::Memory),
     }
 }
 

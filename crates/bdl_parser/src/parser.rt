@@ -1,33 +1,34 @@
 //! A walk over the tokens of a source, and what it reads of one token.
 
-ghost use Rattle.std.specs.Prelude.{◌≡◌, ◌<◌, [], length, drop, MatchOption, IfSome, IfOk, IfErr};
+ghost use Rattle.std.specs.Prelude.{◌≡◌, ◌<◌, true, [], length, drop, MatchOption, IfSome, IfOk, IfErr};
+ghost use Rattle.bag_model.specs.Words.{is_name};
 ghost use Rattle.bdl_parser.specs.Grammar.{key, mark, a_name, a_number, a_text};
-ghost use Rattle.bdl_parser.specs.Refusals.{meets, IsTokenRefused, seen, IsSeenUtf8, HasFirst};
+ghost use Rattle.bdl_parser.specs.Refusals.{meets, IsTokenRefused, meant_by, IsWellFormed, HasFirst};
 ghost use Rattle.grammar_model.specs.Forms.{IsOne};
 
+use crate::ParseCode;
 use crate::trees::Spot;
-use crate::words::{is, is_reserved, text_with};
+use crate::words::{is, is_name, text_with};
 use bdl_lexer::{Token, TokenClass};
 use outside::{Memory, Text};
 use std::alloc::Global;
 use std::marker::Model;
 
-/// Why a form wasn't read.
+/// Why a form wasn't read. The parser stands at the token that is wrong.
 #[derive(Clone, Copy)]
-pub(crate) enum Refusal {
-    Expected,
-    TypeNesting,
+pub(crate) enum FormFault {
+    Wrong(ParseCode),
     Memory,
 }
 
-impl From<Memory> for Refusal {
+impl From<Memory> for FormFault {
     ghost use Rattle.std.specs.Prelude.{◌≡◌};
-    ghost use Rattle.bdl_parser.specs.declared.parser.Refusal.TheVariants.{Memory};
+    ghost use Rattle.bdl_parser.specs.declared.parser.FormFault.TheVariants.{Memory};
 
-    ghost from_gives = { λ _ refusal. refusal ≡ Memory };
+    ghost from_gives = { λ _ fault. fault ≡ Memory };
 
     fn from(_error: Memory) -> Self {
-        Refusal::Memory
+        FormFault::Memory
     }
 }
 
@@ -52,7 +53,7 @@ impl<'a> Model for Parser<'a> {
 
 /// What a token says.
 #[derive(Clone, Copy)]
-pub(crate) enum What<'a> {
+pub(crate) enum Meaning<'a> {
     Word(&'a [u8]),
     Number(u16),
     /// The characters between the quotes.
@@ -83,17 +84,18 @@ impl<'a> Parser<'a> {
     }
 
     /// The next token.
-    pub fn peek(&self) -> Option<(What<'a>, Spot)>
-        ensures first { MatchOption result (self.now ≡ []) (λ found. HasFirst (seen found.0) found.1 self.now) }
-        ensures utf8 { IfSome result (λ found. IsSeenUtf8 found.0) }
+    #[tactic(auto, using(crate::proofs::NameLaws::token_is_word))]
+    pub fn peek(&self) -> Option<(Meaning<'a>, Spot)>
+        ensures first { MatchOption result (self.now ≡ []) (λ found. HasFirst (meant_by found.0) found.1 self.now) }
+        ensures formed { IfSome result (λ found. IsWellFormed found.0) }
     {
         let token = self.rest.first()?;
         let text = &self.source[token.at..token.at + token.len];
         let what = match token.class {
-            TokenClass::Word => What::Word(text),
-            TokenClass::Number(value) => What::Number(value),
-            TokenClass::Text => What::Quoted(&text[1..text.len() - 1]),
-            TokenClass::Sign(byte) => What::Sign(byte),
+            TokenClass::Word => Meaning::Word(text),
+            TokenClass::Number(value) => Meaning::Number(value),
+            TokenClass::Text => Meaning::Quoted(&text[1..text.len() - 1]),
+            TokenClass::Sign(byte) => Meaning::Sign(byte),
         };
         let spot = Spot {
             line: token.line,
@@ -115,7 +117,7 @@ impl<'a> Parser<'a> {
         ensures { result ≡ meets (key word.now) self.now }
     {
         match self.peek() {
-            Some((What::Word(found), _)) => is(found, word),
+            Some((Meaning::Word(found), _)) => is(found, word),
             _ => false,
         }
     }
@@ -125,80 +127,81 @@ impl<'a> Parser<'a> {
         ensures { result ≡ meets (mark byte) self.now }
     {
         match self.peek() {
-            Some((What::Sign(found), _)) => found == byte,
+            Some((Meaning::Sign(found), _)) => found == byte,
             _ => false,
         }
     }
 
     /// Reads this word.
-    pub fn key(&mut self, word: &str) -> Result<Spot, Refusal>
+    pub fn key(&mut self, word: &str) -> Result<Spot, FormFault>
         ensures ok { IfOk result (λ spot. IsOne (key word.now) self.old spot self.new) }
-        ensures err { IfErr result (λ refusal. IsTokenRefused (key word.now) refusal self.old self.new) }
+        ensures err { IfErr result (λ fault. IsTokenRefused (key word.now) fault self.old self.new) }
     {
         match self.peek() {
-            Some((What::Word(found), spot)) if is(found, word) => {
+            Some((Meaning::Word(found), spot)) if is(found, word) => {
                 self.advance();
                 Ok(spot)
             }
-            _ => Err(Refusal::Expected),
+            _ => Err(FormFault::Wrong(ParseCode::Expected)),
         }
     }
 
     /// Reads this sign.
-    pub fn sign(&mut self, byte: u8) -> Result<Spot, Refusal>
+    pub fn sign(&mut self, byte: u8) -> Result<Spot, FormFault>
         ensures ok { IfOk result (λ spot. IsOne (mark byte) self.old spot self.new) }
-        ensures err { IfErr result (λ refusal. IsTokenRefused (mark byte) refusal self.old self.new) }
+        ensures err { IfErr result (λ fault. IsTokenRefused (mark byte) fault self.old self.new) }
     {
         match self.peek() {
-            Some((What::Sign(found), spot)) if found == byte => {
+            Some((Meaning::Sign(found), spot)) if found == byte => {
                 self.advance();
                 Ok(spot)
             }
-            _ => Err(Refusal::Expected),
+            _ => Err(FormFault::Wrong(ParseCode::Expected)),
         }
     }
 
     /// Reads a number.
-    pub fn number(&mut self) -> Result<(u16, Spot), Refusal>
+    pub fn number(&mut self) -> Result<(u16, Spot), FormFault>
         ensures ok { IfOk result (λ found. IsOne a_number self.old found self.new) }
-        ensures err { IfErr result (λ refusal. IsTokenRefused a_number refusal self.old self.new) }
+        ensures err { IfErr result (λ fault. IsTokenRefused a_number fault self.old self.new) }
     {
         match self.peek() {
-            Some((What::Number(value), spot)) => {
+            Some((Meaning::Number(value), spot)) => {
                 self.advance();
                 Ok((value, spot))
             }
-            _ => Err(Refusal::Expected),
+            _ => Err(FormFault::Wrong(ParseCode::Expected)),
         }
     }
 
     /// Reads what stands between two quotes.
-    pub fn quoted(&mut self, alloc: Global) -> Result<(Text, Spot), Refusal>
+    pub fn quoted(&mut self, alloc: Global) -> Result<(Text, Spot), FormFault>
         ensures ok { IfOk result (λ found. IsOne a_text self.old found self.new) }
-        ensures err { IfErr result (λ refusal. IsTokenRefused a_text refusal self.old self.new) }
+        ensures err { IfErr result (λ fault. IsTokenRefused a_text fault self.old self.new) }
     {
         match self.peek() {
-            Some((What::Quoted(bytes), spot)) => {
+            Some((Meaning::Quoted(bytes), spot)) => {
                 let text = text_with(alloc, bytes)?;
                 self.advance();
                 Ok((text, spot))
             }
-            _ => Err(Refusal::Expected),
+            _ => Err(FormFault::Wrong(ParseCode::Expected)),
         }
     }
 
     /// Reads a name, which is no reserved word.
-    pub fn name(&mut self, alloc: Global) -> Result<(Text, Spot), Refusal>
+    pub fn name(&mut self, alloc: Global) -> Result<(Text, Spot), FormFault>
         ensures ok { IfOk result (λ found. IsOne a_name self.old found self.new) }
-        ensures err { IfErr result (λ refusal. IsTokenRefused a_name refusal self.old self.new) }
+        ensures named { IfOk result (λ found. is_name found.0 ≡ true) }
+        ensures err { IfErr result (λ fault. IsTokenRefused a_name fault self.old self.new) }
     {
         match self.peek() {
-            Some((What::Word(bytes), spot)) if !is_reserved(bytes) => {
+            Some((Meaning::Word(bytes), spot)) if is_name(bytes) => {
                 let text = text_with(alloc, bytes)?;
                 self.advance();
                 Ok((text, spot))
             }
-            _ => Err(Refusal::Expected),
+            _ => Err(FormFault::Wrong(ParseCode::Expected)),
         }
     }
 }

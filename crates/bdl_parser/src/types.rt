@@ -7,7 +7,8 @@ ghost use Rattle.bdl_parser.specs.Views.{tree_of};
 ghost use Rattle.grammar_model.specs.Forms.{IsOne};
 ghost use Rattle.grammar_model.specs.Stops.{Taken, first_passes};
 
-use crate::parser::{Parser, Refusal, What};
+use crate::ParseCode;
+use crate::parser::{FormFault, Meaning, Parser};
 use crate::trees::{TypeForm, TypeNode};
 use crate::words::{is_leaf, leaf_form};
 use outside::Memory;
@@ -25,7 +26,7 @@ impl<'a> Parser<'a> {
         ensures { result ≡ first_passes is_type_first self.now }
     {
         match self.peek() {
-            Some((What::Word(bytes), _)) => {
+            Some((Meaning::Word(bytes), _)) => {
                 is_leaf(bytes) || self.is_at_key("set") || self.is_at_key("map")
             }
             _ => false,
@@ -33,38 +34,38 @@ impl<'a> Parser<'a> {
     }
 
     /// Why no type may be read where none may stand.
-    fn no_room(&self) -> Refusal
+    fn no_room(&self) -> FormFault
         ensures { IsRefused a_type 0 result self.now self.now }
     {
         if self.is_at_type() {
-            Refusal::TypeNesting
+            FormFault::Wrong(ParseCode::TypeNesting)
         } else {
-            Refusal::Expected
+            FormFault::Wrong(ParseCode::Expected)
         }
     }
 
     /// Reads a type of one word.
-    fn leaf(&mut self, alloc: Global) -> Result<TypeNode, Refusal>
+    fn leaf(&mut self, alloc: Global) -> Result<TypeNode, FormFault>
         ensures ok { IfOk result (λ node. IsOne a_leaf self.old (tree_of node) self.new) }
-        ensures err { IfErr result (λ refusal. IsTokenRefused a_leaf refusal self.old self.new) }
+        ensures err { IfErr result (λ fault. IsTokenRefused a_leaf fault self.old self.new) }
     {
         match self.peek() {
-            Some((What::Word(bytes), at)) => {
+            Some((Meaning::Word(bytes), at)) => {
                 let Some(form) = leaf_form(alloc, bytes)? else {
-                    return Err(Refusal::Expected);
+                    return Err(FormFault::Wrong(ParseCode::Expected));
                 };
                 self.advance();
                 Ok(TypeNode { at, form })
             }
-            _ => Err(Refusal::Expected),
+            _ => Err(FormFault::Wrong(ParseCode::Expected)),
         }
     }
 
     /// Reads a type in which at most `room` types stand inside one another.
     #[cycle(nested)]
-    pub fn type_node(&mut self, alloc: Global, room: u32) -> Result<TypeNode, Refusal>
+    pub fn type_node(&mut self, alloc: Global, room: u32) -> Result<TypeNode, FormFault>
         ensures ok { IfOk result (λ node. Taken a_type room self.old (tree_of node) self.new) }
-        ensures err { IfErr result (λ refusal. IsRefused a_type room refusal self.old self.new) }
+        ensures err { IfErr result (λ fault. IsRefused a_type room fault self.old self.new) }
     {
         let Some(inner) = room.checked_sub(1) else {
             return Err(self.no_room());
@@ -79,9 +80,9 @@ impl<'a> Parser<'a> {
     }
 
     #[cycle(nested)]
-    fn set_type(&mut self, alloc: Global, room: u32) -> Result<TypeNode, Refusal>
+    fn set_type(&mut self, alloc: Global, room: u32) -> Result<TypeNode, FormFault>
         ensures ok { IfOk result (λ node. Taken (λ n. set_of (a_type n)) room self.old (tree_of node) self.new) }
-        ensures err { IfErr result (λ refusal. IsRefused (λ n. set_of (a_type n)) room refusal self.old self.new) }
+        ensures err { IfErr result (λ fault. IsRefused (λ n. set_of (a_type n)) room fault self.old self.new) }
     {
         let at = self.key("set")?;
         self.sign(b'<')?;
@@ -92,9 +93,9 @@ impl<'a> Parser<'a> {
     }
 
     #[cycle(nested)]
-    fn map_type(&mut self, alloc: Global, room: u32) -> Result<TypeNode, Refusal>
+    fn map_type(&mut self, alloc: Global, room: u32) -> Result<TypeNode, FormFault>
         ensures ok { IfOk result (λ node. Taken (λ n. map_of (a_type n)) room self.old (tree_of node) self.new) }
-        ensures err { IfErr result (λ refusal. IsRefused (λ n. map_of (a_type n)) room refusal self.old self.new) }
+        ensures err { IfErr result (λ fault. IsRefused (λ n. map_of (a_type n)) room fault self.old self.new) }
     {
         let at = self.key("map")?;
         self.sign(b'<')?;

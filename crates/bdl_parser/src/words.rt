@@ -1,12 +1,14 @@
 //! The words of the definition language.
 
-ghost use Rattle.std.specs.Prelude.{◌≡◌, IfOk};
+ghost use Rattle.std.specs.Prelude.{◌≡◌, IfOk, true};
 ghost use Rattle.std.specs.Option.{is_some, option_map};
 ghost use Rattle.std.specs.Str.{IsUtf8, bytes_eq};
+ghost use Rattle.bag_model.specs.Words.{reserved_among, reserved_of, is_word, is_name};
 ghost use Rattle.bdl_parser.specs.declared.trees.Spot.{Spot};
 ghost use Rattle.bdl_parser.specs.Trees.{leaf};
 ghost use Rattle.bdl_parser.specs.Views.{tree_at};
-ghost use Rattle.bdl_parser.specs.Words.{integer_of, other_scalar_of, plain_of, opens_form, is_reserved, leaf_of};
+ghost use Rattle.bdl_parser.specs.ReservedWords.{in_code, reserved_scalars};
+ghost use Rattle.bdl_parser.specs.Words.{leaf_of};
 
 use crate::trees::{ScalarWord, TypeForm};
 use outside::{Memory, Text};
@@ -20,101 +22,121 @@ pub(crate) fn is(text: &[u8], word: &str) -> bool
     text == word.as_bytes()
 }
 
-/// The type of booleans or of integers with this word.
-#[tactic(auto, unfolding(crate::specs::Words::integer_of))]
-pub(crate) fn bool_or_integer_word(text: &[u8]) -> Option<ScalarWord>
-    ensures { result ≡ integer_of text.now }
+/// A reserved word.
+#[derive(Clone, Copy)]
+pub(crate) enum Reserved {
+    Import,
+    Bag,
+    Struct,
+    Set,
+    Map,
+    Counter,
+    Taint,
+    Float,
+    Double,
+    Scalar(ScalarWord),
+}
+
+impl Reserved {
+    ghost use Rattle.bdl_parser.specs.ReservedWords.{leaf_in_code};
+
+    /// The type that the word is by itself, if it is one.
+    fn form(self) -> Option<TypeForm>
+        ensures some { is_some result ≡ is_some (leaf_in_code self) }
+        ensures form { (spot : Spot) → option_map (λ form. tree_at spot form) result ≡ option_map (λ found. leaf found spot) (leaf_in_code self) }
+    {
+        match self {
+            Reserved::Scalar(word) => Some(TypeForm::Scalar(word)),
+            Reserved::Float => Some(TypeForm::Float),
+            Reserved::Double => Some(TypeForm::Double),
+            Reserved::Taint => Some(TypeForm::Taint),
+            Reserved::Counter => Some(TypeForm::Counter),
+            _ => None,
+        }
+    }
+}
+
+/// The scalar word with these bytes.
+fn scalar_word(text: &[u8]) -> Option<Reserved>
+    ensures { result ≡ option_map in_code (reserved_among text.now reserved_scalars) }
 {
     if is(text, "bool") {
-        Some(ScalarWord::Bool)
+        Some(Reserved::Scalar(ScalarWord::Bool))
     } else if is(text, "int32") {
-        Some(ScalarWord::Int32)
+        Some(Reserved::Scalar(ScalarWord::Int32))
     } else if is(text, "int64") {
-        Some(ScalarWord::Int64)
+        Some(Reserved::Scalar(ScalarWord::Int64))
     } else if is(text, "sint32") {
-        Some(ScalarWord::Sint32)
+        Some(Reserved::Scalar(ScalarWord::Sint32))
     } else if is(text, "sint64") {
-        Some(ScalarWord::Sint64)
+        Some(Reserved::Scalar(ScalarWord::Sint64))
     } else if is(text, "uint32") {
-        Some(ScalarWord::Uint32)
+        Some(Reserved::Scalar(ScalarWord::Uint32))
     } else if is(text, "uint64") {
-        Some(ScalarWord::Uint64)
-    } else {
-        None
-    }
-}
-
-/// The other type that is one value with this word.
-#[tactic(auto, unfolding(crate::specs::Words::other_scalar_of))]
-pub(crate) fn other_scalar_word(text: &[u8]) -> Option<ScalarWord>
-    ensures { result ≡ other_scalar_of text.now }
-{
-    if is(text, "fixed32") {
-        Some(ScalarWord::Fixed32)
+        Some(Reserved::Scalar(ScalarWord::Uint64))
+    } else if is(text, "fixed32") {
+        Some(Reserved::Scalar(ScalarWord::Fixed32))
     } else if is(text, "fixed64") {
-        Some(ScalarWord::Fixed64)
+        Some(Reserved::Scalar(ScalarWord::Fixed64))
     } else if is(text, "sfixed32") {
-        Some(ScalarWord::Sfixed32)
+        Some(Reserved::Scalar(ScalarWord::Sfixed32))
     } else if is(text, "sfixed64") {
-        Some(ScalarWord::Sfixed64)
+        Some(Reserved::Scalar(ScalarWord::Sfixed64))
     } else if is(text, "string") {
-        Some(ScalarWord::Str)
+        Some(Reserved::Scalar(ScalarWord::Str))
     } else if is(text, "bytes") {
-        Some(ScalarWord::Bytes)
+        Some(Reserved::Scalar(ScalarWord::Bytes))
     } else {
         None
     }
 }
 
-/// The other type of one word with this word.
-#[tactic(auto, unfolding(crate::specs::Words::plain_of))]
-pub(crate) fn plain_form(text: &[u8]) -> Option<TypeForm>
-    ensures some { is_some result ≡ is_some (plain_of text.now) }
-    ensures form { (spot : Spot) → option_map (λ form. tree_at spot form) result ≡ option_map (λ found. leaf found spot) (plain_of text.now) }
+/// The reserved word with these bytes.
+#[tactic(auto, unfolding(bag_model::specs::Words::reserved_of))]
+fn reserved_word(text: &[u8]) -> Option<Reserved>
+    ensures { result ≡ option_map in_code (reserved_of text.now) }
 {
-    if is(text, "float") {
-        Some(TypeForm::Float)
-    } else if is(text, "double") {
-        Some(TypeForm::Double)
-    } else if is(text, "taint") {
-        Some(TypeForm::Taint)
+    if is(text, "import") {
+        Some(Reserved::Import)
+    } else if is(text, "bag") {
+        Some(Reserved::Bag)
+    } else if is(text, "struct") {
+        Some(Reserved::Struct)
+    } else if is(text, "set") {
+        Some(Reserved::Set)
+    } else if is(text, "map") {
+        Some(Reserved::Map)
     } else if is(text, "counter") {
-        Some(TypeForm::Counter)
+        Some(Reserved::Counter)
+    } else if is(text, "taint") {
+        Some(Reserved::Taint)
+    } else if is(text, "float") {
+        Some(Reserved::Float)
+    } else if is(text, "double") {
+        Some(Reserved::Double)
     } else {
-        None
+        scalar_word(text)
     }
 }
 
-/// Whether a form begins with this word.
-#[tactic(auto, unfolding(crate::specs::Words::opens_form))]
-pub(crate) fn opens_form(text: &[u8]) -> bool
-    ensures { result ≡ opens_form text.now }
+/// Whether the word is a name.
+#[tactic(auto, using(crate::proofs::NameLaws::name_unless_reserved))]
+pub(crate) fn is_name(text: &[u8]) -> bool
+    requires { is_word text.now ≡ true }
+    ensures { result ≡ is_name text.now }
 {
-    is(text, "import")
-        || is(text, "bag")
-        || is(text, "struct")
-        || is(text, "set")
-        || is(text, "map")
+    reserved_word(text).is_none()
 }
 
-/// Whether the word is no name.
-pub(crate) fn is_reserved(text: &[u8]) -> bool
-    ensures { result ≡ is_reserved text.now }
-{
-    bool_or_integer_word(text).is_some()
-        || other_scalar_word(text).is_some()
-        || plain_form(text).is_some()
-        || opens_form(text)
-}
-
-/// Whether the word is a type.
+/// Whether the word is a type by itself.
 pub(crate) fn is_leaf(text: &[u8]) -> bool
+    requires { is_word text.now ≡ true }
     ensures { result ≡ is_some (leaf_of text.now) }
 {
-    bool_or_integer_word(text).is_some()
-        || other_scalar_word(text).is_some()
-        || plain_form(text).is_some()
-        || !opens_form(text)
+    match reserved_word(text) {
+        Some(word) => word.form().is_some(),
+        None => true,
+    }
 }
 
 /// A text with these characters.
@@ -130,20 +152,12 @@ pub(crate) fn text_with(alloc: Global, bytes: &[u8]) -> Result<Text, Memory>
 
 /// What a type of this word is, if the word is one.
 pub(crate) fn leaf_form(alloc: Global, text: &[u8]) -> Result<Option<TypeForm>, Memory>
-    requires { IsUtf8 text.now }
+    requires utf8 { IsUtf8 text.now }
+    requires word { is_word text.now ≡ true }
     ensures { IfOk result (λ found. (spot : Spot) → option_map (λ form. tree_at spot form) found ≡ option_map (λ found. leaf found spot) (leaf_of text.now)) }
 {
-    if let Some(word) = bool_or_integer_word(text) {
-        return Ok(Some(TypeForm::Scalar(word)));
+    match reserved_word(text) {
+        Some(word) => Ok(word.form()),
+        None => Ok(Some(TypeForm::Name(text_with(alloc, text)?))),
     }
-    if let Some(word) = other_scalar_word(text) {
-        return Ok(Some(TypeForm::Scalar(word)));
-    }
-    if let Some(form) = plain_form(text) {
-        return Ok(Some(form));
-    }
-    if opens_form(text) {
-        return Ok(None);
-    }
-    Ok(Some(TypeForm::Name(text_with(alloc, text)?)))
 }
