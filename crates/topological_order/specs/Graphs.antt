@@ -1,5 +1,5 @@
 -- Graphs, by the nodes to which the edges of each node lead.
-use Rattle.std.specs.Prelude.{◌≡◌, ℕ, ◌<◌, List, map, length, Some, All, Contains, slice_get}
+use Rattle.std.specs.Prelude.{◌≡◌, ℕ, ◌<◌, ◌⊎◌, List, [], map, length, Some, All, Contains, slice_get, slice_index_or}
 use Rattle.std.specs.declared.vec.Vec.{Vec}
 use Rattle.std.specs.declared.alloc.Global.{Global}
 
@@ -10,6 +10,10 @@ Graph = List (List ℕ)
 -- The graph that the code has.
 abbrev pub graph_of : List (Vec ℕ Global) → Graph
 graph_of rows = map (λ row. row.items) rows
+
+-- The nodes to which a node's edges lead.
+abbrev pub row_of : Graph → ℕ → List ℕ
+row_of graph node = slice_index_or graph node []
 
 -- There is an edge from the one node to the other.
 pub record HasEdge (graph : Graph) (from to : ℕ) : Type 0 where
@@ -24,4 +28,9 @@ IsClosed graph = All (All (λ to. to < length graph)) graph
 -- Along one edge or several the one node is reached from the other.
 pub data Reaches (graph : Graph) : ℕ → ℕ → Type 0 where
   by_edge : (from to : ℕ) → HasEdge graph from to → Reaches graph from to
-  by_walk : (from next to : ℕ) → HasEdge graph from next → Reaches graph next to → Reaches graph from to
+  by_walk : (from next to : ℕ) → HasEdge graph from next → Reaches graph next to
+      → Reaches graph from to
+
+-- The one node is the other, or reaches it.
+abbrev pub ReachesOrIs : Graph → ℕ → ℕ → Type 0
+ReachesOrIs graph from to = (from ≡ to) ⊎ Reaches graph from to

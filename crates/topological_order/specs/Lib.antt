@@ -1,3 +1,7 @@
+-- The rule.
 pub mod Graphs
 pub mod Orders
+-- What contracts of the crate's own functions cite besides.
 pub mod Walks
+pub mod Components
+pub mod Cycles

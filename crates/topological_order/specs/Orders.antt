@@ -8,7 +8,8 @@ use Rattle.topological_order.specs.Graphs.{Graph, HasEdge, Reaches}
 pub record IsOrder (graph : Graph) (order : List ℕ) : Type 0 where
   pub all : (node : ℕ) → node < length graph → Contains order node
   pub once : length order ≡ length graph
-  pub behind : (place node next : ℕ) → slice_get order place ≡ Some node → HasEdge graph node next → Contains (take place order) next
+  pub behind : (place node next : ℕ) → slice_get order place ≡ Some node → HasEdge graph node next
+      → Contains (take place order) next
 
 -- The node reaches itself, and none with a lesser number does.
 pub record IsFirstCyclic (graph : Graph) (node : ℕ) : Type 0 where

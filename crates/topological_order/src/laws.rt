@@ -6,5 +6,6 @@ ghost use Rattle.topological_order.specs.Orders.{IsOrder};
 
 /// Where there is an order, no node reaches itself.
 pub fn orders_exclude_cycles()
-    ensures { (graph : Graph) (order : List ℕ) (node : ℕ) → IsOrder graph order → Reaches graph node node → ⊥ }
+    ensures { (graph : Graph) (order : List ℕ) (node : ℕ) → IsOrder graph order
+        → Reaches graph node node → ⊥ }
 {}

@@ -1,6 +1,8 @@
 //! The order of a graph's nodes in which each stands behind those that its edges lead to.
 #![tactic(auto)]
 
+mod components;
+mod cycles;
 pub mod laws;
 #[cfg(test)]
 mod tests;
@@ -10,7 +12,9 @@ ghost use Rattle.std.specs.Prelude.{IfOk};
 ghost use Rattle.topological_order.specs.Graphs.{graph_of, IsClosed};
 ghost use Rattle.topological_order.specs.Orders.{IsSorted};
 
-use crate::walk::Walk;
+use crate::components::component_numbers;
+use crate::cycles::first_cyclic;
+use crate::walk::finishing_order;
 use outside::Memory;
 use std::alloc::Global;
 
@@ -23,20 +27,17 @@ pub enum Sorted {
     Cycle(usize),
 }
 
-/// Sorts the nodes of a graph, which has a row for each node with the nodes that its edges lead to. Each node and each edge
-/// is looked at once, with a stack of its own, so that long walks take no deep recursion.
+/// Sorts the nodes of a graph, which has a row for each node with the nodes that its edges lead to. The nodes that reach
+/// themselves are those whose strongly connected component has several nodes, or which have an edge to themselves.
+/// Each edge is followed a few times, however many there are, and long paths take no deep recursion.
 pub fn topological_order(alloc: Global, graph: &[Vec<usize>]) -> Result<Sorted, Memory>
     requires { IsClosed (graph_of graph.now) }
     ensures { IfOk result (IsSorted (graph_of graph.now)) }
 {
-    let mut walk = Walk::new(alloc, graph)?;
-    for root in 0..graph.len() {
-        if walk.is_new(root) {
-            walk.walk_from(root)?;
-        }
+    let order = finishing_order(alloc, graph)?;
+    let numbers = component_numbers(alloc, graph, &order)?;
+    match first_cyclic(alloc, graph, &numbers)? {
+        Some(node) => Ok(Sorted::Cycle(node)),
+        None => Ok(Sorted::Order(order)),
     }
-    Ok(match walk.first {
-        Some(node) => Sorted::Cycle(node),
-        None => Sorted::Order(walk.order),
-    })
 }

@@ -1,29 +1,19 @@
-use Rattle.std.proofs.Common.{◌≡◌, ◌-◌, ℕ, List, length, take, Some, sym, ap, subst, ◌∙◌, arith}
-use Rattle.std.specs.List.{slice_get}
-use Rattle.std.proofs.lemmas.Bool.{iff_false}
-use Rattle.std.proofs.lemmas.Result.{on_ok_weaker}
-use Rattle.topological_order.specs.Walks.{Trail, trail_of, closed, Follows}
-use Rattle.topological_order.proofs.Steps.{is_here, begins_none, left_follows}
-use Rattle.topological_order.proofs.Closing.{path_marked, closed_follows}
+use Rattle.std.proofs.Common.{◌≡◌, ◌-◌, List, ℕ, length, take, sym, ap, subst, ◌∙◌, arith}
+use Rattle.topological_order.specs.Walks.{trail_of, left, Follows}
+use Rattle.topological_order.proofs.Steps.{is_here, left_follows}
 use Rattle.topological_order.proofs.walk.Walk.leave.Goals as goal
 
-pub close-requires-clause-within : goal.close-requires-clause-within
-close-requires-clause-within c = omega (arith, (is_here (trail_of c.args.self.now) c.args.place c.requires.walk c.requires.top).within)
-
-pub close-requires-clause-marked : goal.close-requires-clause-marked
-close-requires-clause-marked c = path_marked (trail_of c.args.self.now) c.requires.walk
-
-pub returns-then-begins_at : goal.returns-then-begins_at
-returns-then-begins_at c =
-    let s = trail_of c.args.self.now in
-    let last : slice_get s.starts (length s.starts - 1) ≡ Some c.args.place = c.begins_at.ensures.0 c.if-begins_at.true in
-    let follows = closed_follows s c.args.place (record { end = c.requires; last = last }) in
-    on_ok_weaker c.close.result (λ (is : trail_of c.close.new.self ≡ closed s c.args.place). let P : Trail → Type 0 = Follows s in subst P (sym is) follows) c.close.ensures
+pub index_mut-requires : goal.index_mut-requires
+index_mut-requires c =
+    let h = is_here (trail_of c.args.self.now) c.args.node c.requires.walk c.requires.top in
+    omega (arith, h.marked, c.args.self.now.marks.ok.0)
 
 pub returns : goal.returns
 returns c =
     let s = trail_of c.args.self.now in
-    let rest : c.pop.new.self.items ≡ take (length s.frames - 1) s.frames = c.pop.ensures.rest ∙ ap (λ n. take (n - 1) s.frames) c.args.self.now.frames.ok.0 in
-    let free = begins_none s c.args.place c.requires (iff_false c.begins_at.ensures c.if-begins_at.false) in
-    let P : List ℕ → Type 0 = λ frames. Follows s (record s { frames = frames }) in
-    subst P (sym rest) (left_follows s c.args.place c.requires free)
+    let node = c.args.node in
+    let rest : c.pop.new.self.items ≡ take (length s.path - 1) s.path = c.pop.ensures.rest
+    ∙ ap (λ n. take (n - 1) s.path) c.args.self.now.path.ok.0 in
+    let P : List ℕ → Type 0 = λ path. Follows s (record (left s node) { path = path }) in
+    let Q : List ℕ → Type 0 = λ order. Follows s (record (left s node) { path = c.pop.new.self.items; order = order }) in
+    subst Q (sym c.in_ok-push.ensures.items) (subst P (sym rest) (left_follows s node c.requires))

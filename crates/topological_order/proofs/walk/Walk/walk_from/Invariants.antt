@@ -1,13 +1,8 @@
-use Rattle.std.proofs.Common.{◌≡◌}
-use Rattle.topological_order.specs.declared.walk.Mark.TheVariants.{New}
-use Rattle.topological_order.specs.Walks.{trail_of, mark_of, effort, Follows}
+use Rattle.topological_order.specs.Walks.{trail_of, effort, IsWalkedFrom}
 use Rattle.topological_order.proofs.walk.Walk.walk_from.Given as goal
 
-abbrev pub invariant-loop-place : goal.invariant-loop-place
-invariant-loop-place l = record {
-  follows : Follows (trail_of l.fn.self) (trail_of l.self);
-  met : mark_of l.self.marks.items l.root ≡ New → ⊥;
-}
+abbrev pub invariant-loop-node : goal.invariant-loop-node
+invariant-loop-node l = IsWalkedFrom (trail_of l.fn.self) (trail_of l.self) l.root
 
-abbrev pub decreases-loop-place : goal.decreases-loop-place
-decreases-loop-place l = effort (trail_of l.self)
+abbrev pub decreases-loop-node : goal.decreases-loop-node
+decreases-loop-node l = effort (trail_of l.self)
