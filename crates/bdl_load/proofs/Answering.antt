@@ -9,7 +9,7 @@ use Rattle.bdl_load.specs.declared.faults.DefFault.{DefFault}
 use Rattle.bdl_load.specs.declared.faults.DefFault.TheVariants.{At, Failed, Memory}
 use Rattle.bdl_load.specs.declared.faults.Fault.{Fault}
 use Rattle.bdl_load.specs.declared.files.LoadedFile.{LoadedFile}
-use Rattle.bdl_load.specs.Asked.{Answer, asked, Gives, known, Answered, Loaded, Ends}
+use Rattle.bdl_load.specs.Loader.{Answer, answer_names, Gives, known, Answered, Loaded, Ends}
 use Rattle.bdl_load.specs.Faults.{Blames}
 use Rattle.bdl_load.specs.Loading.{Holding, OfLibrary, AgreeButLast, AsksAll, AsksFirst, Loads, all_loaded, stopped, names_of}
 use Rattle.bdl_load.proofs.Asking.{same_bytes}
@@ -20,13 +20,13 @@ look : List Answer → Holding
 look [] name = None
 look (a ∷ answers) name = cond (bytes_eq a.name name) a.content (look answers name)
 
-look_later : (a : Answer) (answers these : List Answer) → AllByRecursion (λ name. bytes_eq a.name name ≡ false) (asked these) → Gives (look answers) these → Gives (look (a ∷ answers)) these
+look_later : (a : Answer) (answers these : List Answer) → AllByRecursion (λ name. bytes_eq a.name name ≡ false) (answer_names these) → Gives (look answers) these → Gives (look (a ∷ answers)) these
 unfolding look
 look_later a answers [] others g = tt
 look_later a answers (b ∷ these) (other, others) (e, g) =
     (ap (λ same. cond same a.content (look answers b.name)) other ∙ e, look_later a answers these others g)
 
-look_gives : (answers : List Answer) → IsDistinct bytes_eq (asked answers) → Gives (look answers) answers
+look_gives : (answers : List Answer) → IsDistinct bytes_eq (answer_names answers) → Gives (look answers) answers
 unfolding IsDistinct look
 look_gives [] d = tt
 look_gives (a ∷ answers) (others, d) =
@@ -39,22 +39,22 @@ gives_take held zero answers g = tt
 gives_take held (suc n) [] g = tt
 gives_take held (suc n) (a ∷ answers) (e, g) = (e, gives_take held n answers g)
 
-agree : (held other : Holding) (answers : List Answer) → Gives held answers → Gives other answers → AllByRecursion (λ name. other name ≡ held name) (asked answers)
+agree : (held other : Holding) (answers : List Answer) → Gives held answers → Gives other answers → AllByRecursion (λ name. other name ≡ held name) (answer_names answers)
 agree held other [] g h = tt
 agree held other (a ∷ answers) (e, g) (f, h) = (f ∙ sym e, agree held other answers g h)
 
-agree_but_last : (held other : Holding) (answers : List Answer) → Gives held (known false answers) → Gives other answers → AgreeButLast (asked answers) held other
+agree_but_last : (held other : Holding) (answers : List Answer) → Gives held (known false answers) → Gives other answers → AgreeButLast (answer_names answers) held other
 agree_but_last held other answers g h =
     let count = length-map answers (λ (answer : Answer). answer.name) in
     subst (λ names. AllByRecursion (λ name. other name ≡ held name) names)
-    (sym (take-map (λ (answer : Answer). answer.name) (length answers - 1) answers) ∙ ap (λ n. take (n - 1) (asked answers)) (sym count))
+    (sym (take-map (λ (answer : Answer). answer.name) (length answers - 1) answers) ∙ ap (λ n. take (n - 1) (answer_names answers)) (sym count))
     (agree held other (known false answers) g (gives_take other (length answers - 1) answers h))
 
 -- ---- the files of the library
 
 of_answers : (files : Files) (before after : Asked) (C : List (List ℕ) → Holding → Type 0) → Answered true files before after [] C → OfLibrary files before after (λ held names. C names held)
-of_answers None before after C a = (look a.answers, asked a.answers, tt, a.asks, a.comes (look a.answers) (look_gives a.answers a.distinct))
-of_answers (Some held) before after C a = (held, asked a.answers, refl, a.asks, a.comes held a.told)
+of_answers None before after C a = (look a.answers, answer_names a.answers, tt, a.asks, a.comes (look a.answers) (look_gives a.answers a.distinct))
+of_answers (Some held) before after C a = (held, answer_names a.answers, refl, a.asks, a.comes held a.told)
 
 first_asked : (files : Files) (before after : Asked) (root : List ℕ) → Answered false files before after [] (λ names held. (fault : Fault) × Loads held root (stopped names fault)) → OfLibrary files before after (λ held names. AsksFirst held root names)
 first_asked files before after root a = from files a.told
@@ -65,12 +65,12 @@ first_asked files before after root a = from files a.told
     gives : Gives other a.answers
     gives = look_gives a.answers a.distinct
 
-    first : (held : Holding) → Gives held (known false a.answers) → AsksFirst held root (asked a.answers)
-    first held g = let comes = a.comes other gives in (other, agree_but_last held other a.answers g gives, (stopped (asked a.answers) comes.0, comes.1, refl))
+    first : (held : Holding) → Gives held (known false a.answers) → AsksFirst held root (answer_names a.answers)
+    first held g = let comes = a.comes other gives in (other, agree_but_last held other a.answers g gives, (stopped (answer_names a.answers) comes.0, comes.1, refl))
 
     from : (those : Files) → IfSome those (λ held. Gives held (known false a.answers)) → OfLibrary those before after (λ held names. AsksFirst held root names)
-    from None told = (other, asked a.answers, tt, a.asks, first other (gives_take other (length a.answers - 1) a.answers gives))
-    from (Some held) told = (held, asked a.answers, refl, a.asks, first held told)
+    from None told = (other, answer_names a.answers, tt, a.asks, first other (gives_take other (length a.answers - 1) a.answers gives))
+    from (Some held) told = (held, answer_names a.answers, refl, a.asks, first held told)
 
 same_but_last : (held : Holding) (names : List (List ℕ)) → AgreeButLast names held held
 same_but_last held names = each (take (length names - 1) names)
@@ -102,7 +102,7 @@ end_asked files before after root Memory e = first_asked files before after root
 pub loaded_all : (files : Files) (before after : Asked) (root : List ℕ) (later : List LoadedFile) → Loaded files before after [] later (λ held. Loads held root (all_loaded later))
     → OfLibrary files before after (λ held names. Loads held root (all_loaded later) × (names ≡ names_of later))
 loaded_all files before after root later l =
-    let own : asked l.given.answers ≡ names_of later = sym l.names ∙ ap names_of (sym l.grown) in
+    let own : answer_names l.given.answers ≡ names_of later = sym l.names ∙ ap names_of (sym l.grown) in
     of_answers files before after (λ names held. Loads held root (all_loaded later) × (names ≡ names_of later))
     (record { answers = l.given.answers; asks = l.given.asks; told = l.given.told; distinct = l.given.distinct; comes = λ held g. (l.given.comes held g, own) })
 

@@ -11,7 +11,7 @@ use Rattle.bdl_load.specs.declared.faults.DefFault.TheVariants.{At, Failed, Memo
 use Rattle.bdl_load.specs.declared.faults.Fault.{Fault}
 use Rattle.bdl_load.specs.declared.files.LoadedFile.{LoadedFile}
 use Rattle.bdl_load.specs.Loading.{Holding, Loading, stopped, is_among, names_of}
-use Rattle.bdl_load.specs.Asked.{Tells, Answer, asked, Gives, known, Answered, Loaded, Ends, Halts}
+use Rattle.bdl_load.specs.Loader.{IsHeld, Answer, answer_names, Gives, known, Answered, Loaded, Ends, Halts}
 
 -- ---- different names
 
@@ -85,7 +85,7 @@ told_none : (files : Files) → IfSome files (λ held. Gives held [])
 told_none None = tt
 told_none (Some held) = tt
 
-told_one : (files : Files) (name : List ℕ) (content : Option (List ℕ)) → Tells files name content → IfSome files (λ held. Gives held (record { name = name; content = content } ∷ []))
+told_one : (files : Files) (name : List ℕ) (content : Option (List ℕ)) → IsHeld files name content → IfSome files (λ held. Gives held (record { name = name; content = content } ∷ []))
 told_one None name content t = tt
 told_one (Some held) name content t = (t, tt)
 
@@ -104,13 +104,13 @@ asks_then a b (Some earlier) (Some middle) (Some kept) f g =
     let second : middle ++ b ≡ kept = cc g in
     ap Some (sym (append_assoc earlier a b) ∙ ap (λ names. names ++ b) first ∙ second)
 
-joined : (a b : List Answer) → asked (a ++ b) ≡ asked a ++ asked b
+joined : (a b : List Answer) → answer_names (a ++ b) ≡ answer_names a ++ answer_names b
 joined a b = map-append (λ (answer : Answer). answer.name) a b
 
-names_then : (earlier later more : List LoadedFile) (a b : List Answer) → later ≡ earlier ++ more → names_of more ≡ asked a → names_of later ++ asked b ≡ names_of earlier ++ asked (a ++ b)
+names_then : (earlier later more : List LoadedFile) (a b : List Answer) → later ≡ earlier ++ more → names_of more ≡ answer_names a → names_of later ++ answer_names b ≡ names_of earlier ++ answer_names (a ++ b)
 names_then earlier later more a b grown e =
     let split : names_of (earlier ++ more) ≡ names_of earlier ++ names_of more = map-append (λ (file : LoadedFile). file.name) earlier more in
-    ap (λ names. names ++ asked b) (ap names_of grown ∙ split ∙ ap (λ names. names_of earlier ++ names) e) ∙ append_assoc (names_of earlier) (asked a) (asked b)
+    ap (λ names. names ++ answer_names b) (ap names_of grown ∙ split ∙ ap (λ names. names_of earlier ++ names) e) ∙ append_assoc (names_of earlier) (answer_names a) (answer_names b)
     ∙ ap (λ names. names_of earlier ++ names) (sym (joined a b))
 
 -- ---- answers after files that were loaded
@@ -124,11 +124,11 @@ answered_then whole files before between after earlier later C D E first second 
     let names = names_then earlier later first.more a b first.grown first.names in
     record {
       answers = a ++ b;
-      asks = subst (λ names. Asks names before after) (sym (joined a b)) (asks_then (asked a) (asked b) before between after first.given.asks second.asks);
+      asks = subst (λ names. Asks names before after) (sym (joined a b)) (asks_then (answer_names a) (answer_names b) before between after first.given.asks second.asks);
       told = told_both files whole a b first.given.told second.told;
       distinct = subst (λ names. IsDistinct bytes_eq names) names second.distinct;
       comes = λ held g. subst (λ names. E names held) names
-          (then held (first.given.comes held (gives_front held a b g)) (names_of later ++ asked b) (second.comes held (gives_back held a b g)));
+          (then held (first.given.comes held (gives_front held a b g)) (names_of later ++ answer_names b) (second.comes held (gives_back held a b g)));
     }
 
 pub loaded_then : (files : Files) (before middle after : Asked) (earlier between later : List LoadedFile) (C D E : Holding → Type 0) → Loaded files before middle earlier between C → Loaded files middle after between later D
@@ -139,7 +139,7 @@ loaded_then files before middle after earlier between later C D E first second t
   grown = second.grown ∙ ap (λ files. files ++ second.more) first.grown ∙ append_assoc earlier first.more second.more;
   given = answered_then true files before middle after earlier between C (λ _ held. D held) (λ _ held. E held) first second.given (λ held c names d. then held c d);
   names = map-append (λ (file : LoadedFile). file.name) first.more second.more ∙ ap (λ names. names ++ names_of second.more) first.names
-      ∙ ap (λ names. asked first.given.answers ++ names) second.names ∙ sym (joined first.given.answers second.given.answers);
+      ∙ ap (λ names. answer_names first.given.answers ++ names) second.names ∙ sym (joined first.given.answers second.given.answers);
 }
 
 unknown_then : (files : Files) (before between after : Asked) (earlier later : List LoadedFile) (C : Holding → Type 0) (D E : Holding → Loading → Type 0) → Loaded files before between earlier later C
@@ -210,7 +210,7 @@ answered_one whole files before after earlier name content C new told comes = re
 
 -- the file is held
 pub loaded_file : (files : Files) (before after : Asked) (earlier : List LoadedFile) (file : LoadedFile) (source : List ℕ) → IsNew earlier file.name before after
-    → Tells files file.name (Some source) → Loaded files before after earlier (earlier ++ file ∷ []) (λ held. held file.name ≡ Some source)
+    → IsHeld files file.name (Some source) → Loaded files before after earlier (earlier ++ file ∷ []) (λ held. held file.name ≡ Some source)
 unfolding answered_one
 loaded_file files before after earlier file source new told = record {
   more = file ∷ [];
@@ -221,7 +221,7 @@ loaded_file files before after earlier file source new told = record {
 
 -- a fault comes of the answer
 pub answered_fault : (files : Files) (before after : Asked) (earlier : List LoadedFile) (name : List ℕ) (content : Option (List ℕ)) (C : Holding → Loading → Type 0) (fault : Fault) → IsNew earlier name before after
-    → Tells files name content → ((held : Holding) → held name ≡ content → C held (stopped (names_of earlier ++ name ∷ []) fault))
+    → IsHeld files name content → ((held : Holding) → held name ≡ content → C held (stopped (names_of earlier ++ name ∷ []) fault))
     → Answered true files before after earlier (λ names held. C held (stopped names fault))
 answered_fault files before after earlier name content C fault new told comes =
     answered_one true files before after earlier name content (λ names held. C held (stopped names fault)) new (told_one files name content told) comes
@@ -237,7 +237,7 @@ answered_unknown files before after earlier name C fault new comes =
 answered_so : (whole : Bool) (files : Files) (before after : Asked) (earlier : List LoadedFile) (C D : List (List ℕ) → Holding → Type 0) → ((held : Holding) (names : List (List ℕ)) → C names held → D names held)
     → Answered whole files before after earlier C → Answered whole files before after earlier D
 answered_so whole files before after earlier C D so a =
-    record { answers = a.answers; asks = a.asks; told = a.told; distinct = a.distinct; comes = λ held g. so held (names_of earlier ++ asked a.answers) (a.comes held g) }
+    record { answers = a.answers; asks = a.asks; told = a.told; distinct = a.distinct; comes = λ held g. so held (names_of earlier ++ answer_names a.answers) (a.comes held g) }
 
 pub loaded_so : (files : Files) (before after : Asked) (earlier later : List LoadedFile) (C D : Holding → Type 0) → ((held : Holding) → C held → D held) → Loaded files before after earlier later C → Loaded files before after earlier later D
 unfolding answered_so

@@ -1,6 +1,3 @@
-mod Given
-mod Words
-mod Names
 mod OneSource
 mod OneLoading
 mod Fronts
@@ -9,5 +6,6 @@ mod Answering
 mod Fetched
 mod FilesSoFar
 mod Taking
+mod SourceFaults
 mod Exits
 mod Steps

@@ -2,6 +2,7 @@
 use Rattle.std.proofs.Common.{◌≡◌, ℕ, ◌+◌, ◌<◌, ◌≤◌, false, None, Some, List, [], ◌∷◌, ◌++◌, length, drop, get_or, refl, sym, ◌∙◌, ap, subst, arith}
 use Rattle.std.specs.List.{IsDistinct}
 use Rattle.std.specs.Str.{bytes_eq}
+use Rattle.bdl_load.specs.declared.faults.TheConstants.{FIRST_SPOT}
 use Rattle.outside.specs.Told.{Files, Asked, Asks}
 use Rattle.bdl_parser.specs.declared.trees.Import.{Import}
 use Rattle.bdl_load.specs.declared.faults.DefCode.TheVariants.{NoFile, ImportMissing}
@@ -9,8 +10,8 @@ use Rattle.bdl_load.specs.declared.faults.DefFault.{DefFault}
 use Rattle.bdl_load.specs.declared.faults.DefFault.TheVariants.{At, Failed, Memory}
 use Rattle.bdl_load.specs.declared.faults.Fault.{Fault}
 use Rattle.bdl_load.specs.declared.files.LoadedFile.{LoadedFile}
-use Rattle.bdl_load.specs.Asked.{Tells, IsRead, IsBroken, IsSpelledFile, file_at, names_at, IsChosen, Passes, Loaded, Ends, Halts}
-use Rattle.bdl_load.specs.Faults.{Blames, first_spot, found, fault_in}
+use Rattle.bdl_load.specs.Loader.{IsHeld, IsRead, IsBroken, IsSpelledFile, file_at, names_at, IsChosen, Passes, Loaded, Ends, Halts}
+use Rattle.bdl_load.specs.Faults.{Blames, found, fault_in}
 use Rattle.bdl_load.specs.Loading.{Holding, all_loaded, stopped, IsFetched, is_among, names_of, Takes, Enters, Loads}
 use Rattle.bdl_load.proofs.Asking.{IsNew, distinct_none, ends_halted, answered_fault, answered_unknown, loaded_then, ends_then}
 use Rattle.bdl_load.proofs.FilesSoFar.{file_is}
@@ -97,12 +98,12 @@ broken_step files before after loaded taking from number import name refusal nex
     (subst (λ name. Blames (IsBroken files name) refusal) named b))
 
 pub missing_step : (files : Files) (before after : Asked) (loaded : List LoadedFile) (taking : List ℕ) (from number : ℕ) (import : Import) (name text : List ℕ) (refusal : DefFault) → IsNext loaded from number import
-    → IsNew loaded import.file before after → IsFetched (names_at loaded taking) loaded import.file → name ≡ import.file → Tells files name None → text ≡ (file_at loaded from).name
+    → IsNew loaded import.file before after → IsFetched (names_at loaded taking) loaded import.file → name ≡ import.file → IsHeld files name None → text ≡ (file_at loaded from).name
     → Blames (λ fault. fault ≡ fault_in text (found import.at ImportMissing)) refusal → Ends files before after loaded (FromImport loaded taking from number) refusal
 missing_step files before after loaded taking from number import name text refusal next new fetched named told same b =
     ends_here files before after loaded taking from number import refusal next
     (missing_import files before after (names_at loaded taking) (file_at loaded from).name loaded import (drop (number + 1) (imports_at loaded from)) refusal new fetched
-    (subst (λ name. Tells files name None) named told) (subst (λ text. Blames (λ fault. fault ≡ fault_in text (found import.at ImportMissing)) refusal) same b))
+    (subst (λ name. IsHeld files name None) named told) (subst (λ text. Blames (λ fault. fault ≡ fault_in text (found import.at ImportMissing)) refusal) same b))
 
 -- memory ran out for a file that was fetched
 pub memory_step : (files : Files) (before after : Asked) (loaded : List LoadedFile) (taking : List ℕ) (from number : ℕ) (import : Import) → IsNext loaded from number import
@@ -132,14 +133,14 @@ new_root : (root : List ℕ) (before after : Asked) → Asks (root ∷ []) befor
 new_root root before after asks = record { distinct = distinct_none; fresh = refl; asks = asks }
 
 abbrev no_root : List ℕ → Fault
-no_root root = fault_in root (found first_spot NoFile)
+no_root root = fault_in root (found FIRST_SPOT NoFile)
 
 pub root_memory : (files : Files) (before after : Asked) (root : List ℕ) → Asks (root ∷ []) before after → RootEnds files before after root Memory
 root_memory files before after root asks =
     answered_unknown files before after [] root (λ held outcome. Loads held root outcome) (no_root root) (new_root root before after asks) (λ held none. Loads.no_root none refl)
 
-pub root_missing : (files : Files) (before after : Asked) (root : List ℕ) (refusal : DefFault) → Asks (root ∷ []) before after → Tells files root None
-    → Blames (λ fault. fault ≡ fault_in root (found first_spot NoFile)) refusal → RootEnds files before after root refusal
+pub root_missing : (files : Files) (before after : Asked) (root : List ℕ) (refusal : DefFault) → Asks (root ∷ []) before after → IsHeld files root None
+    → Blames (λ fault. fault ≡ fault_in root (found FIRST_SPOT NoFile)) refusal → RootEnds files before after root refusal
 root_missing files before after root (At file line column code) asks told is =
     let fault : Fault = record { file = file; line = line; column = column; code = code } in
     answered_fault files before after [] root None (λ held outcome. Loads held root outcome) fault (new_root root before after asks) told (λ held none. Loads.no_root none (ap (stopped (root ∷ [])) is))

@@ -10,7 +10,7 @@ use Rattle.bdl_load.specs.declared.faults.DefFault.{DefFault}
 use Rattle.bdl_load.specs.declared.faults.DefFault.TheVariants.{At, Failed, Memory}
 use Rattle.bdl_load.specs.declared.faults.Fault.{Fault}
 use Rattle.bdl_load.specs.declared.files.LoadedFile.{LoadedFile}
-use Rattle.bdl_load.specs.Asked.{Tells, IsRead, IsBroken, file_at, names_at, AreSound, IsChosen, Passes, Answered, Loaded, Ends, Halts}
+use Rattle.bdl_load.specs.Loader.{IsHeld, IsRead, IsBroken, file_at, names_at, AreSound, IsChosen, Passes, Answered, Loaded, Ends, Halts}
 use Rattle.bdl_load.specs.Faults.{Blames, found, fault_in}
 use Rattle.bdl_load.specs.Loading.{Holding, Loading, all_loaded, stopped, IsFetched, names_of, loaded_as, Takes, Enters}
 use Rattle.bdl_load.proofs.Asking.{IsNew, loaded_then, ends_then, loaded_nothing, loaded_file, answered_fault, answered_unknown, loaded_so, ends_so}
@@ -96,7 +96,7 @@ broken_import files before after taking from loaded import rest Failed new fetch
 broken_import files before after taking from loaded import rest Memory new fetched b = unknown_import files before after taking from loaded import rest new fetched
 
 pub missing_import : (files : Files) (before after : Asked) (taking : List (List ℕ)) (from : List ℕ) (loaded : List LoadedFile) (import : Import) (rest : List Import) (refusal : DefFault) → IsNew loaded import.file before after
-    → IsFetched taking loaded import.file → Tells files import.file None → Blames (λ fault. fault ≡ fault_in from (found import.at ImportMissing)) refusal
+    → IsFetched taking loaded import.file → IsHeld files import.file None → Blames (λ fault. fault ≡ fault_in from (found import.at ImportMissing)) refusal
     → Ends files before after loaded (λ held outcome. Takes held taking loaded from (import ∷ rest) outcome) refusal
 missing_import files before after taking from loaded import rest (At file line column code) new fetched told is =
     let fault : Fault = record { file = file; line = line; column = column; code = code } in

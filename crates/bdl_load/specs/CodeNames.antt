@@ -3,7 +3,7 @@ use Rattle.std.specs.Prelude.{ℕ, List, codes}
 use Rattle.bdl_load.specs.declared.faults.DefCode.{DefCode}
 use Rattle.bdl_load.specs.declared.faults.DefCode.TheVariants.{NotUtf8, BadByte, OpenComment, OpenString, NumberRange, Expected, TypeNesting, NoFile, ImportMissing, ImportCycle, TooManyFiles, DefTooLong, DuplicateName, EmptyStruct, FloatingType, UnknownName, BadKeyType, BadStructField, DuplicateNumber, DuplicateField, Recursive, NoSuchBag, TooDeep, TooManySlots}
 
--- the name of a code, as it is printed
+-- The name of a code, as it is printed.
 abbrev pub def_name : DefCode → List ℕ
 def_name NotUtf8 = codes "NotUtf8"
 def_name BadByte = codes "BadByte"

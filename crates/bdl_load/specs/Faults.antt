@@ -9,25 +9,21 @@ use Rattle.bdl_load.specs.declared.faults.DefFault.TheVariants.{At, Failed, Memo
 use Rattle.bdl_load.specs.declared.faults.Fault.{Fault}
 use Rattle.bdl_load.specs.declared.faults.Finding.{Finding}
 
--- line 1, column 1
-abbrev pub first_spot : Spot
-first_spot = record { line = 1; column = 1 }
-
--- a fault of that code at that place
+-- A fault of that code at that place.
 abbrev pub found : Spot → DefCode → Finding
 found spot code = record { at = spot; code = code }
 
--- the same in the file of this name
+-- The same in the file of this name.
 abbrev pub fault_in : List ℕ → Finding → Fault
 fault_in file finding = record { file = file; line = finding.at.line; column = finding.at.column; code = finding.code }
 
--- the answer blames a fault of which this holds, or it blames no file
+-- The answer blames a fault of which this holds, or it blames no file.
 abbrev pub Blames : (Fault → Type 0) → DefFault → Type 0
 Blames Holds (At file line column code) = Holds (record { file = file; line = line; column = column; code = code })
 Blames Holds Failed = Unit {0}
 Blames Holds Memory = Unit {0}
 
--- the answer where a library fails
+-- The answer where a library fails.
 abbrev pub of_library : LibraryFault → DefFault
 of_library LibraryFailed = Failed
 of_library LibraryMemory = Memory

@@ -2,6 +2,8 @@
 use Rattle.std.specs.Prelude.{◌≡◌, ℕ, ◌<◌, ◌≤◌, Bool, true, false, Option, None, Some, IfSome, List, [], ◌∷◌, ◌++◌, ◌-◌, length, take, map}
 use Rattle.std.specs.List.{AllByRecursion, list_any}
 use Rattle.std.specs.Str.{bytes_eq}
+use Rattle.bdl_load.specs.declared.faults.TheConstants.{FIRST_SPOT}
+use Rattle.bdl_load.specs.declared.loader.TheConstants.{MAX_FILES}
 use Rattle.outside.specs.Told.{Files, Asked, Asks}
 use Rattle.bdl_parser.specs.declared.trees.Import.{Import}
 use Rattle.bdl_parser.specs.declared.trees.Module.{Module}
@@ -9,35 +11,35 @@ use Rattle.bdl_load.specs.declared.faults.DefCode.TheVariants.{NoFile, ImportCyc
 use Rattle.bdl_load.specs.declared.faults.Fault.{Fault}
 use Rattle.bdl_load.specs.declared.faults.Finding.{Finding}
 use Rattle.bdl_load.specs.declared.files.LoadedFile.{LoadedFile}
-use Rattle.bdl_load.specs.Faults.{first_spot, found, fault_in}
+use Rattle.bdl_load.specs.Faults.{found, fault_in}
 use Rattle.bdl_load.specs.Sources.{SaysModule, IsSourceFault}
 
--- what a library holds under each name
+-- What a library holds under each name.
 abbrev pub Holding : Type 0
 Holding = List ℕ → Option (List ℕ)
 
--- one of these names
+-- One of these names.
 abbrev pub is_among : List ℕ → List (List ℕ) → Bool
 is_among name names = list_any (bytes_eq name) names
 
--- the names of files
+-- The names of files.
 abbrev pub names_of : List LoadedFile → List (List ℕ)
 names_of files = map (λ file. file.name) files
 
--- this file with this module
+-- This file with this module.
 abbrev pub loaded_as : List ℕ → Module → LoadedFile
 loaded_as name module_ = record { name = name; «module» = module_ }
 
--- what loading comes to: all files, in the order of fetching, or the first fault behind the names that were asked for
+-- What loading comes to: all files, in the order of fetching, or the first fault behind the names that were asked for.
 pub data Loading : Type 0 where
   all_loaded : List LoadedFile → Loading
   stopped : List (List ℕ) → Fault → Loading
 
--- the file is fetched: its imports aren't being taken, it wasn't loaded before, and fewer than 64 files were
+-- The file is fetched: its imports aren't being taken, it wasn't loaded before, and fewer than `MAX_FILES` files were.
 pub record IsFetched (taking : List (List ℕ)) (files : List LoadedFile) (name : List ℕ) : Type 0 where
   pub closed : is_among name taking ≡ false
   pub fresh : is_among name (names_of files) ≡ false
-  pub room : length files < 64
+  pub room : length files < MAX_FILES
 
 -- Below, `taking` are the names of the files whose imports are being taken, and `files` are those that were fetched so far.
 mutual
@@ -59,7 +61,7 @@ mutual
         → is_among import.file taking ≡ false → is_among import.file (names_of files) ≡ true → Takes held taking files from rest outcome
         → Takes held taking files from (import ∷ rest) outcome
     too_many : (taking : List (List ℕ)) (files : List LoadedFile) (from : List ℕ) (import : Import) (rest : List Import)
-        → is_among import.file taking ≡ false → is_among import.file (names_of files) ≡ false → 64 ≤ length files
+        → is_among import.file taking ≡ false → is_among import.file (names_of files) ≡ false → MAX_FILES ≤ length files
         → Takes held taking files from (import ∷ rest) (stopped (names_of files) (fault_in from (found import.at TooManyFiles)))
     missing : (taking : List (List ℕ)) (files : List LoadedFile) (from : List ℕ) (import : Import) (rest : List Import)
         → IsFetched taking files import.file → held import.file ≡ None
@@ -74,21 +76,21 @@ mutual
 
 -- What comes of a definition whose root is the file of this name.
 pub data Loads (held : Holding) (root : List ℕ) (outcome : Loading) : Type 0 where
-  no_root : held root ≡ None → outcome ≡ stopped (root ∷ []) (fault_in root (found first_spot NoFile)) → Loads held root outcome
+  no_root : held root ≡ None → outcome ≡ stopped (root ∷ []) (fault_in root (found FIRST_SPOT NoFile)) → Loads held root outcome
   from_root : (source : List ℕ) → held root ≡ Some source → Enters held [] [] root source outcome → Loads held root outcome
 
 -- ---- the names that are asked for
 
--- the names that were asked for, in order
+-- The names that were asked for, in order.
 abbrev pub names_asked : Loading → List (List ℕ)
 names_asked (all_loaded files) = names_of files
 names_asked (stopped names fault) = names
 
--- loading asks for these names, in this order, and for no others
+-- Loading asks for these names, in this order, and for no others.
 abbrev pub AsksAll : Holding → List ℕ → List (List ℕ) → Type 0
 AsksAll held root names = (outcome : Loading) × Loads held root outcome × (names ≡ names_asked outcome)
 
--- the same is held under each of these names but the last
+-- The same is held under each of these names but the last.
 abbrev pub AgreeButLast : List (List ℕ) → Holding → Holding → Type 0
 AgreeButLast names held other = AllByRecursion (λ name. other name ≡ held name) (take (length names - 1) names)
 
@@ -102,3 +104,20 @@ AsksFirst held root names = (other : Holding) × AgreeButLast names held other �
 abbrev pub OfLibrary : Files → Asked → Asked → (Holding → List (List ℕ) → Type 0) → Type 0
 OfLibrary files before after Holds =
     (held : Holding) × (names : List (List ℕ)) × IfSome files (λ told. told ≡ held) × Asks names before after × Holds held names
+
+-- Below, `files` and `asked` say what a library holds and was asked for; it went from the state `before` to the state `after`.
+module _ {S : Type 0} (files : S → Files) (asked : S → Asked) (before after : S) (root : List ℕ) where
+  -- These files were loaded, and the library was asked for each of them and for nothing else.
+  abbrev pub LoadsAll : List LoadedFile → Type 0
+  LoadsAll loaded =
+      OfLibrary (files before) (asked before) (asked after)
+      (λ held names. Loads held root (all_loaded loaded) × (names ≡ names_of loaded))
+
+  -- Loading stopped at this fault behind the names that the library was asked for.
+  abbrev pub StopsAt : Fault → Type 0
+  StopsAt fault =
+      OfLibrary (files before) (asked before) (asked after) (λ held names. Loads held root (stopped names fault))
+
+  -- The names that the library was asked for are the first that loading asks for.
+  abbrev pub AsksInOrder : Type 0
+  AsksInOrder = OfLibrary (files before) (asked before) (asked after) (λ held names. AsksFirst held root names)

@@ -1,7 +1,11 @@
 //! Why a definition is refused.
 
+ghost use Rattle.std.specs.Prelude.{◌≡◌};
+ghost use Rattle.bdl_load.specs.Faults.{Blames, found, fault_in};
+
 use bdl_parser::Spot;
 use outside::{LibraryFault, Memory, Text};
+use std::alloc::Global;
 
 /// What is wrong with a definition.
 #[derive(Clone, Copy, Debug, PartialEq, Eq)]
@@ -14,11 +18,11 @@ pub enum DefCode {
     OpenComment,
     /// A `"` without another on its line.
     OpenString,
-    /// A number above 65,535.
+    /// A number above [`MAX_NUMBER`](bdl_lexer::MAX_NUMBER).
     NumberRange,
     /// No module goes on with this token, or none ends here.
     Expected,
-    /// Here a type begins inside 32 others.
+    /// Here a type begins inside [`MAX_NESTING`](bdl_parser::MAX_NESTING) others.
     TypeNesting,
     /// There is no file of the definition's name.
     NoFile,
@@ -26,9 +30,9 @@ pub enum DefCode {
     ImportMissing,
     /// A file imports itself, perhaps by way of others.
     ImportCycle,
-    /// A definition of more than 64 files.
+    /// A definition of more than [`MAX_FILES`](crate::MAX_FILES) files.
     TooManyFiles,
-    /// A file of more than 1,048,576 bytes.
+    /// A file of more than [`MAX_SOURCE`](bdl_lexer::MAX_SOURCE) bytes.
     DefTooLong,
     /// An earlier declaration has this name.
     DuplicateName,
@@ -88,8 +92,8 @@ pub enum DefFault {
     Memory,
 }
 
-/// The first place of a file.
-pub const FIRST: Spot = Spot { line: 1, column: 1 };
+/// Line 1, column 1: where a file begins.
+pub const FIRST_SPOT: Spot = Spot { line: 1, column: 1 };
 
 impl From<Fault> for DefFault {
     ghost use Rattle.std.specs.Prelude.{◌≡◌};
@@ -129,5 +133,21 @@ impl From<LibraryFault> for DefFault {
             LibraryFault::Failed => DefFault::Failed,
             LibraryFault::Memory => DefFault::Memory,
         }
+    }
+}
+
+/// The refusal for the fault of that code at that place of the file.
+pub(crate) fn blame(alloc: Global, file: &str, at: Spot, code: DefCode) -> DefFault
+    ensures says { Blames (λ fault. fault ≡ fault_in file.now (found at code)) result }
+    ensures inside { result ≡ DefFault.Failed → ⊥ }
+{
+    match Text::of(alloc, file) {
+        Ok(file) => DefFault::At {
+            file,
+            line: at.line,
+            column: at.column,
+            code,
+        },
+        Err(_) => DefFault::Memory,
     }
 }

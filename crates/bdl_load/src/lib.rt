@@ -10,6 +10,6 @@ mod source;
 #[cfg(test)]
 mod tests;
 
-pub use faults::{DefCode, DefFault, FIRST, Fault, Finding};
+pub use faults::{DefCode, DefFault, FIRST_SPOT, Fault, Finding};
 pub use files::LoadedFile;
-pub use loader::load;
+pub use loader::{MAX_FILES, load};

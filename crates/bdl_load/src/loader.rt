@@ -1,39 +1,22 @@
 //! The way from the name of a file to all files that it imports.
 
-ghost use Rattle.std.specs.Prelude.{◌≡◌, ℕ, List, [], ◌∷◌, ◌++◌, ◌+◌, ◌<◌, ◌≤◌, length, drop, All, IfOk, IfErr, IsErrOf, false};
+ghost use Rattle.std.specs.Prelude.{◌≡◌, [], ◌∷◌, ◌++◌, ◌<◌, ◌≤◌, length, All, IfOk, IfErr, OnOk, IsErrOf};
 ghost use Rattle.outside.specs.Causes.{Rose};
 ghost use Rattle.outside.specs.Told.{Asks};
-ghost use Rattle.bdl_load.specs.Asked.{IsFound, IsBroken, IsSpelledFile, AreSound, IsChosen, Passes, Loaded, Ends, Halts, file_at, names_at};
-ghost use Rattle.bdl_load.specs.Faults.{Blames, found, fault_in};
-ghost use Rattle.bdl_load.specs.Loading.{Holding, OfLibrary, AsksFirst, Takes, Loads, all_loaded, stopped, is_among, names_of};
-ghost use Rattle.bdl_load.specs.Spelled.{AreSpelledDecls};
-ghost use Rattle.bdl_parser.specs.declared.trees.Import.{Import};
+ghost use Rattle.bdl_load.specs.Loader.{IsFound, IsBroken, IsSpelledFile, IsSound, IsChosen, Halts, StopsImport, TakesAll, StopsInAll, TakesOne, StopsInOne, names_taking, taking_next, imports_from};
+ghost use Rattle.bdl_load.specs.Faults.{Blames};
+ghost use Rattle.bdl_load.specs.Loading.{LoadsAll, StopsAt, AsksInOrder, is_among, names_of};
+ghost use Rattle.bdl_parser.specs.Spelled.{AreSpelledDecls};
 
-use crate::faults::{DefCode, DefFault, FIRST};
+use crate::faults::{DefCode, DefFault, FIRST_SPOT, blame};
 use crate::files::LoadedFile;
-use crate::source::{SourceRefusal, read_source};
-use bdl_parser::{Import, Spot};
+use crate::source::read_source;
+use bdl_parser::Import;
 use outside::{Library, Memory, Text};
 use std::alloc::Global;
 
 /// The most files of a definition.
-const MAX_FILES: usize = 64;
-
-/// The refusal for the fault of that code at that place of the file.
-fn blame(alloc: Global, file: &str, at: Spot, code: DefCode) -> DefFault
-    ensures says { Blames (λ fault. fault ≡ fault_in file.now (found at code)) result }
-    ensures inside { result ≡ DefFault.Failed → ⊥ }
-{
-    match Text::of(alloc, file) {
-        Ok(file) => DefFault::At {
-            file,
-            line: at.line,
-            column: at.column,
-            code,
-        },
-        Err(_) => DefFault::Memory,
-    }
-}
+pub const MAX_FILES: usize = 64;
 
 /// The file of that name, fetched and read, or `None` where the library holds no such file.
 fn fetch_file<L: Library>(
@@ -51,14 +34,9 @@ fn fetch_file<L: Library>(
     let Some(source) = library.fetch(alloc, name)? else {
         return Ok(None);
     };
-    match read_source(alloc, &source) {
-        Ok(module) => {
-            let name = Text::of(alloc, name)?;
-            Ok(Some(LoadedFile { name, module }))
-        }
-        Err(SourceRefusal::At(finding)) => Err(blame(alloc, name, finding.at, finding.code)),
-        Err(SourceRefusal::Memory) => Err(DefFault::Memory),
-    }
+    let module = read_source(alloc, name, &source)?;
+    let name = Text::of(alloc, name)?;
+    Ok(Some(LoadedFile { name, module }))
 }
 
 /// The files that were fetched so far, and the numbers of those whose imports are being taken.
@@ -73,7 +51,7 @@ impl Loader {
     /// Whether the imports of the file of that name are being taken.
     fn is_taking(&self, name: &str) -> bool
         requires { All (λ number. number < length self.now.files.items) self.now.taking.items }
-        ensures { result ≡ is_among name.now (names_at self.now.files.items self.now.taking.items) }
+        ensures { result ≡ is_among name.now (names_taking self.now) }
     {
         for number in &self.taking {
             if name == self.files[*number].name.as_str() {
@@ -97,9 +75,9 @@ impl Loader {
 
     /// Whether the import's file is to be fetched, since it wasn't loaded before.
     fn is_to_fetch(&self, from: &str, import: &Import) -> Result<bool, DefFault>
-        requires { AreSound self.now.files.items self.now.taking.items }
-        ensures chosen { IfOk result (IsChosen (names_at self.now.files.items self.now.taking.items) self.now.files.items import.now.file) }
-        ensures fault { IfErr result (Halts (λ fault. (held : Holding) → (rest : List Import) → Takes held (names_at self.now.files.items self.now.taking.items) self.now.files.items from.now (import.now ∷ rest) (stopped (names_of self.now.files.items) fault))) }
+        requires { IsSound self.now }
+        ensures chosen { IfOk result (IsChosen (names_taking self.now) self.now.files.items import.now.file) }
+        ensures fault { IfErr result (Halts (StopsImport self.now from.now import.now)) }
     {
         let name = import.file.as_str();
         if self.is_taking(name) {
@@ -117,8 +95,8 @@ impl Loader {
     /// Adds a file whose imports are to be taken, and answers its number.
     fn begin(&mut self, file: LoadedFile) -> Result<usize, Memory>
         ensures number { IfOk result (λ number. number ≡ length self.old.files.items) }
-        ensures files { IfOk result (λ _. self.new.files.items ≡ self.old.files.items ++ file ∷ []) }
-        ensures taking { IfOk result (λ _. self.new.taking.items ≡ self.old.taking.items ++ length self.old.files.items ∷ []) }
+        ensures files { OnOk result (self.new.files.items ≡ self.old.files.items ++ file ∷ []) }
+        ensures taking { OnOk result (self.new.taking.items ≡ taking_next self.old) }
     {
         let number = self.files.len();
         self.taking.push(number)?;
@@ -129,12 +107,12 @@ impl Loader {
     /// Takes the imports of the file of that number, one after another.
     #[cycle(load)]
     fn take_imports<L: Library>(&mut self, library: &mut L, from: usize) -> Result<(), DefFault>
-        requires sound { AreSound self.old.files.items self.old.taking.items }
+        requires sound { IsSound self.old }
         requires within { from < length self.old.files.items }
-        ensures sound { IfOk result (λ _. AreSound self.new.files.items self.new.taking.items) }
-        ensures taking { IfOk result (λ _. self.new.taking.items ≡ self.old.taking.items) }
-        ensures loaded { let names = names_at self.old.files.items self.old.taking.items in let file = file_at self.old.files.items from in IfOk result (λ _. Loaded (L.files library.old) (L.asked library.old) (L.asked library.new) self.old.files.items self.new.files.items (λ held. Takes held names self.old.files.items file.name file.«module».imports (all_loaded self.new.files.items))) }
-        ensures fault { let names = names_at self.old.files.items self.old.taking.items in let file = file_at self.old.files.items from in IfErr result (Ends (L.files library.old) (L.asked library.old) (L.asked library.new) self.old.files.items (λ held outcome. Takes held names self.old.files.items file.name file.«module».imports outcome)) }
+        ensures sound { OnOk result (IsSound self.new) }
+        ensures taking { OnOk result (self.new.taking.items ≡ self.old.taking.items) }
+        ensures loaded { OnOk result (TakesAll L.files L.asked library.old library.new self.old from self.new) }
+        ensures fault { IfErr result (StopsInAll L.files L.asked library.old library.new self.old from) }
         ensures cause { IsErrOf result DefFault.Failed → Rose (L.faults library.old) (L.faults library.new) }
         ensures later { L.faults library.old ≤ L.faults library.new }
         ensures same { L.files library.new ≡ L.files library.old }
@@ -154,13 +132,13 @@ impl Loader {
         from: usize,
         number: usize,
     ) -> Result<(), DefFault>
-        requires sound { AreSound self.old.files.items self.old.taking.items }
+        requires sound { IsSound self.old }
         requires within { from < length self.old.files.items }
-        requires counted { number < length (file_at self.old.files.items from).«module».imports }
-        ensures sound { IfOk result (λ _. AreSound self.new.files.items self.new.taking.items) }
-        ensures taking { IfOk result (λ _. self.new.taking.items ≡ self.old.taking.items) }
-        ensures loaded { let names = names_at self.old.files.items self.old.taking.items in let file = file_at self.old.files.items from in IfOk result (λ _. Loaded (L.files library.old) (L.asked library.old) (L.asked library.new) self.old.files.items self.new.files.items (λ held. Passes held names file.name self.old.files.items (drop number file.«module».imports) self.new.files.items (drop (number + 1) file.«module».imports))) }
-        ensures fault { let names = names_at self.old.files.items self.old.taking.items in let file = file_at self.old.files.items from in IfErr result (Ends (L.files library.old) (L.asked library.old) (L.asked library.new) self.old.files.items (λ held outcome. Takes held names self.old.files.items file.name (drop number file.«module».imports) outcome)) }
+        requires counted { number < length (imports_from self.old from) }
+        ensures sound { OnOk result (IsSound self.new) }
+        ensures taking { OnOk result (self.new.taking.items ≡ self.old.taking.items) }
+        ensures loaded { OnOk result (TakesOne L.files L.asked library.old library.new self.old from number self.new) }
+        ensures fault { IfErr result (StopsInOne L.files L.asked library.old library.new self.old from number) }
         ensures cause { IsErrOf result DefFault.Failed → Rose (L.faults library.old) (L.faults library.new) }
         ensures later { L.faults library.old ≤ L.faults library.new }
         ensures same { L.files library.new ≡ L.files library.old }
@@ -194,16 +172,16 @@ pub fn load<L: Library>(
     library: &mut L,
     root: &str,
 ) -> Result<Vec<LoadedFile>, DefFault>
-    ensures loaded { IfOk result (λ files. OfLibrary (L.files library.old) (L.asked library.old) (L.asked library.new) (λ held names. Loads held root.now (all_loaded files.items) × (names ≡ names_of files.items))) }
+    ensures loaded { IfOk result (λ files. LoadsAll L.files L.asked library.old library.new root.now files.items) }
     ensures spelled { IfOk result (λ files. All (λ file. AreSpelledDecls file.«module».decls) files.items) }
-    ensures fault { IfErr result (Blames (λ fault. OfLibrary (L.files library.old) (L.asked library.old) (L.asked library.new) (λ held names. Loads held root.now (stopped names fault)))) }
-    ensures asked { OfLibrary (L.files library.old) (L.asked library.old) (L.asked library.new) (λ held names. AsksFirst held root.now names) }
+    ensures fault { IfErr result (Blames (StopsAt L.files L.asked library.old library.new root.now)) }
+    ensures asked { AsksInOrder L.files L.asked library.old library.new root.now }
     ensures cause { IsErrOf result DefFault.Failed → Rose (L.faults library.old) (L.faults library.new) }
     ensures later { L.faults library.old ≤ L.faults library.new }
     ensures same { L.files library.new ≡ L.files library.old }
 {
     let Some(file) = fetch_file(alloc, library, root)? else {
-        return Err(blame(alloc, root, FIRST, DefCode::NoFile));
+        return Err(blame(alloc, root, FIRST_SPOT, DefCode::NoFile));
     };
     let mut loader = Loader {
         alloc,

@@ -1,34 +1,19 @@
 //! The bytes of a file, read to a module.
 
-ghost use Rattle.std.specs.Prelude.{◌≡◌, ◌≤◌, IfOk, IfErr, length};
+ghost use Rattle.std.specs.Prelude.{◌≡◌, ◌≤◌, IfOk, IfErr, IsErrOf, length};
 ghost use Rattle.std.specs.List.{slice_get};
 ghost use Rattle.bdl_lexer.specs.Faults.{IsRefusalOf};
 ghost use Rattle.bdl_lexer.specs.Tokens.{AreTokensOf};
 ghost use Rattle.bdl_parser.specs.FirstFault.{IsFaultOf};
 ghost use Rattle.bdl_parser.specs.Lexemes.{lexemes_of};
-ghost use Rattle.bdl_load.specs.Faults.{found};
-ghost use Rattle.bdl_load.specs.Sources.{of_lexer, of_parser, spot_at, SaysModule, IsSourceFault};
-ghost use Rattle.bdl_load.specs.SourceRefusals.{Says};
-ghost use Rattle.bdl_load.specs.Spelled.{AreSpelledDecls};
+ghost use Rattle.bdl_load.specs.Faults.{Blames};
+ghost use Rattle.bdl_load.specs.Sources.{of_lexer, of_parser, spot_at, SaysModule, IsFaultOfSource};
+ghost use Rattle.bdl_parser.specs.Spelled.{AreSpelledDecls};
 
-use crate::faults::{DefCode, FIRST, Finding};
+use crate::faults::{DefCode, DefFault, FIRST_SPOT, blame};
 use bdl_lexer::{LexCode, LexFault, MAX_SOURCE, Token, lex};
 use bdl_parser::{Module, ParseCode, ParseFault, Spot, parse};
 use std::alloc::Global;
-
-/// Why the bytes of a file say no module.
-#[derive(Clone, Copy, Debug, PartialEq, Eq)]
-pub(crate) enum SourceRefusal {
-    At(Finding),
-    Memory,
-}
-
-/// The refusal of the fault of that code at that place.
-fn refusal(at: Spot, code: DefCode) -> SourceRefusal
-    ensures { result ≡ SourceRefusal.At (found at code) }
-{
-    SourceRefusal::At(Finding { at, code })
-}
 
 fn lexical_code(code: LexCode) -> DefCode
     ensures { result ≡ of_lexer code }
@@ -60,52 +45,64 @@ fn spot_of(source: &[u8], tokens: &[Token], number: usize) -> Spot
             line: token.line,
             column: token.column,
         },
-        None => FIRST,
+        None => FIRST_SPOT,
     }
 }
 
-fn lexical(source: &[u8], fault: LexFault) -> SourceRefusal
+/// The refusal for a lexical fault of the file of this name.
+fn lexical(alloc: Global, name: &str, source: &[u8], fault: LexFault) -> DefFault
     requires fits { length source.now ≤ MAX_SOURCE }
     requires fault { IsRefusalOf source.now fault }
-    ensures { Says (IsSourceFault source.now) result }
+    ensures says { Blames (IsFaultOfSource name.now source.now) result }
+    ensures inside { result ≡ DefFault.Failed → ⊥ }
 {
     match fault {
         LexFault::At { line, column, code } => {
-            refusal(Spot { line, column }, lexical_code(code))
+            blame(alloc, name, Spot { line, column }, lexical_code(code))
         }
-        LexFault::Memory => SourceRefusal::Memory,
+        LexFault::Memory => DefFault::Memory,
     }
 }
 
-fn syntactic(source: &[u8], tokens: &[Token], fault: ParseFault) -> SourceRefusal
+/// The refusal for a parse fault of the file of this name.
+fn syntactic(
+    alloc: Global,
+    name: &str,
+    source: &[u8],
+    tokens: &[Token],
+    fault: ParseFault,
+) -> DefFault
     requires fits { length source.now ≤ MAX_SOURCE }
     requires are { AreTokensOf source.now tokens.now }
     requires fault { IsFaultOf (lexemes_of source.now tokens.now) fault }
-    ensures { Says (IsSourceFault source.now) result }
+    ensures says { Blames (IsFaultOfSource name.now source.now) result }
+    ensures inside { result ≡ DefFault.Failed → ⊥ }
 {
     match fault {
         ParseFault::At { token, code } => {
-            refusal(spot_of(source, tokens, token), parse_code(code))
+            let at = spot_of(source, tokens, token);
+            blame(alloc, name, at, parse_code(code))
         }
-        ParseFault::Memory => SourceRefusal::Memory,
+        ParseFault::Memory => DefFault::Memory,
     }
 }
 
-/// Reads the bytes of a file once to their tokens, and these once to a module.
-pub(crate) fn read_source(alloc: Global, source: &[u8]) -> Result<Module, SourceRefusal>
+/// Reads the bytes of the file of this name once to their tokens, and these once to a module.
+pub(crate) fn read_source(alloc: Global, name: &str, source: &[u8]) -> Result<Module, DefFault>
     ensures read { IfOk result (SaysModule source.now) }
     ensures spelled { IfOk result (λ found. AreSpelledDecls found.decls) }
-    ensures fault { IfErr result (Says (IsSourceFault source.now)) }
+    ensures fault { IfErr result (Blames (IsFaultOfSource name.now source.now)) }
+    ensures inside { IsErrOf result DefFault.Failed → ⊥ }
 {
     if source.len() > MAX_SOURCE {
-        return Err(refusal(FIRST, DefCode::DefTooLong));
+        return Err(blame(alloc, name, FIRST_SPOT, DefCode::DefTooLong));
     }
     let tokens = match lex(alloc, source) {
         Ok(tokens) => tokens,
-        Err(fault) => return Err(lexical(source, fault)),
+        Err(fault) => return Err(lexical(alloc, name, source, fault)),
     };
     match parse(alloc, source, &tokens) {
         Ok(module) => Ok(module),
-        Err(fault) => Err(syntactic(source, &tokens, fault)),
+        Err(fault) => Err(syntactic(alloc, name, source, &tokens, fault)),
     }
 }

@@ -1,4 +1,5 @@
 use crate::{DefCode, DefFault, LoadedFile, laws, load};
+use bdl_lexer::MAX_SOURCE;
 use outside::MemoryLibrary;
 use std::alloc::Global;
 use std::test::Fail;
@@ -315,7 +316,7 @@ fn failing_fetches(rt: HostRuntime) -> Result<(), Fail> {
 fn long_files(rt: HostRuntime) -> Result<(), Fail> {
     let alloc = rt.alloc();
     let mut library = library_of(alloc, &[("a", "import \"b\";")])?;
-    let mut long = vec![in alloc; b' '; 1_048_576]?;
+    let mut long = vec![in alloc; b' '; MAX_SOURCE]?;
     assert!(rt; library.add("b", &long).is_ok());
     assert!(rt; count_loaded(alloc, &mut library, "a") == Some(2));
     long.push(b'?')?;

@@ -1,37 +1,42 @@
-use Rattle.std.proofs.Common.{◌≡◌, ap}
+use Rattle.std.proofs.Common.{ap}
+use Rattle.bdl_load.specs.declared.faults.DefFault.{DefFault}
 use Rattle.bdl_load.specs.declared.faults.Fault.{Fault}
-use Rattle.bdl_load.specs.Asked.{IsBroken}
-use Rattle.bdl_load.specs.Faults.{found, fault_in}
+use Rattle.bdl_load.specs.Loader.{IsBroken}
 use Rattle.bdl_load.specs.Loading.{loaded_as}
+use Rattle.bdl_load.specs.Sources.{IsFaultOfSource}
+use Rattle.bdl_load.proofs.Exits.{exit_err}
 use Rattle.bdl_load.proofs.Fetched.{says_held, breaks_held}
 use Rattle.bdl_load.proofs.Taking.{blames_so}
 use Rattle.bdl_load.proofs.loader.fetch_file.Goals as goal
 
-pub returns-in-Ok-clause-found : goal.returns-in-Ok-clause-found
-returns-in-Ok-clause-found g c =
+pub returns-clause-found : goal.returns-clause-found
+returns-clause-found g c =
     let held = rw c.in-Some.is at c.in_ok-source.ensures.held in
     let bound = rw c.in-Some.is at c.in_ok-source.ensures.bound in
-    let read = rw c.deref.ensures.value at c.in-Ok.ensures.read in
-    let says = says_held (g.L.Library.files c.args.library.now) c.args.name.now c.in-Some.source.items c.in-Ok.module bound held read in
+    let read = rw c.deref.ensures.value at c.in_ok-module.ensures.read in
+    let module_ = c.in_ok-module.module in
+    let says = says_held (g.L.Library.files c.args.library.now) c.args.name.now c.in-Some.source.items module_ bound held read in
     record {
       source = says.source;
-      module_ = c.in-Ok.module;
+      module_ = module_;
       told = says.told;
       says = says.says;
-      is = ap (λ name. loaded_as name c.in-Ok.module) c.in_ok-name-in-Ok.ensures.made;
-      spelled = c.in-Ok.ensures.spelled;
+      is = ap (λ name. loaded_as name module_) c.in_ok-name.ensures.made;
+      spelled = c.in_ok-module.ensures.spelled;
     }
 
-pub returns-in-Err-At-clause-fault : goal.returns-in-Err-At-clause-fault
-returns-in-Err-At-clause-fault g c =
+pub returns-in_err-module-clause-fault : goal.returns-in_err-module-clause-fault
+returns-in_err-module-clause-fault g c =
     let files = g.L.Library.files c.args.library.now in
     let name = c.args.name.now in
-    let finding = c.in-Err-At.finding in
+    let source = c.in-Some.source.items in
     let held = rw c.in-Some.is at c.in_ok-source.ensures.held in
     let bound = rw c.in-Some.is at c.in_ok-source.ensures.bound in
-    let says = rw c.in-Err-At.field-0-is at c.in-Err-At.ensures.fault in
-    let first = rw c.deref.ensures.value at says in
-    let breaks = breaks_held files name c.in-Some.source.items finding bound held first in
-    blames_so (λ (fault : Fault). fault ≡ fault_in name (found finding.at finding.code)) (IsBroken files name) c.blame.result
-    (λ fault is. record { source = breaks.source; finding = finding; told = breaks.told; first = breaks.first; is = is })
-    c.blame.ensures.says
+    let refusal = c.in_err-module.field-0.0 in
+    let first = rw c.deref.ensures.value at c.in_err-module.ensures.fault in
+    exit_err {E = DefFault} _ _ refusal c.from_residual-in_err-module.ensures.1
+    (blames_so (IsFaultOfSource name source) (IsBroken files name) refusal
+    (λ (fault : Fault) (f : IsFaultOfSource name source fault).
+    let breaks = breaks_held files name source f.finding bound held f.first in
+    record { source = breaks.source; finding = f.finding; told = breaks.told; first = breaks.first; is = f.is })
+    first)

@@ -3,7 +3,7 @@ use Rattle.std.specs.List.{All}
 use Rattle.bdl_load.specs.declared.faults.DefFault.{DefFault}
 use Rattle.bdl_load.specs.declared.faults.DefFault.TheVariants.{Memory}
 use Rattle.bdl_load.specs.declared.files.LoadedFile.{LoadedFile}
-use Rattle.bdl_load.specs.Asked.{IsFound}
+use Rattle.bdl_load.specs.Loader.{IsFound}
 use Rattle.bdl_load.specs.Loading.{is_among, names_of}
 use Rattle.bdl_load.proofs.Answering.{end_fault, end_asked, loaded_all, loaded_asked}
 use Rattle.bdl_load.proofs.Exits.{exit_err}

@@ -1,11 +1,12 @@
-use Rattle.std.proofs.Common.{List, subst}
-use Rattle.bdl_lexer.specs.declared.Token.{Token}
-use Rattle.bdl_parser.specs.FirstFault.{IsModuleOf}
-use Rattle.bdl_parser.specs.Lexemes.{lexemes_of}
-use Rattle.bdl_load.proofs.Names.{module_spelled}
+use Rattle.std.proofs.Common.{refl}
+use Rattle.bdl_load.specs.declared.faults.DefCode.TheVariants.{DefTooLong}
+use Rattle.bdl_load.specs.declared.faults.TheConstants.{FIRST_SPOT}
+use Rattle.bdl_load.specs.Faults.{found}
+use Rattle.bdl_load.specs.Sources.{too_long}
+use Rattle.bdl_load.proofs.SourceFaults.{blames_source}
 use Rattle.bdl_load.proofs.source.read_source.Goals as goal
 
-pub returns-in-Ok-parse-clause-spelled : goal.returns-in-Ok-parse-clause-spelled
-returns-in-Ok-parse-clause-spelled c =
-    let says = subst (λ (tokens : List Token). IsModuleOf (lexemes_of c.args.source.now tokens) c.in-Ok-parse.module) c.deref.ensures.value c.in-Ok-parse.ensures.module in
-    module_spelled c.args.source.now c.in-Ok.tokens.items c.in-Ok-parse.module c.in-Ok.ensures.lie says
+pub returns-then-source-gt-MAX_SOURCE-clause-fault : goal.returns-then-source-gt-MAX_SOURCE-clause-fault
+returns-then-source-gt-MAX_SOURCE-clause-fault c =
+    blames_source c.args.name.now c.args.source.now (found FIRST_SPOT DefTooLong) c.blame.result
+    (too_long c.if-source-gt-MAX_SOURCE.true refl) c.blame.ensures.says

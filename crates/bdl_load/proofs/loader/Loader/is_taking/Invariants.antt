@@ -1,5 +1,5 @@
 use Rattle.std.proofs.Common.{◌≡◌, false, take}
-use Rattle.bdl_load.specs.Asked.{names_at}
+use Rattle.bdl_load.specs.Loader.{names_at}
 use Rattle.bdl_load.specs.Loading.{is_among}
 use Rattle.bdl_load.proofs.loader.Loader.is_taking.Given as goal
 

@@ -1,8 +1,9 @@
 use Rattle.std.proofs.Common.{◌≡◌, ◌≤◌, true, false, ℕ, List, ◌∷◌, length, sym, ◌∙◌, ap, arith}
+use Rattle.bdl_load.specs.declared.loader.TheConstants.{MAX_FILES}
 use Rattle.bdl_parser.specs.declared.trees.Import.{Import}
 use Rattle.bdl_load.specs.declared.faults.DefCode.TheVariants.{ImportCycle, TooManyFiles}
 use Rattle.bdl_load.specs.declared.faults.Fault.{Fault}
-use Rattle.bdl_load.specs.Asked.{names_at}
+use Rattle.bdl_load.specs.Loader.{names_at}
 use Rattle.bdl_load.specs.Faults.{found, fault_in}
 use Rattle.bdl_load.specs.Loading.{Holding, Takes, stopped, is_among, names_of}
 use Rattle.bdl_load.proofs.Taking.{halts_of}
@@ -27,7 +28,7 @@ returns-then-len-ge-MAX_FILES-clause-fault c =
     let import = c.args.import.now in
     let closed : is_among import.file taking ≡ false = ap (λ (name : List ℕ). is_among name taking) (sym c.as_str-name.ensures.value) ∙ sym c.is_taking.ensures ∙ c.if-is_taking.false in
     let fresh : is_among import.file (names_of loaded) ≡ false = ap (λ (name : List ℕ). is_among name (names_of loaded)) (sym c.as_str-name.ensures.value) ∙ sym c.is_loaded.ensures ∙ c.if-is_loaded.false in
-    let many : 64 ≤ length loaded = omega arith in
+    let many : MAX_FILES ≤ length loaded = omega arith in
     halts_of (λ (fault : Fault). (held : Holding) → (rest : List Import) → Takes held taking loaded from (import ∷ rest) (stopped (names_of loaded) fault))
     (fault_in from (found import.at TooManyFiles)) (λ held rest. Takes.too_many taking loaded from import rest closed fresh many)
     c.blame-then-len-ge-MAX_FILES.result c.blame-then-len-ge-MAX_FILES.ensures.says c.blame-then-len-ge-MAX_FILES.ensures.inside
