@@ -8,7 +8,7 @@ use Rattle.bag_model.specs.Tables.{levels, node_count, IsTable}
 use Rattle.bdl_load.specs.declared.faults.DefCode.{DefCode}
 use Rattle.bdl_load.specs.declared.faults.DefCode.TheVariants.{TooDeep, TooManySlots}
 use Rattle.bdl_load.specs.Faults.{found, fault_in}
-use Rattle.bdl_load.specs.Spelled.{IsSpelledDecl}
+use Rattle.bdl_parser.specs.Spelled.{IsSpelledDecl}
 use Rattle.bdl_parser.specs.declared.trees.Decl.{Decl}
 use Rattle.bdl_parser.specs.declared.trees.Decl.TheVariants.{Bag, Struct}
 use Rattle.bdl_parser.specs.Trees.{BagFieldTree}
@@ -22,25 +22,23 @@ use Rattle.bdl_check.specs.Tables.{BagTree, bag_in, bag_named, Fits, IsUnfit}
 use Rattle.bdl_check.proofs.OneLayout.{one_layout}
 use Rattle.bdl_check.proofs.PassedTypes.{named_at, not_named}
 use Rattle.bdl_check.proofs.TableLaws.{AreGood, good_list, all_good, is_table}
+use Rattle.bdl_check.proofs.Lists.{and_then_is}
 
 -- ---- by name
 
--- a name without a number is that of no bag
+-- A name without a number is that of no bag.
 pub no_bag : (ds : List Placed) (name : List ℕ) → number_named ds name ≡ None → bag_named ds name ≡ None
 no_bag ds name none =
     ap (option_and_then (λ (d : Placed). bag_in d.file d.decl)) (not_named ds name none)
 
--- the bag of a name is its declaration's
-pub bag_at : (ds : List Placed) (name : List ℕ) (n : ℕ) → number_named ds name ≡ Some n → bag_named ds name ≡ option_and_then (λ (d : Placed). bag_in d.file d.decl) (slice_get ds n)
+-- The bag of a name is its declaration's.
+pub bag_at : (ds : List Placed) (name : List ℕ) (n : ℕ) → number_named ds name ≡ Some n
+    → bag_named ds name ≡ option_and_then (λ (d : Placed). bag_in d.file d.decl) (slice_get ds n)
 bag_at ds name n e = ap (option_and_then (λ (d : Placed). bag_in d.file d.decl)) (named_at ds name n e)
 
 -- ---- a chosen bag
 
-and_then_is : {X Y : Type 0} (f : X → Option Y) (o : Option X) (y : Y) → option_and_then f o ≡ Some y → (x : X) × (o ≡ Some x) × (f x ≡ Some y)
-and_then_is f None y e = absurd (cc e)
-and_then_is f (Some x) y e = (x, refl, e)
-
--- the declaration of a bag, which has the bag's number
+-- The declaration of a bag, which has the bag's number.
 record Chosen (ds : List Placed) (n : ℕ) (bag : BagTree) : Type 0 where
   pub d : Placed
   pub at : slice_get ds n ≡ Some d
@@ -51,36 +49,42 @@ chosen ds name n bag e number =
     let d = and_then_is (λ (d : Placed). bag_in d.file d.decl) (slice_get ds n) bag (sym (bag_at ds name n number) ∙ e) in
     record { d = d.0; at = d.1; is = d.2 }
 
-bag_size : (ds : List Placed) (file : List ℕ) (decl : Decl) (bag : BagTree) (size : Size) → bag_in file decl ≡ Some bag → IsSizeOf ds decl size → HasSize ds bag.list size
+bag_size : (ds : List Placed) (file : List ℕ) (decl : Decl) (bag : BagTree) (size : Size) → bag_in file decl ≡ Some bag → IsSizeOf ds decl size
+    → HasSize ds bag.list size
 bag_size ds file (Bag own spot list) bag size e h =
     let same : record { file = file; spot = spot; list = list } ≡ bag = cc e in
     subst (λ (bag : BagTree). HasSize ds bag.list size) same h
 bag_size ds file (Struct own spot list) bag size e h = absurd (cc e)
 
--- the chosen bag has the size with its number
-pub chosen_size : (ds : List Placed) (sizes : List Size) (name : List ℕ) (n : ℕ) (bag : BagTree) (s : Size) → bag_named ds name ≡ Some bag → number_named ds name ≡ Some n → AreSizes ds sizes → HasSize ds bag.list (get_or sizes n s)
+-- The chosen bag has the size with its number.
+pub chosen_size : (ds : List Placed) (sizes : List Size) (name : List ℕ) (n : ℕ) (bag : BagTree) (s : Size) → bag_named ds name ≡ Some bag
+    → number_named ds name ≡ Some n → AreSizes ds sizes → HasSize ds bag.list (get_or sizes n s)
 chosen_size ds sizes name n bag s e number all =
     let c = chosen ds name n bag e number in
     let within = slice_get_within ds n c.d c.at in
     let count = all.count in
-    bag_size ds c.d.file c.d.decl bag (get_or sizes n s) c.is (all.each n c.d (get_or sizes n s) c.at (slice_get-get_or sizes n s (omega (arith, within, count))))
+    bag_size ds c.d.file c.d.decl bag (get_or sizes n s) c.is
+    (all.each n c.d (get_or sizes n s) c.at (slice_get-get_or sizes n s (omega (arith, within, count))))
 
--- its number is within the sizes
-pub chosen_within : (ds : List Placed) (sizes : List Size) (name : List ℕ) (n : ℕ) (bag : BagTree) → bag_named ds name ≡ Some bag → number_named ds name ≡ Some n → AreSizes ds sizes → n < length sizes
+-- Its number is within the sizes.
+pub chosen_within : (ds : List Placed) (sizes : List Size) (name : List ℕ) (n : ℕ) (bag : BagTree) → bag_named ds name ≡ Some bag
+    → number_named ds name ≡ Some n → AreSizes ds sizes → n < length sizes
 chosen_within ds sizes name n bag e number all =
     let c = chosen ds name n bag e number in
     let within = slice_get_within ds n c.d c.at in
     let count = all.count in
     omega (arith, within, count)
 
-bag_good : (ds : List Placed) (file : List ℕ) (decl : Decl) (bag : BagTree) → bag_in file decl ≡ Some bag → passes_decl (kind_named ds) decl ≡ true → IsSpelledDecl decl → AreGood ds bag.list
+bag_good : (ds : List Placed) (file : List ℕ) (decl : Decl) (bag : BagTree) → bag_in file decl ≡ Some bag → passes_decl (kind_named ds) decl ≡ true
+    → IsSpelledDecl decl → AreGood ds bag.list
 bag_good ds file (Bag own spot list) bag e p s =
     let same : record { file = file; spot = spot; list = list } ≡ bag = cc e in
     subst (λ (bag : BagTree). AreGood ds bag.list) same (good_list ds own spot list p s)
 bag_good ds file (Struct own spot list) bag e p s = absurd (cc e)
 
--- the chosen bag makes a table where it fits
-pub chosen_table : (ds : List Placed) (name : List ℕ) (bag : BagTree) (nodes : Nodes) → placed_faults ds ≡ [] → AreSpelled ds → bag_named ds name ≡ Some bag → Fits ds bag.list nodes → IsTable nodes
+-- The chosen bag makes a table where it fits.
+pub chosen_table : (ds : List Placed) (name : List ℕ) (bag : BagTree) (nodes : Nodes) → placed_faults ds ≡ [] → AreSpelled ds
+    → bag_named ds name ≡ Some bag → Fits ds bag.list nodes → IsTable nodes
 chosen_table ds name bag nodes none spelled e fits =
     let good = all_good ds none spelled in
     let d = and_then_is (λ (d : Placed). bag_in d.file d.decl) (named ds name) bag e in
@@ -89,22 +93,25 @@ chosen_table ds name bag nodes none spelled e fits =
 
 -- ---- by size
 
--- a bag that isn't too large fits, however it is laid out
-pub sized_fits : (ds : List Placed) (list : List BagFieldTree) (size : Size) (nodes : Nodes) → HasSize ds list size → IsExcess size None → IsLaidOut ds list nodes → Fits ds list nodes
+-- A bag that isn't too large fits, however it is laid out.
+pub sized_fits : (ds : List Placed) (list : List BagFieldTree) (size : Size) (nodes : Nodes) → HasSize ds list size → IsExcess size None
+    → IsLaidOut ds list nodes → Fits ds list nodes
 sized_fits ds list size nodes h within l =
     let same = one_layout ds list nodes h.nodes l h.laid_out in
     let shallow = within.0 in let small = within.1 in
     let deep = ap levels same in let many = ap node_count same in
     record { laid_out = l; shallow = omega (arith, shallow, deep, h.levels_are); small = omega (arith, small, many, h.fields_are) }
 
--- one that is too large has a fault
-pub sized_unfit : (ds : List Placed) (bag : BagTree) (size : Size) (code : DefCode) → HasSize ds bag.list size → IsExcess size (Some code) → IsUnfit ds bag (fault_in bag.file (found bag.spot code))
+-- One that is too large has a fault.
+pub sized_unfit : (ds : List Placed) (bag : BagTree) (size : Size) (code : DefCode) → HasSize ds bag.list size → IsExcess size (Some code)
+    → IsUnfit ds bag (fault_in bag.file (found bag.spot code))
 sized_unfit ds bag size TooDeep h e = IsUnfit.deep h.nodes h.laid_out (omega (arith, e, h.levels_are)) refl
 sized_unfit ds bag size TooManySlots h e =
     let shallow = e.0 in let many = e.1 in
     IsUnfit.large h.nodes h.laid_out (omega (arith, shallow, h.levels_are)) (omega (arith, many, h.fields_are)) refl
 sized_unfit ds bag size _ h e = absurd e
 
--- a bag that isn't too large has a layout in few levels
-pub sized_layout : (ds : List Placed) (list : List BagFieldTree) (size : Size) → HasSize ds list size → IsExcess size None → (nodes : Nodes) × IsLaidOut ds list nodes × (levels nodes ≤ 16)
+-- A bag that isn't too large has a layout in few levels.
+pub sized_layout : (ds : List Placed) (list : List BagFieldTree) (size : Size) → HasSize ds list size → IsExcess size None
+    → (nodes : Nodes) × IsLaidOut ds list nodes × (levels nodes ≤ 16)
 sized_layout ds list size h within = (h.nodes, h.laid_out, (sized_fits ds list size h.nodes h within h.laid_out).shallow)

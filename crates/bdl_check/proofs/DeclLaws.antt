@@ -6,7 +6,7 @@ use Rattle.bdl_parser.specs.declared.trees.Spot.{Spot}
 use Rattle.bdl_parser.specs.declared.trees.TypeForm.{TypeForm, Scalar, Float, Double, Taint, Counter, Set', Map', Name}
 use Rattle.bdl_parser.specs.Views.{tree_at}
 
--- the place of a node's tree is the node's
+-- The place of a node's tree is the node's.
 pub spot_at : (spot : Spot) (form : TypeForm) → spot_of (tree_at spot form) ≡ spot
 spot_at spot (Scalar word) = refl
 spot_at spot Float = refl
@@ -17,10 +17,11 @@ spot_at spot (Name text) = refl
 spot_at spot (Set' p inner form) = refl
 spot_at spot (Map' p key form q value body) = refl
 
--- what is left of a list that is mapped, where its next item is known
-pub next_left : {A B : Type 0} (f : A → B) (xs : List A) (i : ℕ) (x : A) → i < length xs → x ≡ get_or xs i x → map f (drop i xs) ≡ f x ∷ map f (drop (i + 1) xs)
+-- What is left of a list that is mapped, where its next item is known.
+pub next_left : {A B : Type 0} (f : A → B) (xs : List A) (i : ℕ) (x : A) → i < length xs → x ≡ get_or xs i x
+    → map f (drop i xs) ≡ f x ∷ map f (drop (i + 1) xs)
 next_left f xs i x h e = ap (map f) (drop_more xs i x h) ∙ ap (λ y. f y ∷ map f (drop (i + 1) xs)) (sym e)
 
--- nothing is left
+-- Nothing is left.
 pub none_left : {A B : Type 0} (f : A → B) (xs : List A) (i : ℕ) → length xs ≤ i → map f (drop i xs) ≡ []
 none_left f xs i h = ap (map f) (drop_all i xs h)

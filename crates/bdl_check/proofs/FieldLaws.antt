@@ -12,30 +12,33 @@ use Rattle.bdl_check.specs.Types.{Kinds}
 use Rattle.bdl_parser.specs.Trees.{BagFieldTree, StructFieldTree}
 use Rattle.bdl_check.proofs.Firsts.{first_none, first_some}
 
--- what is left of a bag's fields has the first fault of all
-pub record BagLeft {S T : Type 0} (kinds : Kinds) (numbers : IndexSet ℕ S) (texts : IndexSet (Bor (List ℕ)) T) (all left : List BagFieldTree) : Type 0 where
-  pub gone : List BagFieldTree
-  pub numbers_are : HasNumbers numbers (numbers_of gone)
-  pub texts_are : HasTexts texts (names_of gone)
-  pub same : first (bag_faults kinds gone left) ≡ first (bag_faults kinds [] all)
+-- What is left of a bag's fields has the first fault of all.
+pub record BagLeft {S T : Type 0} (kinds : Kinds) (numbers : IndexSet ℕ S) (texts : IndexSet (Bor (List ℕ)) T) (all left : List BagFieldTree) : Type 0
+  where
+    pub gone : List BagFieldTree
+    pub numbers_are : HasNumbers numbers (numbers_of gone)
+    pub texts_are : HasTexts texts (names_of gone)
+    pub same : first (bag_faults kinds gone left) ≡ first (bag_faults kinds [] all)
 
--- what is left of a struct's fields has the first fault of all
+-- What is left of a struct's fields has the first fault of all.
 pub record StructLeft {T : Type 0} (kinds : Kinds) (texts : IndexSet (Bor (List ℕ)) T) (all left : List StructFieldTree) : Type 0 where
   pub gone : List StructFieldTree
   pub texts_are : HasTexts texts (struct_names_of gone)
   pub same : first (struct_faults kinds gone left) ≡ first (struct_faults kinds [] all)
 
--- the empty sets
+-- The empty sets.
 pub numbers_none : {S : Type 0} → (numbers : IndexSet ℕ S) → IsEmpty numbers → HasNumbers numbers []
 numbers_none numbers e = λ other. ap (λ (keys : List ℕ). list_any (nat_eq other) keys) e
 
 pub texts_none : {T : Type 0} → (texts : IndexSet (Bor (List ℕ)) T) → IsEmpty texts → HasTexts texts []
 texts_none texts e = λ other. ap (λ (keys : List (Bor (List ℕ))). list_any (λ (key : Bor (List ℕ)). bytes_eq other key.now) keys) e
 
--- one field of a bag is looked at
-pub bag_more : {S T : Type 0} → (kinds : Kinds) (numbers more_numbers : IndexSet ℕ S) (texts more_texts : IndexSet (Bor (List ℕ)) T) (all rest left : List BagFieldTree) (field : BagFieldTree) → rest ≡ field ∷ left →
+-- One field of a bag is looked at.
+pub bag_more : {S T : Type 0} → (kinds : Kinds) (numbers more_numbers : IndexSet ℕ S) (texts more_texts : IndexSet (Bor (List ℕ)) T)
+    (all rest left : List BagFieldTree) (field : BagFieldTree) → rest ≡ field ∷ left →
     BagLeft kinds numbers texts all rest →
-    ((earlier : List BagFieldTree) → HasNumbers numbers (numbers_of earlier) → HasTexts texts (names_of earlier) → None ≡ first (bag_field_faults kinds earlier field)) →
+    ((earlier : List BagFieldTree) → HasNumbers numbers (numbers_of earlier) → HasTexts texts (names_of earlier)
+    → None ≡ first (bag_field_faults kinds earlier field)) →
     ((earlier : List BagFieldTree) → HasNumbers numbers (numbers_of earlier) → HasNumbers more_numbers (numbers_of (earlier ++ field ∷ []))) →
     ((earlier : List BagFieldTree) → HasTexts texts (names_of earlier) → HasTexts more_texts (names_of (earlier ++ field ∷ []))) →
     BagLeft kinds more_numbers more_texts all left
@@ -43,25 +46,32 @@ bag_more kinds numbers more_numbers texts more_texts all rest left field is so_f
   gone = so_far.gone ++ field ∷ [];
   numbers_are = numbers_added so_far.gone so_far.numbers_are;
   texts_are = texts_added so_far.gone so_far.texts_are;
-  same = sym (first_none (bag_field_faults kinds so_far.gone field) (bag_faults kinds (so_far.gone ++ field ∷ []) left) (sym (none so_far.gone so_far.numbers_are so_far.texts_are)))
+  same = sym (first_none (bag_field_faults kinds so_far.gone field) (bag_faults kinds (so_far.gone ++ field ∷ []) left)
+      (sym (none so_far.gone so_far.numbers_are so_far.texts_are)))
       ∙ sym (ap (λ (fields : List BagFieldTree). first (bag_faults kinds so_far.gone fields)) is) ∙ so_far.same;
 }
 
--- the field has the first fault
-pub bag_found : {S T : Type 0} → (kinds : Kinds) (numbers : IndexSet ℕ S) (texts : IndexSet (Bor (List ℕ)) T) (all rest left : List BagFieldTree) (field : BagFieldTree) (fault : Finding) → rest ≡ field ∷ left →
+-- The field has the first fault.
+pub bag_found : {S T : Type 0} → (kinds : Kinds) (numbers : IndexSet ℕ S) (texts : IndexSet (Bor (List ℕ)) T) (all rest left : List BagFieldTree)
+    (field : BagFieldTree) (fault : Finding) → rest ≡ field ∷ left →
     BagLeft kinds numbers texts all rest →
-    ((earlier : List BagFieldTree) → HasNumbers numbers (numbers_of earlier) → HasTexts texts (names_of earlier) → Some fault ≡ first (bag_field_faults kinds earlier field)) →
+    ((earlier : List BagFieldTree) → HasNumbers numbers (numbers_of earlier) → HasTexts texts (names_of earlier)
+    → Some fault ≡ first (bag_field_faults kinds earlier field)) →
     Some fault ≡ first (bag_faults kinds [] all)
 bag_found kinds numbers texts all rest left field fault is so_far some =
-    sym (first_some (bag_field_faults kinds so_far.gone field) (bag_faults kinds (so_far.gone ++ field ∷ []) left) fault (sym (some so_far.gone so_far.numbers_are so_far.texts_are)))
+    sym (first_some (bag_field_faults kinds so_far.gone field) (bag_faults kinds (so_far.gone ++ field ∷ []) left) fault
+    (sym (some so_far.gone so_far.numbers_are so_far.texts_are)))
     ∙ sym (ap (λ (fields : List BagFieldTree). first (bag_faults kinds so_far.gone fields)) is) ∙ so_far.same
 
--- no field is left
-pub bag_end : {S T : Type 0} → (kinds : Kinds) (numbers : IndexSet ℕ S) (texts : IndexSet (Bor (List ℕ)) T) (all rest : List BagFieldTree) → rest ≡ [] → BagLeft kinds numbers texts all rest → None ≡ first (bag_faults kinds [] all)
-bag_end kinds numbers texts all rest is so_far = sym (ap (λ (fields : List BagFieldTree). first (bag_faults kinds so_far.gone fields)) is) ∙ so_far.same
+-- No field is left.
+pub bag_end : {S T : Type 0} → (kinds : Kinds) (numbers : IndexSet ℕ S) (texts : IndexSet (Bor (List ℕ)) T) (all rest : List BagFieldTree) → rest ≡ []
+    → BagLeft kinds numbers texts all rest → None ≡ first (bag_faults kinds [] all)
+bag_end kinds numbers texts all rest is so_far = sym (ap (λ (fields : List BagFieldTree). first (bag_faults kinds so_far.gone fields)) is)
+    ∙ so_far.same
 
--- one field of a struct is looked at
-pub struct_more : {T : Type 0} → (kinds : Kinds) (texts more_texts : IndexSet (Bor (List ℕ)) T) (all rest left : List StructFieldTree) (field : StructFieldTree) → rest ≡ field ∷ left →
+-- One field of a struct is looked at.
+pub struct_more : {T : Type 0} → (kinds : Kinds) (texts more_texts : IndexSet (Bor (List ℕ)) T) (all rest left : List StructFieldTree)
+    (field : StructFieldTree) → rest ≡ field ∷ left →
     StructLeft kinds texts all rest →
     ((earlier : List StructFieldTree) → HasTexts texts (struct_names_of earlier) → None ≡ first (struct_field_faults kinds earlier field)) →
     ((earlier : List StructFieldTree) → HasTexts texts (struct_names_of earlier) → HasTexts more_texts (struct_names_of (earlier ++ field ∷ []))) →
@@ -69,24 +79,29 @@ pub struct_more : {T : Type 0} → (kinds : Kinds) (texts more_texts : IndexSet 
 struct_more kinds texts more_texts all rest left field is so_far none texts_added = record {
   gone = so_far.gone ++ field ∷ [];
   texts_are = texts_added so_far.gone so_far.texts_are;
-  same = sym (first_none (struct_field_faults kinds so_far.gone field) (struct_faults kinds (so_far.gone ++ field ∷ []) left) (sym (none so_far.gone so_far.texts_are)))
+  same = sym (first_none (struct_field_faults kinds so_far.gone field) (struct_faults kinds (so_far.gone ++ field ∷ []) left)
+      (sym (none so_far.gone so_far.texts_are)))
       ∙ sym (ap (λ (fields : List StructFieldTree). first (struct_faults kinds so_far.gone fields)) is) ∙ so_far.same;
 }
 
--- the field has the first fault
-pub struct_found : {T : Type 0} → (kinds : Kinds) (texts : IndexSet (Bor (List ℕ)) T) (all rest left : List StructFieldTree) (field : StructFieldTree) (fault : Finding) → rest ≡ field ∷ left →
+-- The field has the first fault.
+pub struct_found : {T : Type 0} → (kinds : Kinds) (texts : IndexSet (Bor (List ℕ)) T) (all rest left : List StructFieldTree) (field : StructFieldTree)
+    (fault : Finding) → rest ≡ field ∷ left →
     StructLeft kinds texts all rest →
     ((earlier : List StructFieldTree) → HasTexts texts (struct_names_of earlier) → Some fault ≡ first (struct_field_faults kinds earlier field)) →
     Some fault ≡ first (struct_faults kinds [] all)
 struct_found kinds texts all rest left field fault is so_far some =
-    sym (first_some (struct_field_faults kinds so_far.gone field) (struct_faults kinds (so_far.gone ++ field ∷ []) left) fault (sym (some so_far.gone so_far.texts_are)))
+    sym (first_some (struct_field_faults kinds so_far.gone field) (struct_faults kinds (so_far.gone ++ field ∷ []) left) fault
+    (sym (some so_far.gone so_far.texts_are)))
     ∙ sym (ap (λ (fields : List StructFieldTree). first (struct_faults kinds so_far.gone fields)) is) ∙ so_far.same
 
--- no field is left
-pub struct_end : {T : Type 0} → (kinds : Kinds) (texts : IndexSet (Bor (List ℕ)) T) (all rest : List StructFieldTree) → rest ≡ [] → StructLeft kinds texts all rest → None ≡ first (struct_faults kinds [] all)
-struct_end kinds texts all rest is so_far = sym (ap (λ (fields : List StructFieldTree). first (struct_faults kinds so_far.gone fields)) is) ∙ so_far.same
+-- No field is left.
+pub struct_end : {T : Type 0} → (kinds : Kinds) (texts : IndexSet (Bor (List ℕ)) T) (all rest : List StructFieldTree) → rest ≡ []
+    → StructLeft kinds texts all rest → None ≡ first (struct_faults kinds [] all)
+struct_end kinds texts all rest is so_far = sym (ap (λ (fields : List StructFieldTree). first (struct_faults kinds so_far.gone fields)) is)
+    ∙ so_far.same
 
--- a text is added
+-- A text is added.
 pub text_added : (is_it had : Bool) → (if is_it then true else had) ≡ (is_it || had)
 text_added true had = refl
 text_added false had = refl

@@ -16,6 +16,7 @@ use Rattle.bdl_parser.specs.Trees.{BagFieldTree}
 use Rattle.bdl_check.specs.Declarations.{Placed}
 use Rattle.bdl_check.specs.Layouts.{Layout, IsShapeOf, AreFieldsOf, IsInOrder}
 use Rattle.bdl_check.proofs.OneLayout.{Precedes, Rising, numbers, precedes_too, rises}
+use Rattle.bdl_check.proofs.Lists.{to_all, from_all}
 
 -- ---- lists in ascending order
 
@@ -31,33 +32,25 @@ unfolding IsStrictlySortedBy
 strictly [] r = tt
 strictly (x ∷ xs) r = (all_less x.number xs r.0, strictly xs r.1)
 
--- what rises step by step rises
+-- What rises step by step rises.
 pub increases : (xs : List BagFieldTree) → Rising xs → IsStrictlyIncreasing (numbers xs)
 increases xs r = IsStrictlyIncreasing-from_sorted (numbers xs) (strictly xs r)
 
-pub to_all : {A : Type 0} (P : A → Type 0) (xs : List A) → AllByRecursion P xs → All P xs
-to_all P [] h = λ k d (lt : k < 0). absurd (omega arith)
-to_all P (x ∷ xs) h = All-cons P x xs h.0 (to_all P xs h.1)
-
-pub from_all : {A : Type 0} (P : A → Type 0) (xs : List A) → All P xs → AllByRecursion P xs
-from_all P [] h = tt
-from_all P (x ∷ xs) h = (All-head P x xs h, from_all P xs (All-tail P x xs h))
-
--- what holds of each holds in any order
+-- What holds of each holds in any order.
 pub all_moved : {A : Type 0} (P : A → Type 0) (xs ys : List A) → IsPermutation xs ys → AllByRecursion P xs → AllByRecursion P ys
 all_moved P xs ys p h = from_all P ys (All-permutation P xs ys p (to_all P xs h))
 
--- the first two of a list change places
+-- The first two of a list change places.
 front_swapped : {A : Type 0} (x y : A) (xs : List A) → IsPermutation (x ∷ y ∷ xs) (y ∷ x ∷ xs)
 front_swapped x y xs = IsPermutation-swap (x ∷ y ∷ xs) (y ∷ x ∷ xs) 0 1 (omega arith) (omega arith) refl
 
 -- ---- one field more
 
--- no field of the list has this number
+-- No field of the list has this number.
 abbrev pub IsNewNumber : ℕ → List BagFieldTree → Type 0
 IsNewNumber number list = AllByRecursion (λ (u : BagFieldTree). number ≢ u.number) list
 
--- a rising list of fields with another in its place
+-- A rising list of fields with another in its place.
 record Inserted (ds : List Placed) (L : Layout) (t : BagFieldTree) (s : Shape) (ss : List BagFieldTree) (nodes : Nodes) : Type 0 where
   pub out : List BagFieldTree
   pub more : Nodes
@@ -69,7 +62,8 @@ record Inserted (ds : List Placed) (L : Layout) (t : BagFieldTree) (s : Shape) (
   pub count_is : node_count more ≡ 1 + nodes_under s + node_count nodes
 
 module _ (ds : List Placed) (L : Layout) (t : BagFieldTree) (s : Shape) (here : IsShapeOf ds L t.kind s) where
-  in_front : (ss : List BagFieldTree) (nodes : Nodes) → Precedes t.number ss → Rising ss → AreFieldsOf ds L ss (fields nodes) → Inserted ds L t s ss nodes
+  in_front : (ss : List BagFieldTree) (nodes : Nodes) → Precedes t.number ss → Rising ss → AreFieldsOf ds L ss (fields nodes)
+      → Inserted ds L t s ss nodes
   in_front ss nodes p r e = record {
     out = t ∷ ss;
     more = node t.name t.number s nodes;
@@ -84,8 +78,10 @@ module _ (ds : List Placed) (L : Layout) (t : BagFieldTree) (s : Shape) (here : 
   max_turned : (a b c d : ℕ) → d ≡ max a c → max b d ≡ max a (max b c)
   max_turned a b c d e = omega (arith, e)
 
-  behind_first : (u : BagFieldTree) (us : List BagFieldTree) (name : List ℕ) (number : ℕ) (shape : Shape) (nodes : Nodes) → u.number < t.number → Rising (u ∷ us)
-      → AreFieldsOf ds L (u ∷ us) (fields (node name number shape nodes)) → Inserted ds L t s us nodes → Inserted ds L t s (u ∷ us) (node name number shape nodes)
+  behind_first : (u : BagFieldTree) (us : List BagFieldTree) (name : List ℕ) (number : ℕ) (shape : Shape) (nodes : Nodes) → u.number < t.number
+      → Rising (u ∷ us)
+      → AreFieldsOf ds L (u ∷ us) (fields (node name number shape nodes)) → Inserted ds L t s us nodes
+      → Inserted ds L t s (u ∷ us) (node name number shape nodes)
   behind_first u us name number shape nodes lt r e i = record {
     out = u ∷ i.out;
     more = node name number shape i.more;
@@ -97,7 +93,8 @@ module _ (ds : List Placed) (L : Layout) (t : BagFieldTree) (s : Shape) (here : 
     count_is = omega (arith, i.count_is);
   }
 
-  insert : (ss : List BagFieldTree) (nodes : Nodes) → Rising ss → IsNewNumber t.number ss → AreFieldsOf ds L ss (fields nodes) → Inserted ds L t s ss nodes
+  insert : (ss : List BagFieldTree) (nodes : Nodes) → Rising ss → IsNewNumber t.number ss → AreFieldsOf ds L ss (fields nodes)
+      → Inserted ds L t s ss nodes
   insert [] nodes r n e = in_front [] nodes tt tt e
   insert (u ∷ us) no_node r n e = absurd e
   insert (u ∷ us) (node name number shape nodes) r n e = elim (cases_lt t.number u.number) [
@@ -105,21 +102,28 @@ module _ (ds : List Placed) (L : Layout) (t : BagFieldTree) (s : Shape) (here : 
     | inr le ↦ (let ne = n.0 in behind_first u us name number shape nodes (omega (arith, le, ne)) r e (insert us nodes r.1 n.1 e.1))
   ]
 
--- a bag in order with one field more behind the others, by its levels and fields
+-- A bag in order with one field more behind the others, by its levels and fields.
 pub record Added (ds : List Placed) (L : Layout) (list : List BagFieldTree) (nodes : Nodes) (s : Shape) : Type 0 where
   pub more : Nodes
   pub ordered : IsInOrder ds L list more
   pub levels_are : levels more ≡ max (1 + levels_under s) (levels nodes)
   pub count_is : node_count more ≡ 1 + nodes_under s + node_count nodes
 
-pub added : (ds : List Placed) (L : Layout) (list : List BagFieldTree) (nodes : Nodes) (t : BagFieldTree) (s : Shape) → IsShapeOf ds L t.kind s → IsNewNumber t.number list → IsInOrder ds L list nodes
+pub added : (ds : List Placed) (L : Layout) (list : List BagFieldTree) (nodes : Nodes) (t : BagFieldTree) (s : Shape) → IsShapeOf ds L t.kind s
+    → IsNewNumber t.number list → IsInOrder ds L list nodes
     → Added ds L (list ++ t ∷ []) nodes s
 added ds L list nodes t s here new a =
     let i = insert ds L t s here a.sorted nodes (rises a.sorted (AllPairs-from_increasing (numbers a.sorted) a.rising))
     (all_moved (λ (u : BagFieldTree). t.number ≢ u.number) list a.sorted a.same new) a.each in
     record {
       more = i.more;
-      ordered = record { sorted = i.out; same = IsPermutation-push_more list a.sorted i.out t a.same i.same; rising = increases i.out i.rising; each = i.each };
+      ordered = record {
+        sorted = i.out;
+        same = IsPermutation-push_more list a.sorted i.out t a.same i.same;
+        rising = increases i.out i.rising;
+        each =
+            i.each;
+      };
       levels_are = i.levels_are;
       count_is = i.count_is;
     }

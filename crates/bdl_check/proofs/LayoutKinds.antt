@@ -14,12 +14,14 @@ use Rattle.bdl_parser.specs.Views.{tree_at}
 use Rattle.bdl_check.specs.Declarations.{Placed}
 use Rattle.bdl_check.specs.Layouts.{word_in, word_of_type, words_of, words_of_decl}
 
--- a field more has a word more, if its type is one
-words_more : (front : List StructFieldTree) (t : StructFieldTree) → words_of (front ++ t ∷ []) ≡ words_of front ++ cons_option (word_of_type t.kind) []
+-- A field more has a word more, if its type is one.
+words_more : (front : List StructFieldTree) (t : StructFieldTree)
+    → words_of (front ++ t ∷ []) ≡ words_of front ++ cons_option (word_of_type t.kind) []
 words_more front t = filter_map-append (λ (field : StructFieldTree). word_of_type field.kind) front (t ∷ [])
 
--- a field whose type is a word adds the word
-pub word_more : (front : List StructFieldTree) (t : StructFieldTree) (at : Spot) (form : TypeForm) (word : ScalarWord) → t.kind ≡ tree_at at form → form ≡ TypeForms.Scalar word → words_of front ++ word_in word ∷ [] ≡ words_of (front ++ t ∷ [])
+-- A field whose type is a word adds the word.
+pub word_more : (front : List StructFieldTree) (t : StructFieldTree) (at : Spot) (form : TypeForm) (word : ScalarWord) → t.kind ≡ tree_at at form
+    → form ≡ TypeForms.Scalar word → words_of front ++ word_in word ∷ [] ≡ words_of (front ++ t ∷ [])
 word_more front t at form word kind is =
     sym (words_more front t ∙ ap (λ tree. words_of front ++ cons_option (word_of_type tree) []) (kind ∙ ap (tree_at at) is))
 
@@ -37,14 +39,18 @@ append_none : {X : Type 0} (xs : List X) → xs ++ [] ≡ xs
 append_none [] = refl
 append_none (x ∷ xs) = ap (λ ys. x ∷ ys) (append_none xs)
 
--- any other adds none
-pub no_more : (front : List StructFieldTree) (t : StructFieldTree) (at : Spot) (form : TypeForm) → t.kind ≡ tree_at at form → ((word : ScalarWord) → form ≡ TypeForms.Scalar word → ⊥) → words_of front ≡ words_of (front ++ t ∷ [])
+-- Any other adds none.
+pub no_more : (front : List StructFieldTree) (t : StructFieldTree) (at : Spot) (form : TypeForm) → t.kind ≡ tree_at at form
+    → ((word : ScalarWord) → form ≡ TypeForms.Scalar word → ⊥) → words_of front ≡ words_of (front ++ t ∷ [])
 no_more front t at form kind not =
-    sym (words_more front t ∙ ap (λ o. words_of front ++ cons_option o []) (ap word_of_type kind ∙ no_word at form not) ∙ append_none (words_of front))
+    sym (words_more front t ∙ ap (λ o. words_of front ++ cons_option o []) (ap word_of_type kind ∙ no_word at form not)
+    ∙ append_none (words_of front))
 
--- the words of the declaration with this number, where those of all are listed
-pub words_at : (ds : List Placed) (lists : List (List scalars.Word)) (number : ℕ) (d : Placed) (other : List scalars.Word) → lists ≡ map (λ (d : Placed). words_of_decl d.decl) ds → slice_get ds number ≡ Some d →
+-- The words of the declaration with this number, where those of all are listed.
+pub words_at : (ds : List Placed) (lists : List (List scalars.Word)) (number : ℕ) (d : Placed) (other : List scalars.Word)
+    → lists ≡ map (λ (d : Placed). words_of_decl d.decl) ds → slice_get ds number ≡ Some d →
     get_or lists number other ≡ words_of_decl d.decl
 words_at ds lists number d other are there =
     get_or_from_slice_get lists number (words_of_decl d.decl) other
-    (ap (λ (all : List (List scalars.Word)). slice_get all number) are ∙ slice_get-map (λ (d : Placed). words_of_decl d.decl) ds number ∙ ap (option_map (λ (d : Placed). words_of_decl d.decl)) there)
+    (ap (λ (all : List (List scalars.Word)). slice_get all number) are ∙ slice_get-map (λ (d : Placed). words_of_decl d.decl) ds number
+    ∙ ap (option_map (λ (d : Placed). words_of_decl d.decl)) there)

@@ -24,7 +24,7 @@ field kind text number = record { kind = kind; name = text; name_at = here; numb
 abbrev struct_field : TypeTree → List ℕ → StructFieldTree
 struct_field kind text = record { kind = kind; name = text; name_at = here }
 
--- bag In { bool ok = 2; } bag Out { In sub = 1; }
+-- `bag In { bool ok = 2; } bag Out { In sub = 1; }`
 abbrev inner : List BagFieldTree
 inner = field (leaf (scalar BoolWord) here) (codes "ok") 2 ∷ []
 
@@ -56,7 +56,7 @@ bag_in_bag = (
   },
 )
 
--- struct P { string s; int32 n; } bag B { P p = 0; }
+-- `struct P { string s; int32 n; } bag B { P p = 0; }`
 abbrev struct_fields : List StructFieldTree
 struct_fields = struct_field (leaf (scalar StrWord) here) (codes "s") ∷ struct_field (leaf (scalar Int32Word) here) (codes "n") ∷ []
 
@@ -66,7 +66,8 @@ holder = field (leaf (name (codes "P")) here) (codes "p") 0 ∷ []
 abbrev with_struct : List Placed
 with_struct = in_f (Struct (codes "P") here struct_fields) ∷ in_f (Bag (codes "B") here holder) ∷ []
 
-struct_is_one_value : IsLaidOut with_struct holder (node (codes "p") 0 (Scalar (scalars.ScalarKind.Packed (scalars.Word.Str ∷ scalars.Word.Int32 ∷ []))) no_node)
+struct_is_one_value : IsLaidOut with_struct holder (node (codes "p") 0
+    (Scalar (scalars.ScalarKind.Packed (scalars.Word.Str ∷ scalars.Word.Int32 ∷ []))) no_node)
 struct_is_one_value = (
   1,
   record {
@@ -77,14 +78,15 @@ struct_is_one_value = (
   },
 )
 
--- bag B { bool z = 9; bool y = 3; }
+-- `bag B { bool z = 9; bool y = 3; }`
 abbrev z : BagFieldTree
 z = field (leaf (scalar BoolWord) here) (codes "z") 9
 
 abbrev y : BagFieldTree
 y = field (leaf (scalar BoolWord) here) (codes "y") 3
 
-in_order_of_number : IsLaidOut [] (z ∷ y ∷ []) (node (codes "y") 3 (Scalar (scalars.ScalarKind.One scalars.Word.Boolean)) (node (codes "z") 9 (Scalar (scalars.ScalarKind.One scalars.Word.Boolean)) no_node))
+in_order_of_number : IsLaidOut [] (z ∷ y ∷ []) (node (codes "y") 3 (Scalar (scalars.ScalarKind.One scalars.Word.Boolean))
+    (node (codes "z") 9 (Scalar (scalars.ScalarKind.One scalars.Word.Boolean)) no_node))
 in_order_of_number = (
   1,
   record {

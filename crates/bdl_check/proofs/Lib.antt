@@ -1,3 +1,4 @@
+pub mod Lists
 pub mod OneLayout
 pub mod LayoutRooms
 pub mod Firsts

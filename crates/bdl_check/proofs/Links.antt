@@ -15,7 +15,7 @@ use Rattle.bdl_check.specs.Recursion.{names_in, uses, links}
 use Rattle.bdl_parser.specs.Trees.{BagFieldTree}
 use Rattle.topological_order.specs.Graphs.{Graph, IsClosed, Reaches, by_edge, by_walk}
 
--- a number that is found is one of a declaration
+-- A number that is found is one of a declaration.
 found_below : (within : Bool) (place number : ℕ) → cond within (Some place) None ≡ Some number → (within ≡ true) × (place ≡ number)
 found_below true place number e = (refl, cc)
 found_below false place number e = absurd (cc)
@@ -26,7 +26,7 @@ number_below ds text number e =
     let both = found_below (nat_lt place (length ds)) place number e in
     subst (λ (n : ℕ). n < length ds) both.1 (ltb-true place (length ds) both.0)
 
--- what is kept has what each has that is found
+-- What is kept has what each has that is found.
 kept : {X Y : Type 0} (P : Y → Type 0) (f : X → Option Y) → ((x : X) (y : Y) → f x ≡ Some y → P y) → (xs : List X) → All P (filter_map f xs)
 kept {Y = Y} P f h [] = All-nil P
 kept {Y = Y} P f h (x ∷ xs) = by (f x) refl (kept P f h xs)
@@ -35,18 +35,19 @@ kept {Y = Y} P f h (x ∷ xs) = by (f x) refl (kept P f h xs)
     by None e rest = rest
     by (Some y) e rest = All-cons P y (filter_map f xs) (h x y e) rest
 
--- the row of a declaration
+-- The row of a declaration.
 abbrev pub row_of : List Placed → Placed → List ℕ
 row_of ds d = filter_map (number_named ds) (uses d.decl)
 
--- each number is one of a declaration
+-- Each number is one of a declaration.
 pub links_closed : (ds : List Placed) → IsClosed (links ds)
 links_closed ds =
     let count : length ds ≡ length (links ds) = sym (length-map ds (row_of ds)) in
     All-map (All (λ to. to < length (links ds))) (row_of ds) ds
-    (λ k d b. kept (λ to. to < length (links ds)) (number_named ds) (λ text number e. subst (λ (n : ℕ). number < n) count (number_below ds text number e)) (uses (get_or ds k d).decl))
+    (λ k d b. kept (λ to. to < length (links ds)) (number_named ds)
+    (λ text number e. subst (λ (n : ℕ). number < n) count (number_below ds text number e)) (uses (get_or ds k d).decl))
 
--- a node with an edge is a node
+-- A node with an edge is a node.
 from_below : (graph : Graph) (from to : ℕ) → Reaches graph from to → from < length graph
 from_below graph from to (by_edge f t edge) = slice_get_within graph f edge.row edge.is
 from_below graph from to (by_walk f next t edge rest) = slice_get_within graph f edge.row edge.is
@@ -54,28 +55,31 @@ from_below graph from to (by_walk f next t edge rest) = slice_get_within graph f
 pub cyclic_below : (ds : List Placed) (number : ℕ) → Reaches (links ds) number number → number < length ds
 cyclic_below ds number h = subst (λ (n : ℕ). number < n) (length-map ds (row_of ds)) (from_below (links ds) number number h)
 
--- the declaration of this number is there
+-- The declaration of this number is there.
 pub some_at : (ds : List Placed) (number : ℕ) (d : Option Declaration) → option_map placed_of d ≡ slice_get ds number → number < length ds → IsSome d
 some_at ds number (Some d) e h = refl
 some_at ds number None e h = by (slice_get_cases ds number).1
   where
-    by : ((x : Placed) × (number < length ds) × (slice_get ds number ≡ Some x) × (get_or ds number x ≡ x)) ⊎ ((length ds ≤ number) × (slice_get ds number ≡ None)) → IsSome {T = Declaration} None
+    by : ((x : Placed) × (number < length ds) × (slice_get ds number ≡ Some x) × (get_or ds number x ≡ x)) ⊎
+        ((length ds ≤ number) × (slice_get ds number ≡ None)) → IsSome {T = Declaration} None
     by (inl x) = let never : None ≡ Some x.0 = e ∙ x.2 in absurd (cc)
     by (inr past) = absurd (omega arith)
 
--- the names of two types, one behind the other
-pub both_added : (f : List ℕ → Option ℕ) (old one two : List ℕ) (names more all : List (List ℕ)) → all ≡ names ++ more → one ≡ old ++ filter_map f names →
+-- The names of two types, one behind the other.
+pub both_added : (f : List ℕ → Option ℕ) (old one two : List ℕ) (names more all : List (List ℕ)) → all ≡ names ++ more
+    → one ≡ old ++ filter_map f names →
     two ≡ one ++ filter_map f more → two ≡ old ++ filter_map f all
 both_added f old one two names more all is first second =
     second ∙ ap (λ (row : List ℕ). row ++ filter_map f more) first ∙ append_assoc old (filter_map f names) (filter_map f more)
     ∙ ap (λ (rest : List ℕ). old ++ rest) (sym (filter_map-append f names more) ∙ ap (filter_map f) (sym is))
 
--- the names that the types of fields have
+-- The names that the types of fields have.
 abbrev pub used : List BagFieldTree → List (List ℕ)
 used fields = flat_map (λ field. names_in field.kind) fields
 
--- the names of one more field are added
-pub field_added : (f : List ℕ → Option ℕ) (whole row more : List ℕ) (rest left : List BagFieldTree) (field : BagFieldTree) → rest ≡ field ∷ left → row ++ filter_map f (used rest) ≡ whole →
+-- The names of one more field are added.
+pub field_added : (f : List ℕ → Option ℕ) (whole row more : List ℕ) (rest left : List BagFieldTree) (field : BagFieldTree) → rest ≡ field ∷ left
+    → row ++ filter_map f (used rest) ≡ whole →
     more ≡ row ++ filter_map f (names_in field.kind) → more ++ filter_map f (used left) ≡ whole
 field_added f whole row more rest left field is so_far added =
     ap (λ (start : List ℕ). start ++ filter_map f (used left)) added
@@ -83,12 +87,15 @@ field_added f whole row more rest left field is so_far added =
     ∙ ap (λ (end : List ℕ). row ++ end) (sym (filter_map-append f (names_in field.kind) (used left)))
     ∙ ap (λ (fields : List BagFieldTree). row ++ filter_map f (used fields)) (sym is) ∙ so_far
 
--- no field is left
-pub fields_added : (f : List ℕ → Option ℕ) (whole row : List ℕ) (rest : List BagFieldTree) → rest ≡ [] → row ++ filter_map f (used rest) ≡ whole → row ≡ whole
-fields_added f whole row rest is so_far = sym (append-nil row) ∙ ap (λ (fields : List BagFieldTree). row ++ filter_map f (used fields)) (sym is) ∙ so_far
+-- No field is left.
+pub fields_added : (f : List ℕ → Option ℕ) (whole row : List ℕ) (rest : List BagFieldTree) → rest ≡ [] → row ++ filter_map f (used rest) ≡ whole
+    → row ≡ whole
+fields_added f whole row rest is so_far = sym (append-nil row) ∙ ap (λ (fields : List BagFieldTree). row ++ filter_map f (used fields)) (sym is)
+    ∙ so_far
 
--- what is had of each declaration as the code looks at them, is had of all
-pub rows_are : {X : Type 0} (f : Placed → X) (ds : List Placed) (rows : List X) (its : List Declaration) (seen : List (Bor Declaration)) → rows ≡ map (λ d. f (placed_of d.now)) seen →
+-- What is had of each declaration as the code looks at them, is had of all.
+pub rows_are : {X : Type 0} (f : Placed → X) (ds : List Placed) (rows : List X) (its : List Declaration) (seen : List (Bor Declaration))
+    → rows ≡ map (λ d. f (placed_of d.now)) seen →
     map (λ d. d.now) seen ≡ its → map placed_of its ≡ ds → rows ≡ map f ds
 rows_are f ds rows its seen are end is =
     are

@@ -12,7 +12,7 @@ use Rattle.bdl_check.specs.Declarations.{Placed, name_of, place_of, kind_of, nam
 use Rattle.bdl_check.specs.Faults.{first}
 use Rattle.bdl_check.proofs.Firsts.{first_none, first_some}
 
--- a kind is known where its declaration is
+-- A kind is known where its declaration is.
 pub is_some-kind : (ds : List Placed) (text : List ℕ) → is_some (kind_named ds text) ≡ is_some (named ds text)
 is_some-kind ds text = by (named ds text)
   where
@@ -20,7 +20,7 @@ is_some-kind ds text = by (named ds text)
     by None = refl
     by (Some d) = refl
 
--- the faults of declarations that stand one after another
+-- The faults of declarations that stand one after another.
 pub name_faults-append : (earlier xs ys : List Placed) → name_faults earlier (xs ++ ys) ≡ name_faults earlier xs ++ name_faults (earlier ++ xs) ys
 name_faults-append earlier [] ys = ap (λ (gone : List Placed). name_faults gone ys) (sym (append-nil earlier))
 name_faults-append earlier (d ∷ xs) ys =
@@ -29,7 +29,7 @@ name_faults-append earlier (d ∷ xs) ys =
     ∙ ap (λ (gone : List Placed). front ++ (name_faults (earlier ++ d ∷ []) xs ++ name_faults gone ys)) (append_assoc earlier (d ∷ []) xs)
     ∙ sym (append_assoc front (name_faults (earlier ++ d ∷ []) xs) (name_faults (earlier ++ d ∷ xs) ys))
 
--- what is left of all declarations has the first fault of all
+-- What is left of all declarations has the first fault of all.
 pub record NamesLeft (now old left all : List Placed) : Type 0 where
   pub whole : now ++ left ≡ old ++ all
   pub same : first (name_faults now left) ≡ first (name_faults old all)
@@ -37,8 +37,9 @@ pub record NamesLeft (now old left all : List Placed) : Type 0 where
 pub names_begin : (old left all : List Placed) → left ≡ all → NamesLeft old old left all
 names_begin old left all e = record { whole = ap (λ (ds : List Placed). old ++ ds) e; same = ap (λ (ds : List Placed). first (name_faults old ds)) e }
 
--- some are declared without a fault
-pub names_more : (now more old front rest left all : List Placed) → rest ≡ front ++ left → NamesLeft now old rest all → None ≡ first (name_faults now front) → more ≡ now ++ front →
+-- Some are declared without a fault.
+pub names_more : (now more old front rest left all : List Placed) → rest ≡ front ++ left → NamesLeft now old rest all
+    → None ≡ first (name_faults now front) → more ≡ now ++ front →
     NamesLeft more old left all
 names_more now more old front rest left all is so_far none added = record {
   whole = ap (λ (ds : List Placed). ds ++ left) added ∙ append_assoc now front left ∙ ap (λ (ds : List Placed). now ++ ds) (sym is) ∙ so_far.whole;
@@ -48,22 +49,23 @@ names_more now more old front rest left all is so_far none added = record {
       ∙ ap (λ (ds : List Placed). first (name_faults now ds)) (sym is) ∙ so_far.same;
 }
 
--- one of them has the first fault
-pub names_found : (now old front rest left all : List Placed) (fault : Fault) → rest ≡ front ++ left → NamesLeft now old rest all → Some fault ≡ first (name_faults now front) →
+-- One of them has the first fault.
+pub names_found : (now old front rest left all : List Placed) (fault : Fault) → rest ≡ front ++ left → NamesLeft now old rest all
+    → Some fault ≡ first (name_faults now front) →
     Some fault ≡ first (name_faults old all)
 names_found now old front rest left all fault is so_far some =
     sym (first_some (name_faults now front) (name_faults (now ++ front) left) fault (sym some))
     ∙ ap first (sym (name_faults-append now front left))
     ∙ ap (λ (ds : List Placed). first (name_faults now ds)) (sym is) ∙ so_far.same
 
--- none is left
+-- None is left.
 pub names_end : (now old rest all : List Placed) → rest ≡ [] → NamesLeft now old rest all → None ≡ first (name_faults old all)
 names_end now old rest all is so_far = ap (λ (ds : List Placed). first (name_faults now ds)) (sym is) ∙ so_far.same
 
 pub names_all : (now old rest all : List Placed) → rest ≡ [] → NamesLeft now old rest all → now ≡ old ++ all
 names_all now old rest all is so_far = sym (append-nil now) ∙ ap (λ (ds : List Placed). now ++ ds) (sym is) ∙ so_far.whole
 
--- the fault of one declaration's name
+-- The fault of one declaration's name.
 pub one_name : (now : List Placed) (d : Placed) (new : Bool) → new ≡ not (is_some (named now (name_of d.decl))) →
     first (name_faults now (d ∷ [])) ≡ (if new then None else Some (fault_in d.file (found (place_of d.decl) DuplicateName)))
 one_name now d new e =
@@ -71,14 +73,16 @@ one_name now d new e =
     ∙ ap (λ (taken : Bool). first (faults_in d.file (name_fault taken d.decl))) (is_some-kind now (name_of d.decl))
     ∙ by (is_some (named now (name_of d.decl))) new e
   where
-    by : (taken new : Bool) → new ≡ not taken → first (faults_in d.file (name_fault taken d.decl)) ≡ (if new then None else Some (fault_in d.file (found (place_of d.decl) DuplicateName)))
+    by : (taken new : Bool) → new ≡ not taken → first (faults_in d.file (name_fault taken d.decl)) ≡
+        (if new then None else Some (fault_in d.file (found (place_of d.decl) DuplicateName)))
     by true true e = absurd (cc)
     by true false e = refl
     by false true e = refl
     by false false e = absurd (cc)
 
--- the declarations of the files that are left, where the next file is known
-pub files_left : (files : List LoadedFile) (i : ℕ) (file : LoadedFile) → i < length files → file ≡ get_or files i file → all_placed (drop i files) ≡ placed_in file ++ all_placed (drop (i + 1) files)
+-- The declarations of the files that are left, where the next file is known.
+pub files_left : (files : List LoadedFile) (i : ℕ) (file : LoadedFile) → i < length files → file ≡ get_or files i file
+    → all_placed (drop i files) ≡ placed_in file ++ all_placed (drop (i + 1) files)
 files_left files i file h e =
     ap all_placed (drop_more files i file h) ∙ flat_map-cons placed_in (get_or files i file) (drop (i + 1) files)
     ∙ ap (λ (next : LoadedFile). placed_in next ++ all_placed (drop (i + 1) files)) (sym e)
@@ -86,6 +90,7 @@ files_left files i file h e =
 pub no_files_left : (files : List LoadedFile) (i : ℕ) → length files ≤ i → all_placed (drop i files) ≡ []
 no_files_left files i h = ap all_placed (drop_all i files h)
 
--- no name has a fault, so the first fault is one of what the declarations say
-pub behind_names : (ds : List Placed) (fault : Option Fault) → None ≡ first (name_faults [] ds) → fault ≡ first (declaration_faults (kind_named ds) ds) → fault ≡ first (placed_faults ds)
+-- No name has a fault, so the first fault is one of what the declarations say.
+pub behind_names : (ds : List Placed) (fault : Option Fault) → None ≡ first (name_faults [] ds)
+    → fault ≡ first (declaration_faults (kind_named ds) ds) → fault ≡ first (placed_faults ds)
 behind_names ds fault none e = e ∙ sym (first_none (name_faults [] ds) (declaration_faults (kind_named ds) ds) (sym none))

@@ -14,7 +14,9 @@ use Rattle.bdl_parser.specs.Trees as trees
 use Rattle.bdl_parser.specs.Trees.{BagFieldTree, TypeTree}
 use Rattle.bdl_check.specs.Declarations.{Placed, named}
 use Rattle.bdl_check.specs.Layouts.{Layout, IsShapeOfDecl, IsShapeOf, IsFieldOf, AreFieldsOf, IsInOrder, IsLaidOutWithin, IsLaidOut}
-use Rattle.bdl_check.specs.Tables.{BagTree, bag_named, Fits, IsUnfit, IsTableOf, IsUntabled}
+use Rattle.bdl_check.specs.Tables.{BagTree, bag_named, Fits, IsUnfit, IsTableAmong, IsUntabled}
+use Rattle.bag_model.specs.declared.TheConstants.{MAX_LEVELS, MAX_FIELDS}
+use Rattle.bdl_check.proofs.Lists.{is_in_front, is_behind}
 
 -- ---- fields in ascending order
 
@@ -52,13 +54,7 @@ precedes_each n (y ∷ ys) z (less, p) there = elim (is_first_or_behind y ys z t
   | inr behind ↦ precedes_each n ys z p behind
 ]
 
-is_in_front : (x : BagFieldTree) (xs : List BagFieldTree) → Contains (x ∷ xs) x
-is_in_front x xs = (0, omega arith, refl)
-
-is_behind : (x : BagFieldTree) (xs : List BagFieldTree) (z : BagFieldTree) → Contains xs z → Contains (x ∷ xs) z
-is_behind x xs z (k, within, is) = (suc k, omega (arith, within), is)
-
--- of two rising lists with the same elements the first elements are the same
+-- Of two rising lists with the same elements the first elements are the same.
 same_first : (x y : BagFieldTree) (xs ys : List BagFieldTree) → Rising (x ∷ xs) → Rising (y ∷ ys) → Contains (y ∷ ys) x → Contains (x ∷ xs) y → x ≡ y
 same_first x y xs ys (px, rx) (py, ry) there back = elim (is_first_or_behind y ys x there) [
   | inl same ↦ sym same
@@ -68,14 +64,16 @@ same_first x y xs ys (px, rx) (py, ry) there back = elim (is_first_or_behind y y
   ]
 ]
 
--- what is in the rest of one is in the rest of the other
-rest_within : (x : BagFieldTree) (xs ys : List BagFieldTree) → Rising (x ∷ xs) → ((z : BagFieldTree) → Contains (x ∷ xs) z → Contains (x ∷ ys) z) → (z : BagFieldTree) → Contains xs z → Contains ys z
+-- What is in the rest of one is in the rest of the other.
+rest_within : (x : BagFieldTree) (xs ys : List BagFieldTree) → Rising (x ∷ xs) → ((z : BagFieldTree) → Contains (x ∷ xs) z → Contains (x ∷ ys) z)
+    → (z : BagFieldTree) → Contains xs z → Contains ys z
 rest_within x xs ys (px, rx) within z there = elim (is_first_or_behind x ys z (within z (is_behind x xs z there))) [
   | inl same ↦ absurd (let less = precedes_each x.number xs z px there in let equal = ap (λ (w : BagFieldTree). w.number) same in omega arith)
   | inr behind ↦ behind
 ]
 
-one_order : (xs ys : List BagFieldTree) → Rising xs → Rising ys → ((z : BagFieldTree) → Contains xs z → Contains ys z) → ((z : BagFieldTree) → Contains ys z → Contains xs z) → xs ≡ ys
+one_order : (xs ys : List BagFieldTree) → Rising xs → Rising ys → ((z : BagFieldTree) → Contains xs z → Contains ys z)
+    → ((z : BagFieldTree) → Contains ys z → Contains xs z) → xs ≡ ys
 one_order [] [] rx ry there back = refl
 one_order [] (y ∷ ys) rx ry there back = absurd (let none = back y (is_in_front y ys) in let within = none.1 in omega (arith, within))
 one_order (x ∷ xs) [] rx ry there back = absurd (let none = there x (is_in_front x xs) in let within = none.1 in omega (arith, within))
@@ -86,8 +84,9 @@ one_order (x ∷ xs) (y ∷ ys) rx ry there back =
     (rest_within y ys xs ry (λ z is. subst (λ (w : BagFieldTree). Contains (w ∷ xs) z) same (back z is))) in
     cc (same, rest)
 
--- the fields of a bag have one ascending order
-pub one_sorted : (list xs ys : List BagFieldTree) → IsPermutation list xs → IsPermutation list ys → IsStrictlyIncreasing (numbers xs) → IsStrictlyIncreasing (numbers ys) → xs ≡ ys
+-- The fields of a bag have one ascending order.
+pub one_sorted : (list xs ys : List BagFieldTree) → IsPermutation list xs → IsPermutation list ys → IsStrictlyIncreasing (numbers xs)
+    → IsStrictlyIncreasing (numbers ys) → xs ≡ ys
 one_sorted list xs ys px py rx ry =
     one_order xs ys (rises xs (AllPairs-from_increasing (numbers xs) rx)) (rises ys (AllPairs-from_increasing (numbers ys) ry))
     (λ z there. Contains-permutation list ys z py (Contains-permutation xs list z (IsPermutation-sym list xs px) there))
@@ -95,7 +94,7 @@ one_sorted list xs ys px py rx ry =
 
 -- ---- layouts
 
--- no two layouts of a list by the one and by the other are different
+-- No two layouts of a list by the one and by the other are different.
 abbrev Agree : Layout → Layout → Type 0
 Agree A B = (list : List BagFieldTree) (m n : Nodes) → A list m → B list n → m ≡ n
 
@@ -124,12 +123,15 @@ one_shape ds A B one (trees.map key value spot) s t a b =
 abbrev made : List ℕ → ℕ → Shape → Field
 made name number shape = record { name = name; number = number; shape = shape }
 
-one_field : (ds : List Placed) (A B : Layout) → Agree A B → (tree : BagFieldTree) (f g : Field) → IsFieldOf ds A tree f → IsFieldOf ds B tree g → f ≡ g
+one_field : (ds : List Placed) (A B : Layout) → Agree A B → (tree : BagFieldTree) (f g : Field) → IsFieldOf ds A tree f → IsFieldOf ds B tree g
+    → f ≡ g
 one_field ds A B one tree f g a b =
     let shape = one_shape ds A B one tree.kind f.shape g.shape a.shape b.shape in
-    ap (λ name. made name f.number f.shape) (a.name_is ∙ sym b.name_is) ∙ ap (λ number. made g.name number f.shape) (a.number_is ∙ sym b.number_is) ∙ ap (made g.name g.number) shape
+    ap (λ name. made name f.number f.shape) (a.name_is ∙ sym b.name_is) ∙ ap (λ number. made g.name number f.shape) (a.number_is ∙ sym b.number_is)
+    ∙ ap (made g.name g.number) shape
 
-one_list : (ds : List Placed) (A B : Layout) → Agree A B → (list : List BagFieldTree) (fs gs : List Field) → AreFieldsOf ds A list fs → AreFieldsOf ds B list gs → fs ≡ gs
+one_list : (ds : List Placed) (A B : Layout) → Agree A B → (list : List BagFieldTree) (fs gs : List Field) → AreFieldsOf ds A list fs
+    → AreFieldsOf ds B list gs → fs ≡ gs
 one_list ds A B one [] [] [] a b = refl
 one_list ds A B one [] [] (g ∷ gs) a b = absurd b
 one_list ds A B one [] (f ∷ fs) gs a b = absurd a
@@ -140,7 +142,7 @@ one_list ds A B one (t ∷ ts) (f ∷ fs) (g ∷ gs) (ha, a) (hb, b) =
     let more = one_list ds A B one ts fs gs a b in
     cc (first, more)
 
--- fields are those of one bag
+-- Fields are those of one bag.
 pub same_nodes : (m n : Nodes) → fields m ≡ fields n → m ≡ n
 same_nodes no_node no_node e = refl
 same_nodes no_node (node name number shape n) e = absurd (cc e)
@@ -154,7 +156,8 @@ same_nodes (node name number shape m) (node other place form n) e =
     let more = same_nodes m n rest in
     cc (named, numbered, shaped, more)
 
-one_in_order : (ds : List Placed) (A B : Layout) → Agree A B → (list : List BagFieldTree) (m n : Nodes) → IsInOrder ds A list m → IsInOrder ds B list n → m ≡ n
+one_in_order : (ds : List Placed) (A B : Layout) → Agree A B → (list : List BagFieldTree) (m n : Nodes) → IsInOrder ds A list m
+    → IsInOrder ds B list n → m ≡ n
 one_in_order ds A B one list m n a b =
     let order = one_sorted list a.sorted b.sorted a.same b.same a.rising b.rising in
     same_nodes m n (one_list ds A B one b.sorted (fields m) (fields n) (subst (λ list. AreFieldsOf ds A list (fields m)) order a.each) b.each)
@@ -162,21 +165,24 @@ one_in_order ds A B one list m n a b =
 one_within : (ds : List Placed) (room other : ℕ) → Agree (IsLaidOutWithin room ds) (IsLaidOutWithin other ds)
 one_within ds zero other list m n a b = absurd a
 one_within ds (suc room) zero list m n a b = absurd b
-one_within ds (suc room) (suc other) list m n a b = one_in_order ds (IsLaidOutWithin room ds) (IsLaidOutWithin other ds) (one_within ds room other) list m n a b
+one_within ds (suc room) (suc other) list m n a b = one_in_order ds (IsLaidOutWithin room ds) (IsLaidOutWithin other ds) (one_within ds room other)
+    list m n a b
 
--- a bag has one layout
+-- A bag has one layout.
 pub one_layout : (ds : List Placed) (list : List BagFieldTree) (m n : Nodes) → IsLaidOut ds list m → IsLaidOut ds list n → m ≡ n
 one_layout ds list m n a b = one_within ds a.0 b.0 list m n a.1 b.1
 
 -- ---- tables and faults
 
--- fields that are laid out in few levels aren't in more
-not_deeper : (ds : List Placed) (list : List BagFieldTree) (m n : Nodes) → IsLaidOut ds list m → IsLaidOut ds list n → 16 < levels m → levels n ≤ 16 → ⊥
+-- Fields that are laid out in few levels aren't in more.
+not_deeper : (ds : List Placed) (list : List BagFieldTree) (m n : Nodes) → IsLaidOut ds list m → IsLaidOut ds list n → MAX_LEVELS < levels m
+    → levels n ≤ MAX_LEVELS → ⊥
 not_deeper ds list m n a b deep shallow =
     let same = ap levels (one_layout ds list m n a b) in
     omega (arith, same, deep, shallow)
 
-not_larger : (ds : List Placed) (list : List BagFieldTree) (m n : Nodes) → IsLaidOut ds list m → IsLaidOut ds list n → 16384 < node_count m → node_count n ≤ 16384 → ⊥
+not_larger : (ds : List Placed) (list : List BagFieldTree) (m n : Nodes) → IsLaidOut ds list m → IsLaidOut ds list n → MAX_FIELDS < node_count m
+    → node_count n ≤ MAX_FIELDS → ⊥
 not_larger ds list m n a b large small =
     let same = ap node_count (one_layout ds list m n a b) in
     omega (arith, same, large, small)
@@ -187,7 +193,7 @@ unfit_one ds bag f g (IsUnfit.deep m a d e) (IsUnfit.large n b s l e') = absurd 
 unfit_one ds bag f g (IsUnfit.large m a s l e) (IsUnfit.deep n b d e') = absurd (not_deeper ds bag.list n m b a d s)
 unfit_one ds bag f g (IsUnfit.large m a s l e) (IsUnfit.large n b _ _ e') = e ∙ sym e'
 
--- a name has one fault
+-- A name has one fault.
 pub untabled_one : (ds : List Placed) (root name : List ℕ) (f g : Fault) → IsUntabled ds root name f → IsUntabled ds root name g → f ≡ g
 untabled_one ds root name f g (IsUntabled.missing none e) (IsUntabled.missing _ e') = e ∙ sym e'
 untabled_one ds root name f g (IsUntabled.missing none e) (IsUntabled.unfit bag chosen u) = absurd (let same = sym none ∙ chosen in cc same)
@@ -196,8 +202,8 @@ untabled_one ds root name f g (IsUntabled.unfit bag chosen u) (IsUntabled.unfit 
     let same = same_some (bag_named ds name) bag other chosen found in
     unfit_one ds other f g (subst (λ (b : BagTree). IsUnfit ds b f) same u) v
 
--- a name has one table
-pub table_one : (ds : List Placed) (name : List ℕ) (m n : Nodes) → IsTableOf ds name m → IsTableOf ds name n → m ≡ n
+-- A name has one table.
+pub table_one : (ds : List Placed) (name : List ℕ) (m n : Nodes) → IsTableAmong ds name m → IsTableAmong ds name n → m ≡ n
 table_one ds name m n a b =
     let same = same_some (bag_named ds name) a.bag b.bag a.chosen b.chosen in
     one_layout ds b.bag.list m n (subst (λ (bag : BagTree). IsLaidOut ds bag.list m) same a.fits.laid_out) b.fits.laid_out
@@ -206,8 +212,8 @@ fits_excludes : (ds : List Placed) (bag : BagTree) (table : Nodes) (f : Fault) �
 fits_excludes ds bag table f t (IsUnfit.deep n a d e) = not_deeper ds bag.list n table a t.laid_out d t.shallow
 fits_excludes ds bag table f t (IsUnfit.large n a s l e) = not_larger ds bag.list n table a t.laid_out l t.small
 
--- a name with a table has no fault
-pub table_excludes : (ds : List Placed) (root name : List ℕ) (table : Nodes) (f : Fault) → IsTableOf ds name table → IsUntabled ds root name f → ⊥
+-- A name with a table has no fault.
+pub table_excludes : (ds : List Placed) (root name : List ℕ) (table : Nodes) (f : Fault) → IsTableAmong ds name table → IsUntabled ds root name f → ⊥
 table_excludes ds root name table f t (IsUntabled.missing none e) = let chosen = t.chosen in let same = sym none ∙ chosen in cc same
 table_excludes ds root name table f t (IsUntabled.unfit bag chosen u) =
     let same = same_some (bag_named ds name) t.bag bag t.chosen chosen in

@@ -15,46 +15,22 @@ use Rattle.bdl_check.specs.Passes.{are_distinct, passes_decl, pass}
 use Rattle.bdl_check.specs.Recursion.{uses, links}
 use Rattle.bdl_check.specs.Sizes.{IsSizeOf, IsSized, AreKnown, AreSizes}
 use Rattle.bdl_check.proofs.PassLaws.{faultless_pass}
-use Rattle.bdl_check.proofs.PassedTypes.{both_first, both_second}
 use Rattle.topological_order.specs.Orders.{IsOrder}
+use Rattle.bdl_check.proofs.Lists.{is_in_front, is_behind}
 
--- the declarations of these numbers have their sizes
+-- The declarations of these numbers have their sizes.
 abbrev pub AreDone : List Placed → List Size → List ℕ → Type 0
 AreDone ds sizes numbers = (number : ℕ) → Contains numbers number → IsSized ds sizes number
 
--- declarations without faults pass
-pub they_pass : (ds : List Placed) → placed_faults ds ≡ [] → pass ds ≡ true
-they_pass ds none = sym (faultless_pass ds) ∙ ap (λ faults. is_none (first faults)) none
-
-all_get : {X : Type 0} (p : X → Bool) (xs : List X) (n : ℕ) (d : X) → list_all p xs ≡ true → n < length xs → p (get_or xs n d) ≡ true
-all_get p [] n d e lt = absurd (omega (arith, lt))
-all_get p (x ∷ xs) zero d e lt = both_first (p x) (list_all p xs) e
-all_get p (x ∷ xs) (suc n) d e lt = all_get p xs n d (both_second (p x) (list_all p xs) e) (omega (arith, lt))
-
--- what passes of each passes of the one with this number
-pub all_at : {X : Type 0} (p : X → Bool) (xs : List X) (n : ℕ) (x : X) → list_all p xs ≡ true → slice_get xs n ≡ Some x → p x ≡ true
-all_at p xs n x e at = subst (λ y. p y ≡ true) (get_or_from_slice_get xs n x x at) (all_get p xs n x e (slice_get_within xs n x at))
-
--- each declaration passes
-pub passes_at : (ds : List Placed) (n : ℕ) (d : Placed) → placed_faults ds ≡ [] → slice_get ds n ≡ Some d → passes_decl (kind_named ds) d.decl ≡ true
-passes_at ds n d none at =
-    let all = both_second (are_distinct bytes_eq (map (λ (e : Placed). name_of e.decl) ds)) (list_all (λ (e : Placed). passes_decl (kind_named ds) e.decl) ds) (they_pass ds none) in
-    all_at (λ (e : Placed). passes_decl (kind_named ds) e.decl) ds n d all at
-
 -- ---- names that are known behind an order
-
-is_in_front : {X : Type 0} (x : X) (xs : List X) → Contains (x ∷ xs) x
-is_in_front x xs = (0, omega arith, refl)
-
-is_behind : {X : Type 0} (x : X) (xs : List X) (z : X) → Contains xs z → Contains (x ∷ xs) z
-is_behind x xs z (k, within, is) = (suc k, omega (arith, within), is)
 
 behind_option : (o : Option ℕ) (xs : List ℕ) (z : ℕ) → Contains xs z → Contains (cons_option o xs) z
 behind_option None xs z h = h
 behind_option (Some x) xs z h = is_behind x xs z h
 
--- where the numbers of names are done, the names are known
-known_from : (ds : List Placed) (sizes : List Size) (texts : List (List ℕ)) → AreDone ds sizes (filter_map (number_named ds) texts) → AreKnown ds sizes texts
+-- Where the numbers of names are done, the names are known.
+known_from : (ds : List Placed) (sizes : List Size) (texts : List (List ℕ)) → AreDone ds sizes (filter_map (number_named ds) texts)
+    → AreKnown ds sizes texts
 known_from ds sizes [] h = tt
 known_from ds sizes (text ∷ texts) h =
     let others = filter_map (number_named ds) texts in (
@@ -62,12 +38,14 @@ known_from ds sizes (text ∷ texts) h =
       known_from ds sizes texts (λ number there. h number (behind_option (number_named ds text) others number there)),
     )
 
--- a declaration's names are known where it comes
-pub known_uses : (ds : List Placed) (sizes : List Size) (order : List ℕ) (place number : ℕ) (d : Placed) → IsOrder (links ds) order → AreDone ds sizes (take place order)
+-- A declaration's names are known where it comes.
+pub known_uses : (ds : List Placed) (sizes : List Size) (order : List ℕ) (place number : ℕ) (d : Placed) → IsOrder (links ds) order
+    → AreDone ds sizes (take place order)
     → slice_get order place ≡ Some number → slice_get ds number ≡ Some d → AreKnown ds sizes (uses d.decl)
 known_uses ds sizes order place number d o done at is =
     let row = filter_map (number_named ds) (uses d.decl) in
-    let rows : slice_get (links ds) number ≡ Some row = slice_get-map (λ (e : Placed). filter_map (number_named ds) (uses e.decl)) ds number ∙ ap (option_map (λ (e : Placed). filter_map (number_named ds) (uses e.decl))) is in
+    let rows : slice_get (links ds) number ≡ Some row = slice_get-map (λ (e : Placed). filter_map (number_named ds) (uses e.decl)) ds number
+    ∙ ap (option_map (λ (e : Placed). filter_map (number_named ds) (uses e.decl))) is in
     known_from ds sizes (uses d.decl) (λ next leads. done next (o.behind place number next at (record { row = row; is = rows; leads = leads })))
 
 -- ---- one size more
@@ -84,18 +62,21 @@ got_other (x ∷ xs) zero (suc m) y ne = refl
 got_other (x ∷ xs) (suc n) zero y ne = refl
 got_other (x ∷ xs) (suc n) (suc m) y ne = got_other xs n m y (λ e. ne (ap suc e))
 
--- a size that is written is that of its declaration, and the others stay
-sized_same : (ds : List Placed) (sizes : List Size) (number : ℕ) (d : Placed) (new : Size) → slice_get ds number ≡ Some d → IsSizeOf ds d.decl new → IsSized ds (set sizes number new) number
+-- A size that is written is that of its declaration, and the others stay.
+sized_same : (ds : List Placed) (sizes : List Size) (number : ℕ) (d : Placed) (new : Size) → slice_get ds number ≡ Some d → IsSizeOf ds d.decl new
+    → IsSized ds (set sizes number new) number
 sized_same ds sizes number d new is h e size at got =
     let same : Some d ≡ Some e = sym is ∙ at in
     let one : d ≡ e = cc same in
     subst (λ (s : Size). IsSizeOf ds e.decl s) (got_same sizes number new size got) (subst (λ (x : Placed). IsSizeOf ds x.decl new) one h)
 
-sized_other : (ds : List Placed) (sizes : List Size) (number other : ℕ) (new : Size) → other ≢ number → IsSized ds sizes other → IsSized ds (set sizes number new) other
+sized_other : (ds : List Placed) (sizes : List Size) (number other : ℕ) (new : Size) → other ≢ number → IsSized ds sizes other
+    → IsSized ds (set sizes number new) other
 sized_other ds sizes number other new ne h e size at got = h e size at (sym (got_other sizes number other new ne) ∙ got)
 
--- one declaration more is done
-pub done_more : (ds : List Placed) (sizes : List Size) (numbers : List ℕ) (number : ℕ) (d : Placed) (new : Size) → slice_get ds number ≡ Some d → IsSizeOf ds d.decl new → AreDone ds sizes numbers
+-- One declaration more is done.
+pub done_more : (ds : List Placed) (sizes : List Size) (numbers : List ℕ) (number : ℕ) (d : Placed) (new : Size) → slice_get ds number ≡ Some d
+    → IsSizeOf ds d.decl new → AreDone ds sizes numbers
     → AreDone ds (set sizes number new) (numbers ++ number ∷ [])
 done_more ds sizes numbers number d new is h done other there = elim (cases_eq other number) [
   | inl same ↦ subst (IsSized ds (set sizes number new)) (sym same) (sized_same ds sizes number d new is h)
@@ -105,20 +86,24 @@ done_more ds sizes numbers number d new is h done other there = elim (cases_eq o
   ]
 ]
 
--- a number without a declaration needs no size
-pub done_none : (ds : List Placed) (sizes : List Size) (numbers : List ℕ) (number : ℕ) → slice_get ds number ≡ None → AreDone ds sizes numbers → AreDone ds sizes (numbers ++ number ∷ [])
+-- A number without a declaration needs no size.
+pub done_none : (ds : List Placed) (sizes : List Size) (numbers : List ℕ) (number : ℕ) → slice_get ds number ≡ None → AreDone ds sizes numbers
+    → AreDone ds sizes (numbers ++ number ∷ [])
 done_none ds sizes numbers number none done other there = elim (Contains-push_cases numbers number other there) [
   | inl before ↦ done other before
   | inr same ↦ (λ d size at. absurd (let e = sym (ap (slice_get ds) same ∙ at) ∙ none in cc e))
 ]
 
--- all declarations are done
-pub all_done : (ds : List Placed) (sizes : List Size) (order : List ℕ) → IsOrder (links ds) order → length sizes ≡ length ds → AreDone ds sizes order → AreSizes ds sizes
+-- All declarations are done.
+pub all_done : (ds : List Placed) (sizes : List Size) (order : List ℕ) → IsOrder (links ds) order → length sizes ≡ length ds → AreDone ds sizes order
+    → AreSizes ds sizes
 all_done ds sizes order o count done = record {
   count = count;
-  each = λ number d size at. done number (o.all number (let within = slice_get_within ds number d at in omega (arith, within, length-map ds (λ (e : Placed). filter_map (number_named ds) (uses e.decl))))) d size at;
+  each = λ number d size at. done number (o.all number
+      (let within = slice_get_within ds number d at in omega
+      (arith, within, length-map ds (λ (e : Placed). filter_map (number_named ds) (uses e.decl))))) d size at;
 }
 
--- nothing is done
+-- Nothing is done.
 pub none_done : (ds : List Placed) (sizes : List Size) → AreDone ds sizes []
 none_done ds sizes number there = let within = there.1 in absurd (omega (arith, within))

@@ -25,7 +25,7 @@ use Rattle.bdl_parser.specs.declared.trees.Decl.TheVariants.{Bag, Struct}
 use Rattle.bdl_parser.specs.declared.trees.Spot.{Spot}
 use Rattle.bdl_parser.specs.Trees.{Leaf, TypeTree, BagFieldTree, StructFieldTree, scalar, float, double, taint, counter, name, leaf, set, map as map_of}
 
--- nothing stands in a list
+-- Nothing stands in a list.
 abbrev pub nothing : {A : Type 0} → List A → Bool
 nothing xs = is_none (first xs)
 
@@ -41,8 +41,9 @@ nothing_when : (b : Bool) (finding : Finding) → nothing (when b finding) ≡ n
 nothing_when true finding = refl
 nothing_when false finding = refl
 
--- a name that was declared as this, or not at all
-name_passes : (spot : Spot) (role : Role) (kind : Option DeclKind) → nothing (node_faults_at spot (λ _. kind) role (leaf (name []) spot)) ≡ passes_name role kind
+-- A name that was declared as this, or not at all.
+name_passes : (spot : Spot) (role : Role) (kind : Option DeclKind)
+    → nothing (node_faults_at spot (λ _. kind) role (leaf (name []) spot)) ≡ passes_name role kind
 name_passes spot BagField None = refl
 name_passes spot StructField None = refl
 name_passes spot Element None = refl
@@ -86,14 +87,15 @@ set_passes kinds Element element spot = refl
 set_passes kinds Key element spot = refl
 set_passes kinds MapValue element spot = refl
 
-map_passes : (kinds : Kinds) (role : Role) (key value : TypeTree) (spot : Spot) → nothing (node_faults kinds role (map_of key value spot)) ≡ is_open role
+map_passes : (kinds : Kinds) (role : Role) (key value : TypeTree) (spot : Spot)
+    → nothing (node_faults kinds role (map_of key value spot)) ≡ is_open role
 map_passes kinds BagField key value spot = refl
 map_passes kinds StructField key value spot = refl
 map_passes kinds Element key value spot = refl
 map_passes kinds Key key value spot = refl
 map_passes kinds MapValue key value spot = refl
 
--- a type has no fault exactly where it passes
+-- A type has no fault exactly where it passes.
 type_passes : (kinds : Kinds) (role : Role) (tree : TypeTree) → nothing (type_faults kinds role tree) ≡ passes_type kinds role tree
 type_passes kinds role (leaf l spot) = leaf_passes kinds role l spot
 type_passes kinds role (set element spot) =
@@ -104,12 +106,12 @@ type_passes kinds role (map_of key value spot) =
     ∙ (λ i. map_passes kinds role key value spot i && nothing_append (type_faults kinds Key key) (type_faults kinds MapValue value) i)
     ∙ (λ i. is_open role && (type_passes kinds Key key i && type_passes kinds MapValue value i))
 
--- none is like one of the earlier ones
+-- None is like one of the earlier ones.
 abbrev is_fresh : {A : Type 0} → (A → A → Bool) → List A → List A → Bool
 is_fresh alike earlier [] = true
 is_fresh alike earlier (x ∷ xs) = not (list_any (λ other. alike other x) earlier) && is_fresh alike (earlier ++ x ∷ []) xs
 
--- no earlier one is like one of these
+-- No earlier one is like one of these.
 abbrev is_apart : {A : Type 0} → (A → A → Bool) → List A → List A → Bool
 is_apart alike earlier xs = list_all (λ e. not (list_any (alike e) xs)) earlier
 
@@ -123,7 +125,8 @@ crossed false true true s = refl
 crossed false true false s = refl
 crossed false false r s = refl
 
-apart_more : {A : Type 0} (alike : A → A → Bool) (earlier : List A) (x : A) (xs : List A) → is_apart alike earlier (x ∷ xs) ≡ (not (list_any (λ other. alike other x) earlier) && is_apart alike earlier xs)
+apart_more : {A : Type 0} (alike : A → A → Bool) (earlier : List A) (x : A) (xs : List A)
+    → is_apart alike earlier (x ∷ xs) ≡ (not (list_any (λ other. alike other x) earlier) && is_apart alike earlier xs)
 apart_more alike [] x xs = refl
 apart_more alike (e ∷ earlier) x xs =
     (λ i. not (alike e x || list_any (alike e) xs) && apart_more alike earlier x xs i)
@@ -135,12 +138,14 @@ regrouped true false q d = refl
 regrouped true true true d = refl
 regrouped true true false d = refl
 
--- looking back from each one finds nothing exactly where all are distinct
-fresh_is : {A : Type 0} (alike : A → A → Bool) (earlier xs : List A) → is_fresh alike earlier xs ≡ (is_apart alike earlier xs && are_distinct alike xs)
+-- Looking back from each one finds nothing exactly where all are distinct.
+fresh_is : {A : Type 0} (alike : A → A → Bool) (earlier xs : List A)
+    → is_fresh alike earlier xs ≡ (is_apart alike earlier xs && are_distinct alike xs)
 fresh_is alike earlier [] = sym (λ i. apart_none alike earlier i && true)
 fresh_is alike earlier (x ∷ xs) =
     (λ i. not (list_any (λ other. alike other x) earlier) && fresh_is alike (earlier ++ x ∷ []) xs i)
-    ∙ (λ i. not (list_any (λ other. alike other x) earlier) && (list_all-append (λ e. not (list_any (alike e) xs)) earlier (x ∷ []) i && are_distinct alike xs))
+    ∙ (λ i. not (list_any (λ other. alike other x) earlier) &&
+    (list_all-append (λ e. not (list_any (alike e) xs)) earlier (x ∷ []) i && are_distinct alike xs))
     ∙ regrouped (not (list_any (λ other. alike other x) earlier)) (is_apart alike earlier xs) (not (list_any (alike x) xs)) (are_distinct alike xs)
     ∙ sym (λ i. apart_more alike earlier x xs i && (not (list_any (alike x) xs) && are_distinct alike xs))
 
@@ -161,52 +166,65 @@ two_by_two true true x y = refl
 
 bag_field_passes : (kinds : Kinds) (earlier : List BagFieldTree) (field : BagFieldTree) →
     nothing (bag_field_faults kinds earlier field)
-    ≡ (passes_type kinds BagField field.kind && (not (is_number_among field.number (numbers_of earlier)) && not (is_name_among field.name (names_of earlier))))
+    ≡ (passes_type kinds BagField field.kind && (not (is_number_among field.number (numbers_of earlier)) && not
+    (is_name_among field.name (names_of earlier))))
 bag_field_passes kinds earlier field =
     let number : List Finding = when (is_number_among field.number (numbers_of earlier)) (found field.number_at DuplicateNumber) in
     let text : List Finding = when (is_name_among field.name (names_of earlier)) (found field.name_at DuplicateField) in
     nothing_append (type_faults kinds BagField field.kind) (number ++ text)
     ∙ (λ i. type_passes kinds BagField field.kind i && nothing_append number text i)
-    ∙ (λ i. passes_type kinds BagField field.kind && (nothing_when (is_number_among field.number (numbers_of earlier)) (found field.number_at DuplicateNumber) i
+    ∙ (λ i. passes_type kinds BagField field.kind &&
+    (nothing_when (is_number_among field.number (numbers_of earlier)) (found field.number_at DuplicateNumber) i
     && nothing_when (is_name_among field.name (names_of earlier)) (found field.name_at DuplicateField) i))
 
 bag_passes : (kinds : Kinds) (earlier fields : List BagFieldTree) →
     nothing (bag_faults kinds earlier fields)
-    ≡ (list_all (λ f. passes_type kinds BagField f.kind) fields && (is_fresh (λ a b. a == b) (numbers_of earlier) (numbers_of fields) && is_fresh bytes_eq (names_of earlier) (names_of fields)))
+    ≡ (list_all (λ f. passes_type kinds BagField f.kind) fields &&
+    (is_fresh (λ a b. a == b) (numbers_of earlier) (numbers_of fields) && is_fresh bytes_eq (names_of earlier) (names_of fields)))
 bag_passes kinds earlier [] = refl
 bag_passes kinds earlier (field ∷ fields) =
     nothing_append (bag_field_faults kinds earlier field) (bag_faults kinds (earlier ++ field ∷ []) fields)
     ∙ (λ i. bag_field_passes kinds earlier field i && bag_passes kinds (earlier ++ field ∷ []) fields i)
-    ∙ (λ i. (passes_type kinds BagField field.kind && (not (is_number_among field.number (numbers_of earlier)) && not (is_name_among field.name (names_of earlier))))
+    ∙ (λ i. (passes_type kinds BagField field.kind &&
+    (not (is_number_among field.number (numbers_of earlier)) && not (is_name_among field.name (names_of earlier))))
     && (list_all (λ f. passes_type kinds BagField f.kind) fields
     && (is_fresh (λ a b. a == b) (map-append (λ (f : BagFieldTree). f.number) earlier (field ∷ []) i) (numbers_of fields)
     && is_fresh bytes_eq (map-append (λ (f : BagFieldTree). f.name) earlier (field ∷ []) i) (names_of fields))))
-    ∙ three_by_three (passes_type kinds BagField field.kind) (not (is_number_among field.number (numbers_of earlier))) (not (is_name_among field.name (names_of earlier)))
-    (list_all (λ f. passes_type kinds BagField f.kind) fields) (is_fresh (λ a b. a == b) (numbers_of earlier ++ field.number ∷ []) (numbers_of fields)) (is_fresh bytes_eq (names_of earlier ++ field.name ∷ []) (names_of fields))
+    ∙ three_by_three (passes_type kinds BagField field.kind) (not (is_number_among field.number (numbers_of earlier)))
+    (not (is_name_among field.name (names_of earlier)))
+    (list_all (λ f. passes_type kinds BagField f.kind) fields)
+    (is_fresh (λ a b. a == b) (numbers_of earlier ++ field.number ∷ []) (numbers_of fields))
+    (is_fresh bytes_eq (names_of earlier ++ field.name ∷ []) (names_of fields))
 
 struct_field_passes : (kinds : Kinds) (earlier : List StructFieldTree) (field : StructFieldTree) →
-    nothing (struct_field_faults kinds earlier field) ≡ (passes_type kinds StructField field.kind && not (is_name_among field.name (struct_names_of earlier)))
+    nothing (struct_field_faults kinds earlier field) ≡
+    (passes_type kinds StructField field.kind && not (is_name_among field.name (struct_names_of earlier)))
 struct_field_passes kinds earlier field =
     let text : List Finding = when (is_name_among field.name (struct_names_of earlier)) (found field.name_at DuplicateField) in
     nothing_append (type_faults kinds StructField field.kind) text
-    ∙ (λ i. type_passes kinds StructField field.kind i && nothing_when (is_name_among field.name (struct_names_of earlier)) (found field.name_at DuplicateField) i)
+    ∙ (λ i. type_passes kinds StructField field.kind i && nothing_when (is_name_among field.name (struct_names_of earlier))
+    (found field.name_at DuplicateField) i)
 
 struct_passes : (kinds : Kinds) (earlier fields : List StructFieldTree) →
-    nothing (struct_faults kinds earlier fields) ≡ (list_all (λ f. passes_type kinds StructField f.kind) fields && is_fresh bytes_eq (struct_names_of earlier) (struct_names_of fields))
+    nothing (struct_faults kinds earlier fields) ≡ (list_all (λ f. passes_type kinds StructField f.kind) fields && is_fresh bytes_eq
+    (struct_names_of earlier) (struct_names_of fields))
 struct_passes kinds earlier [] = refl
 struct_passes kinds earlier (field ∷ fields) =
     nothing_append (struct_field_faults kinds earlier field) (struct_faults kinds (earlier ++ field ∷ []) fields)
     ∙ (λ i. struct_field_passes kinds earlier field i && struct_passes kinds (earlier ++ field ∷ []) fields i)
     ∙ (λ i. (passes_type kinds StructField field.kind && not (is_name_among field.name (struct_names_of earlier)))
-    && (list_all (λ f. passes_type kinds StructField f.kind) fields && is_fresh bytes_eq (map-append (λ (f : StructFieldTree). f.name) earlier (field ∷ []) i) (struct_names_of fields)))
+    && (list_all (λ f. passes_type kinds StructField f.kind) fields && is_fresh bytes_eq
+    (map-append (λ (f : StructFieldTree). f.name) earlier (field ∷ []) i) (struct_names_of fields)))
     ∙ two_by_two (passes_type kinds StructField field.kind) (not (is_name_among field.name (struct_names_of earlier)))
-    (list_all (λ f. passes_type kinds StructField f.kind) fields) (is_fresh bytes_eq (struct_names_of earlier ++ field.name ∷ []) (struct_names_of fields))
+    (list_all (λ f. passes_type kinds StructField f.kind) fields)
+    (is_fresh bytes_eq (struct_names_of earlier ++ field.name ∷ []) (struct_names_of fields))
 
--- a declaration has no fault of its own exactly where it passes
+-- A declaration has no fault of its own exactly where it passes.
 decl_passes : (kinds : Kinds) (decl : Decl) → nothing (decl_faults kinds decl) ≡ passes_decl kinds decl
 decl_passes kinds (Bag called spot fields) =
     bag_passes kinds [] fields
-    ∙ (λ i. list_all (λ f. passes_type kinds BagField f.kind) fields && (fresh_is (λ a b. a == b) [] (numbers_of fields) i && fresh_is bytes_eq [] (names_of fields) i))
+    ∙ (λ i. list_all (λ f. passes_type kinds BagField f.kind) fields &&
+    (fresh_is (λ a b. a == b) [] (numbers_of fields) i && fresh_is bytes_eq [] (names_of fields) i))
 decl_passes kinds (Struct called spot []) = refl
 decl_passes kinds (Struct called spot (field ∷ fields)) =
     struct_passes kinds [] (field ∷ fields)
@@ -226,22 +244,26 @@ either_way false d rest = refl
 
 named_among : (ds : List Placed) (text : List ℕ) → is_some (named ds text) ≡ is_name_among text (map (λ d. name_of d.decl) ds)
 named_among [] text = refl
-named_among (d ∷ ds) text = either_way (bytes_eq (name_of d.decl) text) d (named ds text) ∙ (λ i. bytes_eq (name_of d.decl) text || named_among ds text i)
+named_among (d ∷ ds) text = either_way (bytes_eq (name_of d.decl) text) d (named ds text)
+    ∙ (λ i. bytes_eq (name_of d.decl) text || named_among ds text i)
 
--- a name was declared exactly where it is the name of a declaration
+-- A name was declared exactly where it is the name of a declaration.
 declared_is : (ds : List Placed) (text : List ℕ) → is_some (kind_named ds text) ≡ is_name_among text (map (λ d. name_of d.decl) ds)
 declared_is ds text = is_some-kind ds text ∙ named_among ds text
 
-names_pass : (earlier ds : List Placed) → nothing (name_faults earlier ds) ≡ is_fresh bytes_eq (map (λ d. name_of d.decl) earlier) (map (λ d. name_of d.decl) ds)
+names_pass : (earlier ds : List Placed) → nothing (name_faults earlier ds) ≡ is_fresh bytes_eq (map (λ d. name_of d.decl) earlier)
+    (map (λ d. name_of d.decl) ds)
 names_pass earlier [] = refl
 names_pass earlier (d ∷ ds) =
     nothing_append (faults_in d.file (name_fault (is_some (kind_named earlier (name_of d.decl))) d.decl)) (name_faults (earlier ++ d ∷ []) ds)
-    ∙ (λ i. nothing_map (fault_in d.file) (name_fault (is_some (kind_named earlier (name_of d.decl))) d.decl) i && names_pass (earlier ++ d ∷ []) ds i)
+    ∙ (λ i. nothing_map (fault_in d.file) (name_fault (is_some (kind_named earlier (name_of d.decl))) d.decl) i && names_pass (earlier ++ d ∷ []) ds
+    i)
     ∙ (λ i. nothing_when (is_some (kind_named earlier (name_of d.decl))) (found (place_of d.decl) DuplicateName) i
     && is_fresh bytes_eq (map-append (λ (e : Placed). name_of e.decl) earlier (d ∷ []) i) (map (λ e. name_of e.decl) ds))
-    ∙ (λ i. not (declared_is earlier (name_of d.decl) i) && is_fresh bytes_eq (map (λ e. name_of e.decl) earlier ++ name_of d.decl ∷ []) (map (λ e. name_of e.decl) ds))
+    ∙ (λ i. not (declared_is earlier (name_of d.decl) i) && is_fresh bytes_eq (map (λ e. name_of e.decl) earlier ++ name_of d.decl ∷ [])
+    (map (λ e. name_of e.decl) ds))
 
--- declarations have no fault exactly where they pass
+-- Declarations have no fault exactly where they pass.
 pub faultless_pass : (ds : List Placed) → is_none (first (placed_faults ds)) ≡ pass ds
 faultless_pass ds =
     nothing_append (name_faults [] ds) (declaration_faults (kind_named ds) ds)

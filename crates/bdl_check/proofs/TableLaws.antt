@@ -11,8 +11,8 @@ use Rattle.std.proofs.lemmas.Option.{slice_get_within, get_or_from_slice_get}
 use Rattle.std.proofs.lemmas.Slice.Eq.{bytes_eq-Decides}
 use Rattle.bag_model.specs.Scalars as scalars
 use Rattle.bag_model.specs.Shapes.{Shape, Nodes, Field, fields, no_node, node}
-use Rattle.bag_model.specs.Tables.{is_name, IsKind, IsKeyKind, IsShape, AreFields, levels, node_count, IsTable}
-use Rattle.bdl_load.specs.Spelled.{IsSpelledField, IsSpelledDecl}
+use Rattle.bag_model.specs.Tables.{is_name, IsScalarKind, IsKeyKind, IsShape, AreFields, levels, node_count, IsTable}
+use Rattle.bdl_parser.specs.Spelled.{IsSpelledField, IsSpelledDecl}
 use Rattle.bdl_parser.specs.declared.trees.Decl.{Decl}
 use Rattle.bdl_parser.specs.declared.trees.Decl.TheVariants.{Bag, Struct}
 use Rattle.bdl_parser.specs.declared.trees.Spot.{Spot}
@@ -29,8 +29,10 @@ use Rattle.bdl_check.specs.Types.{Kinds}
 use Rattle.bdl_check.proofs.BagSizes.{or_first, or_second, not_so}
 use Rattle.bdl_check.proofs.Insertions.{all_moved}
 use Rattle.bdl_check.proofs.OneLayout.{Precedes, Rising, numbers, rises, same_some}
-use Rattle.bdl_check.proofs.OrderSizes.{passes_at}
-use Rattle.bdl_check.proofs.PassedTypes.{both_first, both_second, number_of, key_kind, map_key, map_value}
+use Rattle.bdl_check.proofs.PassedTypes.{number_of, key_kind, map_key, map_value}
+use Rattle.bag_model.specs.declared.TheConstants.{MAX_LEVELS, MAX_FIELDS}
+use Rattle.bdl_check.proofs.Soundness.{faultless_passes, numbered_passes}
+use Rattle.bdl_check.proofs.Lists.{both_first, both_second, and_then_is}
 
 -- ---- structs
 
@@ -52,14 +54,16 @@ some_words : (o : Option scalars.Word) (word : scalars.Word) (words : List scala
 some_words None word words e h = (cc e)
 some_words (Some other) word words e h = (cc h)
 
-struct_good : (kinds : Kinds) (decl : Decl) (kind : scalars.ScalarKind) → passes_decl kinds decl ≡ true → kind_of_decl decl ≡ Some kind → IsKind kind
+struct_good : (kinds : Kinds) (decl : Decl) (kind : scalars.ScalarKind) → passes_decl kinds decl ≡ true → kind_of_decl decl ≡ Some kind → IsScalarKind kind
 struct_good kinds (Bag own spot list) kind p e = absurd (cc e)
 struct_good kinds (Struct own spot []) kind p e = absurd (cc p)
 struct_good kinds (Struct own spot (f ∷ fs)) kind p e =
-    let types = both_first (list_all (λ (g : StructFieldTree). passes_type kinds StructField g.kind) (f ∷ fs)) (are_distinct bytes_eq (struct_names_of (f ∷ fs))) p in
-    let word = struct_word kinds f.kind (both_first (passes_type kinds StructField f.kind) (list_all (λ (g : StructFieldTree). passes_type kinds StructField g.kind) fs) types) in
+    let types = both_first (list_all (λ (g : StructFieldTree). passes_type kinds StructField g.kind) (f ∷ fs))
+    (are_distinct bytes_eq (struct_names_of (f ∷ fs))) p in
+    let word = struct_word kinds f.kind (both_first (passes_type kinds StructField f.kind)
+    (list_all (λ (g : StructFieldTree). passes_type kinds StructField g.kind) fs) types) in
     let same : scalars.ScalarKind.Packed (words_of (f ∷ fs)) ≡ kind = (cc e) in
-    subst IsKind same (some_words (word_of_type f.kind) word.0 (words_of fs) word.1)
+    subst IsScalarKind same (some_words (word_of_type f.kind) word.0 (words_of fs) word.1)
 
 -- ---- lists
 
@@ -83,22 +87,20 @@ names_differ : (x y : List ℕ) → bytes_eq x y ≡ false → x ≢ y
 names_differ x y e same = true≢false (sym ((bytes_eq-Decides x y).1 same) ∙ e)
 
 flips_names : (x y : List ℕ) → bytes_eq x y ≡ bytes_eq y x
-flips_names x y = one_answer (bytes_eq x y) (bytes_eq y x) (bytes_eq-Decides x y) (λ h. sym ((bytes_eq-Decides y x).0 h), λ h. (bytes_eq-Decides y x).1 (sym h))
-
-and_then_is : {X Y : Type 0} (f : X → Option Y) (o : Option X) (y : Y) → option_and_then f o ≡ Some y → (x : X) × (o ≡ Some x) × (f x ≡ Some y)
-and_then_is f None y e = absurd (cc e)
-and_then_is f (Some x) y e = (x, refl, e)
+flips_names x y = one_answer (bytes_eq x y) (bytes_eq y x) (bytes_eq-Decides x y)
+    (λ h. sym ((bytes_eq-Decides y x).0 h), λ h. (bytes_eq-Decides y x).1 (sym h))
 
 -- ---- fields of tables
 
--- fields that pass and are spelled
+-- Fields that pass and are spelled.
 pub record AreGood (ds : List Placed) (list : List BagFieldTree) : Type 0 where
   pub types : AllByRecursion (λ (t : BagFieldTree). passes_type (kind_named ds) BagField t.kind ≡ true) list
   pub names : IsDistinct bytes_eq (names_of list)
   pub spelled : AllByRecursion IsSpelledField list
 
--- the fields of a bag that passes and is spelled
-pub good_list : (ds : List Placed) (own : List ℕ) (spot : Spot) (list : List BagFieldTree) → passes_decl (kind_named ds) (Bag own spot list) ≡ true → IsSpelledDecl (Bag own spot list) → AreGood ds list
+-- The fields of a bag that passes and is spelled.
+pub good_list : (ds : List Placed) (own : List ℕ) (spot : Spot) (list : List BagFieldTree) → passes_decl (kind_named ds) (Bag own spot list) ≡ true
+    → IsSpelledDecl (Bag own spot list) → AreGood ds list
 good_list ds own spot list p s =
     let types = list_all (λ (t : BagFieldTree). passes_type (kind_named ds) BagField t.kind) list in
     let numbers = are_distinct (λ a b. a == b) (numbers_of list) in
@@ -109,23 +111,26 @@ good_list ds own spot list p s =
       spelled = s;
     }
 
--- each declaration passes and is spelled
+-- Each declaration passes and is spelled.
 abbrev pub AllGood : List Placed → Type 0
 AllGood ds = (text : List ℕ) (d : Placed) → named ds text ≡ Some d → (passes_decl (kind_named ds) d.decl ≡ true) × IsSpelledDecl d.decl
 
--- declarations without faults pass
+-- Declarations without faults pass.
 pub all_good : (ds : List Placed) → placed_faults ds ≡ [] → AreSpelled ds → AllGood ds
 all_good ds none spelled text d e =
-    let n = number_of ds text d e in
-    (passes_at ds n.0 d none n.2, subst (λ (d : Placed). IsSpelledDecl d.decl) (get_or_from_slice_get ds n.0 d d n.2) (spelled n.0 d (slice_get_within ds n.0 d n.2)))
+    let n = number_of ds text d e in (
+      numbered_passes ds n.0 d (faultless_passes ds none) n.2,
+      subst (λ (d : Placed). IsSpelledDecl d.decl) (get_or_from_slice_get ds n.0 d d n.2)
+          (spelled n.0 d (slice_get_within ds n.0 d n.2)),
+    )
 
--- what is laid out so has the fields of a table
+-- What is laid out so has the fields of a table.
 abbrev Makes : List Placed → Layout → Type 0
 Makes ds L = (list : List BagFieldTree) (nodes : Nodes) → AreGood ds list → L list nodes → AreFields nodes
 
 module _ (ds : List Placed) (good : AllGood ds) where
-  element_good : (t : TypeTree) (kind : scalars.ScalarKind) → kind_in ds t ≡ Some kind → IsKind kind
-  element_good (trees.leaf (trees.scalar word) spot) kind e = let same : scalars.ScalarKind.One (word_in word) ≡ kind = (cc e) in subst IsKind same tt
+  element_good : (t : TypeTree) (kind : scalars.ScalarKind) → kind_in ds t ≡ Some kind → IsScalarKind kind
+  element_good (trees.leaf (trees.scalar word) spot) kind e = let same : scalars.ScalarKind.One (word_in word) ≡ kind = (cc e) in subst IsScalarKind same tt
   element_good (trees.leaf trees.float spot) kind e = absurd (cc e)
   element_good (trees.leaf trees.double spot) kind e = absurd (cc e)
   element_good (trees.leaf trees.taint spot) kind e = absurd (cc e)
@@ -141,9 +146,11 @@ module _ (ds : List Placed) (good : AllGood ds) where
       let word = key_kind ds t p in
       subst IsKeyKind (same_some (kind_in ds t) (scalars.ScalarKind.One word.0) kind word.1 e) tt
 
-  decl_good : (L : Layout) → Makes ds L → (decl : Decl) (s : Shape) → passes_decl (kind_named ds) decl ≡ true → IsSpelledDecl decl → IsShapeOfDecl L decl s → IsShape s
+  decl_good : (L : Layout) → Makes ds L → (decl : Decl) (s : Shape) → passes_decl (kind_named ds) decl ≡ true → IsSpelledDecl decl
+      → IsShapeOfDecl L decl s → IsShape s
   decl_good L makes (Bag own spot list) s p spelled a = subst IsShape (sym a.2) (makes list a.0 (good_list ds own spot list p spelled) a.1)
-  decl_good L makes (Struct own spot list) s p spelled a = subst IsShape (sym a) (struct_good (kind_named ds) (Struct own spot list) (scalars.ScalarKind.Packed (words_of list)) p refl)
+  decl_good L makes (Struct own spot list) s p spelled a = subst IsShape (sym a)
+      (struct_good (kind_named ds) (Struct own spot list) (scalars.ScalarKind.Packed (words_of list)) p refl)
 
   shape_good : (L : Layout) → Makes ds L → (t : TypeTree) (s : Shape) → passes_type (kind_named ds) BagField t ≡ true → IsShapeOf ds L t s → IsShape s
   shape_good L makes (trees.leaf (trees.scalar word) spot) s p a = subst IsShape (sym a) tt
@@ -154,9 +161,14 @@ module _ (ds : List Placed) (good : AllGood ds) where
   shape_good L makes (trees.leaf (trees.name text) spot) s p a = let here = good text a.0 a.1 in decl_good L makes a.0.decl s here.0 here.1 a.2
   shape_good L makes (trees.set element spot) s p a = subst IsShape (sym a.2) (element_good element a.0 a.1)
   shape_good L makes (trees.map key value spot) s p a =
-      subst IsShape (sym a.4) (key_good key a.0 (map_key (kind_named ds) key value spot p) a.2, shape_good L makes value a.1 (map_value (kind_named ds) key value spot p) a.3)
+      subst IsShape (sym a.4) (
+        key_good key a.0 (map_key (kind_named ds) key value spot p) a.2,
+        shape_good L makes value a.1
+            (map_value (kind_named ds) key value spot p) a.3,
+      )
 
-  behind : (L : Layout) (t : BagFieldTree) (ts : List BagFieldTree) (fs : List Field) → AreFieldsOf ds L ts fs → Precedes t.number ts → AllByRecursion (λ y. bytes_eq t.name y ≡ false) (names_of ts)
+  behind : (L : Layout) (t : BagFieldTree) (ts : List BagFieldTree) (fs : List Field) → AreFieldsOf ds L ts fs → Precedes t.number ts
+      → AllByRecursion (λ y. bytes_eq t.name y ≡ false) (names_of ts)
       → AllByRecursion (λ (other : Field). (t.number < other.number) × (t.name ≢ other.name)) fs
   behind L t [] [] e o d = tt
   behind L t (u ∷ ts) (f ∷ fs) e o d = (
@@ -166,7 +178,8 @@ module _ (ds : List Placed) (good : AllGood ds) where
   behind L t [] (f ∷ fs) e o d = absurd e
   behind L t (u ∷ ts) [] e o d = absurd e
 
-  fields_good : (L : Layout) → Makes ds L → (ts : List BagFieldTree) (nodes : Nodes) → AreFieldsOf ds L ts (fields nodes) → AreGood ds ts → Rising ts → AreFields nodes
+  fields_good : (L : Layout) → Makes ds L → (ts : List BagFieldTree) (nodes : Nodes) → AreFieldsOf ds L ts (fields nodes) → AreGood ds ts → Rising ts
+      → AreFields nodes
   fields_good L makes [] no_node e g r = tt
   fields_good L makes (t ∷ ts) (node name number shape more) e g r =
       let names = IsDistinct-head bytes_eq t.name (names_of ts) g.names in
@@ -175,8 +188,14 @@ module _ (ds : List Placed) (good : AllGood ds) where
         subst (λ n. n < 2 ^ 16) (sym e.0.number_is) g.spelled.0.1,
         shape_good L makes t.kind shape g.types.0 e.0.shape,
         subst (λ n. AllByRecursion (λ (other : Field). (n < other.number) × (name ≢ other.name)) (fields more)) (sym e.0.number_is)
-            (subst (λ (n : List ℕ). AllByRecursion (λ (other : Field). (t.number < other.number) × (n ≢ other.name)) (fields more)) (sym e.0.name_is) rest),
-        fields_good L makes ts more e.1 (record { types = g.types.1; names = IsDistinct-tail bytes_eq t.name (names_of ts) g.names; spelled = g.spelled.1 }) r.1,
+            (subst (λ (n : List ℕ). AllByRecursion (λ (other : Field). (t.number < other.number) × (n ≢ other.name)) (fields more)) (sym e.0.name_is)
+            rest),
+        fields_good L makes ts more e.1 (record {
+          types = g.types.1;
+          names = IsDistinct-tail bytes_eq t.name (names_of ts) g.names;
+          spelled =
+              g.spelled.1;
+        }) r.1,
       )
   fields_good L makes [] (node name number shape more) e g r = absurd e
   fields_good L makes (t ∷ ts) no_node e g r = absurd e
@@ -185,7 +204,8 @@ module _ (ds : List Placed) (good : AllGood ds) where
   order_good L makes list nodes g a =
       let sorted : AreGood ds a.sorted = record {
         types = all_moved (λ (t : BagFieldTree). passes_type (kind_named ds) BagField t.kind ≡ true) list a.sorted a.same g.types;
-        names = IsDistinct-IsPermutation bytes_eq flips_names (names_of list) (names_of a.sorted) (IsPermutation-map (λ (u : BagFieldTree). u.name) list a.sorted a.same) g.names;
+        names = IsDistinct-IsPermutation bytes_eq flips_names (names_of list) (names_of a.sorted)
+            (IsPermutation-map (λ (u : BagFieldTree). u.name) list a.sorted a.same) g.names;
         spelled = all_moved IsSpelledField list a.sorted a.same g.spelled;
       } in
       fields_good L makes a.sorted nodes a.each sorted (rises a.sorted (AllPairs-from_increasing (numbers a.sorted) a.rising))
@@ -194,6 +214,7 @@ module _ (ds : List Placed) (good : AllGood ds) where
   within_good zero list nodes g a = absurd a
   within_good (suc room) list nodes g a = order_good (IsLaidOutWithin room ds) (within_good room) list nodes g a
 
-  -- a bag in few levels with few fields makes a table
-  pub is_table : (list : List BagFieldTree) (nodes : Nodes) → AreGood ds list → IsLaidOut ds list nodes → levels nodes ≤ 16 → node_count nodes ≤ 16384 → IsTable nodes
+  -- A bag in few levels with few fields makes a table.
+  pub is_table : (list : List BagFieldTree) (nodes : Nodes) → AreGood ds list → IsLaidOut ds list nodes → levels nodes ≤ MAX_LEVELS
+      → node_count nodes ≤ MAX_FIELDS → IsTable nodes
   is_table list nodes g l shallow small = record { well_formed = within_good l.0 list nodes g l.1; shallow = shallow; small = small }

@@ -25,17 +25,20 @@ use Rattle.bdl_check.specs.Sizes.{HasTypeSize, HasSize, IsSizeOf, AreKnown}
 use Rattle.bdl_check.proofs.Insertions.{IsNewNumber, added}
 use Rattle.bdl_check.proofs.LayoutRooms.{laid_out, in_order}
 use Rattle.bdl_check.proofs.PassedTypes.{named_at, declared, element_kind, key_kind, map_key}
+use Rattle.bdl_check.specs.declared.sizes.TheConstants.{LEVELS_CAP, FIELDS_CAP}
 
 abbrev pub size : ℕ → ℕ → Size
 size levels fields = record { levels = levels; fields = fields }
 
--- a counter takes a level
-pub counter_size : (ds : List Placed) (spot : Spot) (l f : ℕ) → l ≡ min (1 + 0) 17 → f ≡ 0 → HasTypeSize ds (trees.leaf trees.counter spot) (size l f)
+-- A counter takes a level.
+pub counter_size : (ds : List Placed) (spot : Spot) (l f : ℕ) → l ≡ min (1 + 0) LEVELS_CAP → f ≡ 0
+    → HasTypeSize ds (trees.leaf trees.counter spot) (size l f)
 counter_size ds spot l f el ef = record { shape = Counter; is = refl; levels_are = el; fields_are = ef }
 
--- a map takes one more than its values
-pub map_size : (ds : List Placed) (key value : TypeTree) (spot : Spot) (under : Size) (l f : ℕ) → passes_type (kind_named ds) BagField (trees.map key value spot) ≡ true
-    → HasTypeSize ds value under → l ≡ min (1 + under.levels) 17 → f ≡ under.fields → HasTypeSize ds (trees.map key value spot) (size l f)
+-- A map takes one more than its values.
+pub map_size : (ds : List Placed) (key value : TypeTree) (spot : Spot) (under : Size) (l f : ℕ)
+    → passes_type (kind_named ds) BagField (trees.map key value spot) ≡ true
+    → HasTypeSize ds value under → l ≡ min (1 + under.levels) LEVELS_CAP → f ≡ under.fields → HasTypeSize ds (trees.map key value spot) (size l f)
 map_size ds key value spot under l f p h el ef =
     let word = key_kind ds key (map_key (kind_named ds) key value spot p) in
     let kind = scalars.ScalarKind.One word.0 in
@@ -46,13 +49,15 @@ map_size ds key value spot under l f p h el ef =
       fields_are = ef ∙ h.fields_are;
     }
 
--- a set takes none
-pub set_size : (ds : List Placed) (element : TypeTree) (spot : Spot) → passes_type (kind_named ds) BagField (trees.set element spot) ≡ true → HasTypeSize ds (trees.set element spot) (size 0 0)
+-- A set takes none.
+pub set_size : (ds : List Placed) (element : TypeTree) (spot : Spot) → passes_type (kind_named ds) BagField (trees.set element spot) ≡ true
+    → HasTypeSize ds (trees.set element spot) (size 0 0)
 set_size ds element spot p =
     let kind = element_kind ds element p in
     record { shape = Set kind.0; is = (kind.0, kind.1, refl); levels_are = refl; fields_are = refl }
 
-decl_size : (ds : List Placed) (text : List ℕ) (spot : Spot) (d : Placed) (s : Size) → named ds text ≡ Some d → IsSizeOf ds d.decl s → HasTypeSize ds (trees.leaf (trees.name text) spot) s
+decl_size : (ds : List Placed) (text : List ℕ) (spot : Spot) (d : Placed) (s : Size) → named ds text ≡ Some d → IsSizeOf ds d.decl s
+    → HasTypeSize ds (trees.leaf (trees.name text) spot) s
 decl_size ds text spot d s e h = by d.decl refl h
   where
     by : (decl : Decl) → d.decl ≡ decl → IsSizeOf ds decl s → HasTypeSize ds (trees.leaf (trees.name text) spot) s
@@ -69,9 +74,11 @@ decl_size ds text spot d s e h = by d.decl refl h
       fields_are = h.1;
     }
 
--- a name takes what its declaration does
-pub name_size : (ds : List Placed) (sizes : List Size) (text : List ℕ) (spot : Spot) (n : ℕ) (s : Size) → length sizes ≡ length ds → AreKnown ds sizes (text ∷ [])
-    → passes_type (kind_named ds) BagField (trees.leaf (trees.name text) spot) ≡ true → number_named ds text ≡ Some n → HasTypeSize ds (trees.leaf (trees.name text) spot) (get_or sizes n s)
+-- A name takes what its declaration does.
+pub name_size : (ds : List Placed) (sizes : List Size) (text : List ℕ) (spot : Spot) (n : ℕ) (s : Size) → length sizes ≡ length ds
+    → AreKnown ds sizes (text ∷ [])
+    → passes_type (kind_named ds) BagField (trees.leaf (trees.name text) spot) ≡ true → number_named ds text ≡ Some n
+    → HasTypeSize ds (trees.leaf (trees.name text) spot) (get_or sizes n s)
 name_size ds sizes text spot n s count known p e =
     let d = declared ds BagField text p in
     let there : slice_get ds n ≡ Some d.0 = sym (named_at ds text n e) ∙ d.1 in
@@ -79,7 +86,7 @@ name_size ds sizes text spot n s count known p e =
     let found = slice_get-get_or sizes n s (omega (arith, within, count)) in
     decl_size ds text spot d.0 (get_or sizes n s) d.1 (known.0 n e d.0 (get_or sizes n s) there found)
 
--- a name that passes has a number within the sizes
+-- A name that passes has a number within the sizes.
 pub name_number : (ds : List Placed) (sizes : List Size) (text : List ℕ) (spot : Spot) (n : ℕ) → length sizes ≡ length ds
     → passes_type (kind_named ds) BagField (trees.leaf (trees.name text) spot) ≡ true → number_named ds text ≡ Some n → n < length sizes
 name_number ds sizes text spot n count p e =
@@ -89,7 +96,7 @@ name_number ds sizes text spot n count p e =
 
 -- ---- bags
 
--- a bag with no field
+-- A bag with no field.
 pub empty_size : (ds : List Placed) → HasSize ds [] (size 0 0)
 empty_size ds = record {
   nodes = no_node;
@@ -98,9 +105,11 @@ empty_size ds = record {
   fields_are = refl;
 }
 
--- a bag with one field more
-pub more_size : (ds : List Placed) (list : List BagFieldTree) (t : BagFieldTree) (bag under new : Size) → HasSize ds list bag → HasTypeSize ds t.kind under → IsNewNumber t.number list
-    → new.levels ≡ min (max (1 + under.levels) bag.levels) 17 → new.fields ≡ min (1 + under.fields + bag.fields) 16385 → HasSize ds (list ++ t ∷ []) new
+-- A bag with one field more.
+pub more_size : (ds : List Placed) (list : List BagFieldTree) (t : BagFieldTree) (bag under new : Size) → HasSize ds list bag
+    → HasTypeSize ds t.kind under → IsNewNumber t.number list
+    → new.levels ≡ min (max (1 + under.levels) bag.levels) LEVELS_CAP → new.fields ≡ min (1 + under.fields + bag.fields) FIELDS_CAP
+    → HasSize ds (list ++ t ∷ []) new
 more_size ds list t bag under new h u fresh el ef =
     let a = added ds (IsLaidOut ds) list h.nodes t u.shape u.is fresh (in_order ds list h.nodes h.laid_out) in
     record {
@@ -112,7 +121,7 @@ more_size ds list t bag under new h u fresh el ef =
 
 -- ---- names that are known
 
--- of two lists of names that are known each is
+-- Of two lists of names that are known each is.
 pub known_left : (ds : List Placed) (sizes : List Size) (xs ys : List (List ℕ)) → AreKnown ds sizes (xs ++ ys) → AreKnown ds sizes xs
 known_left ds sizes [] ys h = tt
 known_left ds sizes (x ∷ xs) ys h = (h.0, known_left ds sizes xs ys h.1)
@@ -123,19 +132,24 @@ known_right ds sizes (x ∷ xs) ys h = known_right ds sizes xs ys h.1
 
 -- ---- the depth of a type
 
--- how many maps stand inside one another
+-- How many maps stand inside one another.
 abbrev pub map_depth : TypeTree → ℕ
 map_depth (trees.leaf l spot) = 0
 map_depth (trees.set element spot) = 0
 map_depth (trees.map key value spot) = 1 + map_depth value
 
--- a word, a taint or a set takes none
-pub flat_size : (ds : List Placed) (at : Spot) (form : TypeForm) → ((word : ScalarWord) × (form ≡ TypeForms.Scalar word)) ⊎ ((form ≡ TypeForms.Taint) ⊎ ((element : Box TypeNode Global) × (form ≡ TypeForms.Set element)))
+-- A word, a taint or a set takes none.
+pub flat_size : (ds : List Placed) (at : Spot) (form : TypeForm)
+    → ((word : ScalarWord) × (form ≡ TypeForms.Scalar word)) ⊎
+    ((form ≡ TypeForms.Taint) ⊎ ((element : Box TypeNode Global) × (form ≡ TypeForms.Set element)))
     → passes_type (kind_named ds) BagField (tree_at at form) ≡ true → HasTypeSize ds (tree_at at form) (size 0 0)
 flat_size ds at form (inl word) p =
-    subst (λ (form : TypeForm). HasTypeSize ds (tree_at at form) (size 0 0)) (sym word.1) (record { shape = _; is = refl; levels_are = refl; fields_are = refl })
+    subst (λ (form : TypeForm). HasTypeSize ds (tree_at at form) (size 0 0)) (sym word.1)
+    (record { shape = _; is = refl; levels_are = refl; fields_are = refl })
 flat_size ds at form (inr (inl taint)) p =
-    subst (λ (form : TypeForm). HasTypeSize ds (tree_at at form) (size 0 0)) (sym taint) (record { shape = Taint; is = refl; levels_are = refl; fields_are = refl })
+    subst (λ (form : TypeForm). HasTypeSize ds (tree_at at form) (size 0 0)) (sym taint)
+    (record { shape = Taint; is = refl; levels_are = refl; fields_are = refl })
 flat_size ds at form (inr (inr element)) p =
     subst (λ (form : TypeForm). HasTypeSize ds (tree_at at form) (size 0 0)) (sym element.1)
-    (set_size ds (tree_of element.0.value) at (subst (λ (form : TypeForm). passes_type (kind_named ds) BagField (tree_at at form) ≡ true) element.1 p))
+    (set_size ds (tree_of element.0.value) at (subst (λ (form : TypeForm). passes_type (kind_named ds) BagField (tree_at at form) ≡ true) element.1
+    p))

@@ -13,28 +13,29 @@ use Rattle.bdl_check.specs.Fields.{decl_faults}
 use Rattle.bdl_check.specs.Types.{Kinds}
 use Rattle.bdl_parser.specs.declared.trees.Decl.{Decl}
 
--- these faults in this file
+-- These faults in this file.
 abbrev pub faults_in : List ℕ → List Finding → List Fault
 faults_in file findings = map (fault_in file) findings
 
--- the fault of a declaration whose name an earlier one has
+-- The fault of a declaration whose name an earlier one has.
 abbrev pub name_fault : Bool → Decl → List Finding
 name_fault is_taken decl = when is_taken (found (place_of decl) DuplicateName)
 
--- the faults of the declarations' names behind the earlier declarations
+-- The faults of the declarations' names behind the earlier declarations.
 abbrev pub name_faults : List Placed → List Placed → List Fault
 name_faults earlier [] = []
 name_faults earlier (d ∷ ds) =
-    faults_in d.file (name_fault (is_some (kind_named earlier (name_of d.decl))) d.decl) ++ name_faults (earlier ++ d ∷ []) ds
+    faults_in d.file (name_fault (is_some (kind_named earlier (name_of d.decl))) d.decl)
+    ++ name_faults (earlier ++ d ∷ []) ds
 
--- the faults of each declaration
+-- The faults of each declaration.
 abbrev pub declaration_faults : Kinds → List Placed → List Fault
 declaration_faults kinds ds = flat_map (λ d. faults_in d.file (decl_faults kinds d.decl)) ds
 
--- first the names of all declarations, and then what each says
+-- First the names of all declarations, and then what each says.
 abbrev pub placed_faults : List Placed → List Fault
 placed_faults ds = name_faults [] ds ++ declaration_faults (kind_named ds) ds
 
--- the same of the declarations of all files
+-- The same of the declarations of all files.
 abbrev pub declared_faults : List LoadedFile → List Fault
 declared_faults files = placed_faults (all_placed files)

@@ -5,14 +5,14 @@ use Rattle.indexmap.specs.IndexMap.{IndexMap}
 use Rattle.bdl_check.specs.declared.declarations.Declaration.{Declaration}
 use Rattle.bdl_check.specs.Declarations.{Placed, name_of}
 
--- a declaration in its file
+-- A declaration in its file.
 abbrev pub placed_of : Declaration → Placed
 placed_of d = record { file = d.file.now; decl = d.decl.now }
 
--- the declarations of a map, in order
+-- The declarations of a map, in order.
 abbrev pub declared_in : {S : Type 0} → IndexMap (Bor (List ℕ)) Declaration S → List Placed
 declared_in map_ = map (λ entry. placed_of entry.1) map_.entries
 
--- each stands under its name
+-- Each stands under its name.
 abbrev pub IsKeyed : {S : Type 0} → IndexMap (Bor (List ℕ)) Declaration S → Type 0
 IsKeyed map_ = All (λ entry. entry.0.now ≡ name_of entry.1.decl.now) map_.entries

@@ -6,55 +6,55 @@ use Rattle.std.specs.Option.{option_map}
 use Rattle.bdl_check.specs.declared.declarations.DeclKind.{DeclKind}
 use Rattle.bdl_check.specs.declared.declarations.DeclKind.TheVariants.{Bag as IsBag, Struct as IsStruct}
 use Rattle.bdl_load.specs.declared.files.LoadedFile.{LoadedFile}
-use Rattle.bdl_load.specs.Spelled.{IsSpelledDecl}
+use Rattle.bdl_parser.specs.Spelled.{IsSpelledDecl}
 use Rattle.bdl_parser.specs.declared.trees.Decl.{Decl}
 use Rattle.bdl_parser.specs.declared.trees.Decl.TheVariants.{Bag, Struct}
 use Rattle.bdl_parser.specs.declared.trees.Spot.{Spot}
 
--- a declaration's name
+-- A declaration's name.
 abbrev pub name_of : Decl → List ℕ
 name_of (Bag name spot fields) = name
 name_of (Struct name spot fields) = name
 
--- the place of its name
+-- The place of its name.
 abbrev pub place_of : Decl → Spot
 place_of (Bag name spot fields) = spot
 place_of (Struct name spot fields) = spot
 
--- what it declares
+-- What it declares.
 abbrev pub kind_of : Decl → DeclKind
 kind_of (Bag name spot fields) = IsBag
 kind_of (Struct name spot fields) = IsStruct
 
--- a declaration, and the name of its file
+-- A declaration, and the name of its file.
 pub record Placed : Type 0 where
   pub file : List ℕ
   pub decl : Decl
 
--- this declaration in this file
+-- This declaration in this file.
 abbrev pub placed : List ℕ → Decl → Placed
 placed file decl = record { file = file; decl = decl }
 
--- the declarations of a file
+-- The declarations of a file.
 abbrev pub placed_in : LoadedFile → List Placed
 placed_in file = map (placed file.name) file.module.decls
 
--- the declarations of all files, in the order of the files
+-- The declarations of all files, in the order of the files.
 abbrev pub all_placed : List LoadedFile → List Placed
 all_placed files = flat_map placed_in files
 
--- the first declaration of this name
+-- The first declaration of this name.
 abbrev pub named : List Placed → List ℕ → Option Placed
 named ds text = find (λ d. bytes_eq (name_of d.decl) text) ds
 
--- its number, from 0 on
+-- Its number, from 0 on.
 abbrev pub number_named : List Placed → List ℕ → Option ℕ
 number_named ds text = position (λ d. bytes_eq (name_of d.decl) text) ds
 
--- what it declares
+-- What it declares.
 abbrev pub kind_named : List Placed → List ℕ → Option DeclKind
 kind_named ds text = option_map (λ d. kind_of d.decl) (named ds text)
 
--- the names and the numbers of all fields are spelled as those of a table
+-- The names and the numbers of all fields are spelled as those of a table.
 abbrev pub AreSpelled : List Placed → Type 0
 AreSpelled ds = All (λ d. IsSpelledDecl d.decl) ds

@@ -5,16 +5,16 @@ use Rattle.bdl_load.specs.declared.faults.Finding.{Finding}
 use Rattle.bdl_check.specs.declared.refusals.Refusal.{Refusal}
 use Rattle.bdl_check.specs.declared.refusals.Refusal.TheVariants.{At, Memory}
 
--- the fault where there is one
+-- The fault where there is one.
 abbrev pub when : Bool → Finding → List Finding
 when holds finding = if holds then finding ∷ [] else []
 
--- the first of a list
+-- The first of a list.
 abbrev pub first : {A : Type 0} → List A → Option A
 first [] = None
 first (x ∷ xs) = Some x
 
--- what a refusal says: a fault of which this holds, or that there is no memory
-abbrev pub Says : (Fault → Type 0) → Refusal → Type 0
-Says Holds (At fault) = Holds fault
-Says Holds Memory = Unit {0}
+-- What a refusal says: a fault of which this holds, or that there is no memory.
+abbrev pub RefusesFor : (Fault → Type 0) → Refusal → Type 0
+RefusesFor Holds (At fault) = Holds fault
+RefusesFor Holds Memory = Unit {0}

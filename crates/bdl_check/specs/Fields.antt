@@ -12,15 +12,15 @@ use Rattle.bdl_parser.specs.declared.trees.Decl.{Decl}
 use Rattle.bdl_parser.specs.declared.trees.Decl.TheVariants.{Bag, Struct}
 use Rattle.bdl_parser.specs.Trees.{BagFieldTree, StructFieldTree}
 
--- one of these is the number
+-- One of these is the number.
 abbrev pub is_number_among : ℕ → List ℕ → Bool
 is_number_among number numbers = list_any (λ other. other == number) numbers
 
--- one of these is the name
+-- One of these is the name.
 abbrev pub is_name_among : List ℕ → List (List ℕ) → Bool
 is_name_among text names = list_any (λ other. bytes_eq other text) names
 
--- the numbers and the names of a bag's fields, and the names of a struct's
+-- The numbers and the names of a bag's fields, and the names of a struct's.
 abbrev pub numbers_of : List BagFieldTree → List ℕ
 numbers_of fields = map (λ field. field.number) fields
 
@@ -30,30 +30,34 @@ names_of fields = map (λ field. field.name) fields
 abbrev pub struct_names_of : List StructFieldTree → List (List ℕ)
 struct_names_of fields = map (λ field. field.name) fields
 
--- the faults of a bag's field behind the earlier ones: its type's, its number's and its name's
+-- The faults of a bag's field behind the earlier ones: its type's, its number's and its name's.
 abbrev pub bag_field_faults : Kinds → List BagFieldTree → BagFieldTree → List Finding
 bag_field_faults kinds earlier field =
     type_faults kinds BagField field.kind
-    ++ (when (is_number_among field.number (numbers_of earlier)) (found field.number_at DuplicateNumber)
+    ++ (when (is_number_among field.number (numbers_of earlier))
+    (found field.number_at DuplicateNumber)
     ++ when (is_name_among field.name (names_of earlier)) (found field.name_at DuplicateField))
 
--- the same of each field
+-- The same of each field.
 abbrev pub bag_faults : Kinds → List BagFieldTree → List BagFieldTree → List Finding
 bag_faults kinds earlier [] = []
-bag_faults kinds earlier (field ∷ fields) = bag_field_faults kinds earlier field ++ bag_faults kinds (earlier ++ field ∷ []) fields
+bag_faults kinds earlier (field ∷ fields) =
+    bag_field_faults kinds earlier field ++ bag_faults kinds (earlier ++ field ∷ []) fields
 
--- the faults of a struct's field behind the earlier ones: its type's and its name's
+-- The faults of a struct's field behind the earlier ones: its type's and its name's.
 abbrev pub struct_field_faults : Kinds → List StructFieldTree → StructFieldTree → List Finding
 struct_field_faults kinds earlier field =
     type_faults kinds StructField field.kind
-    ++ when (is_name_among field.name (struct_names_of earlier)) (found field.name_at DuplicateField)
+    ++ when (is_name_among field.name (struct_names_of earlier))
+    (found field.name_at DuplicateField)
 
--- the same of each field
+-- The same of each field.
 abbrev pub struct_faults : Kinds → List StructFieldTree → List StructFieldTree → List Finding
 struct_faults kinds earlier [] = []
-struct_faults kinds earlier (field ∷ fields) = struct_field_faults kinds earlier field ++ struct_faults kinds (earlier ++ field ∷ []) fields
+struct_faults kinds earlier (field ∷ fields) =
+    struct_field_faults kinds earlier field ++ struct_faults kinds (earlier ++ field ∷ []) fields
 
--- a declaration's own faults and those of its fields
+-- A declaration's own faults and those of its fields.
 abbrev pub decl_faults : Kinds → Decl → List Finding
 decl_faults kinds (Bag name spot fields) = bag_faults kinds [] fields
 decl_faults kinds (Struct name spot []) = found spot EmptyStruct ∷ []

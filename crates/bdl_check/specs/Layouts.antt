@@ -13,7 +13,7 @@ use Rattle.bdl_parser.specs.declared.trees.ScalarWord.{ScalarWord}
 use Rattle.bdl_parser.specs.declared.trees.ScalarWord.TheVariants.{Bool, Int32, Int64, Sint32, Sint64, Uint32, Uint64, Fixed32, Fixed64, Sfixed32, Sfixed64, Str, Bytes}
 use Rattle.bdl_parser.specs.Trees as trees
 
--- the word as the model of scalars has it
+-- The word as the model of scalars has it.
 abbrev pub word_in : ScalarWord → scalars.Word
 word_in Bool = scalars.Word.Boolean
 word_in Int32 = scalars.Word.Int32
@@ -29,84 +29,97 @@ word_in Sfixed64 = scalars.Word.Sfixed64
 word_in Str = scalars.Word.Str
 word_in Bytes = scalars.Word.Bytes
 
--- the word that a type is, if it is one
+-- The word that a type is, if it is one.
 abbrev pub word_of_type : trees.TypeTree → Option scalars.Word
 word_of_type (trees.leaf (trees.scalar word) spot) = Some (word_in word)
 word_of_type _ = None
 
--- the words of a struct's fields, in the order of the text
+-- The words of a struct's fields, in the order of the text.
 abbrev pub words_of : List trees.StructFieldTree → List scalars.Word
 words_of fields = filter_map (λ field. word_of_type field.kind) fields
 
--- the same of a declaration: a bag has none
+-- The same of a declaration: a bag has none.
 abbrev pub words_of_decl : Decl → List scalars.Word
 words_of_decl (Bag own spot list) = []
 words_of_decl (Struct own spot list) = words_of list
 
--- the kind of scalars that a declaration is: a struct is one of its words
+-- The kind of scalars that a declaration is: a struct is one of its words.
 abbrev pub kind_of_decl : Decl → Option scalars.ScalarKind
 kind_of_decl (Bag own spot list) = None
 kind_of_decl (Struct own spot list) = Some (scalars.ScalarKind.Packed (words_of list))
 
--- the kind of scalars that a type is, if it is one
+-- The kind of scalars that a type is, if it is one.
 abbrev pub kind_in : List Placed → trees.TypeTree → Option scalars.ScalarKind
 kind_in ds (trees.leaf (trees.scalar word) spot) = Some (scalars.ScalarKind.One (word_in word))
-kind_in ds (trees.leaf (trees.name text) spot) = option_and_then (λ d. kind_of_decl d.decl) (named ds text)
+kind_in ds (trees.leaf (trees.name text) spot) =
+    option_and_then (λ d. kind_of_decl d.decl) (named ds text)
 kind_in ds _ = None
 
--- how the fields of a bag are laid out
+-- How the fields of a bag are laid out.
 abbrev pub Layout : Type 1
 Layout = List trees.BagFieldTree → Nodes → Type 0
 
--- the shape of a field whose type is the name of a declaration: a struct is a scalar, and a bag stands in place
+-- The shape of a field whose type is the name of a declaration: a struct is a scalar, and a bag
+-- stands in place.
 abbrev pub IsShapeOfDecl : Layout → Decl → Shape → Type 0
-IsShapeOfDecl LaysOut (Bag own spot list) shape = (nodes : Nodes) × LaysOut list nodes × (shape ≡ BagOf nodes)
-IsShapeOfDecl LaysOut (Struct own spot list) shape = shape ≡ Scalar (scalars.ScalarKind.Packed (words_of list))
+IsShapeOfDecl LaysOut (Bag own spot list) shape =
+    (nodes : Nodes) × LaysOut list nodes × (shape ≡ BagOf nodes)
+IsShapeOfDecl LaysOut (Struct own spot list) shape =
+    shape ≡ Scalar (scalars.ScalarKind.Packed (words_of list))
 
--- the shape of a field of this type
+-- The shape of a field of this type.
 abbrev pub IsShapeOf : List Placed → Layout → trees.TypeTree → Shape → Type 0
-IsShapeOf ds LaysOut (trees.leaf (trees.scalar word) spot) shape = shape ≡ Scalar (scalars.ScalarKind.One (word_in word))
+IsShapeOf ds LaysOut (trees.leaf (trees.scalar word) spot) shape =
+    shape ≡ Scalar (scalars.ScalarKind.One (word_in word))
 IsShapeOf ds LaysOut (trees.leaf trees.float spot) shape = ⊥
 IsShapeOf ds LaysOut (trees.leaf trees.double spot) shape = ⊥
 IsShapeOf ds LaysOut (trees.leaf trees.taint spot) shape = shape ≡ Taint
 IsShapeOf ds LaysOut (trees.leaf trees.counter spot) shape = shape ≡ Counter
-IsShapeOf ds LaysOut (trees.leaf (trees.name text) spot) shape = (d : Placed) × (named ds text ≡ Some d) × IsShapeOfDecl LaysOut d.decl shape
-IsShapeOf ds LaysOut (trees.set element spot) shape = (kind : scalars.ScalarKind) × (kind_in ds element ≡ Some kind) × (shape ≡ Set kind)
+IsShapeOf ds LaysOut (trees.leaf (trees.name text) spot) shape =
+    (d : Placed) × (named ds text ≡ Some d) × IsShapeOfDecl LaysOut d.decl shape
+IsShapeOf ds LaysOut (trees.set element spot) shape =
+    (kind : scalars.ScalarKind) × (kind_in ds element ≡ Some kind) × (shape ≡ Set kind)
 IsShapeOf ds LaysOut (trees.map key value spot) shape =
-    (kind : scalars.ScalarKind) × (inner : Shape) × (kind_in ds key ≡ Some kind) × IsShapeOf ds LaysOut value inner × (shape ≡ Map kind inner)
+    (kind : scalars.ScalarKind) × (inner : Shape) × (kind_in ds key ≡ Some kind)
+    × IsShapeOf ds LaysOut value inner × (shape ≡ Map kind inner)
 
--- a field of a table is this field of a bag
-pub record IsFieldOf (ds : List Placed) (LaysOut : Layout) (tree : trees.BagFieldTree) (field : Field) : Type 0 where
+-- A field of a table is this field of a bag.
+pub record IsFieldOf (ds : List Placed) (LaysOut : Layout) (tree : trees.BagFieldTree)
+    (field : Field) : Type 0 where
   pub name_is : field.name ≡ tree.name
   pub number_is : field.number ≡ tree.number
   pub shape : IsShapeOf ds LaysOut tree.kind field.shape
 
--- each of them, one for one
+-- Each of them, one for one.
 abbrev pub AreFieldsOf : List Placed → Layout → List trees.BagFieldTree → List Field → Type 0
 AreFieldsOf ds LaysOut [] [] = Unit {0}
-AreFieldsOf ds LaysOut (tree ∷ list) (field ∷ more) = IsFieldOf ds LaysOut tree field × AreFieldsOf ds LaysOut list more
+AreFieldsOf ds LaysOut (tree ∷ list) (field ∷ more) =
+    IsFieldOf ds LaysOut tree field × AreFieldsOf ds LaysOut list more
 AreFieldsOf ds LaysOut _ _ = ⊥
 
--- the fields in ascending order of number, with bags in place that are laid out so
-pub record IsInOrder (ds : List Placed) (LaysOut : Layout) (list : List trees.BagFieldTree) (nodes : Nodes) : Type 0 where
+-- The fields in ascending order of number, with bags in place that are laid out so.
+pub record IsInOrder (ds : List Placed) (LaysOut : Layout) (list : List trees.BagFieldTree)
+    (nodes : Nodes) : Type 0 where
   pub sorted : List trees.BagFieldTree
   pub same : IsPermutation list sorted
   pub rising : IsStrictlyIncreasing (map (λ (tree : trees.BagFieldTree). tree.number) sorted)
   pub each : AreFieldsOf ds LaysOut sorted (fields nodes)
 
--- the same, where at most so many bags stand inside one another, this one among them
+-- The same, where at most so many bags stand inside one another, this one among them.
 abbrev pub IsLaidOutWithin : ℕ → List Placed → Layout
 IsLaidOutWithin zero ds list nodes = ⊥
 IsLaidOutWithin (suc room) ds list nodes = IsInOrder ds (IsLaidOutWithin room ds) list nodes
 
--- the fields of a bag as those of a table, however deep its bags stand
+-- The fields of a bag as those of a table, however deep its bags stand.
 abbrev pub IsLaidOut : List Placed → Layout
 IsLaidOut ds list nodes = (room : ℕ) × IsLaidOutWithin room ds list nodes
 
--- a field of this type has a shape whose headers take at most so many levels under the field's own
+-- A field of this type has a shape whose headers take at most so many levels under the field's own.
 abbrev pub HasShapeIn : List Placed → trees.TypeTree → ℕ → Type 0
-HasShapeIn ds tree room = (shape : Shape) × IsShapeOf ds (IsLaidOut ds) tree shape × (levels_under shape ≤ room)
+HasShapeIn ds tree room =
+    (shape : Shape) × IsShapeOf ds (IsLaidOut ds) tree shape × (levels_under shape ≤ room)
 
--- the same of a field whose type is the name of this declaration
+-- The same of a field whose type is the name of this declaration.
 abbrev pub HasDeclShapeIn : List Placed → Decl → ℕ → Type 0
-HasDeclShapeIn ds decl room = (shape : Shape) × IsShapeOfDecl (IsLaidOut ds) decl shape × (levels_under shape ≤ room)
+HasDeclShapeIn ds decl room =
+    (shape : Shape) × IsShapeOfDecl (IsLaidOut ds) decl shape × (levels_under shape ≤ room)

@@ -1,15 +1,17 @@
-pub mod Faults
-pub mod Refusals
+-- The rule, in the order of reading.
 pub mod Declarations
-pub mod DeclarationCode
-pub mod DeclarationViews
+pub mod Faults
 pub mod Types
 pub mod Fields
-pub mod Lookups
 pub mod Checks
 pub mod Passes
 pub mod Recursion
 pub mod Layouts
-pub mod Sizes
 pub mod Tables
 pub mod Definitions
+-- What contracts of the crate's own functions cite besides.
+pub mod DeclarationCode
+pub mod DeclarationViews
+pub mod Lookups
+pub mod Sizes
+pub mod Refusals

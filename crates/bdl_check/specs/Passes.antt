@@ -13,12 +13,12 @@ use Rattle.bdl_parser.specs.declared.trees.Decl.{Decl}
 use Rattle.bdl_parser.specs.declared.trees.Decl.TheVariants.{Bag, Struct}
 use Rattle.bdl_parser.specs.Trees.{Leaf, TypeTree, scalar, float, double, taint, counter, name, leaf, set, map as map_of}
 
--- no two of a list are alike
+-- No two of a list are alike.
 abbrev pub are_distinct : {A : Type 0} → (A → A → Bool) → List A → Bool
 are_distinct alike [] = true
 are_distinct alike (x ∷ xs) = not (list_any (alike x) xs) && are_distinct alike xs
 
--- any type may be the whole type of a bag's field and the value of a map
+-- Any type may be the whole type of a bag's field and the value of a map.
 abbrev pub is_open : Role → Bool
 is_open BagField = true
 is_open StructField = false
@@ -26,7 +26,7 @@ is_open Element = false
 is_open Key = false
 is_open MapValue = true
 
--- a struct's name may stand for the elements of a set too
+-- A struct's name may stand for the elements of a set too.
 abbrev pub may_name : Role → DeclKind → Bool
 may_name Element IsStruct = true
 may_name Element IsBag = false
@@ -35,12 +35,12 @@ may_name StructField kind = false
 may_name Key kind = false
 may_name MapValue kind = true
 
--- a name that some declaration has
+-- A name that some declaration has.
 abbrev pub passes_name : Role → Option DeclKind → Bool
 passes_name role None = false
 passes_name role (Some kind) = may_name role kind
 
--- scalars may stand everywhere, and floating types nowhere
+-- Scalars may stand everywhere, and floating types nowhere.
 abbrev pub passes_leaf : Kinds → Role → Leaf → Bool
 passes_leaf kinds role (scalar word) = true
 passes_leaf kinds role float = false
@@ -49,22 +49,27 @@ passes_leaf kinds role taint = is_open role
 passes_leaf kinds role counter = is_open role
 passes_leaf kinds role (name text) = passes_name role (kinds text)
 
--- a type passes where each of its nodes may stand where it stands
+-- A type passes where each of its nodes may stand where it stands.
 abbrev pub passes_type : Kinds → Role → TypeTree → Bool
 passes_type kinds role (leaf l spot) = passes_leaf kinds role l
 passes_type kinds role (set element spot) = is_open role && passes_type kinds Element element
-passes_type kinds role (map_of key value spot) = is_open role && (passes_type kinds Key key && passes_type kinds MapValue value)
+passes_type kinds role (map_of key value spot) =
+    is_open role && (passes_type kinds Key key && passes_type kinds MapValue value)
 
--- a bag's fields have types that pass, distinct numbers and distinct names; a struct has fields, with types that pass
--- and distinct names
+-- A bag's fields have types that pass, distinct numbers and distinct names; a struct has fields,
+-- with types that pass
+-- and distinct names.
 abbrev pub passes_decl : Kinds → Decl → Bool
 passes_decl kinds (Bag called spot fields) =
     list_all (λ field. passes_type kinds BagField field.kind) fields
     && (are_distinct (λ a b. a == b) (numbers_of fields) && are_distinct bytes_eq (names_of fields))
 passes_decl kinds (Struct called spot []) = false
 passes_decl kinds (Struct called spot (field ∷ fields)) =
-    list_all (λ f. passes_type kinds StructField f.kind) (field ∷ fields) && are_distinct bytes_eq (struct_names_of (field ∷ fields))
+    list_all (λ f. passes_type kinds StructField f.kind) (field ∷ fields)
+    && are_distinct bytes_eq (struct_names_of (field ∷ fields))
 
--- the names of all declarations are distinct, and each declaration passes
+-- The names of all declarations are distinct, and each declaration passes.
 abbrev pub pass : List Placed → Bool
-pass ds = are_distinct bytes_eq (map (λ d. name_of d.decl) ds) && list_all (λ d. passes_decl (kind_named ds) d.decl) ds
+pass ds =
+    are_distinct bytes_eq (map (λ d. name_of d.decl) ds)
+    && list_all (λ d. passes_decl (kind_named ds) d.decl) ds

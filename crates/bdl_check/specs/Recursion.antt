@@ -11,27 +11,27 @@ use Rattle.bdl_parser.specs.Trees.{TypeTree, name, leaf, set, map as map_of}
 use Rattle.topological_order.specs.Graphs.{Graph, Reaches}
 use Rattle.topological_order.specs.Orders.{IsFirstCyclic}
 
--- the names among the nodes of a type
+-- The names among the nodes of a type.
 abbrev pub names_in : TypeTree → List (List ℕ)
 names_in (leaf (name text) spot) = text ∷ []
 names_in (leaf _ spot) = []
 names_in (set element spot) = names_in element
 names_in (map_of key value spot) = names_in key ++ names_in value
 
--- the names that the types of a bag's fields have; those of a struct's have none
+-- The names that the types of a bag's fields have; those of a struct's have none.
 abbrev pub uses : Decl → List (List ℕ)
 uses (Bag own spot fields) = flat_map (λ field. names_in field.kind) fields
 uses (Struct own spot fields) = []
 
--- for each declaration, the numbers of the declarations that it names
+-- For each declaration, the numbers of the declarations that it names.
 abbrev pub links : List Placed → Graph
 links ds = map (λ d. filter_map (number_named ds) (uses d.decl)) ds
 
--- no bag stands inside itself
+-- No bag stands inside itself.
 abbrev pub IsAcyclic : List Placed → Type 0
 IsAcyclic ds = (number : ℕ) → Reaches (links ds) number number → ⊥
 
--- the fault of the first bag that stands inside itself, at its name
+-- The fault of the first bag that stands inside itself, at its name.
 pub record IsRecursive (ds : List Placed) (fault : Fault) : Type 0 where
   pub number : ℕ
   pub bag : Placed

@@ -1,9 +1,11 @@
 -- The levels of headers and the number of fields of a bag, as far as they matter.
 use Rattle.std.specs.Prelude.{◌≡◌, ℕ, ◌<◌, ◌≤◌, min, Option, None, Some, List, length, slice_get}
 use Rattle.std.specs.List.{AllByRecursion}
+use Rattle.bag_model.specs.declared.TheConstants.{MAX_LEVELS, MAX_FIELDS}
 use Rattle.bag_model.specs.Shapes.{Shape, Nodes}
 use Rattle.bag_model.specs.Tables.{levels_under, levels, nodes_under, node_count}
 use Rattle.bdl_check.specs.declared.sizes.Size.{Size}
+use Rattle.bdl_check.specs.declared.sizes.TheConstants.{LEVELS_CAP, FIELDS_CAP}
 use Rattle.bdl_check.specs.Declarations.{Placed, number_named}
 use Rattle.bdl_check.specs.Layouts.{IsShapeOf, IsLaidOut}
 use Rattle.bdl_load.specs.declared.faults.DefCode.{DefCode}
@@ -12,41 +14,44 @@ use Rattle.bdl_parser.specs.declared.trees.Decl.{Decl}
 use Rattle.bdl_parser.specs.declared.trees.Decl.TheVariants.{Bag, Struct}
 use Rattle.bdl_parser.specs.Trees.{TypeTree, BagFieldTree}
 
--- the levels and the fields of a bag that is laid out so; numbers above the limits are one more than these
+-- The levels and the fields of a bag that is laid out so; numbers above the limits are one more
+-- than these.
 pub record HasSize (ds : List Placed) (list : List BagFieldTree) (size : Size) : Type 0 where
   pub nodes : Nodes
   pub laid_out : IsLaidOut ds list nodes
-  pub levels_are : size.levels ≡ min (levels nodes) 17
-  pub fields_are : size.fields ≡ min (node_count nodes) 16385
+  pub levels_are : size.levels ≡ min (levels nodes) LEVELS_CAP
+  pub fields_are : size.fields ≡ min (node_count nodes) FIELDS_CAP
 
--- the size of a bag; a struct takes no level and has no field of its own
+-- The size of a bag; a struct takes no level and has no field of its own.
 abbrev pub IsSizeOf : List Placed → Decl → Size → Type 0
 IsSizeOf ds (Bag own spot list) size = HasSize ds list size
 IsSizeOf ds (Struct own spot list) size = (size.levels ≡ 0) × (size.fields ≡ 0)
 
--- the levels under a field of this type and the fields inside it
+-- The levels under a field of this type and the fields inside it.
 pub record HasTypeSize (ds : List Placed) (tree : TypeTree) (size : Size) : Type 0 where
   pub shape : Shape
   pub is : IsShapeOf ds (IsLaidOut ds) tree shape
-  pub levels_are : size.levels ≡ min (levels_under shape) 17
-  pub fields_are : size.fields ≡ min (nodes_under shape) 16385
+  pub levels_are : size.levels ≡ min (levels_under shape) LEVELS_CAP
+  pub fields_are : size.fields ≡ min (nodes_under shape) FIELDS_CAP
 
--- where there is a size for the declaration of this number, it is its size
+-- Where there is a size for the declaration of this number, it is its size.
 abbrev pub IsSized : List Placed → List Size → ℕ → Type 0
-IsSized ds sizes number = (d : Placed) (size : Size) → slice_get ds number ≡ Some d → slice_get sizes number ≡ Some size → IsSizeOf ds d.decl size
+IsSized ds sizes number =
+    (d : Placed) (size : Size) → slice_get ds number ≡ Some d → slice_get sizes number ≡ Some size → IsSizeOf ds d.decl size
 
--- the declarations of these names have their sizes
+-- The declarations of these names have their sizes.
 abbrev pub AreKnown : List Placed → List Size → List (List ℕ) → Type 0
-AreKnown ds sizes texts = AllByRecursion (λ text. (number : ℕ) → number_named ds text ≡ Some number → IsSized ds sizes number) texts
+AreKnown ds sizes texts = AllByRecursion
+    (λ text. (number : ℕ) → number_named ds text ≡ Some number → IsSized ds sizes number) texts
 
--- there is a size for each declaration
+-- There is a size for each declaration.
 pub record AreSizes (ds : List Placed) (sizes : List Size) : Type 0 where
   pub count : length sizes ≡ length ds
   pub each : (number : ℕ) → IsSized ds sizes number
 
--- what is wrong with a bag of this size: it takes too many levels, or else it has too many fields
+-- What is wrong with a bag of this size: it takes too many levels, or else it has too many fields.
 abbrev pub IsExcess : Size → Option DefCode → Type 0
-IsExcess size None = (size.levels ≤ 16) × (size.fields ≤ 16384)
-IsExcess size (Some TooDeep) = 16 < size.levels
-IsExcess size (Some TooManySlots) = (size.levels ≤ 16) × (16384 < size.fields)
+IsExcess size None = (size.levels ≤ MAX_LEVELS) × (size.fields ≤ MAX_FIELDS)
+IsExcess size (Some TooDeep) = MAX_LEVELS < size.levels
+IsExcess size (Some TooManySlots) = (size.levels ≤ MAX_LEVELS) × (MAX_FIELDS < size.fields)
 IsExcess size (Some _) = ⊥

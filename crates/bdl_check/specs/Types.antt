@@ -12,28 +12,28 @@ use Rattle.bdl_load.specs.Faults.{found}
 use Rattle.bdl_parser.specs.declared.trees.Spot.{Spot}
 use Rattle.bdl_parser.specs.Trees.{TypeTree, scalar, float, double, name, leaf, set, map}
 
--- what each name was declared as
+-- What each name was declared as.
 abbrev pub Kinds : Type 0
 Kinds = List ℕ → Option DeclKind
 
--- the place of a type's first token
+-- The place of a type's first token.
 abbrev pub spot_of : TypeTree → Spot
 spot_of (leaf l spot) = spot
 spot_of (set element spot) = spot
 spot_of (map key value spot) = spot
 
--- a scalar word
+-- A scalar word.
 abbrev pub is_scalar : TypeTree → Bool
 is_scalar (leaf (scalar word) spot) = true
 is_scalar _ = false
 
--- `float` or `double`
+-- `float` or `double`.
 abbrev pub is_floating : TypeTree → Bool
 is_floating (leaf float spot) = true
 is_floating (leaf double spot) = true
 is_floating _ = false
 
--- a name that no declaration has
+-- A name that no declaration has.
 abbrev pub is_unknown : Kinds → TypeTree → Bool
 is_unknown kinds (leaf (name text) spot) = not (is_some (kinds text))
 is_unknown kinds _ = false
@@ -42,23 +42,23 @@ abbrev pub is_struct : Option DeclKind → Bool
 is_struct (Some IsStruct) = true
 is_struct _ = false
 
--- a struct's name
+-- A struct's name.
 abbrev pub names_struct : Kinds → TypeTree → Bool
 names_struct kinds (leaf (name text) spot) = is_struct (kinds text)
 names_struct kinds _ = false
 
--- the elements of a set are scalars or structs, and the keys of a map are scalars
+-- The elements of a set are scalars or structs, and the keys of a map are scalars.
 abbrev pub is_bad_key : Kinds → Role → TypeTree → Bool
 is_bad_key kinds Element type = not (is_scalar type || names_struct kinds type)
 is_bad_key kinds Key type = not (is_scalar type)
 is_bad_key kinds _ type = false
 
--- the fields of a struct are scalars
+-- The fields of a struct are scalars.
 abbrev pub is_bad_struct_field : Role → TypeTree → Bool
 is_bad_struct_field StructField type = not (is_scalar type)
 is_bad_struct_field _ type = false
 
--- the faults of one node that stands here, in the order in which they count
+-- The faults of one node that stands here, in the order in which they count.
 abbrev pub node_faults_at : Spot → Kinds → Role → TypeTree → List Finding
 node_faults_at spot kinds role type =
     when (is_floating type) (found spot FloatingType)
@@ -66,13 +66,15 @@ node_faults_at spot kinds role type =
     ++ (when (is_bad_key kinds role type) (found spot BadKeyType)
     ++ when (is_bad_struct_field role type) (found spot BadStructField)))
 
--- the same at its own place
+-- The same at its own place.
 abbrev pub node_faults : Kinds → Role → TypeTree → List Finding
 node_faults kinds role type = node_faults_at (spot_of type) kinds role type
 
--- the faults of a type: those of its nodes from left to right, a node before the nodes inside it
+-- The faults of a type: those of its nodes from left to right, a node before the nodes inside it.
 abbrev pub type_faults : Kinds → Role → TypeTree → List Finding
 type_faults kinds role (leaf l spot) = node_faults kinds role (leaf l spot)
-type_faults kinds role (set element spot) = node_faults kinds role (set element spot) ++ type_faults kinds Element element
+type_faults kinds role (set element spot) =
+    node_faults kinds role (set element spot) ++ type_faults kinds Element element
 type_faults kinds role (map key value spot) =
-    node_faults kinds role (map key value spot) ++ (type_faults kinds Key key ++ type_faults kinds MapValue value)
+    node_faults kinds role (map key value spot)
+    ++ (type_faults kinds Key key ++ type_faults kinds MapValue value)

@@ -3,7 +3,7 @@
 ghost use Rattle.std.specs.Prelude.{◌≡◌, ◌++◌, [], None, Some, Ok, IfOk, IfErr, OnOk};
 ghost use Rattle.bdl_check.specs.Checks.{name_faults, declaration_faults, declared_faults};
 ghost use Rattle.bdl_check.specs.Declarations.{kind_named, placed_in, all_placed};
-ghost use Rattle.bdl_check.specs.Faults.{first, Says};
+ghost use Rattle.bdl_check.specs.Faults.{first, RefusesFor};
 
 use crate::declarations::{Declarations, decl_place};
 use crate::fields::decl_fault;
@@ -12,31 +12,14 @@ use bdl_load::{DefCode, Fault, Finding, LoadedFile};
 use outside::Memory;
 use std::alloc::Global;
 
-fn file_fault(
-    alloc: Global,
-    declarations: &Declarations,
-    file: &LoadedFile,
-) -> Result<Option<Fault>, Memory>
-    ensures { IfOk result (λ fault. fault ≡ first (declaration_faults (kind_named declarations.now) (placed_in file.now))) }
+/// The first fault of what the declarations say.
+fn declared_fault(alloc: Global, declarations: &Declarations) -> Result<Option<Fault>, Memory>
+    ensures { IfOk result (λ fault.
+        fault ≡ first (declaration_faults (kind_named declarations.now) declarations.now)) }
 {
-    for decl in file.module.decls.as_slice() {
-        if let Some(found) = decl_fault(alloc, declarations, decl)? {
-            return Ok(Some(fault_in(file.name.copy()?, found)));
-        }
-    }
-    Ok(None)
-}
-
-fn files_fault(
-    alloc: Global,
-    declarations: &Declarations,
-    files: &[LoadedFile],
-) -> Result<Option<Fault>, Memory>
-    ensures { IfOk result (λ fault. fault ≡ first (declaration_faults (kind_named declarations.now) (all_placed files.now))) }
-{
-    for file in files {
-        if let Some(fault) = file_fault(alloc, declarations, file)? {
-            return Ok(Some(fault));
+    for declaration in declarations.iter() {
+        if let Some(found) = decl_fault(alloc, declarations, declaration.decl)? {
+            return Ok(Some(fault_in(declaration.file.copy()?, found)));
         }
     }
     Ok(None)
@@ -47,8 +30,10 @@ fn declare_file<'a>(
     declarations: &mut Declarations<'a>,
     file: &'a LoadedFile,
 ) -> Result<Option<Fault>, Memory>
-    ensures found { IfOk result (λ fault. fault ≡ first (name_faults declarations.old (placed_in file.now))) }
-    ensures declared { result ≡ Ok None → declarations.new ≡ declarations.old ++ placed_in file.now }
+    ensures found { IfOk result (λ fault.
+        fault ≡ first (name_faults declarations.old (placed_in file.now))) }
+    ensures declared { result ≡ Ok None
+        → declarations.new ≡ declarations.old ++ placed_in file.now }
 {
     for decl in file.module.decls.as_slice() {
         if !declarations.declare(&file.name, decl)? {
@@ -67,8 +52,10 @@ fn declare_files<'a>(
     declarations: &mut Declarations<'a>,
     files: &'a [LoadedFile],
 ) -> Result<Option<Fault>, Memory>
-    ensures found { IfOk result (λ fault. fault ≡ first (name_faults declarations.old (all_placed files.now))) }
-    ensures declared { result ≡ Ok None → declarations.new ≡ declarations.old ++ all_placed files.now }
+    ensures found { IfOk result (λ fault.
+        fault ≡ first (name_faults declarations.old (all_placed files.now))) }
+    ensures declared { result ≡ Ok None
+        → declarations.new ≡ declarations.old ++ all_placed files.now }
 {
     for file in files {
         if let Some(fault) = declare_file(declarations, file)? {
@@ -86,13 +73,14 @@ pub(crate) fn check_declarations(
 ) -> Result<Declarations<'_>, Refusal>
     ensures all { IfOk result (λ declarations. declarations ≡ all_placed files.now) }
     ensures none { OnOk result (declared_faults files.now ≡ []) }
-    ensures fault { IfErr result (Says (λ fault. first (declared_faults files.now) ≡ Some fault)) }
+    ensures fault { IfErr result (RefusesFor
+        (λ fault. first (declared_faults files.now) ≡ Some fault)) }
 {
     let mut declarations = Declarations::new(alloc);
     if let Some(fault) = declare_files(&mut declarations, files)? {
         return Err(Refusal::At(fault));
     }
-    if let Some(fault) = files_fault(alloc, &declarations, files)? {
+    if let Some(fault) = declared_fault(alloc, &declarations)? {
         return Err(Refusal::At(fault));
     }
     Ok(declarations)

@@ -1,6 +1,6 @@
 //! The declarations of all files, by number and by name.
 
-ghost use Rattle.std.specs.Prelude.{◌≡◌, ◌++◌, [], ◌∷◌, length, map, not, slice_get, IfOk, OnOk, Ok, true};
+ghost use Rattle.std.specs.Prelude.{◌≡◌, ◌++◌, [], ◌∷◌, length, map, not, slice_get, IfOk, OnOk, Ok, true, false};
 ghost use Rattle.std.specs.Option.{is_some, option_map};
 ghost use Rattle.bdl_check.specs.Declarations.{named, number_named, kind_named, placed, name_of, place_of, kind_of};
 ghost use Rattle.bdl_check.specs.DeclarationViews.{placed_of};
@@ -101,16 +101,18 @@ impl<'a> Declarations<'a> {
         self.by_name.get_index_of(name)
     }
 
-    /// Adds a declaration at the end, and answers whether its name is new. Where it isn't, the list isn't that of all
-    /// declarations any more.
+    /// Adds a declaration at the end, and answers whether its name is new. Where it isn't, nothing is added.
     pub(crate) fn declare(&mut self, file: &'a Text, decl: &'a Decl) -> Result<bool, Memory>
         ensures new { IfOk result (λ new. new ≡ not (is_some (named self.old (name_of decl.now)))) }
         ensures added { result ≡ Ok true → self.new ≡ self.old ++ placed file.now decl.now ∷ [] }
+        ensures kept { result ≡ Ok false → self.new ≡ self.old }
     {
-        let known = self
-            .by_name
-            .insert(decl_name(decl), Declaration { file, decl })?;
-        Ok(known.is_none())
+        let name = decl_name(decl);
+        if self.named(name).is_some() {
+            return Ok(false);
+        }
+        self.by_name.insert(name, Declaration { file, decl })?;
+        Ok(true)
     }
 }
 

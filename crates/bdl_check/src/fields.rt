@@ -20,7 +20,8 @@ use std::alloc::Global;
 /// Adds a number, and answers whether it is new.
 fn add_number(numbers: &mut IndexSet<u16>, number: u16) -> Result<bool, Memory>
     ensures new { IfOk result (λ is_new. is_new ≡ not (has_number numbers.old number)) }
-    ensures added { OnOk result ((other : ℕ) → has_number numbers.new other ≡ ((number == other) || has_number numbers.old other)) }
+    ensures added { OnOk result ((other : ℕ)
+        → has_number numbers.new other ≡ ((number == other) || has_number numbers.old other)) }
 {
     Ok(numbers.insert(number)?)
 }
@@ -28,7 +29,8 @@ fn add_number(numbers: &mut IndexSet<u16>, number: u16) -> Result<bool, Memory>
 /// Adds a text, and answers whether it is new.
 fn add_text<'a>(texts: &mut IndexSet<&'a str>, text: &'a str) -> Result<bool, Memory>
     ensures new { IfOk result (λ is_new. is_new ≡ not (has_text texts.old text.now)) }
-    ensures added { OnOk result ((other : List ℕ) → has_text texts.new other ≡ (bytes_eq text.now other || has_text texts.old other)) }
+    ensures added { OnOk result ((other : List ℕ)
+        → has_text texts.new other ≡ (bytes_eq text.now other || has_text texts.old other)) }
 {
     Ok(texts.insert(text)?)
 }
@@ -40,11 +42,14 @@ fn bag_field_fault<'a>(
     texts: &mut IndexSet<&'a str>,
     field: &'a BagField,
 ) -> Result<Option<Finding>, Memory>
-    ensures found { (earlier : List BagFieldTree) → HasNumbers numbers.old (numbers_of earlier) → HasTexts texts.old (names_of earlier) →
+    ensures found { (earlier : List BagFieldTree) → HasNumbers numbers.old (numbers_of earlier)
+        → HasTexts texts.old (names_of earlier) →
         IfOk result (λ fault. fault ≡ first (bag_field_faults (kind_named declarations.now) earlier (bag_field_of field.now))) }
-    ensures numbers { (earlier : List BagFieldTree) → HasNumbers numbers.old (numbers_of earlier) → result ≡ Ok None →
+    ensures numbers { (earlier : List BagFieldTree) → HasNumbers numbers.old (numbers_of earlier)
+        → result ≡ Ok None →
         HasNumbers numbers.new (numbers_of (earlier ++ bag_field_of field.now ∷ [])) }
-    ensures texts { (earlier : List BagFieldTree) → HasTexts texts.old (names_of earlier) → result ≡ Ok None →
+    ensures texts { (earlier : List BagFieldTree) → HasTexts texts.old (names_of earlier)
+        → result ≡ Ok None →
         HasTexts texts.new (names_of (earlier ++ bag_field_of field.now ∷ [])) }
 {
     if let Some(fault) = type_fault(declarations, Role::BagField, &field.kind) {
@@ -71,7 +76,8 @@ fn bag_fault(
     declarations: &Declarations,
     fields: &BagFields,
 ) -> Result<Option<Finding>, Memory>
-    ensures { IfOk result (λ fault. fault ≡ first (bag_faults (kind_named declarations.now) [] fields.now)) }
+    ensures { IfOk result (λ fault.
+        fault ≡ first (bag_faults (kind_named declarations.now) [] fields.now)) }
 {
     let mut numbers = IndexSet::new(alloc);
     let mut texts = IndexSet::new(alloc);
@@ -89,9 +95,11 @@ fn struct_field_fault<'a>(
     texts: &mut IndexSet<&'a str>,
     field: &'a StructField,
 ) -> Result<Option<Finding>, Memory>
-    ensures found { (earlier : List StructFieldTree) → HasTexts texts.old (struct_names_of earlier) →
+    ensures found { (earlier : List StructFieldTree)
+        → HasTexts texts.old (struct_names_of earlier) →
         IfOk result (λ fault. fault ≡ first (struct_field_faults (kind_named declarations.now) earlier (struct_field_of field.now))) }
-    ensures texts { (earlier : List StructFieldTree) → HasTexts texts.old (struct_names_of earlier) → result ≡ Ok None →
+    ensures texts { (earlier : List StructFieldTree) → HasTexts texts.old (struct_names_of earlier)
+        → result ≡ Ok None →
         HasTexts texts.new (struct_names_of (earlier ++ struct_field_of field.now ∷ [])) }
 {
     if let Some(fault) = type_fault(declarations, Role::StructField, &field.kind) {
@@ -112,7 +120,8 @@ fn struct_fault(
     declarations: &Declarations,
     fields: &StructFields,
 ) -> Result<Option<Finding>, Memory>
-    ensures { IfOk result (λ fault. fault ≡ first (struct_faults (kind_named declarations.now) [] fields.now)) }
+    ensures { IfOk result (λ fault.
+        fault ≡ first (struct_faults (kind_named declarations.now) [] fields.now)) }
 {
     let mut texts = IndexSet::new(alloc);
     for field in fields.as_slice() {
@@ -129,7 +138,8 @@ pub(crate) fn decl_fault(
     declarations: &Declarations,
     decl: &Decl,
 ) -> Result<Option<Finding>, Memory>
-    ensures { IfOk result (λ fault. fault ≡ first (decl_faults (kind_named declarations.now) decl.now)) }
+    ensures { IfOk result (λ fault.
+        fault ≡ first (decl_faults (kind_named declarations.now) decl.now)) }
 {
     match decl {
         Decl::Bag { fields, .. } => bag_fault(alloc, declarations, fields),

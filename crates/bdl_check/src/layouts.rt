@@ -10,7 +10,7 @@ ghost use Rattle.bdl_parser.specs.Views.{tree_of, bag_field_of};
 ghost use Rattle.field_table.specs.Plain.{shape_of, field_of, nodes_of, IsIndexed, IsIndexedShape, IsIndexedField};
 ghost use Rattle.scalar_types.specs.KindViews.{kind_of};
 
-use crate::listed::{Listed, ListedDeclarations, word_kind};
+use crate::struct_kinds::{StructKinds, WithKinds, word_kind};
 use bdl_parser::{BagField, BagFields, Decl, TypeForm, TypeNode};
 use field_table::{Shape, Slot, Slots};
 use outside::Memory;
@@ -18,15 +18,16 @@ use scalar_types::ScalarKind;
 use std::alloc::Global;
 
 /// The kind of scalars that the type of an element or a key is.
-fn type_kind(declarations: &ListedDeclarations, node: &TypeNode) -> Result<ScalarKind, Memory>
+fn type_kind(declarations: &StructKinds, node: &TypeNode) -> Result<ScalarKind, Memory>
     requires { is_some (kind_in declarations.now (tree_of node.now)) ≡ true }
-    ensures { IfOk result (λ kind. kind_in declarations.now (tree_of node.now) ≡ Some (kind_of kind)) }
+    ensures { IfOk result (λ kind.
+        kind_in declarations.now (tree_of node.now) ≡ Some (kind_of kind)) }
 {
     match &node.form {
         TypeForm::Scalar(word) => Ok(word_kind(*word)),
         TypeForm::Name(name) => {
-            let listed = declarations.named(name.as_str()).unwrap();
-            listed.kind()
+            let declared = declarations.named(name.as_str()).unwrap();
+            declared.kind()
         }
         _ => unreachable!(),
     }
@@ -34,8 +35,10 @@ fn type_kind(declarations: &ListedDeclarations, node: &TypeNode) -> Result<Scala
 
 /// The fields in ascending order of number.
 fn in_order<'a>(alloc: Global, fields: &'a BagFields) -> Result<Vec<&'a BagField>, Memory>
-    ensures same { IfOk result (λ sorted. IsPermutation fields.now (map (λ field. bag_field_of field.now) sorted.items)) }
-    ensures rising { IfOk result (λ sorted. IsNonDecreasingBy (λ field. field.now.number) sorted.items) }
+    ensures same { IfOk result (λ sorted. IsPermutation fields.now
+        (map (λ field. bag_field_of field.now) sorted.items)) }
+    ensures rising { IfOk result (λ sorted.
+        IsNonDecreasingBy (λ field. field.now.number) sorted.items) }
 {
     let mut sorted = Vec::with_capacity(alloc, fields.len())?;
     for field in fields.as_slice() {
@@ -49,17 +52,18 @@ fn in_order<'a>(alloc: Global, fields: &'a BagFields) -> Result<Vec<&'a BagField
 #[cycle(laying)]
 fn decl_shape(
     alloc: Global,
-    declarations: &ListedDeclarations,
-    listed: &Listed,
-    room: u32,
+    declarations: &StructKinds,
+    declared: &WithKinds,
+    room: usize,
 ) -> Result<Shape, Memory>
-    requires { HasDeclShapeIn declarations.now listed.now.declaration.decl.now room }
-    ensures shape { IfOk result (λ shape. IsShapeOfDecl (IsLaidOut declarations.now) listed.now.declaration.decl.now (shape_of shape)) }
+    requires { HasDeclShapeIn declarations.now declared.now.declaration.decl.now room }
+    ensures shape { IfOk result (λ shape. IsShapeOfDecl (IsLaidOut declarations.now)
+        declared.now.declaration.decl.now (shape_of shape)) }
     ensures indexed { IfOk result IsIndexedShape }
 {
-    match listed.declaration.decl {
+    match declared.declaration.decl {
         Decl::Bag { fields, .. } => Ok(Shape::Bag(lay_out(alloc, declarations, fields, room)?)),
-        Decl::Struct { .. } => Ok(Shape::Scalar(listed.kind()?)),
+        Decl::Struct { .. } => Ok(Shape::Scalar(declared.kind()?)),
     }
 }
 
@@ -67,12 +71,13 @@ fn decl_shape(
 #[cycle(laying)]
 fn type_shape(
     alloc: Global,
-    declarations: &ListedDeclarations,
+    declarations: &StructKinds,
     node: &TypeNode,
-    room: u32,
+    room: usize,
 ) -> Result<Shape, Memory>
     requires { HasShapeIn declarations.now (tree_of node.now) room }
-    ensures shape { IfOk result (λ shape. IsShapeOf declarations.now (IsLaidOut declarations.now) (tree_of node.now) (shape_of shape)) }
+    ensures shape { IfOk result (λ shape. IsShapeOf declarations.now (IsLaidOut declarations.now)
+        (tree_of node.now) (shape_of shape)) }
     ensures indexed { IfOk result IsIndexedShape }
 {
     match &node.form {
@@ -80,8 +85,8 @@ fn type_shape(
         TypeForm::Taint => Ok(Shape::Taint),
         TypeForm::Counter => Ok(Shape::Counter),
         TypeForm::Name(name) => {
-            let listed = declarations.named(name.as_str()).unwrap();
-            decl_shape(alloc, declarations, &listed, room)
+            let declared = declarations.named(name.as_str()).unwrap();
+            decl_shape(alloc, declarations, &declared, room)
         }
         TypeForm::Set(element) => Ok(Shape::Set(type_kind(declarations, element)?)),
         TypeForm::Map(key, value) => {
@@ -97,18 +102,18 @@ fn type_shape(
 #[cycle(laying)]
 fn slot(
     alloc: Global,
-    declarations: &ListedDeclarations,
+    declarations: &StructKinds,
     field: &BagField,
-    room: u32,
+    room: usize,
 ) -> Result<Slot, Memory>
     requires { HasShapeIn declarations.now (tree_of field.now.kind) room }
-    ensures field { IfOk result (λ slot. IsFieldOf declarations.now (IsLaidOut declarations.now) (bag_field_of field.now) (field_of slot)) }
+    ensures field { IfOk result (λ slot. IsFieldOf declarations.now (IsLaidOut declarations.now)
+        (bag_field_of field.now) (field_of slot)) }
     ensures indexed { IfOk result IsIndexedField }
 {
     let shape = type_shape(alloc, declarations, &field.kind, room)?;
-    let name = field.name.copy()?;
     Ok(Slot {
-        name,
+        name: field.name.copy()?,
         number: field.number,
         shape,
     })
@@ -119,12 +124,14 @@ fn slot(
 #[cycle(laying)]
 pub(crate) fn lay_out(
     alloc: Global,
-    declarations: &ListedDeclarations,
+    declarations: &StructKinds,
     fields: &BagFields,
-    room: u32,
+    room: usize,
 ) -> Result<Slots, Memory>
-    requires shallow { (nodes : Nodes) × IsLaidOut declarations.now fields.now nodes × (levels nodes ≤ room) }
-    ensures laid_out { IfOk result (λ slots. IsLaidOut declarations.now fields.now (nodes_of slots)) }
+    requires shallow { (nodes : Nodes) × IsLaidOut declarations.now fields.now nodes
+        × (levels nodes ≤ room) }
+    ensures laid_out { IfOk result (λ slots.
+        IsLaidOut declarations.now fields.now (nodes_of slots)) }
     ensures indexed { IfOk result IsIndexed }
 {
     let sorted = in_order(alloc, fields)?;

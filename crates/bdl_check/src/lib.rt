@@ -7,10 +7,10 @@ mod declarations;
 mod fields;
 pub mod laws;
 mod layouts;
-mod listed;
 mod recursion;
 mod refusals;
 mod sizes;
+mod struct_kinds;
 mod tables;
 #[cfg(test)]
 mod tests;

@@ -6,7 +6,7 @@ ghost use Rattle.bdl_load.specs.Faults.{found, fault_in};
 ghost use Rattle.bdl_load.specs.declared.faults.DefCode.TheVariants.{Recursive};
 ghost use Rattle.bdl_check.specs.Declarations.{number_named, place_of};
 ghost use Rattle.bdl_check.specs.DeclarationViews.{placed_of};
-ghost use Rattle.bdl_check.specs.Faults.{Says};
+ghost use Rattle.bdl_check.specs.Faults.{RefusesFor};
 ghost use Rattle.bdl_check.specs.Recursion.{names_in, uses, links, IsRecursive};
 ghost use Rattle.bdl_parser.specs.Views.{tree_of};
 ghost use Rattle.topological_order.specs.Graphs.{graph_of};
@@ -26,7 +26,8 @@ fn add_links(
     node: &TypeNode,
     row: &mut Vec<usize>,
 ) -> Result<(), Memory>
-    ensures { OnOk result (row.new.items ≡ row.old.items ++ filter_map (number_named declarations.now) (names_in (tree_of node.now))) }
+    ensures { OnOk result (row.new.items ≡ row.old.items
+        ++ filter_map (number_named declarations.now) (names_in (tree_of node.now))) }
 {
     match &node.form {
         TypeForm::Name(name) => {
@@ -46,7 +47,8 @@ fn add_links(
 
 /// The numbers of the declarations that a declaration names.
 fn links_from(alloc: Global, declarations: &Declarations, decl: &Decl) -> Result<Vec<usize>, Memory>
-    ensures { IfOk result (λ row. row.items ≡ filter_map (number_named declarations.now) (uses decl.now)) }
+    ensures { IfOk result (λ row.
+        row.items ≡ filter_map (number_named declarations.now) (uses decl.now)) }
 {
     let mut row = Vec::new(alloc);
     let Decl::Bag { fields, .. } = decl else {
@@ -72,7 +74,8 @@ fn all_links(alloc: Global, declarations: &Declarations) -> Result<Vec<Vec<usize
 
 /// The fault of a declaration that stands inside itself.
 fn recursive(declaration: &Declaration) -> Result<Fault, Memory>
-    ensures { IfOk result (λ fault. fault ≡ fault_in declaration.now.file.now (found (place_of declaration.now.decl.now) Recursive)) }
+    ensures { IfOk result (λ fault. fault ≡ fault_in declaration.now.file.now
+        (found (place_of declaration.now.decl.now) Recursive)) }
 {
     let found = Finding {
         at: decl_place(declaration.decl),
@@ -85,7 +88,7 @@ fn recursive(declaration: &Declaration) -> Result<Fault, Memory>
 /// bag that stands inside itself.
 pub(crate) fn order_of(alloc: Global, declarations: &Declarations) -> Result<Vec<usize>, Refusal>
     ensures order { IfOk result (λ order. IsOrder (links declarations.now) order.items) }
-    ensures fault { IfErr result (Says (IsRecursive declarations.now)) }
+    ensures fault { IfErr result (RefusesFor (IsRecursive declarations.now)) }
 {
     let rows = all_links(alloc, declarations)?;
     match topological_order(alloc, &rows)? {

@@ -6,6 +6,7 @@ ghost use Rattle.bdl_check.specs.Checks.{placed_faults};
 ghost use Rattle.bdl_check.specs.Declarations.{kind_named};
 ghost use Rattle.bdl_check.specs.Fields.{numbers_of};
 ghost use Rattle.bdl_check.specs.Passes.{are_distinct, passes_type, passes_decl};
+ghost use Rattle.bdl_check.specs.declared.sizes.TheConstants.{LEVELS_CAP, FIELDS_CAP};
 ghost use Rattle.bdl_check.specs.declared.types.Role.TheVariants.{BagField};
 ghost use Rattle.bdl_check.specs.Recursion.{links, names_in, uses};
 ghost use Rattle.bdl_check.specs.Sizes.{HasTypeSize, HasSize, IsSizeOf, AreKnown, AreSizes};
@@ -13,27 +14,23 @@ ghost use Rattle.bdl_parser.specs.Views.{tree_of};
 ghost use Rattle.topological_order.specs.Orders.{IsOrder};
 
 use crate::declarations::Declarations;
+use bag_model::{MAX_FIELDS, MAX_LEVELS};
 use bdl_parser::{BagFields, Decl, TypeForm, TypeNode};
 use outside::Memory;
 use std::alloc::Global;
 
-/// The most levels of headers of a table.
-pub(crate) const MAX_LEVELS: u32 = 16;
-
-/// The most fields of a table, those inside them counted.
-pub(crate) const MAX_FIELDS: u32 = 16_384;
-
 /// Levels are counted up to one more than the most.
-const LEVELS_CAP: u32 = MAX_LEVELS + 1;
+const LEVELS_CAP: usize = MAX_LEVELS + 1;
 
 /// Fields are counted up to one more than the most.
-const FIELDS_CAP: u32 = MAX_FIELDS + 1;
+const FIELDS_CAP: usize = MAX_FIELDS + 1;
 
-/// The levels of headers that the fields of a bag take, at most 17, and the fields with those inside them, at most 16,385.
+/// The levels of headers that the fields of a bag take, at most `LEVELS_CAP`, and the fields with those inside them, at most
+/// `FIELDS_CAP`.
 #[derive(Clone, Copy, Debug, PartialEq, Eq)]
 pub(crate) struct Size {
-    pub levels: u32,
-    pub fields: u32,
+    pub levels: usize,
+    pub fields: usize,
 }
 
 /// The size of a bag with no field.
@@ -44,8 +41,8 @@ const EMPTY: Size = Size {
 
 /// The size of a bag with one field more, under which there is that size.
 fn with_field(bag: Size, under: Size) -> Size
-    ensures levels { result.levels ≡ min (max (1 + under.levels) bag.levels) 17 }
-    ensures fields { result.fields ≡ min (1 + under.fields + bag.fields) 16385 }
+    ensures levels { result.levels ≡ min (max (1 + under.levels) bag.levels) LEVELS_CAP }
+    ensures fields { result.fields ≡ min (1 + under.fields + bag.fields) FIELDS_CAP }
 {
     Size {
         levels: under
@@ -63,7 +60,7 @@ fn with_field(bag: Size, under: Size) -> Size
 
 /// The size under a map or a counter, whose keys take a level.
 fn with_keys(under: Size) -> Size
-    ensures levels { result.levels ≡ min (1 + under.levels) 17 }
+    ensures levels { result.levels ≡ min (1 + under.levels) LEVELS_CAP }
     ensures fields { result.fields ≡ under.fields }
 {
     Size {
@@ -94,8 +91,10 @@ fn type_size(declarations: &Declarations, sizes: &[Size], node: &TypeNode) -> Si
 /// The size of a bag with these fields.
 fn bag_size(declarations: &Declarations, sizes: &[Size], fields: &BagFields) -> Size
     requires count { length sizes.now ≡ length declarations.now }
-    requires known { AreKnown declarations.now sizes.now (flat_map (λ field. names_in field.kind) fields.now) }
-    requires types { list_all (λ field. passes_type (kind_named declarations.now) BagField field.kind) fields.now ≡ true }
+    requires known { AreKnown declarations.now sizes.now
+        (flat_map (λ field. names_in field.kind) fields.now) }
+    requires types { list_all
+        (λ field. passes_type (kind_named declarations.now) BagField field.kind) fields.now ≡ true }
     requires numbers { are_distinct (λ a b. a == b) (numbers_of fields.now) ≡ true }
     ensures { HasSize declarations.now fields.now result }
 {

@@ -4,18 +4,19 @@ ghost use Rattle.std.specs.Prelude.{◌≡◌, [], Some, IfOk, IfErr, IfSome};
 ghost use Rattle.std.specs.Option.{option_map};
 ghost use Rattle.bdl_check.specs.Checks.{placed_faults};
 ghost use Rattle.bdl_check.specs.Declarations.{AreSpelled, number_named};
-ghost use Rattle.bdl_check.specs.Faults.{Says};
+ghost use Rattle.bdl_check.specs.Faults.{RefusesFor};
 ghost use Rattle.bdl_check.specs.Recursion.{links};
 ghost use Rattle.bdl_check.specs.Sizes.{IsExcess};
-ghost use Rattle.bdl_check.specs.Tables.{bag_named, IsTableOf, IsUntabled};
+ghost use Rattle.bdl_check.specs.Tables.{bag_named, IsTableAmong, IsUntabled};
 ghost use Rattle.topological_order.specs.Orders.{IsOrder};
 
 use crate::declarations::Declarations;
 use crate::layouts::lay_out;
-use crate::listed::ListedDeclarations;
 use crate::refusals::{Refusal, fault_in};
-use crate::sizes::{MAX_FIELDS, MAX_LEVELS, Size, sizes_of};
-use bdl_load::{DefCode, FIRST, Finding};
+use crate::sizes::{Size, sizes_of};
+use crate::struct_kinds::StructKinds;
+use bag_model::{MAX_FIELDS, MAX_LEVELS};
+use bdl_load::{DefCode, FIRST_SPOT, Finding};
 use bdl_parser::{BagFields, Decl, Spot};
 use field_table::Table;
 use outside::Text;
@@ -32,8 +33,11 @@ struct ChosenBag<'a> {
 
 /// The bag of this name.
 fn find_bag<'a>(declarations: &Declarations<'a>, name: &str) -> Option<ChosenBag<'a>>
-    ensures bag { option_map (λ bag. record { file = bag.file.now; spot = bag.at; list = bag.fields.now }) result ≡ bag_named declarations.now name.now }
-    ensures number { IfSome result (λ bag. number_named declarations.now name.now ≡ Some bag.number) }
+    ensures bag { option_map
+        (λ bag. record { file = bag.file.now; spot = bag.at; list = bag.fields.now }) result
+        ≡ bag_named declarations.now name.now }
+    ensures number { IfSome result
+        (λ bag. number_named declarations.now name.now ≡ Some bag.number) }
 {
     let number = declarations.number(name)?;
     let declaration = declarations.get(number)?;
@@ -73,12 +77,12 @@ pub(crate) fn table_of(
     requires sound { placed_faults declarations.now ≡ [] }
     requires spelled { AreSpelled declarations.now }
     requires order { IsOrder (links declarations.now) order.now }
-    ensures table { IfOk result (IsTableOf declarations.now bag.now) }
-    ensures fault { IfErr result (Says (IsUntabled declarations.now root.now bag.now)) }
+    ensures table { IfOk result (IsTableAmong declarations.now bag.now) }
+    ensures fault { IfErr result (RefusesFor (IsUntabled declarations.now root.now bag.now)) }
 {
     let Some(chosen) = find_bag(declarations, bag) else {
         let found = Finding {
-            at: FIRST,
+            at: FIRST_SPOT,
             code: DefCode::NoSuchBag,
         };
         return Err(Refusal::At(fault_in(Text::of(alloc, root)?, found)));
@@ -92,7 +96,7 @@ pub(crate) fn table_of(
         };
         return Err(Refusal::At(fault_in(chosen.file.copy()?, found)));
     }
-    let listed = ListedDeclarations::of(alloc, declarations)?;
-    let fields = lay_out(alloc, &listed, chosen.fields, MAX_LEVELS)?;
+    let kinds = StructKinds::of(alloc, declarations)?;
+    let fields = lay_out(alloc, &kinds, chosen.fields, MAX_LEVELS)?;
     Ok(Table::of(fields))
 }

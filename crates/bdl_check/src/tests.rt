@@ -144,30 +144,32 @@ fn add_layers(
     Ok(())
 }
 
+// How many layers there are, how many fields of the next each has, and the answer for the first.
+static LAYERS: [(u32, u32, &str); 4] = [
+    (
+        15,
+        1,
+        "ok f0.f0.f0.f0.f0.f0.f0.f0.f0.f0.f0.f0.f0.f0.f0.b:0.0.0.0.0.0.0.0.0.0.0.0.0.0.0.0:scalar",
+    ),
+    (16, 1, "f 1:5 TooDeep"),
+    (14, 30, "f 1:5 TooManySlots"),
+    (17, 30, "f 1:5 TooDeep"),
+];
+
 #[test]
 fn layers(rt: HostRuntime) -> Result<(), Fail> {
     let alloc = rt.alloc();
-    let mut library = SureLibrary::new(alloc);
-    add_layers(alloc, &mut library, 15, 1)?;
-    let answer = answer_of(alloc, &mut library, "f", "B0")?;
-    assert_eq!(rt;
-        answer.as_str(),
-        "ok f0.f0.f0.f0.f0.f0.f0.f0.f0.f0.f0.f0.f0.f0.f0.b:0.0.0.0.0.0.0.0.0.0.0.0.0.0.0.0:scalar"
-    );
-    add_layers(alloc, &mut library, 16, 1)?;
-    let answer = answer_of(alloc, &mut library, "f", "B0")?;
-    assert_eq!(rt; answer.as_str(), "f 1:5 TooDeep");
-    add_layers(alloc, &mut library, 14, 30)?;
-    let answer = answer_of(alloc, &mut library, "f", "B0")?;
-    assert_eq!(rt; answer.as_str(), "f 1:5 TooManySlots");
-    add_layers(alloc, &mut library, 17, 30)?;
-    let answer = answer_of(alloc, &mut library, "f", "B0")?;
-    assert_eq!(rt; answer.as_str(), "f 1:5 TooDeep");
+    for (count, width, wanted) in &LAYERS {
+        let mut library = SureLibrary::new(alloc);
+        add_layers(alloc, &mut library, *count, *width)?;
+        let answer = answer_of(alloc, &mut library, "f", "B0")?;
+        assert_eq!(rt; answer.as_str(), *wanted);
+    }
     Ok(())
 }
 
-/// A bag of so many maps to bags of 127 fields each, and of so many fields beside them.
-fn maps_to_bags(alloc: Global, maps: u32, others: u32) -> Result<String, Fail> {
+/// A bag of so many fields, the first of which are maps to bags of 127 fields each.
+fn maps_to_bags(alloc: Global, maps: u32, fields: u32) -> Result<String, Fail> {
     let mut text = String::from_str(alloc, "bag In { ")?;
     for number in 0..127 {
         text.push_str(format!(in alloc; "bool f{number} = {number}; ")?.as_str())?;
@@ -176,8 +178,8 @@ fn maps_to_bags(alloc: Global, maps: u32, others: u32) -> Result<String, Fail> {
     for number in 0..maps {
         text.push_str(format!(in alloc; "map<bool, In> m{number} = {number}; ")?.as_str())?;
     }
-    for number in 0..others {
-        text.push_str(format!(in alloc; "taint t{number} = 1000{number}; ")?.as_str())?;
+    for number in maps..fields {
+        text.push_str(format!(in alloc; "taint t{number} = {number}; ")?.as_str())?;
     }
     text.push('}')?;
     Ok(text)
@@ -187,12 +189,12 @@ fn maps_to_bags(alloc: Global, maps: u32, others: u32) -> Result<String, Fail> {
 fn fields_inside_map_values(rt: HostRuntime) -> Result<(), Fail> {
     let alloc = rt.alloc();
     let mut library = SureLibrary::new(alloc);
-    library.add("f", maps_to_bags(alloc, 128, 0)?.as_str().as_bytes())?;
+    library.add("f", maps_to_bags(alloc, 128, 128)?.as_str().as_bytes())?;
     let Ok(table) = compile(alloc, &mut library, "f", "B") else {
         return Err(Fail::from("16,384 fields"));
     };
     assert_eq!(rt; table.slots(), 128);
-    library.add("f", maps_to_bags(alloc, 128, 1)?.as_str().as_bytes())?;
+    library.add("f", maps_to_bags(alloc, 128, 129)?.as_str().as_bytes())?;
     let Err(DefFault::At { line, code, .. }) = compile(alloc, &mut library, "f", "B") else {
         return Err(Fail::from("16,385 fields"));
     };

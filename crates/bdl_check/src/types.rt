@@ -77,7 +77,8 @@ fn is_no_struct_field(role: Role, node: &TypeNode) -> bool
 /// Why a node is refused, as the first of the codes that apply.
 #[tactic(auto, using(crate::proofs::Firsts::first_when))]
 fn node_code(declarations: &Declarations, role: Role, node: &TypeNode) -> Option<DefCode>
-    ensures { (spot : Spot) → option_map (λ code. found spot code) result ≡ first (node_faults_at spot (kind_named declarations.now) role (tree_of node.now)) }
+    ensures { (spot : Spot) → option_map (λ code. found spot code) result
+        ≡ first (node_faults_at spot (kind_named declarations.now) role (tree_of node.now)) }
 {
     if is_floating_word(node) {
         return Some(DefCode::FloatingType);

@@ -1,7 +1,7 @@
 //! Definitions of one file and their first faults.
 
 /// What the file holds, and the line, the column and the code of its first fault.
-pub(super) static FAULTS: [(&str, &str); 111] = [
+pub(super) static FAULTS: [(&str, &str); 99] = [
     // The bytes of a file.
     ("bag B { bool a = 65536; }", "1:18 NumberRange"),
     ("bag B {", "1:7 Expected"),
@@ -191,42 +191,5 @@ pub(super) static FAULTS: [(&str, &str); 111] = [
     (
         "struct S { bool a; } bag A { S s = 0; S s = 1; }",
         "1:41 DuplicateField",
-    ),
-    // Fields of several bags.
-    (
-        "bag B { bool a = 065535; bool b = 65535; }",
-        "1:35 DuplicateNumber",
-    ),
-    (
-        "bag B { double x = 1; } bag C { } bag C { }",
-        "1:39 DuplicateName",
-    ),
-    (
-        "bag B { map<bool, set<double>> x = 1; }",
-        "1:23 FloatingType",
-    ),
-    ("bag B { map<set<bool>, float> s = 0; }", "1:13 BadKeyType"),
-    (
-        "bag B { map<bool, map<counter, bool>> s = 0; }",
-        "1:23 BadKeyType",
-    ),
-    ("bag B { bool a = 3; bool b = 03; }", "1:30 DuplicateNumber"),
-    ("bag B { bool a = 3; bool a = 3; }", "1:30 DuplicateNumber"),
-    (
-        "bag B { bool a = 3; bool b = 4; bool a = 5; }",
-        "1:38 DuplicateField",
-    ),
-    ("bag B { bool a = 3; float b = 3; }", "1:21 FloatingType"),
-    (
-        "bag B { bool a = 3; bool b = 3; float c = 4; }",
-        "1:30 DuplicateNumber",
-    ),
-    (
-        "bag B { bool a = 3; bool a = 4; } bag C { float x = 0; }",
-        "1:26 DuplicateField",
-    ),
-    (
-        "bag B { bool a = 3; } bag C { bool a = 3; float x = 0; }",
-        "1:43 FloatingType",
     ),
 ];

@@ -18,20 +18,25 @@ loop-field-init c = record {
 
 pub returns-in-Some : goal.returns-in-Some
 returns-in-Some c =
-    bag_found (kind_named c.args.declarations.now) c.loop-field.numbers c.loop-field.texts c.args.fields.now (map bag_field_of (drop c.loop-field.field-index c.as_slice-field-items.result.now)) _ (bag_field_of c.field-item.result) c.in-Some.fault
-    (next_left bag_field_of c.as_slice-field-items.result.now c.loop-field.field-index c.field-item.result c.loop-field-test.true c.field-item.is) c.loop-field.invariant
+    bag_found (kind_named c.args.declarations.now) c.loop-field.numbers c.loop-field.texts c.args.fields.now
+    (map bag_field_of (drop c.loop-field.field-index c.as_slice-field-items.result.now)) _ (bag_field_of c.field-item.result) c.in-Some.fault
+    (next_left bag_field_of c.as_slice-field-items.result.now c.loop-field.field-index c.field-item.result c.loop-field-test.true c.field-item.is)
+    c.loop-field.invariant
     (λ earlier numbers texts. sym c.in-Some.is ∙ c.in_ok-fault.ensures.found earlier numbers texts)
 
 pub loop-field-preserved : goal.loop-field-preserved
 loop-field-preserved c =
-    bag_more (kind_named c.args.declarations.now) c.loop-field.numbers c.bag_field_fault.new.numbers c.loop-field.texts c.bag_field_fault.new.texts c.args.fields.now
+    bag_more (kind_named c.args.declarations.now) c.loop-field.numbers c.bag_field_fault.new.numbers c.loop-field.texts c.bag_field_fault.new.texts
+    c.args.fields.now
     (map bag_field_of (drop c.loop-field.field-index c.as_slice-field-items.result.now)) _ (bag_field_of c.field-item.result)
-    (next_left bag_field_of c.as_slice-field-items.result.now c.loop-field.field-index c.field-item.result c.loop-field-test.true c.field-item.is) c.loop-field.invariant
+    (next_left bag_field_of c.as_slice-field-items.result.now c.loop-field.field-index c.field-item.result c.loop-field-test.true c.field-item.is)
+    c.loop-field.invariant
     (λ earlier numbers texts. sym c.in_default.is ∙ c.in_ok-fault.ensures.found earlier numbers texts)
     (λ earlier numbers. c.in_ok-fault.ensures.numbers earlier numbers (ap Ok c.in_default.is))
     (λ earlier texts. c.in_ok-fault.ensures.texts earlier texts (ap Ok c.in_default.is))
 
 pub returns : goal.returns
 returns c =
-    bag_end (kind_named c.args.declarations.now) c.loop-field.numbers c.loop-field.texts c.args.fields.now (map bag_field_of (drop c.loop-field.field-index c.as_slice-field-items.result.now))
+    bag_end (kind_named c.args.declarations.now) c.loop-field.numbers c.loop-field.texts c.args.fields.now
+    (map bag_field_of (drop c.loop-field.field-index c.as_slice-field-items.result.now))
     (none_left bag_field_of c.as_slice-field-items.result.now c.loop-field.field-index c.loop-field-test.false) c.loop-field.invariant

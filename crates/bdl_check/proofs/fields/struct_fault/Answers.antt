@@ -17,19 +17,24 @@ loop-field-init c = record {
 
 pub returns-in-Some : goal.returns-in-Some
 returns-in-Some c =
-    struct_found (kind_named c.args.declarations.now) c.loop-field.texts c.args.fields.now (map struct_field_of (drop c.loop-field.field-index c.as_slice-field-items.result.now)) _ (struct_field_of c.field-item.result) c.in-Some.fault
-    (next_left struct_field_of c.as_slice-field-items.result.now c.loop-field.field-index c.field-item.result c.loop-field-test.true c.field-item.is) c.loop-field.invariant
+    struct_found (kind_named c.args.declarations.now) c.loop-field.texts c.args.fields.now
+    (map struct_field_of (drop c.loop-field.field-index c.as_slice-field-items.result.now)) _ (struct_field_of c.field-item.result)
+    c.in-Some.fault
+    (next_left struct_field_of c.as_slice-field-items.result.now c.loop-field.field-index c.field-item.result c.loop-field-test.true c.field-item.is)
+    c.loop-field.invariant
     (λ earlier texts. sym c.in-Some.is ∙ c.in_ok-fault.ensures.found earlier texts)
 
 pub loop-field-preserved : goal.loop-field-preserved
 loop-field-preserved c =
     struct_more (kind_named c.args.declarations.now) c.loop-field.texts c.struct_field_fault.new.texts c.args.fields.now
     (map struct_field_of (drop c.loop-field.field-index c.as_slice-field-items.result.now)) _ (struct_field_of c.field-item.result)
-    (next_left struct_field_of c.as_slice-field-items.result.now c.loop-field.field-index c.field-item.result c.loop-field-test.true c.field-item.is) c.loop-field.invariant
+    (next_left struct_field_of c.as_slice-field-items.result.now c.loop-field.field-index c.field-item.result c.loop-field-test.true c.field-item.is)
+    c.loop-field.invariant
     (λ earlier texts. sym c.in_default.is ∙ c.in_ok-fault.ensures.found earlier texts)
     (λ earlier texts. c.in_ok-fault.ensures.texts earlier texts (ap Ok c.in_default.is))
 
 pub returns : goal.returns
 returns c =
-    struct_end (kind_named c.args.declarations.now) c.loop-field.texts c.args.fields.now (map struct_field_of (drop c.loop-field.field-index c.as_slice-field-items.result.now))
+    struct_end (kind_named c.args.declarations.now) c.loop-field.texts c.args.fields.now
+    (map struct_field_of (drop c.loop-field.field-index c.as_slice-field-items.result.now))
     (none_left struct_field_of c.as_slice-field-items.result.now c.loop-field.field-index c.loop-field-test.false) c.loop-field.invariant

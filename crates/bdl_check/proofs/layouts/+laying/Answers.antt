@@ -13,13 +13,15 @@ use Rattle.bdl_check.proofs.layouts.+laying.Goals as goal
 pub lay_out-overflow_sub-room : goal.lay_out-overflow_sub-room
 lay_out-overflow_sub-room t c =
     let field = λ (field : Bor BagField). bag_field_of field.now in
-    (item_level field c.args.declarations.now c.args.fields.now c.in_ok-sorted.sorted.items c.deref-field-items.result.now c.requires.shallow.0 c.args.room c.loop-field.field-index c.field-item.result
+    (item_level field c.args.declarations.now c.args.fields.now c.in_ok-sorted.sorted.items c.deref-field-items.result.now c.requires.shallow.0
+    c.args.room c.loop-field.field-index c.field-item.result
     c.requires.shallow.1 c.requires.shallow.2 c.in_ok-sorted.ensures.same c.deref-field-items.ensures.value c.loop-field-test.true c.field-item.is).0
 
 pub lay_out-slot-requires : goal.lay_out-slot-requires
 lay_out-slot-requires t c =
     let field = λ (field : Bor BagField). bag_field_of field.now in
-    let here = item_level field c.args.declarations.now c.args.fields.now c.in_ok-sorted.sorted.items c.deref-field-items.result.now c.requires.shallow.0 c.args.room c.loop-field.field-index c.field-item.result
+    let here = item_level field c.args.declarations.now c.args.fields.now c.in_ok-sorted.sorted.items c.deref-field-items.result.now
+    c.requires.shallow.0 c.args.room c.loop-field.field-index c.field-item.result
     c.requires.shallow.1 c.requires.shallow.2 c.in_ok-sorted.ensures.same c.deref-field-items.ensures.value c.loop-field-test.true c.field-item.is in
     let some = here.0 in
     (omega (arith, c.decreases, some), here.1)
@@ -32,7 +34,8 @@ lay_out-loop-field-preserved t c =
     let field = λ (field : Bor BagField). bag_field_of field.now in
     let front = map field (take i items) in
     let one = field_of c.in_ok-slot.field-0 in
-    let more = fields_push ds (IsLaidOut ds) front (fields (nodes_of c.loop-field.slots)) (field c.field-item.result) one c.loop-field.invariant.each c.in_ok-slot.ensures.field in
+    let more = fields_push ds (IsLaidOut ds) front (fields (nodes_of c.loop-field.slots)) (field c.field-item.result) one c.loop-field.invariant.each
+    c.in_ok-slot.ensures.field in
     let trees = up_to field items i c.field-item.result c.loop-field-test.true c.field-item.is in
     record {
       each = subst (λ (fs : List Field). AreFieldsOf ds (IsLaidOut ds) (map field (take (i + 1) items)) fs) (sym c.in_ok-push.ensures.ok)
@@ -47,5 +50,6 @@ lay_out-returns-clause-laid_out t c =
     let field = λ (field : Bor BagField). bag_field_of field.now in
     let all = ap (map field) (take_all c.loop-field.field-index items c.loop-field-test.false ∙ c.deref-field-items.ensures.value) in
     let sorted = map field c.in_ok-sorted.sorted.items in
-    sorted_layout ds c.args.fields.now sorted c.requires.shallow.0 (nodes_of c.loop-field.slots) c.requires.shallow.1 c.in_ok-sorted.ensures.same (items_rise field c.in_ok-sorted.sorted.items c.in_ok-sorted.ensures.rising)
+    sorted_layout ds c.args.fields.now sorted c.requires.shallow.0 (nodes_of c.loop-field.slots) c.requires.shallow.1 c.in_ok-sorted.ensures.same
+    (items_rise field c.in_ok-sorted.sorted.items c.in_ok-sorted.ensures.rising)
     (subst (λ (ts : List BagFieldTree). AreFieldsOf ds (IsLaidOut ds) ts (fields (nodes_of c.loop-field.slots))) all c.loop-field.invariant.each)

@@ -19,6 +19,7 @@ decreases-slot l = 4 * l.room + 3
 
 abbrev pub invariant-lay_out-loop-field : goal.invariant-lay_out-loop-field
 invariant-lay_out-loop-field l = record {
-  each : AreFieldsOf l.declarations (IsLaidOut l.declarations) (map (λ field. bag_field_of field.now) (take l.field-index l.field-items)) (fields (nodes_of l.slots));
+  each : AreFieldsOf l.declarations (IsLaidOut l.declarations) (map (λ field. bag_field_of field.now) (take l.field-index l.field-items))
+      (fields (nodes_of l.slots));
   indexed : IsIndexed l.slots;
 }

@@ -19,9 +19,11 @@ loop-field-preserved c =
 pub returns-clause-same : goal.returns-clause-same
 returns-clause-same c =
     let items = c.as_slice-field-items.result.now in
-    let all = c.loop-field.invariant ∙ ap (map bag_field_of) (take_all c.loop-field.field-index items c.loop-field-test.false) ∙ c.as_slice-field-items.ensures in
+    let all = c.loop-field.invariant ∙ ap (map bag_field_of) (take_all c.loop-field.field-index items c.loop-field-test.false)
+    ∙ c.as_slice-field-items.ensures in
     subst (λ (xs : List BagFieldTree). IsPermutation xs (map (λ field. bag_field_of field.now) c.sort_unstable_by_key.new.self.items)) all
-    (IsPermutation-map (λ field. bag_field_of field.now) c.loop-field.sorted.items c.sort_unstable_by_key.new.self.items c.sort_unstable_by_key.ensures.permutation)
+    (IsPermutation-map (λ field. bag_field_of field.now) c.loop-field.sorted.items c.sort_unstable_by_key.new.self.items
+    c.sort_unstable_by_key.ensures.permutation)
 
 pub returns-clause-rising : goal.returns-clause-rising
 returns-clause-rising c =

@@ -8,4 +8,5 @@ use Rattle.bdl_check.proofs.recursion.links_from.Given as goal
 
 abbrev pub invariant-loop-field : goal.invariant-loop-field
 invariant-loop-field l =
-    l.row.items ++ filter_map (number_named l.declarations) (used (map bag_field_of (drop l.field-index l.field-items))) ≡ filter_map (number_named l.declarations) (uses l.decl)
+    l.row.items ++ filter_map (number_named l.declarations) (used (map bag_field_of (drop l.field-index l.field-items))) ≡ filter_map
+    (number_named l.declarations) (uses l.decl)

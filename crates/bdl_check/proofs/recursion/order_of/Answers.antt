@@ -14,6 +14,7 @@ topological_order-requires c =
 pub unwrap-first-requires : goal.unwrap-first-requires
 unwrap-first-requires c =
     let ds = c.args.declarations.now in
-    let sorted = subst (λ (graph : Graph). IsSorted graph c.in_ok-order.field-0) (ap graph_of c.deref.ensures.value ∙ c.in_ok-rows.ensures) c.in_ok-order.ensures in
+    let sorted = subst (λ (graph : Graph). IsSorted graph c.in_ok-order.field-0) (ap graph_of c.deref.ensures.value ∙ c.in_ok-rows.ensures)
+    c.in_ok-order.ensures in
     let first : IsSorted (links ds) (Cycle c.in-Cycle.number) = subst (λ (s : Sorted). IsSorted (links ds) s) c.in-Cycle.is sorted in
     some_at ds c.in-Cycle.number c.get.result c.get.ensures (cyclic_below ds c.in-Cycle.number first.cyclic)

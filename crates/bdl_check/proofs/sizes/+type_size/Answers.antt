@@ -26,8 +26,10 @@ type_size-requires t c =
       (
         c.requires.count,
         (
-          rw c.deref.ensures (known_right ds sizes (names_in key) (names_in value) (subst (λ (tree : TypeTree). AreKnown ds sizes (names_in tree)) is c.requires.known)),
-          rw c.deref.ensures (map_value (kind_named ds) key value at (subst (λ (tree : TypeTree). passes_type (kind_named ds) BagField tree ≡ true) is c.requires.passes)),
+          rw c.deref.ensures (known_right ds sizes (names_in key) (names_in value)
+              (subst (λ (tree : TypeTree). AreKnown ds sizes (names_in tree)) is c.requires.known)),
+          rw c.deref.ensures (map_value (kind_named ds) key value at
+              (subst (λ (tree : TypeTree). passes_type (kind_named ds) BagField tree ≡ true) is c.requires.passes)),
         ),
       ),
     )
@@ -56,7 +58,8 @@ returns-in-Map t c =
     let under = rw c.deref.ensures at c.type_size.ensures in
     subst (λ (tree : TypeTree). HasTypeSize ds tree r) (sym is)
     (map_size ds (tree_of c.in-Map.field-0.value) (tree_of c.in-Map.value.value) at c.type_size.result r.levels r.fields
-    (subst (λ (tree : TypeTree). passes_type (kind_named ds) BagField tree ≡ true) is c.requires.passes) under c.with_keys-in-Map.ensures.levels c.with_keys-in-Map.ensures.fields)
+    (subst (λ (tree : TypeTree). passes_type (kind_named ds) BagField tree ≡ true) is c.requires.passes) under c.with_keys-in-Map.ensures.levels
+    c.with_keys-in-Map.ensures.fields)
 
 pub returns-in-Name : goal.returns-in-Name
 returns-in-Name t c =

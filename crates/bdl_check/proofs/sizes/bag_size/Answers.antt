@@ -28,9 +28,11 @@ type_size-requires c =
     record {
       count = c.requires.count;
       known = known_middle ds c.args.sizes.now front here rest
-          (subst (λ (fields : List BagFieldTree). AreKnown ds c.args.sizes.now (flat_map (λ (field : BagFieldTree). names_in field.kind) fields)) split c.requires.known);
+          (subst (λ (fields : List BagFieldTree). AreKnown ds c.args.sizes.now (flat_map (λ (field : BagFieldTree). names_in field.kind) fields))
+          split c.requires.known);
       passes = all_middle (λ (field : BagFieldTree). passes_type (kind_named ds) BagField field.kind) front here rest
-          (subst (λ (fields : List BagFieldTree). list_all (λ (field : BagFieldTree). passes_type (kind_named ds) BagField field.kind) fields ≡ true) split c.requires.types);
+          (subst (λ (fields : List BagFieldTree). list_all (λ (field : BagFieldTree). passes_type (kind_named ds) BagField field.kind) fields ≡ true)
+          split c.requires.types);
     }
 
 pub loop-field-preserved : goal.loop-field-preserved
@@ -42,9 +44,12 @@ loop-field-preserved c =
     let here = bag_field_of c.field-item.result in
     let rest = map bag_field_of (drop (i + 1) items) in
     let split = sym c.as_slice-field-items.ensures ∙ split_at bag_field_of items i c.field-item.result c.loop-field-test.true c.field-item.is in
-    let fresh = new_middle front here rest (subst (λ (fields : List BagFieldTree). are_distinct (λ a b. a == b) (numbers_of fields) ≡ true) split c.requires.numbers) in
-    subst (λ (fields : List BagFieldTree). HasSize ds fields c.with_field-size.result) (sym (up_to bag_field_of items i c.field-item.result c.loop-field-test.true c.field-item.is))
-    (more_size ds front here c.loop-field.size c.type_size.result c.with_field-size.result c.loop-field.invariant c.type_size.ensures fresh c.with_field-size.ensures.levels c.with_field-size.ensures.fields)
+    let fresh = new_middle front here rest (subst (λ (fields : List BagFieldTree). are_distinct (λ a b. a == b) (numbers_of fields) ≡ true) split
+    c.requires.numbers) in
+    subst (λ (fields : List BagFieldTree). HasSize ds fields c.with_field-size.result)
+    (sym (up_to bag_field_of items i c.field-item.result c.loop-field-test.true c.field-item.is))
+    (more_size ds front here c.loop-field.size c.type_size.result c.with_field-size.result c.loop-field.invariant c.type_size.ensures fresh
+    c.with_field-size.ensures.levels c.with_field-size.ensures.fields)
 
 pub returns : goal.returns
 returns c =

@@ -8,21 +8,26 @@ use Rattle.bdl_check.proofs.tables.find_bag.Goals as goal
 
 pub returns-in_err-number-clause-bag : goal.returns-in_err-number-clause-bag
 returns-in_err-number-clause-bag c =
-    let nothing = ap (λ (found : Option ChosenBag). option_map (λ (bag : ChosenBag). record { file = bag.file.now; spot = bag.at; list = bag.fields.now }) found) c.from_residual.ensures in
+    let nothing = ap (λ (found : Option ChosenBag). option_map
+    (λ (bag : ChosenBag). record { file = bag.file.now; spot = bag.at; list = bag.fields.now }) found) c.from_residual.ensures in
     nothing ∙ sym (no_bag c.args.declarations.now c.args.name.now (sym c.in_err-number.ensures))
 
 pub returns-in_err-declaration-clause-bag : goal.returns-in_err-declaration-clause-bag
 returns-in_err-declaration-clause-bag c =
-    let nothing = ap (λ (found : Option ChosenBag). option_map (λ (bag : ChosenBag). record { file = bag.file.now; spot = bag.at; list = bag.fields.now }) found) c.from_residual-in_err-declaration.ensures in
+    let nothing = ap (λ (found : Option ChosenBag). option_map
+    (λ (bag : ChosenBag). record { file = bag.file.now; spot = bag.at; list = bag.fields.now }) found)
+    c.from_residual-in_err-declaration.ensures in
     let there = bag_at c.args.declarations.now c.args.name.now c.in_ok-number.number (sym c.in_ok-number.ensures) in
     nothing ∙ sym (there ∙ ap (option_and_then (λ (d : Placed). bag_in d.file d.decl)) (sym c.in_err-declaration.ensures))
 
 pub returns-in-Bag-clause-bag : goal.returns-in-Bag-clause-bag
 returns-in-Bag-clause-bag c =
     let there = bag_at c.args.declarations.now c.args.name.now c.in_ok-number.number (sym c.in_ok-number.ensures) in
-    sym (there ∙ ap (option_and_then (λ (d : Placed). bag_in d.file d.decl)) (sym c.in_ok-declaration.ensures) ∙ ap (bag_in c.in_ok-declaration.declaration.file.now) c.in-Bag.is)
+    sym (there ∙ ap (option_and_then (λ (d : Placed). bag_in d.file d.decl)) (sym c.in_ok-declaration.ensures)
+    ∙ ap (bag_in c.in_ok-declaration.declaration.file.now) c.in-Bag.is)
 
 pub returns-in-Struct-clause-bag : goal.returns-in-Struct-clause-bag
 returns-in-Struct-clause-bag c =
     let there = bag_at c.args.declarations.now c.args.name.now c.in_ok-number.number (sym c.in_ok-number.ensures) in
-    sym (there ∙ ap (option_and_then (λ (d : Placed). bag_in d.file d.decl)) (sym c.in_ok-declaration.ensures) ∙ ap (bag_in c.in_ok-declaration.declaration.file.now) c.in-Struct.is)
+    sym (there ∙ ap (option_and_then (λ (d : Placed). bag_in d.file d.decl)) (sym c.in_ok-declaration.ensures)
+    ∙ ap (bag_in c.in_ok-declaration.declaration.file.now) c.in-Struct.is)

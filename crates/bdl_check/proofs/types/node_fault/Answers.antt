@@ -8,4 +8,5 @@ use Rattle.bdl_check.proofs.types.node_fault.Goals as goal
 
 pub returns : goal.returns
 returns c =
-    ap (λ (spot : Spot). Some (found spot c.in_ok-code.code)) (sym (spot_at c.args.node.now.at c.args.node.now.form)) ∙ c.in_ok-code.ensures (spot_of (tree_of c.args.node.now))
+    ap (λ (spot : Spot). Some (found spot c.in_ok-code.code)) (sym (spot_at c.args.node.now.at c.args.node.now.form))
+    ∙ c.in_ok-code.ensures (spot_of (tree_of c.args.node.now))

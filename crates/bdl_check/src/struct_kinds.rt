@@ -1,4 +1,5 @@
-//! The declarations, with the kinds of each struct listed once.
+//! The kinds of the fields of each struct. They are listed once, before bags are laid out: all shapes that name a struct
+//! share its list, so that a layout takes no memory for them, however often a definition names the struct.
 
 ghost use Rattle.std.specs.Prelude.{◌≡◌, Some, IfOk, true};
 ghost use Rattle.std.specs.Option.{is_some, option_map};
@@ -17,20 +18,20 @@ use std::marker::Model;
 
 /// A declaration, and the kinds of its fields where it is a struct. A bag has none.
 #[derive(Clone, Copy)]
-pub(crate) struct Listed<'a> {
+pub(crate) struct WithKinds<'a> {
     pub declaration: Declaration<'a>,
     pub kinds: &'a KindList,
     ghost kinds_are: { kinds.now ≡ words_of_decl declaration.decl.now },
 }
 
-/// The declarations in order, each with the kinds of its fields. Contracts see the declarations.
+/// The declarations in order, and beside each the kinds of its fields. Contracts see the declarations.
 #[derive(Drop)]
-pub(crate) struct ListedDeclarations<'a> {
+pub(crate) struct StructKinds<'a> {
     declarations: &'a Declarations<'a>,
     kinds: Vec<KindList>,
 }
 
-impl<'a> Model for ListedDeclarations<'a> {
+impl<'a> Model for StructKinds<'a> {
     ghost use Rattle.std.specs.Prelude.{◌≡◌, List, map};
     ghost use Rattle.bdl_check.specs.Declarations.{Placed};
     ghost use Rattle.bdl_check.specs.DeclarationCode.{placed_list_code};
@@ -41,47 +42,49 @@ impl<'a> Model for ListedDeclarations<'a> {
 
     ghost use Rattle.bdl_check.specs.Layouts.{words_of_decl};
 
-    ghost view = { λ listed. listed.declarations.now };
+    ghost view = { λ all. all.declarations.now };
 
-    ghost invariant = { λ listed. listed.kinds.items ≡ map (λ d. words_of_decl d.decl) listed.declarations.now };
+    ghost invariant = { λ all. all.kinds.items ≡ map (λ d. words_of_decl d.decl) all.declarations.now };
 }
 
-impl<'a> ListedDeclarations<'a> {
-    /// Lists the kinds of each struct. The copies of a list share it.
+impl<'a> StructKinds<'a> {
+    /// Lists the kinds of all structs, whether a layout names them or not.
     pub(crate) fn of(
         alloc: Global,
         declarations: &'a Declarations<'a>,
-    ) -> Result<ListedDeclarations<'a>, Memory>
-        ensures { IfOk result (λ listed. listed ≡ declarations.now) }
+    ) -> Result<StructKinds<'a>, Memory>
+        ensures { IfOk result (λ all. all ≡ declarations.now) }
     {
         let mut kinds = Vec::with_capacity(alloc, declarations.len())?;
         for declaration in declarations.iter() {
             kinds.push(field_kinds(alloc, declaration.decl)?)?;
         }
-        Ok(ListedDeclarations {
+        Ok(StructKinds {
             declarations,
             kinds,
         })
     }
 
     /// The one of this name.
-    pub(crate) fn named(&self, name: &str) -> Option<Listed<'_>>
-        ensures { option_map (λ listed. placed_of listed.declaration) result ≡ named self.now name.now }
+    pub(crate) fn named(&self, name: &str) -> Option<WithKinds<'_>>
+        ensures { option_map (λ found. placed_of found.declaration) result
+            ≡ named self.now name.now }
     {
         let number = self.declarations.number(name)?;
         let declaration = self.declarations.get(number)?;
-        Some(Listed {
+        Some(WithKinds {
             declaration,
             kinds: &self.kinds[number],
         })
     }
 }
 
-impl<'a> Listed<'a> {
-    /// The kind of scalars that a struct is.
+impl<'a> WithKinds<'a> {
+    /// The kind of scalars that a struct is, which shares the list of its kinds.
     pub(crate) fn kind(&self) -> Result<ScalarKind, Memory>
         requires { is_some (kind_of_decl self.now.declaration.decl.now) ≡ true }
-        ensures { IfOk result (λ kind. kind_of_decl self.now.declaration.decl.now ≡ Some (kind_of kind)) }
+        ensures { IfOk result (λ kind.
+            kind_of_decl self.now.declaration.decl.now ≡ Some (kind_of kind)) }
     {
         Ok(ScalarKind::Packed(self.kinds.copy()?))
     }

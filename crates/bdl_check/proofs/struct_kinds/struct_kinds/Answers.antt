@@ -4,8 +4,8 @@ use Rattle.bdl_check.specs.Layouts.{words_of}
 use Rattle.bdl_check.proofs.BagSizes.{up_to}
 use Rattle.bdl_check.proofs.LayoutKinds.{word_more, no_more}
 use Rattle.scalar_types.specs.KindViews.{word_of}
-use Rattle.bdl_check.proofs.listed.struct_kinds.Goals as goal
-use Rattle.bdl_check.proofs.listed.struct_kinds.Goals.{in-Scalar+in_ok-push, in_default}
+use Rattle.bdl_check.proofs.struct_kinds.struct_kinds.Goals as goal
+use Rattle.bdl_check.proofs.struct_kinds.struct_kinds.Goals.{in-Scalar+in_ok-push, in_default}
 
 pub loop-field-preserved : goal.loop-field-preserved
 loop-field-preserved c =
