@@ -6,7 +6,7 @@ use Rattle.std.specs.Str.Parse.{digits_value, ParsesUnsigned}
 use Rattle.std.proofs.lemmas.Str.Parse.{parse_plain, numerals_by_value, tells_all_ascii_digits, digits_value-take-le}
 use Rattle.std.proofs.lemmas.Bool.{cases_Bool, cases_lt}
 use Rattle.std.proofs.lemmas.Bool.Decides.{nat_tests}
-use Rattle.baggage_cli.specs.Asked.{number_of}
+use Rattle.baggage_cli.specs.Commands.{number_of}
 
 -- The number that a text says, by what `parse` answers.
 by_parse : {E : Type 0} (word : List ℕ) (r : Result ℕ E) → OkIff r ((all_ascii_digits word ≡ true) × (0 < length word) × (digits_value 10 word < 2 ^ 32)) (digits_value 10 word)
@@ -34,9 +34,9 @@ first_counts c first digits = grind (arith, nat_tests)
 pub positive : (word : List ℕ) → IfSome (number_of word) (λ n. 0 < n)
 unfolding number_of
 positive [] = tt
-positive (c ∷ cs) = by (nat_lt 0 (length (c ∷ cs)) && not (c == 48) && all_ascii_digits (c ∷ cs) && nat_lt (digits_value 10 (c ∷ cs)) 4294967296) refl
+positive (c ∷ cs) = by (nat_lt 0 (length (c ∷ cs)) && not (c == 48) && all_ascii_digits (c ∷ cs) && nat_lt (digits_value 10 (c ∷ cs)) (2 ^ 32)) refl
   where
-    by : (b : Bool) → (nat_lt 0 (length (c ∷ cs)) && not (c == 48) && all_ascii_digits (c ∷ cs) && nat_lt (digits_value 10 (c ∷ cs)) 4294967296) ≡ b
+    by : (b : Bool) → (nat_lt 0 (length (c ∷ cs)) && not (c == 48) && all_ascii_digits (c ∷ cs) && nat_lt (digits_value 10 (c ∷ cs)) (2 ^ 32)) ≡ b
         → IfSome (if b then Some (digits_value 10 (c ∷ cs)) else None) (λ n. 0 < n)
     by false e = tt
     by true e =

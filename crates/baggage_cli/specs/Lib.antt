@@ -1,7 +1,10 @@
-pub mod HexLine
-pub mod InputLines
-pub mod Asked
-pub mod Refused
+pub mod Commands
+pub mod Refusals
 pub mod Scene
-pub mod ReadLines
-pub mod Answer
+pub mod Outcomes
+pub mod Reading
+pub mod Trimming
+pub mod Merging
+pub mod Checking
+pub mod Delivery
+pub mod Top

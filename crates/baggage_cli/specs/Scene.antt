@@ -1,8 +1,9 @@
 -- The objects of a call, before it and after it.
-use Rattle.std.specs.Prelude.{◌≡◌, ℕ, List, Option, IfSome}
+use Rattle.std.specs.Prelude.{◌≡◌, ℕ, ◌≤◌, List, Option, IfSome}
 use Rattle.std.specs.Io.KnownBytes.{Appends}
 use Rattle.outside.specs.Causes.{Rose}
 use Rattle.outside.specs.Told.{AppendsPart}
+use Rattle.bdl_load.specs.Loading.{Holding}
 
 -- What an object tells of its content, and its count of faults, before and after.
 pub record Change (A : Type 0) : Type 0 where
@@ -22,15 +23,33 @@ change content faults old new = record {
 
 -- The four objects of a call: of the library, its files and the names that it was asked for.
 pub record Scene : Type 0 where
-  pub library : Change (List ℕ → Option (List ℕ))
+  pub library : Change Holding
   pub requests : Change (List (List ℕ))
   pub source : Change (List ℕ)
   pub out : Change (List ℕ)
   pub errs : Change (List ℕ)
 
+-- The scene of these changes.
+abbrev pub scene_of : Change Holding → Change (List (List ℕ)) → Change (List ℕ) → Change (List ℕ) → Change (List ℕ) → Scene
+scene_of library requests source out errs = record {
+  library = library;
+  requests = requests;
+  source = source;
+  out = out;
+  errs = errs;
+}
+
 -- Nothing was done to it.
 abbrev pub IsSame : {A : Type 0} → Change A → Type 0
 IsSame c = (c.after ≡ c.before) × (c.faults_after ≡ c.faults_before)
+
+-- Its count of faults didn't fall.
+abbrev pub NeverFell : {A : Type 0} → Change A → Type 0
+NeverFell c = c.faults_before ≤ c.faults_after
+
+-- Its count of faults is as before.
+abbrev pub IsSteady : {A : Type 0} → Change A → Type 0
+IsSteady c = c.faults_after ≡ c.faults_before
 
 -- It counted a fault in this call.
 abbrev pub HasFailed : {A : Type 0} → Change A → Type 0
@@ -42,8 +61,22 @@ Held c content = IfSome c.before (λ told. told ≡ content)
 
 -- The bytes were appended to it.
 abbrev pub Takes : Change (List ℕ) → List ℕ → Type 0
-Takes c bytes = Appends c.before c.after bytes
+Takes c bytes = Appends c.before c.after bytes × IsSteady c
 
 -- It failed, and a front of the bytes was appended to it.
 abbrev pub TakesPart : Change (List ℕ) → List ℕ → Type 0
-TakesPart c bytes = HasFailed c × AppendsPart c.before c.after bytes
+TakesPart c bytes = HasFailed c × AppendsPart c.before c.after bytes × NeverFell c
+
+-- No count of faults fell.
+pub record KeepsCounts (scene : Scene) : Type 0 where
+  pub library : NeverFell scene.library
+  pub source : NeverFell scene.source
+  pub out : NeverFell scene.out
+  pub errs : NeverFell scene.errs
+
+-- No count of faults rose, and none stood at its last value.
+pub record HasNoFault (scene : Scene) : Type 0 where
+  pub library : HasFailed scene.library → ⊥
+  pub source : HasFailed scene.source → ⊥
+  pub out : HasFailed scene.out → ⊥
+  pub errs : HasFailed scene.errs → ⊥

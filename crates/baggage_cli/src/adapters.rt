@@ -1,105 +1,135 @@
-//! Standard input, output and error, the files of the system, and the words of the command line. What they hold isn't known to
-//! contracts.
+//! Standard input, output and error, the files of the system, and the words of the command line.
 
-ghost use Rattle.std.specs.Prelude.{◌≡◌, ◌-◌, ◌^◌, ◌≤◌, length, IfOk, None};
-ghost use Rattle.outside.specs.Bounds.{zero_in_range};
+ghost use Rattle.std.specs.Prelude.{◌≡◌, ◌≤◌, ◌⊎◌, ◌↔◌, drop, length, map, string_bytes, take, IfOk, IfSome, IsTrue, None};
+ghost use Rattle.std.specs.Io.{ReadsAtMost, WritesAtMost};
+ghost use Rattle.std.specs.Io.KnownBytes.{ReadConsumes, WriteAppends};
+ghost use Rattle.std.specs.IoError.{error_kind};
+ghost use Rattle.std.specs.Vec.Iter.{into_iter_items};
+ghost use Rattle.outside.specs.Faults.{faults_in, faults_in_range};
+ghost use Rattle.outside.specs.declared.TheConstants.{FETCH_MAX};
 
-use outside::{Failed, Library, LibraryFault, Memory, Sink, Source, Text, Words};
+use outside::{
+    FETCH_MAX, Failed, FaultCount, Library, LibraryFault, Memory, ReadFault, Sink, Source, Text,
+    Words, read_all,
+};
 use std::alloc::Global;
-use std::env;
+use std::env::{self, Args, Env};
 use std::fs::File;
 use std::io::{self, ErrorKind, Read, Write};
 use std::rt::Files;
 
-/// A source over a reader. It tells no content.
+#[cfg(test)]
+mod tests;
+
+/// A source over a reader.
 #[derive(Drop)]
 pub struct StreamSource<R: Drop> {
     inner: R,
-    faults: u64,
-    ghost in_range: { faults ≤ 2 ^ 64 - 1 },
+    faults: FaultCount,
 }
 
 impl<R: Read + Drop> StreamSource<R> {
     /// A source that has counted no fault.
     pub fn new(inner: R) -> StreamSource<R>
-        ensures { ⟦<StreamSource<R> as Source>⟧.faults result ≡ 0 }
+        ensures left { ⟦<StreamSource<R> as Source>⟧.left result ≡ R.remaining inner }
+        ensures faults { ⟦<StreamSource<R> as Source>⟧.faults result ≡ 0 }
     {
-        StreamSource { inner, faults: 0 }
+        StreamSource {
+            inner,
+            faults: FaultCount::new(),
+        }
     }
 }
 
+/// Reads once, and again for as long as a signal interrupts it.
+fn read_uninterrupted<R: Read>(reader: &mut R, into: &mut [u8]) -> io::Result<usize>
+    ensures bound { ReadsAtMost result into.new }
+    ensures bytes { ReadConsumes (R.remaining reader.old) (R.remaining reader.new) result into.new }
+{
+    for _ in 1..u64::MAX {
+        match reader.read(into) {
+            Err(error) if error.kind() == ErrorKind::Interrupted => {}
+            result => return result,
+        }
+    }
+    reader.read(into)
+}
+
 impl<R: Read + Drop> Source for StreamSource<R> {
-    ghost left = { λ _. None };
+    ghost left = { λ source. R.remaining source.inner };
 
-    ghost faults = { λ source. source.faults };
+    ghost faults = { λ source. faults_in source.faults };
 
-    ghost counted = { λ source. source.in_range };
+    ghost counted = { λ source. faults_in_range source.faults };
 
     fn read(&mut self, into: &mut [u8]) -> Result<usize, Failed> {
-        match self.inner.read(into) {
+        match read_uninterrupted(&mut self.inner, into) {
             Ok(count) => Ok(count),
             Err(_) => {
-                self.faults = self.faults.saturating_add(1);
+                self.faults.rise();
                 Err(Failed)
             }
         }
     }
 }
 
-/// A sink over a writer. It doesn't tell what was written.
+/// A sink over a writer.
 #[derive(Drop)]
 pub struct StreamSink<W: Drop> {
     inner: W,
-    faults: u64,
-    ghost in_range: { faults ≤ 2 ^ 64 - 1 },
+    faults: FaultCount,
 }
 
 impl<W: Write + Drop> StreamSink<W> {
     /// A sink that has counted no fault.
     pub fn new(inner: W) -> StreamSink<W>
-        ensures { ⟦<StreamSink<W> as Sink>⟧.faults result ≡ 0 }
+        ensures written { ⟦<StreamSink<W> as Sink>⟧.written result ≡ W.contents inner }
+        ensures faults { ⟦<StreamSink<W> as Sink>⟧.faults result ≡ 0 }
     {
-        StreamSink { inner, faults: 0 }
-    }
-}
-
-impl<W: Write + Drop> Sink for StreamSink<W> {
-    ghost written = { λ _. None };
-
-    ghost faults = { λ sink. sink.faults };
-
-    ghost counted = { λ sink. sink.in_range };
-
-    fn write(&mut self, piece: &[u8]) -> Result<usize, Failed> {
-        match self.inner.write(piece) {
-            Ok(count) if 0 < count || piece.is_empty() => Ok(count),
-            _ => {
-                self.faults = self.faults.saturating_add(1);
-                Err(Failed)
-            }
+        StreamSink {
+            inner,
+            faults: FaultCount::new(),
         }
     }
 }
 
-/// The most bytes of a file that are fetched.
-const FETCHED: usize = 1_048_577;
-
-/// The first bytes of an opened file, or all of a shorter one.
-fn read_front<F: Read + Drop>(alloc: Global, file: F) -> io::Result<Vec<u8>>
-    ensures { IfOk result (λ bytes. length bytes.items ≤ 1048577) }
+/// Writes once, and again for as long as a signal interrupts it.
+fn write_uninterrupted<W: Write>(writer: &mut W, piece: &[u8]) -> io::Result<usize>
+    ensures bound { WritesAtMost result piece.now }
+    ensures bytes { WriteAppends (W.contents writer.old) (W.contents writer.new) result piece.now }
 {
-    let mut bytes = Vec::new(alloc);
-    file.take(FETCHED as u64).read_to_end(&mut bytes)?;
-    bytes.truncate(FETCHED);
-    Ok(bytes)
+    for _ in 1..u64::MAX {
+        match writer.write(piece) {
+            Err(error) if error.kind() == ErrorKind::Interrupted => {}
+            result => return result,
+        }
+    }
+    writer.write(piece)
+}
+
+impl<W: Write + Drop> Sink for StreamSink<W> {
+    ghost written = { λ sink. W.contents sink.inner };
+
+    ghost faults = { λ sink. faults_in sink.faults };
+
+    ghost counted = { λ sink. faults_in_range sink.faults };
+
+    fn write(&mut self, piece: &[u8]) -> Result<usize, Failed> {
+        match write_uninterrupted(&mut self.inner, piece) {
+            Ok(count) if 0 < count || piece.is_empty() => Ok(count),
+            _ => {
+                self.faults.rise();
+                Err(Failed)
+            }
+        }
+    }
 }
 
 /// The files of the system, by path. It tells no content.
 #[derive(Drop)]
 pub struct FileLibrary<'a, R: Files> {
     system: &'a R,
-    faults: u64,
-    ghost in_range: { faults ≤ 2 ^ 64 - 1 },
+    faults: FaultCount,
 }
 
 impl<'a, R: Files> FileLibrary<'a, R> {
@@ -107,46 +137,74 @@ impl<'a, R: Files> FileLibrary<'a, R> {
     pub fn new(system: &'a R) -> FileLibrary<'a, R>
         ensures { ⟦<FileLibrary<'a, R> as Library>⟧.faults result ≡ 0 }
     {
-        FileLibrary { system, faults: 0 }
+        FileLibrary {
+            system,
+            faults: FaultCount::new(),
+        }
     }
+}
+
+/// Whether a file couldn't be opened because there is none of that path: nothing has the name, or what should be a
+/// folder is a file.
+fn is_missing(error: &io::Error) -> bool
+    ensures { IsTrue result ↔ ((error_kind error.now ≡ ErrorKind.NotFound)
+        ⊎ (error_kind error.now ≡ ErrorKind.NotADirectory)) }
+{
+    matches!(error.kind(), ErrorKind::NotFound | ErrorKind::NotADirectory)
+}
+
+/// The first `FETCH_MAX` bytes of an opened file, or all of a shorter one.
+fn read_front<F: Read + Drop>(alloc: Global, file: F) -> Result<Vec<u8>, ReadFault>
+    ensures bound { IfOk result (λ bytes. length bytes.items ≤ FETCH_MAX) }
+    ensures front { IfOk result
+        (λ bytes. IfSome (F.remaining file) (λ content. bytes.items ≡ take FETCH_MAX content)) }
+{
+    let mut front = StreamSource::new(file.take(FETCH_MAX as u64));
+    read_all(alloc, &mut front, FETCH_MAX)
 }
 
 impl<'a, R: Files> Library for FileLibrary<'a, R> {
     ghost files = { λ _. None };
 
-    ghost faults = { λ library. library.faults };
+    ghost faults = { λ library. faults_in library.faults };
 
-    ghost counted = { λ library. library.in_range };
+    ghost counted = { λ library. faults_in_range library.faults };
 
     fn fetch(&mut self, alloc: Global, name: &str) -> Result<Option<Vec<u8>>, LibraryFault> {
-        let error = match File::open(self.system, name) {
-            Ok(file) => match read_front(alloc, file) {
-                Ok(bytes) => return Ok(Some(bytes)),
-                Err(error) => error,
-            },
-            Err(error) if error.kind() == ErrorKind::NotFound => return Ok(None),
-            Err(error) => error,
+        let front = match File::open(self.system, name) {
+            Ok(file) => read_front(alloc, file),
+            Err(error) if is_missing(&error) => return Ok(None),
+            Err(error) if error.kind() == ErrorKind::OutOfMemory => Err(ReadFault::Memory),
+            Err(_) => Err(ReadFault::Failed),
         };
-        if error.kind() == ErrorKind::OutOfMemory {
-            return Err(LibraryFault::Memory);
+        match front {
+            Ok(bytes) => Ok(Some(bytes)),
+            Err(ReadFault::Memory) => Err(LibraryFault::Memory),
+            Err(ReadFault::Failed) | Err(ReadFault::TooLong) => {
+                self.faults.rise();
+                Err(LibraryFault::Failed)
+            }
         }
-        self.faults = self.faults.saturating_add(1);
-        Err(LibraryFault::Failed)
     }
 }
 
-/// The words of the command line without the program's name. Where one of them isn't UTF-8 there are none.
-pub fn words_of(rt: &(impl env::Env + AllocGlobal)) -> Result<Words, Memory> {
-    let alloc = rt.alloc();
+/// The words behind the first of these texts.
+fn words_behind_first(alloc: Global, mut texts: Args) -> Result<Words, Memory>
+    ensures { IfOk result (λ words. words ≡ drop 1 (map string_bytes (into_iter_items texts))) }
+{
     let mut words = Words::new(alloc);
+    let _program = texts.next();
+    for text in texts {
+        words.push(Text::from_string(text)?)?;
+    }
+    Ok(words)
+}
+
+/// The words of the command line without the program's name. Where one of them isn't UTF-8 there are none.
+pub fn words_of(rt: &(impl Env + AllocGlobal)) -> Result<Words, Memory> {
     match env::args(rt) {
-        Ok(args) => {
-            for arg in args.skip(1) {
-                words.push(Text::of(alloc, arg.as_str())?)?;
-            }
-            Ok(words)
-        }
+        Ok(args) => words_behind_first(rt.alloc(), args),
         Err(error) if error.kind() == ErrorKind::OutOfMemory => Err(Memory),
-        Err(_) => Ok(words),
+        Err(_) => Ok(Words::new(rt.alloc())),
     }
 }

@@ -1,9 +1,8 @@
 //! The program over definitions.
 
 use crate::adapters::FileLibrary;
-use crate::tests::words_of;
-use crate::top::baggage_top;
-use outside::{Library, LibraryFault, MemoryLibrary, MemorySink, MemorySource, Open, SureLibrary};
+use crate::tests::{Streams, call};
+use outside::{Library, LibraryFault, MemoryLibrary, MemorySink, MemorySource, SureLibrary};
 use std::alloc::Global;
 use std::fs;
 use std::process::Abort;
@@ -13,8 +12,17 @@ use std::thread::Threads;
 /// Files, each in a line with its name, a bar, and what it holds; the words that check them; and what the program must answer.
 type Row = (&'static str, &'static str, u8, &'static str);
 
-const REQUEST: &str =
-    "bag Req { fixed32 id = 0; set<string> tags = 1; counter hops = 2; taint debug = 3; map<string, uint32> load = 4; }";
+/// A file with its name.
+const Q: &str =
+    "q.bdl|bag Req { fixed32 id = 0; set<string> tags = 1; counter hops = 2; taint debug = 3; map<string, uint32> load = 4; }";
+
+/// What that file holds.
+fn request() -> &'static [u8] {
+    match Q.split_once('|') {
+        Some((_, source)) => source.as_bytes(),
+        None => b"",
+    }
+}
 
 /// Calls the program with a library and compares its answer. The source fails each read, since `check` reads none.
 fn answers<R: Abort + Threads + Sync, L: Library>(
@@ -25,33 +33,22 @@ fn answers<R: Abort + Threads + Sync, L: Library>(
     status: u8,
     line: &str,
 ) -> Result<(), Fail> {
-    let words = words_of(alloc, words)?;
-    let mut source = MemorySource::new(Vec::new(alloc), 1, vec![in alloc; 0]?);
-    let mut out = MemorySink::new(alloc, 256, 3, Vec::new(alloc))?;
-    let mut errs = MemorySink::new(alloc, 256, 256, Vec::new(alloc))?;
-    let answer = baggage_top(
-        rt,
-        alloc,
-        &Open,
-        &words,
-        library,
-        &mut source,
-        &mut out,
-        &mut errs,
-    );
-    assert_eq!(rt; answer, status, "{line}");
+    let streams = Streams {
+        source: MemorySource::new(Vec::new(alloc), 1, vec![in alloc; 0]?),
+        out: MemorySink::new(alloc, 256, 3, Vec::new(alloc))?,
+        errs: MemorySink::new(alloc, 256, 256, Vec::new(alloc))?,
+    };
+    let came = call(rt, alloc, words, library, streams)?;
+    assert_eq!(rt; came.status, status, "{line}");
     let (said, silent) = if status == 0 {
-        (out.taken(), errs.taken())
+        (came.out.taken(), came.errs.taken())
     } else {
-        (errs.taken(), out.taken())
+        (came.errs.taken(), came.out.taken())
     };
     assert_eq!(rt; said, line.as_bytes());
     assert!(rt; silent.is_empty(), "{line}");
     Ok(())
 }
-
-const Q: &str =
-    "q.bdl|bag Req { fixed32 id = 0; set<string> tags = 1; counter hops = 2; taint debug = 3; map<string, uint32> load = 4; }";
 
 static ROWS: [Row; 24] = [
     (Q, "check q.bdl Req", 0, "ok 5\n"),
@@ -249,7 +246,7 @@ fn checks_many_files(rt: HostRuntime) -> Result<(), Fail> {
 fn a_failed_fetch_is_the_answer(rt: HostRuntime) -> Result<(), Fail> {
     let alloc = rt.alloc();
     let mut library = MemoryLibrary::new(alloc, vec![in alloc; 0]?);
-    library.add("q.bdl", REQUEST.as_bytes())?;
+    library.add("q.bdl", request())?;
     let words = "check q.bdl Req";
     answers(&rt, alloc, &mut library, words, 4, "library failed\n")?;
     // The next fetch doesn't fail.
@@ -260,27 +257,19 @@ fn a_failed_fetch_is_the_answer(rt: HostRuntime) -> Result<(), Fail> {
 fn a_failed_write_of_a_check_is_the_answer(rt: HostRuntime) -> Result<(), Fail> {
     let alloc = rt.alloc();
     let mut library = SureLibrary::new(alloc);
-    library.add("q.bdl", REQUEST.as_bytes())?;
+    library.add("q.bdl", request())?;
     for (line, said) in [
         ("check q.bdl Req", b"sink faile".as_slice()),
         ("check q.bdl Nix", b"definition".as_slice()),
     ] {
-        let words = words_of(alloc, line)?;
-        let mut source = MemorySource::new(Vec::new(alloc), 1, vec![in alloc; 0]?);
-        let mut out = MemorySink::new(alloc, 2, 1, Vec::new(alloc))?;
-        let mut errs = MemorySink::new(alloc, 12, 10, vec![in alloc; 1]?)?;
-        let answer = baggage_top(
-            &rt,
-            alloc,
-            &Open,
-            &words,
-            &mut library,
-            &mut source,
-            &mut out,
-            &mut errs,
-        );
-        assert_eq!(rt; answer, 5, "{line}");
-        assert_eq!(rt; errs.taken(), said, "{line}");
+        let streams = Streams {
+            source: MemorySource::new(Vec::new(alloc), 1, vec![in alloc; 0]?),
+            out: MemorySink::new(alloc, 2, 1, Vec::new(alloc))?,
+            errs: MemorySink::new(alloc, 12, 10, vec![in alloc; 1]?)?,
+        };
+        let came = call(&rt, alloc, line, &mut library, streams)?;
+        assert_eq!(rt; came.status, 5, "{line}");
+        assert_eq!(rt; came.errs.taken(), said, "{line}");
     }
     Ok(())
 }
@@ -288,7 +277,7 @@ fn a_failed_write_of_a_check_is_the_answer(rt: HostRuntime) -> Result<(), Fail> 
 #[test]
 fn checks_a_file_of_the_system(rt: HostRuntime) -> Result<(), Fail> {
     let alloc = rt.alloc();
-    fs::write(&rt, "q.bdl", REQUEST)?;
+    fs::write(&rt, "q.bdl", request())?;
     let mut library = FileLibrary::new(&rt);
     answers(&rt, alloc, &mut library, "check q.bdl Req", 0, "ok 5\n")?;
     fs::write(

@@ -1,25 +1,27 @@
 //! What the words of a command line ask for.
 
-ghost use Rattle.std.specs.Prelude.{◌≡◌, ◌<◌, [], ◌∷◌, IfSome, ℕ, List};
-ghost use Rattle.baggage_cli.specs.Asked.{asked, number_of, IsSound};
+ghost use Rattle.std.specs.Prelude.{◌≡◌, [], ◌∷◌};
+ghost use Rattle.std.specs.Option.{option_map};
+ghost use Rattle.baggage_cli.specs.Commands as spec;
 
 use outside::Words;
+use std::num::NonZeroU32;
 
-/// A command with its numbers. Names of files and bags stay in the words, so a command takes no memory.
-#[derive(Clone, Copy, Debug, PartialEq, Eq)]
-pub enum Command {
+/// A command with what it is asked for. The names stay in the words, so it takes no memory.
+#[derive(Clone, Copy, Debug)]
+pub enum Command<'a> {
     /// Cut one line of atoms to a budget of bytes.
-    Trim { budget: u32 },
+    Trim { budget: NonZeroU32 },
     /// Merge the contexts of all lines.
     Merge,
-    /// Count the slots of a bag of a definition.
-    Check,
+    /// Count the slots of a bag of the definition whose root is a file.
+    Check { file: &'a str, bag: &'a str },
 }
 
 /// A number from 1 to 4,294,967,295, without sign or leading zero.
-#[tactic(auto, unfolding(crate::specs::Asked::number_of))]
+#[tactic(auto, unfolding(crate::specs::Commands::number_of))]
 fn read_number(word: &str) -> Option<u32>
-    ensures { result ≡ number_of word.now }
+    ensures { result ≡ spec.number_of word.now }
 {
     let first = *word.as_bytes().first()?;
     if first == b'0' || first == b'+' {
@@ -29,10 +31,9 @@ fn read_number(word: &str) -> Option<u32>
 }
 
 /// The command that one word asks for.
-#[tactic(auto, unfolding(crate::specs::Asked::asked))]
-fn bare_command(name: &str) -> Option<Command>
-    ensures command { result ≡ asked (name.now ∷ []) }
-    ensures sound { IfSome result IsSound }
+#[tactic(auto, unfolding(crate::specs::Commands::command_of))]
+fn bare_command(name: &str) -> Option<Command<'static>>
+    ensures { option_map spec.task_of result ≡ spec.command_of (name.now ∷ []) }
 {
     match name {
         "merge" => Some(Command::Merge),
@@ -41,41 +42,38 @@ fn bare_command(name: &str) -> Option<Command>
 }
 
 /// The command that a word asks for with a number.
-#[tactic(auto, unfolding(crate::specs::Asked::asked, crate::specs::Asked::number_of))]
-fn numbered_command(name: &str, word: &str) -> Option<Command>
-    ensures command { result ≡ asked (name.now ∷ word.now ∷ []) }
-    ensures sound { IfSome result IsSound }
+#[tactic(auto, unfolding(crate::specs::Commands::command_of))]
+fn numbered_command(name: &str, word: &str) -> Option<Command<'static>>
+    ensures { option_map spec.task_of result ≡ spec.command_of (name.now ∷ word.now ∷ []) }
 {
     if name != "trim" {
         return None;
     }
-    let budget = read_number(word)?;
+    let budget = NonZeroU32::new(read_number(word)?)?;
     Some(Command::Trim { budget })
 }
 
 /// The command that a word asks for with a file and a bag.
-#[tactic(auto, unfolding(crate::specs::Asked::asked))]
-fn definition_command(name: &str) -> Option<Command>
-    ensures command { (file bag : List ℕ) → result ≡ asked (name.now ∷ file ∷ bag ∷ []) }
-    ensures sound { IfSome result IsSound }
+#[tactic(auto, unfolding(crate::specs::Commands::command_of))]
+fn definition_command<'a>(name: &str, file: &'a str, bag: &'a str) -> Option<Command<'a>>
+    ensures { option_map spec.task_of result ≡ spec.command_of (name.now ∷ file.now ∷ bag.now ∷ []) }
 {
     match name {
-        "check" => Some(Command::Check),
+        "check" => Some(Command::Check { file, bag }),
         _ => None,
     }
 }
 
 /// The command that the words ask for; `None` where they have no form.
-#[tactic(auto, unfolding(crate::specs::Asked::asked))]
-pub fn command_of(words: &Words) -> Option<Command>
-    ensures command { result ≡ asked words.now }
-    ensures sound { IfSome result IsSound }
+#[tactic(auto, unfolding(crate::specs::Commands::command_of))]
+pub fn command_of(words: &Words) -> Option<Command<'_>>
+    ensures { option_map spec.task_of result ≡ spec.command_of words.now }
 {
     let name = words.get(0)?.as_str();
     match words.len() {
         1 => bare_command(name),
         2 => numbered_command(name, words.get(1)?.as_str()),
-        3 => definition_command(name),
+        3 => definition_command(name, words.get(1)?.as_str(), words.get(2)?.as_str()),
         _ => None,
     }
 }

@@ -1,57 +1,77 @@
 //! How an outcome is delivered: an output to its sink, a refusal as a line and a status.
 
-ghost use Rattle.std.specs.Prelude.{◌≡◌, Ok};
+ghost use Rattle.std.specs.Prelude.{◌≡◌, Ok, string_bytes, MatchResult};
 ghost use Rattle.baggage_cli.specs.Scene.{change};
-ghost use Rattle.baggage_cli.specs.Answer.{Tells, Refuses, Delivers};
+ghost use Rattle.baggage_cli.specs.Delivery.{Tells, Notifies, Refuses, Delivers};
 
-use crate::refusals::Refusal;
+use crate::refusals::{Notice, Refusal, definition_line};
 use outside::{Failed, Memory, Sink, write_all};
 use std::alloc::Global;
 
-/// The status of a sink that failed.
-const SINK_FAILED: u8 = 5;
+/// The status of a definition with a fault.
+const DEFINITION_REFUSED: u8 = 1;
 
-/// Writes a line to the sink of errors. The answer is the line's status, or 5 where the sink failed.
-pub fn tell<E: Sink>(errs: &mut E, line: &[u8], status: u8) -> u8
+/// Writes a line to the sink of errors. The answer is the line's status, or that of a sink that failed.
+fn tell<E: Sink>(errs: &mut E, line: &str, status: u8) -> u8
     ensures { Tells status line.now (change E.written E.faults errs.old errs.new) result }
 {
-    match write_all(errs, line) {
+    match write_all(errs, line.as_bytes()) {
         Ok(()) => status,
-        Err(Failed) => SINK_FAILED,
+        Err(Failed) => Notice::SinkFailed.status(),
     }
 }
 
-/// Writes an output. Where its sink fails, that is said to the sink of errors and the answer is 5.
-pub fn deliver<K: Sink, E: Sink>(out: &mut K, errs: &mut E, output: &[u8]) -> u8
-    ensures { Delivers (Ok output.now) (change K.written K.faults out.old out.new) (change E.written E.faults errs.old errs.new) result }
+/// Says a notice to the sink of errors.
+pub fn notify<E: Sink>(errs: &mut E, notice: Notice) -> u8
+    ensures { Notifies notice (change E.written E.faults errs.old errs.new) result }
 {
-    match write_all(out, output) {
-        Ok(()) => 0,
-        Err(Failed) => {
-            let _ = write_all(errs, b"sink failed\n");
-            SINK_FAILED
-        }
+    tell(errs, notice.line(), notice.status())
+}
+
+/// Says a line that takes memory. Where there was none for it, that is said instead.
+fn tell_in_full<E: Sink>(errs: &mut E, line: Result<String, Memory>, status: u8) -> u8
+    ensures { MatchResult line
+        (λ line. Tells status (string_bytes line) (change E.written E.faults errs.old errs.new) result)
+        (λ _. Notifies Notice.Memory (change E.written E.faults errs.old errs.new) result) }
+{
+    match line {
+        Ok(line) => tell(errs, line.as_str(), status),
+        Err(Memory) => notify(errs, Notice::Memory),
     }
 }
 
-/// Says a refusal to the sink of errors. Only a line with numbers takes memory; where there is none, that is said instead.
+/// Says a refusal to the sink of errors.
 pub fn refuse<E: Sink>(alloc: Global, errs: &mut E, refusal: &Refusal) -> u8
     ensures { Refuses refusal.now (change E.written E.faults errs.old errs.new) result }
 {
     match refusal {
-        Refusal::LibraryFailed => tell(errs, b"library failed\n", 4),
-        Refusal::SourceFailed => tell(errs, b"source failed\n", 4),
-        Refusal::Memory => tell(errs, b"memory\n", 6),
-        _ => tell_in_full(alloc, errs, refusal),
+        Refusal::Plain(notice) => notify(errs, *notice),
+        Refusal::Input { line, fault } => {
+            tell_in_full(errs, fault.line(alloc, *line), fault.status())
+        }
+        Refusal::Definition {
+            file,
+            line,
+            column,
+            code,
+        } => {
+            let line = definition_line(alloc, file.as_str(), *line, *column, *code);
+            tell_in_full(errs, line, DEFINITION_REFUSED)
+        }
     }
 }
 
-/// Says a refusal whose line takes memory.
-fn tell_in_full<E: Sink>(alloc: Global, errs: &mut E, refusal: &Refusal) -> u8
-    ensures { Refuses refusal.now (change E.written E.faults errs.old errs.new) result }
+/// Writes an output. Where its sink fails, that is said to the sink of errors.
+pub fn deliver<K: Sink, E: Sink>(out: &mut K, errs: &mut E, output: &[u8]) -> u8
+    ensures { Delivers (Ok output.now) (change K.written K.faults out.old out.new)
+        (change E.written E.faults errs.old errs.new) result }
 {
-    match refusal.line(alloc) {
-        Ok(line) => tell(errs, line.as_bytes(), refusal.status()),
-        Err(Memory) => tell(errs, b"memory\n", 6),
+    match write_all(out, output) {
+        Ok(()) => 0,
+        Err(Failed) => {
+            // The output's failure is the answer, whatever becomes of its line.
+            let _ = notify(errs, Notice::SinkFailed);
+            Notice::SinkFailed.status()
+        }
     }
 }

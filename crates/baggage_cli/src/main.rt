@@ -7,8 +7,6 @@ mod check_tests;
 mod checking;
 mod commands;
 mod delivery;
-mod hex_lines;
-mod input_lines;
 mod merging;
 mod reading;
 mod refusals;
@@ -18,19 +16,51 @@ mod top;
 mod trimming;
 
 use adapters::{FileLibrary, StreamSink, StreamSource, words_of};
-use outside::{Memory, Open};
+use outside::{Memory, Open, Words};
+use refusals::Notice;
+use std::alloc::Global;
+use std::io::{Read, Write};
 use std::process::ExitCode;
+use std::rt::Files;
+use std::thread::Threads;
 use top::baggage_top;
 
 fn main(rt: HostRuntime) -> ExitCode {
-    let alloc = rt.alloc();
-    let mut library = FileLibrary::new(&rt);
-    let mut source = StreamSource::new(rt.stdin().lock());
-    let mut out = StreamSink::new(rt.stdout());
-    let mut errs = StreamSink::new(rt.stderr());
-    let status = match words_of(&rt) {
+    let words = words_of(&rt);
+    let status = run(
+        &rt,
+        rt.alloc(),
+        words,
+        rt.stdin().lock(),
+        rt.stdout(),
+        rt.stderr(),
+    );
+    ExitCode::from(status)
+}
+
+/// Does what the words ask for, over the files of the system and these streams. The answer is the status that the
+/// program ends with.
+fn run<R, I, O, E>(
+    system: &R,
+    alloc: Global,
+    words: Result<Words, Memory>,
+    input: I,
+    output: O,
+    errors: E,
+) -> u8
+where
+    R: Threads + Sync + Files,
+    I: Read + Drop,
+    O: Write + Drop,
+    E: Write + Drop,
+{
+    let mut library = FileLibrary::new(system);
+    let mut source = StreamSource::new(input);
+    let mut out = StreamSink::new(output);
+    let mut errs = StreamSink::new(errors);
+    match words {
         Ok(words) => baggage_top(
-            &rt,
+            system,
             alloc,
             &Open,
             &words,
@@ -39,7 +69,6 @@ fn main(rt: HostRuntime) -> ExitCode {
             &mut out,
             &mut errs,
         ),
-        Err(Memory) => delivery::tell(&mut errs, b"memory\n", 6),
-    };
-    ExitCode::from(status)
+        Err(Memory) => delivery::notify(&mut errs, Notice::Memory),
+    }
 }

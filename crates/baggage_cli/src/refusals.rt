@@ -1,15 +1,16 @@
 //! Why a command gives no output.
 
 ghost use Rattle.std.specs.Prelude.{◌≡◌, IfOk, string_bytes};
-ghost use Rattle.baggage_cli.specs.Refused.{status_of, line_of};
+ghost use Rattle.baggage_cli.specs.Refusals as spec;
 
 use bdl_check::{DefCode, DefFault};
 use outside::{Memory, Text};
 use std::alloc::{AllocFailed, Global};
 use std::fmt;
+use text_lines::HexCode;
 use wire_bytes::ByteCode;
 
-/// What is wrong with an input or a line of it.
+/// What is wrong with an input as a whole, or with the number of its lines.
 #[derive(Clone, Copy, Debug, PartialEq, Eq)]
 pub enum InputCode {
     /// The input is longer than a command reads.
@@ -20,10 +21,32 @@ pub enum InputCode {
     Form,
     /// The line is one more than a command reads.
     TooManyLines,
-    /// The line has more bytes than a line of digits may have.
-    HexTooLong,
+}
+
+/// What is wrong with an input or a line of it.
+#[derive(Clone, Copy, Debug, PartialEq, Eq)]
+pub enum InputFault {
+    /// The input has no such line, or too much of it.
+    Code(InputCode),
     /// The line isn't one of hexadecimal digits.
-    BadHex,
+    Hex(HexCode),
+    /// The bytes of the line aren't those of a list or a context.
+    Bytes { offset: usize, code: ByteCode },
+}
+
+/// A refusal with nothing to say of the input: its line is always the same, and takes no memory.
+#[derive(Clone, Copy, Debug, PartialEq, Eq)]
+pub enum Notice {
+    /// The library counted a fault.
+    LibraryFailed,
+    /// The source counted a fault.
+    SourceFailed,
+    /// The sink of the output, or that of the errors, counted a fault.
+    SinkFailed,
+    /// There is no memory for the work.
+    Memory,
+    /// The words ask for no command.
+    WordsRefused,
 }
 
 /// Why a command gives no output.
@@ -32,13 +55,7 @@ pub enum Refusal {
     /// A line of the input is bad. Line 0 is the input as a whole.
     Input {
         line: u64,
-        code: InputCode,
-    },
-    /// The bytes of a line aren't those of a list or a context.
-    Context {
-        line: u64,
-        offset: usize,
-        code: ByteCode,
+        fault: InputFault,
     },
     /// A definition has this first fault, at a line and a byte of that line of one of its files.
     Definition {
@@ -47,17 +64,13 @@ pub enum Refusal {
         column: u32,
         code: DefCode,
     },
-    /// The library counted a fault.
-    LibraryFailed,
-    /// The source counted a fault.
-    SourceFailed,
-    /// There is no memory for the work.
-    Memory,
+    /// Nothing that the input or the definition is to blame for.
+    Plain(Notice),
 }
 
 impl fmt::Display for InputCode {
     ghost use Rattle.std.specs.Prelude.{Some};
-    ghost use Rattle.baggage_cli.specs.Refused.{input_name};
+    ghost use Rattle.baggage_cli.specs.Refusals.{input_name};
 
     ghost output = { λ code. Some (input_name code) };
 
@@ -67,37 +80,37 @@ impl fmt::Display for InputCode {
             InputCode::NoLine => write!(f, "NoLine"),
             InputCode::Form => write!(f, "Form"),
             InputCode::TooManyLines => write!(f, "TooManyLines"),
-            InputCode::HexTooLong => write!(f, "HexTooLong"),
-            InputCode::BadHex => write!(f, "BadHex"),
         }
     }
 }
 
 impl From<Memory> for Refusal {
     ghost use Rattle.std.specs.Prelude.{◌≡◌};
-    ghost use Rattle.baggage_cli.specs.declared.refusals.Refusal.TheVariants.{Memory};
+    ghost use Rattle.baggage_cli.specs.declared.refusals.Notice.TheVariants.{Memory};
+    ghost use Rattle.baggage_cli.specs.declared.refusals.Refusal.TheVariants.{Plain};
 
-    ghost from_gives = { λ _ refusal. refusal ≡ Memory };
+    ghost from_gives = { λ _ refusal. refusal ≡ Plain Memory };
 
     fn from(_want: Memory) -> Refusal {
-        Refusal::Memory
+        Refusal::Plain(Notice::Memory)
     }
 }
 
 impl<T: Drop> From<AllocFailed<T>> for Refusal {
     ghost use Rattle.std.specs.Prelude.{◌≡◌};
-    ghost use Rattle.baggage_cli.specs.declared.refusals.Refusal.TheVariants.{Memory};
+    ghost use Rattle.baggage_cli.specs.declared.refusals.Notice.TheVariants.{Memory};
+    ghost use Rattle.baggage_cli.specs.declared.refusals.Refusal.TheVariants.{Plain};
 
-    ghost from_gives = { λ _ refusal. refusal ≡ Memory };
+    ghost from_gives = { λ _ refusal. refusal ≡ Plain Memory };
 
     fn from(_refused: AllocFailed<T>) -> Refusal {
-        Refusal::Memory
+        Refusal::Plain(Notice::Memory)
     }
 }
 
 impl From<DefFault> for Refusal {
     ghost use Rattle.std.specs.Prelude.{◌≡◌};
-    ghost use Rattle.baggage_cli.specs.Refused.{refusal_of};
+    ghost use Rattle.baggage_cli.specs.Refusals.{refusal_of};
 
     ghost from_gives = { λ fault refusal. refusal ≡ refusal_of fault };
 
@@ -114,48 +127,75 @@ impl From<DefFault> for Refusal {
                 column,
                 code,
             },
-            DefFault::Failed => Refusal::LibraryFailed,
-            DefFault::Memory => Refusal::Memory,
+            DefFault::Failed => Refusal::Plain(Notice::LibraryFailed),
+            DefFault::Memory => Refusal::Plain(Notice::Memory),
         }
     }
 }
 
-impl Refusal {
+impl InputFault {
     /// The status that the program ends with.
-    pub fn status(&self) -> u8
-        ensures { result ≡ status_of self.now }
+    pub fn status(self) -> u8
+        ensures { result ≡ spec.input_status self }
     {
         match self {
-            Refusal::Input { .. } => 2,
-            Refusal::Context { .. } => 3,
-            Refusal::Definition { .. } => 1,
-            Refusal::LibraryFailed => 4,
-            Refusal::SourceFailed => 4,
-            Refusal::Memory => 6,
+            InputFault::Code(_) => 2,
+            InputFault::Hex(_) => 2,
+            InputFault::Bytes { .. } => 3,
         }
     }
 
-    /// The line that is written to the sink of errors.
-    pub fn line(&self, alloc: Global) -> Result<String, Memory>
-        ensures { IfOk result (λ line. string_bytes line ≡ line_of self.now) }
+    /// The line that says it of a line of an input.
+    pub fn line(self, alloc: Global, line: u64) -> Result<String, Memory>
+        ensures { IfOk result (λ said. string_bytes said ≡ spec.input_line line self) }
     {
         match self {
-            Refusal::Input { line, code } => Ok(format!(in alloc; "input line {line} {code}\n")?),
-            Refusal::Context { line, offset, code } => Ok(format!(in alloc;
+            InputFault::Code(code) => Ok(format!(in alloc; "input line {line} {code}\n")?),
+            InputFault::Hex(code) => Ok(format!(in alloc; "input line {line} {code}\n")?),
+            InputFault::Bytes { offset, code } => Ok(format!(in alloc;
                 "context line {line} offset {offset} {code}\n"
             )?),
-            Refusal::Definition {
-                file,
-                line,
-                column,
-                code,
-            } => {
-                let file = file.as_str();
-                Ok(format!(in alloc; "definition {file} {line}:{column} {code}\n")?)
-            }
-            Refusal::LibraryFailed => Ok(String::from_str(alloc, "library failed\n")?),
-            Refusal::SourceFailed => Ok(String::from_str(alloc, "source failed\n")?),
-            Refusal::Memory => Ok(String::from_str(alloc, "memory\n")?),
+        }
+    }
+}
+
+/// The line that says what is wrong with a definition.
+pub fn definition_line(
+    alloc: Global,
+    file: &str,
+    line: u32,
+    column: u32,
+    code: DefCode,
+) -> Result<String, Memory>
+    ensures { IfOk result (λ said. string_bytes said ≡ spec.definition_line file.now line column code) }
+{
+    Ok(format!(in alloc; "definition {file} {line}:{column} {code}\n")?)
+}
+
+impl Notice {
+    /// The status that the program ends with.
+    pub fn status(self) -> u8
+        ensures { result ≡ spec.notice_status self }
+    {
+        match self {
+            Notice::LibraryFailed => 4,
+            Notice::SourceFailed => 4,
+            Notice::SinkFailed => 5,
+            Notice::Memory => 6,
+            Notice::WordsRefused => 7,
+        }
+    }
+
+    /// The line that says it.
+    pub fn line(self) -> &'static str
+        ensures { result.now ≡ spec.notice_line self }
+    {
+        match self {
+            Notice::LibraryFailed => "library failed\n",
+            Notice::SourceFailed => "source failed\n",
+            Notice::SinkFailed => "sink failed\n",
+            Notice::Memory => "memory\n",
+            Notice::WordsRefused => "words refused\n",
         }
     }
 }

@@ -1,11 +1,86 @@
 //! The program over objects in memory.
 
 use crate::top::baggage_top;
-use outside::{MemorySink, MemorySource, Open, SureLibrary, SureSink, SureSource, Text, Words};
+use outside::{
+    Library, MemorySink, MemorySource, Open, SureLibrary, SureSink, SureSource, Text, Words,
+    read_all,
+};
 use std::alloc::Global;
 use std::process::Abort;
 use std::test::Fail;
 use std::thread::Threads;
+use text_lines::{DIGITS_MAX, INPUT_MAX};
+
+/// The streams of a call.
+#[derive(Drop)]
+pub struct Streams {
+    pub source: MemorySource,
+    pub out: MemorySink,
+    pub errs: MemorySink,
+}
+
+/// What a call came to, with what is left of its source.
+#[derive(Drop)]
+pub struct Came {
+    pub status: u8,
+    pub out: MemorySink,
+    pub errs: MemorySink,
+    pub left: Vec<u8>,
+}
+
+/// The words of a command line, cut at blanks.
+fn words_of(alloc: Global, line: &str) -> Result<Words, Fail> {
+    let mut words = Words::new(alloc);
+    for word in line.split_whitespace() {
+        words.push(Text::of(alloc, word)?)?;
+    }
+    Ok(words)
+}
+
+/// Calls the program.
+pub fn call<R: Abort + Threads + Sync, L: Library>(
+    rt: &R,
+    alloc: Global,
+    line: &str,
+    library: &mut L,
+    streams: Streams,
+) -> Result<Came, Fail> {
+    let words = words_of(alloc, line)?;
+    let Streams {
+        mut source,
+        mut out,
+        mut errs,
+    } = streams;
+    let status = baggage_top(
+        rt,
+        alloc,
+        &Open,
+        &words,
+        library,
+        &mut source,
+        &mut out,
+        &mut errs,
+    );
+    let left = match read_all(alloc, &mut source, 1 << 30) {
+        Ok(left) => left,
+        Err(_) => Vec::new(alloc),
+    };
+    Ok(Came {
+        status,
+        out,
+        errs,
+        left,
+    })
+}
+
+/// Streams over an input, none of which fails.
+fn sound_streams(alloc: Global, input: &[u8]) -> Result<Streams, Fail> {
+    Ok(Streams {
+        source: MemorySource::new(Vec::from_slice(alloc, input)?, 65_521, Vec::new(alloc)),
+        out: MemorySink::new(alloc, 65_536, 1021, Vec::new(alloc))?,
+        errs: MemorySink::new(alloc, 4096, 9, Vec::new(alloc))?,
+    })
+}
 
 /// A call with ample memory: its words, its input, and what it must answer.
 #[derive(Drop)]
@@ -39,35 +114,16 @@ fn refuses(words: &'static str, input: &'static [u8], status: u8, errs: &'static
     }
 }
 
-/// The words of a command line, cut at blanks.
-pub fn words_of(alloc: Global, line: &str) -> Result<Words, Fail> {
-    let mut words = Words::new(alloc);
-    for word in line.split_whitespace() {
-        words.push(Text::of(alloc, word)?)?;
-    }
-    Ok(words)
-}
-
-/// Calls the program over objects that never fail and compares its answer.
+/// Calls the program over streams that never fail and compares its answer. Refused words leave the input.
 fn holds<R: Abort + Threads + Sync>(rt: &R, alloc: Global, case: &Case) -> Result<(), Fail> {
-    let words = words_of(alloc, case.words)?;
     let mut library = SureLibrary::new(alloc);
-    let mut source = SureSource::new(Vec::from_slice(alloc, case.input)?, 7);
-    let mut out = MemorySink::new(alloc, 4096, 9, Vec::new(alloc))?;
-    let mut errs = MemorySink::new(alloc, 4096, 4096, Vec::new(alloc))?;
-    let status = baggage_top(
-        rt,
-        alloc,
-        &Open,
-        &words,
-        &mut library,
-        &mut source,
-        &mut out,
-        &mut errs,
-    );
-    assert_eq!(rt; status, case.status, "{}", case.words);
-    assert_eq!(rt; out.taken(), case.out, "{}", case.words);
-    assert_eq!(rt; errs.taken(), case.errs, "{}", case.words);
+    let streams = sound_streams(alloc, case.input)?;
+    let came = call(rt, alloc, case.words, &mut library, streams)?;
+    let left: &[u8] = if case.status == 7 { case.input } else { b"" };
+    assert_eq!(rt; came.status, case.status, "{}", case.words);
+    assert_eq!(rt; came.out.taken(), case.out, "{}", case.words);
+    assert_eq!(rt; came.errs.taken(), case.errs, "{}", case.words);
+    assert_eq!(rt; came.left.as_slice(), left, "{}", case.words);
     Ok(())
 }
 
@@ -186,6 +242,17 @@ fn merges_lines(rt: HostRuntime) -> Result<(), Fail> {
             b"02f80000\n02f800050000000009\n02f801020061\n-\n02f801020061\n",
             b"02f8000005000000000902f801020061\n",
         ),
+    ];
+    for case in &cases {
+        holds(&rt, alloc, case)?;
+    }
+    Ok(())
+}
+
+#[test]
+fn refuses_lines_of_no_context(rt: HostRuntime) -> Result<(), Fail> {
+    let alloc = rt.alloc();
+    let cases = [
         refuses("merge", b"03f800", 3, b"context line 1 offset 0 CutBody\n"),
         refuses("merge", b"80", 3, b"context line 1 offset 0 CutLength\n"),
         refuses("merge", b"8000", 3, b"context line 1 offset 0 LongForm\n"),
@@ -245,33 +312,19 @@ fn answers<R: Abort + Threads + Sync>(
     rt: &R,
     alloc: Global,
     words: &str,
-    input: Vec<u8>,
+    input: &[u8],
     status: u8,
     line: &[u8],
 ) -> Result<(), Fail> {
-    let words = words_of(alloc, words)?;
     let length = input.len();
     let mut library = SureLibrary::new(alloc);
-    let mut source = SureSource::new(input, 65_536);
-    let mut out = MemorySink::new(alloc, 65_536, 4096, Vec::new(alloc))?;
-    let mut errs = MemorySink::new(alloc, 64, 64, Vec::new(alloc))?;
-    let answer = baggage_top(
-        rt,
-        alloc,
-        &Open,
-        &words,
-        &mut library,
-        &mut source,
-        &mut out,
-        &mut errs,
-    );
-    assert_eq!(rt; answer, status, "{length} bytes");
-    let said = if status == 0 {
-        out.taken()
+    let came = call(rt, alloc, words, &mut library, sound_streams(alloc, input)?)?;
+    assert_eq!(rt; came.status, status, "{length} bytes");
+    if status == 0 {
+        assert_eq!(rt; came.out.taken(), line, "{length} bytes");
     } else {
-        errs.taken()
-    };
-    assert_eq!(rt; said, line, "{length} bytes");
+        assert_eq!(rt; came.errs.taken(), line, "{length} bytes");
+    }
     Ok(())
 }
 
@@ -311,23 +364,17 @@ fn refuses_words_without_a_form(rt: HostRuntime) -> Result<(), Fail> {
 #[test]
 fn reads_the_longest_line(rt: HostRuntime) -> Result<(), Fail> {
     let alloc = rt.alloc();
+    let long = b"input line 1 HexTooLong\n".as_slice();
     for (count, status, line) in [
-        (2_097_152, 0, "00\n"),
-        (2_097_153, 2, "input line 1 HexTooLong\n"),
-        (2_097_154, 2, "input line 1 HexTooLong\n"),
-        (3_000_000, 2, "input line 1 HexTooLong\n"),
+        (DIGITS_MAX, 0, b"00\n".as_slice()),
+        (DIGITS_MAX + 1, 2, long),
+        (DIGITS_MAX + 2, 2, long),
+        (3_000_000, 2, long),
     ] {
         let mut input = vec![in alloc; b'0'; count]?;
-        answers(
-            &rt,
-            alloc,
-            "trim 1",
-            input.clone()?,
-            status,
-            line.as_bytes(),
-        )?;
+        answers(&rt, alloc, "trim 1", &input, status, line)?;
         input.extend_from_slice(b"\r\n")?;
-        answers(&rt, alloc, "trim 1", input, status, line.as_bytes())?;
+        answers(&rt, alloc, "trim 1", &input, status, line)?;
     }
     Ok(())
 }
@@ -335,28 +382,22 @@ fn reads_the_longest_line(rt: HostRuntime) -> Result<(), Fail> {
 #[test]
 fn reads_the_longest_input(rt: HostRuntime) -> Result<(), Fail> {
     let alloc = rt.alloc();
-    let comment = vec![in alloc; b'#'; 16_777_216]?;
-    answers(&rt, alloc, "merge", comment.clone()?, 0, b"-\n")?;
-    answers(
+    let mut input = vec![in alloc; b'#'; INPUT_MAX]?;
+    answers(&rt, alloc, "merge", &input, 0, b"-\n")?;
+    answers(&rt, alloc, "trim 9", &input, 2, b"input line 0 NoLine\n")?;
+    input.extend_from_slice(b"\n-")?;
+    let long = b"input line 0 TooLong\n";
+    answers(&rt, alloc, "merge", &input, 2, long)?;
+    answers(&rt, alloc, "trim 9", &input, 2, long)?;
+    let mut library = SureLibrary::new(alloc);
+    let came = call(
         &rt,
         alloc,
-        "trim 9",
-        comment.clone()?,
-        2,
-        b"input line 0 NoLine\n",
+        "merge",
+        &mut library,
+        sound_streams(alloc, &input)?,
     )?;
-    let mut longer = comment;
-    longer.push(b'\n')?;
-    for words in ["merge", "trim 9"] {
-        answers(
-            &rt,
-            alloc,
-            words,
-            longer.clone()?,
-            2,
-            b"input line 0 TooLong\n",
-        )?;
-    }
+    assert_eq!(rt; came.left.as_slice(), b"-".as_slice());
     Ok(())
 }
 
@@ -382,62 +423,29 @@ fn merges_as_many_lines_as_may_be(rt: HostRuntime) -> Result<(), Fail> {
     for _ in 0..4096 {
         same.extend_from_slice(b"02f800\n")?;
     }
-    answers(&rt, alloc, "merge", same.clone()?, 0, b"02f800\n")?;
+    answers(&rt, alloc, "merge", &same, 0, b"02f800\n")?;
     same.extend_from_slice(b"02f800")?;
     answers(
         &rt,
         alloc,
         "merge",
-        same,
+        &same,
         2,
         b"input line 4097 TooManyLines\n",
     )?;
     let lines = data_lines(alloc)?;
-    answers(&rt, alloc, "merge", lines.clone()?, 0, merged.as_slice())?;
-    let mut more = lines.clone()?;
-    more.extend_from_slice(b"#\n\n")?;
-    answers(&rt, alloc, "merge", more, 0, merged.as_slice())?;
-    for line in ["-\n", "0\n", "0101"] {
+    answers(&rt, alloc, "merge", &lines, 0, merged.as_slice())?;
+    let many = b"input line 8193 TooManyLines\n".as_slice();
+    for (line, status, said) in [
+        ("#\n\n", 0, merged.as_slice()),
+        ("-\n", 2, many),
+        ("0\n", 2, many),
+        ("0101", 2, many),
+    ] {
         let mut more = lines.clone()?;
         more.extend_from_slice(line.as_bytes())?;
-        answers(
-            &rt,
-            alloc,
-            "merge",
-            more,
-            2,
-            b"input line 8193 TooManyLines\n",
-        )?;
+        answers(&rt, alloc, "merge", &more, status, said)?;
     }
-    Ok(())
-}
-
-/// Reads the one line byte by byte, with one of the reads failing, and compares the answer.
-fn fails_at_a_read<R: Abort + Threads + Sync>(
-    rt: &R,
-    alloc: Global,
-    words: &Words,
-    read: u64,
-) -> Result<(), Fail> {
-    let mut content = Vec::from_slice(alloc, LINE)?;
-    content.push(b'\n')?;
-    let mut library = SureLibrary::new(alloc);
-    let mut source = MemorySource::new(content, 1, vec![in alloc; read]?);
-    let mut out = MemorySink::new(alloc, 64, 64, Vec::new(alloc))?;
-    let mut errs = MemorySink::new(alloc, 64, 64, Vec::new(alloc))?;
-    let status = baggage_top(
-        rt,
-        alloc,
-        &Open,
-        words,
-        &mut library,
-        &mut source,
-        &mut out,
-        &mut errs,
-    );
-    assert_eq!(rt; status, 4, "read {read}");
-    assert!(rt; out.taken().is_empty(), "read {read}");
-    assert_eq!(rt; errs.taken(), b"source failed\n".as_slice(), "read {read}");
     Ok(())
 }
 
@@ -445,112 +453,123 @@ fn fails_at_a_read<R: Abort + Threads + Sync>(
 fn a_failed_read_is_the_answer(rt: HostRuntime) -> Result<(), Fail> {
     let alloc = rt.alloc();
     for line in ["trim 9", "merge"] {
-        let words = words_of(alloc, line)?;
-        // Thirty digits, the line feed, and the read that finds the end.
+        // One byte a read: thirty digits, the line feed, and the read that finds the end.
         for read in 0..32 {
-            fails_at_a_read(&rt, alloc, &words, read)?;
+            let mut library = SureLibrary::new(alloc);
+            let mut content = Vec::from_slice(alloc, LINE)?;
+            content.push(b'\n')?;
+            let mut streams = sound_streams(alloc, b"")?;
+            streams.source = MemorySource::new(content, 1, vec![in alloc; read]?);
+            let came = call(&rt, alloc, line, &mut library, streams)?;
+            assert_eq!(rt; came.status, 4, "{line} {read}");
+            assert!(rt; came.out.taken().is_empty(), "{line} {read}");
+            assert_eq!(rt;
+                came.errs.taken(),
+                b"source failed\n".as_slice(),
+                "{line} {read}"
+            );
         }
     }
     Ok(())
 }
 
+/// A call with a sink of the output that takes one byte a write, or a sink of the errors, that fails: the room of both, the
+/// write of each that fails, and what they must have taken.
+type Failing = (
+    &'static str,
+    &'static [u8],
+    [usize; 2],
+    [u64; 2],
+    [&'static [u8]; 2],
+);
+
+/// No write fails.
+const NEVER: u64 = 99;
+
 #[test]
 fn a_failed_write_is_the_answer(rt: HostRuntime) -> Result<(), Fail> {
     let alloc = rt.alloc();
-    let words = words_of(alloc, "trim 10")?;
     let whole = b"02f80005000000000700\n";
-    // One byte a write, and one of the writes fails.
+    let said = b"sink failed\n".as_slice();
     for write in 0..21 {
-        let mut library = SureLibrary::new(alloc);
-        let mut source = SureSource::new(Vec::from_slice(alloc, LINE)?, 64);
-        let mut out = MemorySink::new(alloc, 64, 1, vec![in alloc; write as u64]?)?;
-        let mut errs = MemorySink::new(alloc, 64, 64, Vec::new(alloc))?;
-        assert_eq!(rt;
-            baggage_top(
-                &rt,
-                alloc,
-                &Open,
-                &words,
-                &mut library,
-                &mut source,
-                &mut out,
-                &mut errs
-            ),
-            5,
-            "write {write}"
+        let failing = (
+            "trim 10",
+            LINE,
+            [64, 64],
+            [write as u64, NEVER],
+            [&whole[..write], said],
         );
-        assert_eq!(rt; out.taken(), &whole[..write], "write {write}");
-        assert_eq!(rt; errs.taken(), b"sink failed\n".as_slice(), "write {write}");
+        fails(&rt, alloc, failing)?;
     }
-    // A sink with room for five bytes, and a sink of errors that fails too.
-    let mut library = SureLibrary::new(alloc);
-    let mut source = SureSource::new(Vec::from_slice(alloc, LINE)?, 64);
-    let mut out = MemorySink::new(alloc, 5, 64, Vec::new(alloc))?;
-    let mut errs = MemorySink::new(alloc, 4, 64, Vec::new(alloc))?;
-    assert_eq!(rt;
-        baggage_top(
-            &rt,
-            alloc,
-            &Open,
-            &words,
-            &mut library,
-            &mut source,
-            &mut out,
-            &mut errs
+    for failing in [
+        (
+            "trim 10",
+            LINE,
+            [5, 4],
+            [NEVER, NEVER],
+            [b"02f80".as_slice(), b"sink".as_slice()],
         ),
-        5
-    );
-    assert_eq!(rt; out.taken(), b"02f80".as_slice());
-    assert_eq!(rt; errs.taken(), b"sink".as_slice());
+        (
+            "trim 0",
+            LINE,
+            [64, 64],
+            [NEVER, 0],
+            [b"".as_slice(), b"".as_slice()],
+        ),
+        (
+            "trim 9",
+            b"80".as_slice(),
+            [64, 64],
+            [NEVER, 0],
+            [b"".as_slice(), b"".as_slice()],
+        ),
+        (
+            "merge",
+            b"0".as_slice(),
+            [64, 5],
+            [NEVER, NEVER],
+            [b"".as_slice(), b"input".as_slice()],
+        ),
+    ] {
+        fails(&rt, alloc, failing)?;
+    }
+    Ok(())
+}
+
+/// Calls the program with such sinks. The answer is always that of a failed sink.
+fn fails<R: Abort + Threads + Sync>(rt: &R, alloc: Global, failing: Failing) -> Result<(), Fail> {
+    let (line, input, room, write, taken) = failing;
+    let mut library = SureLibrary::new(alloc);
+    let streams = Streams {
+        source: MemorySource::new(Vec::from_slice(alloc, input)?, 64, Vec::new(alloc)),
+        out: MemorySink::new(alloc, room[0], 1, vec![in alloc; write[0]]?)?,
+        errs: MemorySink::new(alloc, room[1], 64, vec![in alloc; write[1]]?)?,
+    };
+    let came = call(rt, alloc, line, &mut library, streams)?;
+    assert_eq!(rt; came.status, 5, "{line} {}", write[0]);
+    assert_eq!(rt; came.out.taken(), taken[0], "{line} {}", write[0]);
+    assert_eq!(rt; came.errs.taken(), taken[1], "{line} {}", write[0]);
     Ok(())
 }
 
 #[test]
-fn a_refusal_that_cannot_be_said_is_a_failed_write(rt: HostRuntime) -> Result<(), Fail> {
+fn sure_streams_serve_as_well(rt: HostRuntime) -> Result<(), Fail> {
     let alloc = rt.alloc();
-    for (line, input) in [
-        ("trim 0", LINE),
-        ("trim 9", b"80".as_slice()),
-        ("merge", b"0".as_slice()),
-    ] {
-        let words = words_of(alloc, line)?;
-        let mut library = SureLibrary::new(alloc);
-        let mut source = SureSource::new(Vec::from_slice(alloc, input)?, 64);
-        let mut out = MemorySink::new(alloc, 64, 64, Vec::new(alloc))?;
-        let mut errs = MemorySink::new(alloc, 64, 64, vec![in alloc; 0]?)?;
-        assert_eq!(rt;
-            baggage_top(
-                &rt,
-                alloc,
-                &Open,
-                &words,
-                &mut library,
-                &mut source,
-                &mut out,
-                &mut errs
-            ),
-            5,
-            "{line}"
-        );
-        assert!(rt; out.taken().is_empty(), "{line}");
-        assert!(rt; errs.taken().is_empty(), "{line}");
-    }
-    // A sink that tells nothing serves as well.
     let words = words_of(alloc, "trim 10")?;
     let mut library = SureLibrary::new(alloc);
     let mut source = SureSource::new(Vec::from_slice(alloc, LINE)?, 64);
-    assert_eq!(rt;
-        baggage_top(
-            &rt,
-            alloc,
-            &Open,
-            &words,
-            &mut library,
-            &mut source,
-            &mut SureSink::new(),
-            &mut SureSink::new()
-        ),
-        0
+    let mut out = SureSink::new();
+    let mut errs = SureSink::new();
+    let status = baggage_top(
+        &rt,
+        alloc,
+        &Open,
+        &words,
+        &mut library,
+        &mut source,
+        &mut out,
+        &mut errs,
     );
+    assert_eq!(rt; status, 0);
     Ok(())
 }

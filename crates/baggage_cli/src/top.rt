@@ -1,86 +1,53 @@
 //! The one call that does all that the program does.
 
-ghost use Rattle.std.specs.Prelude.{◌≡◌, ◌≢◌, ◌⊎◌, ℕ, ◌<◌, List, [], ◌∷◌, Some, None, Ok, Err, IfOk, IfErr, string_bytes, length, get_or, Option};
+ghost use Rattle.std.specs.Prelude.{◌≡◌, ◌≢◌, ◌⊎◌, ℕ, ◌+◌, ◌≤◌, List, Some, None, Err, length, drop};
 ghost use Rattle.std.specs.Io.KnownBytes.{Appends, IsAtEnd};
 ghost use Rattle.outside.specs.Causes.{Rose};
+ghost use Rattle.outside.specs.Told.{Asks};
 ghost use Rattle.context_model.specs.Framing.{bytes_of};
 ghost use Rattle.context_model.specs.Merged.{IsMerged};
-ghost use Rattle.context_model.specs.Trimmed.{trimmed};
 ghost use Rattle.bag_model.specs.Shapes.{Nodes};
 ghost use Rattle.bag_model.specs.Slots.{slots_of};
 ghost use Rattle.bdl_load.specs.declared.faults.Fault.{Fault};
 ghost use Rattle.bdl_load.specs.Loading.{Holding, AsksAll};
-ghost use Rattle.outside.specs.Told.{Asks};
-ghost use Rattle.bdl_check.specs.Definitions.{IsTable, IsFirstFault};
-ghost use Rattle.baggage_cli.specs.Asked.{asked, IsSound, ReadsSource, file_word, bag_word};
-ghost use Rattle.baggage_cli.specs.HexLine.{hex_line};
-ghost use Rattle.baggage_cli.specs.ReadLines.{SaysLists};
-ghost use Rattle.baggage_cli.specs.ReadLines.Wanted.{AnyList, OnlyContext};
-ghost use Rattle.baggage_cli.specs.Scene.{change};
-ghost use Rattle.baggage_cli.specs.Refused.{line_of};
-ghost use Rattle.baggage_cli.specs.Answer.{ok_line, Accepts, Comes, Answers};
+ghost use Rattle.bdl_check.specs.Definitions.{IsTableOf, IsFirstFaultOf};
+ghost use Rattle.text_lines.specs.declared.TheConstants.{INPUT_MAX};
+ghost use Rattle.text_lines.specs.HexLines.{hex_line};
+ghost use Rattle.baggage_cli.specs.Commands.{Task, task_of, command_of, ReadsSource, FetchesFiles};
+ghost use Rattle.baggage_cli.specs.Commands.Task.{trim, merge, check};
+ghost use Rattle.baggage_cli.specs.Refusals.{input_status, input_line, notice_line, line_of, blamed};
+ghost use Rattle.baggage_cli.specs.Scene.{change, scene_of, HasNoFault};
+ghost use Rattle.baggage_cli.specs.Outcomes.{outcome_of};
+ghost use Rattle.baggage_cli.specs.Trimming.{trimmed_line};
+ghost use Rattle.baggage_cli.specs.Checking.{ok_line};
+ghost use Rattle.baggage_cli.specs.Top.{InputGives, Comes, Answers, SaysList, SaysContexts, Accepts, IsFailure};
 
 use crate::checking::check_bag;
 use crate::commands::{Command, command_of};
-use crate::delivery::{deliver, refuse, tell};
+use crate::delivery::{deliver, notify, refuse};
 use crate::merging::merge_source;
-use crate::refusals::Refusal;
+use crate::refusals::{InputFault, Notice, Refusal};
 use crate::trimming::trim_source;
+use bdl_check::laws;
 use outside::{Gate, Library, Sink, Source, Words};
 use std::alloc::Global;
 use std::thread::Threads;
 
-/// The word at a place, which is empty behind the last one.
-fn word(words: &Words, at: usize) -> &str
-    ensures { result.now ≡ get_or words.now at [] }
-{
-    match words.get(at) {
-        Some(word) => word.as_str(),
-        None => "",
-    }
-}
-
 /// Carries a command out: its output, or why there is none.
 fn carry_out<L: Library, S: Source>(
     alloc: Global,
-    command: Command,
-    words: &Words,
+    command: Command<'_>,
     library: &mut L,
     source: &mut S,
-) -> Result<String, Refusal>
-    requires { IsSound command }
-    ensures ok { IfOk result (λ output. Comes words.now command (change L.files L.faults library.old library.new) (change L.asked L.faults library.old library.new) (change S.left S.faults source.old source.new) (Ok (string_bytes output))) }
-    ensures err { IfErr result (λ refusal. Comes words.now command (change L.files L.faults library.old library.new) (change L.asked L.faults library.old library.new) (change S.left S.faults source.old source.new) (Err refusal)) }
+) -> Result<Vec<u8>, Refusal>
+    ensures { Comes (task_of command.entry) (change L.files L.faults library.old library.new)
+        (change L.asked L.faults library.old library.new)
+        (change S.left S.faults source.old source.new) (outcome_of result) }
 {
     match command {
         Command::Trim { budget } => trim_source(alloc, source, budget),
         Command::Merge => merge_source(alloc, source),
-        Command::Check => check_bag(alloc, library, word(words, 1), word(words, 2)),
-    }
-}
-
-/// Carries a command out and delivers what it comes to.
-fn answer_command<L: Library, S: Source, K: Sink, E: Sink>(
-    alloc: Global,
-    command: Command,
-    words: &Words,
-    library: &mut L,
-    source: &mut S,
-    out: &mut K,
-    errs: &mut E,
-) -> u8
-    requires { IsSound command }
-    ensures { Answers words.now (Some command) (record {
-      library = change L.files L.faults library.old library.new;
-      requests = change L.asked L.faults library.old library.new;
-      source = change S.left S.faults source.old source.new;
-      out = change K.written K.faults out.old out.new;
-      errs = change E.written E.faults errs.old errs.new;
-    }) result }
-{
-    match carry_out(alloc, command, words, library, source) {
-        Ok(output) => deliver(out, errs, output.as_bytes()),
-        Err(refusal) => refuse(alloc, errs, &refusal),
+        Command::Check { file, bag } => check_bag(alloc, library, file, bag),
     }
 }
 
@@ -93,17 +60,19 @@ fn answer_words<L: Library, S: Source, K: Sink, E: Sink>(
     out: &mut K,
     errs: &mut E,
 ) -> u8
-    ensures { Answers words.now (asked words.now) (record {
-      library = change L.files L.faults library.old library.new;
-      requests = change L.asked L.faults library.old library.new;
-      source = change S.left S.faults source.old source.new;
-      out = change K.written K.faults out.old out.new;
-      errs = change E.written E.faults errs.old errs.new;
-    }) result }
+    ensures { Answers (command_of words.now) (scene_of
+        (change L.files L.faults library.old library.new)
+        (change L.asked L.faults library.old library.new)
+        (change S.left S.faults source.old source.new)
+        (change K.written K.faults out.old out.new)
+        (change E.written E.faults errs.old errs.new)) result }
 {
-    match command_of(words) {
-        Some(command) => answer_command(alloc, command, words, library, source, out, errs),
-        None => tell(errs, b"words refused\n", 7),
+    let Some(command) = command_of(words) else {
+        return notify(errs, Notice::WordsRefused);
+    };
+    match carry_out(alloc, command, library, source) {
+        Ok(output) => deliver(out, errs, output.as_slice()),
+        Err(refusal) => refuse(alloc, errs, &refusal),
     }
 }
 
@@ -126,38 +95,103 @@ pub fn baggage_top<R: Threads + Sync, G: Gate, L: Library, S: Source, K: Sink, E
     errs: &mut E,
 ) -> u8
     // Exactly what the call comes to, and how it is delivered.
-    ensures answer { Answers words.now (asked words.now) (record {
-      library = change L.files L.faults library.old library.new;
-      requests = change L.asked L.faults library.old library.new;
-      source = change S.left S.faults source.old source.new;
-      out = change K.written K.faults out.old out.new;
-      errs = change E.written E.faults errs.old errs.new;
-    }) result }
+    ensures answer { Answers (command_of words.now) (scene_of
+        (change L.files L.faults library.old library.new)
+        (change L.asked L.faults library.old library.new)
+        (change S.left S.faults source.old source.new)
+        (change K.written K.faults out.old out.new)
+        (change E.written E.faults errs.old errs.new)) result }
 
-    // What follows from it, command by command.
-    ensures trim { (budget : ℕ) (input : List ℕ) (list : List (List ℕ)) → asked words.now ≡ Some (Command.Trim budget) → S.left source.old ≡ Some input → SaysLists AnyList input (list ∷ [])
-        → result ≡ 0 → Appends (K.written out.old) (K.written out.new) (hex_line (bytes_of (trimmed list budget))) }
-    ensures merge { (input : List ℕ) (lists : List (List (List ℕ))) (merged : List (List ℕ)) → asked words.now ≡ Some Command.Merge → S.left source.old ≡ Some input → SaysLists OnlyContext input lists → IsMerged lists merged
-        → result ≡ 0 → Appends (K.written out.old) (K.written out.new) (hex_line (bytes_of merged)) }
-    ensures check { (held : Holding) → asked words.now ≡ Some Command.Check → L.files library.old ≡ Some held
-        → result ≡ 0 → (table : Nodes) × IsTable held (file_word words.now) (bag_word words.now) table × Appends (K.written out.old) (K.written out.new) (ok_line (length (slots_of table))) }
+    // What follows from it, task by task.
+    ensures trim { (budget : ℕ) (input : List ℕ) (list : List (List ℕ))
+        → command_of words.now ≡ Some (trim budget) → S.left source.old ≡ Some input
+        → SaysList input list → result ≡ 0
+        → Appends (K.written out.old) (K.written out.new) (trimmed_line budget list) }
+    ensures merge { (input : List ℕ) (lists : List (List (List ℕ))) (merged : List (List ℕ))
+        → command_of words.now ≡ Some merge → S.left source.old ≡ Some input
+        → SaysContexts input lists → IsMerged lists merged → result ≡ 0
+        → Appends (K.written out.old) (K.written out.new) (hex_line (bytes_of merged)) }
+    ensures check { (file bag : List ℕ) (held : Holding)
+        → command_of words.now ≡ Some (check file bag) → L.files library.old ≡ Some held → result ≡ 0
+        → (table : Nodes) × IsTableOf held file bag table
+        × Appends (K.written out.old) (K.written out.new) (ok_line (length (slots_of table))) }
+    ensures fetched { (file bag : List ℕ) (held : Holding)
+        → command_of words.now ≡ Some (check file bag) → L.files library.old ≡ Some held
+        → (result ≡ 0) ⊎ (result ≡ 1)
+        → (names : List (List ℕ)) × AsksAll held file names
+        × Asks names (L.asked library.old) (L.asked library.new) }
 
-    ensures fetched { (held : Holding) → asked words.now ≡ Some Command.Check → L.files library.old ≡ Some held → (result ≡ 0) ⊎ (result ≡ 1)
-        → (names : List (List ℕ)) × AsksAll held (file_word words.now) names × Asks names (L.asked library.old) (L.asked library.new) }
-
-    // What each status says of the objects.
-    ensures errs { result ≡ 0 → E.written errs.new ≡ E.written errs.old }
-    ensures ended { (command : Command) → asked words.now ≡ Some command → ReadsSource command → result ≡ 0 → IsAtEnd (S.left source.new) }
+    // What holds of the objects.
+    ensures same { L.files library.new ≡ L.files library.old }
+    ensures library_counts { L.faults library.old ≤ L.faults library.new }
+    ensures source_counts { S.faults source.old ≤ S.faults source.new }
+    ensures out_counts { K.faults out.old ≤ K.faults out.new }
+    ensures errs_counts { E.faults errs.old ≤ E.faults errs.new }
     ensures quiet { result ≢ 0 → result ≢ 5 → K.written out.new ≡ K.written out.old }
-    ensures definition { (held : Holding) → L.files library.old ≡ Some held → result ≡ 1
-        → (fault : Fault) × IsFirstFault held (file_word words.now) (bag_word words.now) fault × Appends (E.written errs.old) (E.written errs.new) (line_of (Refusal.Definition fault.file fault.line fault.column fault.code)) }
-    ensures words { result ≡ 7 → asked words.now ≡ None }
-    ensures failed { result ≡ 4 → Rose (L.faults library.old) (L.faults library.new) ⊎ Rose (S.faults source.old) (S.faults source.new) }
-    ensures sink_failed { result ≡ 5 → Rose (K.faults out.old) (K.faults out.new) ⊎ Rose (E.faults errs.old) (E.faults errs.new) }
+    ensures ended { (task : Task) → command_of words.now ≡ Some task → ReadsSource task
+        → result ≡ 0 → IsAtEnd (S.left source.new) }
+    ensures left { (task : Task) (input : List ℕ) → command_of words.now ≡ Some task
+        → ReadsSource task → S.left source.old ≡ Some input
+        → (result ≡ 0) ⊎ (result ≡ 2) ⊎ (result ≡ 3)
+        → S.left source.new ≡ Some (drop (INPUT_MAX + 1) input) }
 
-    // Where a command has nothing to refuse and no count rose, there is only success and want of memory.
-    ensures complete { (command : Command) → asked words.now ≡ Some command → Accepts words.now command (L.files library.old) (S.left source.old)
-        → ¬ (Rose (L.faults library.old) (L.faults library.new)) → ¬ (Rose (S.faults source.old) (S.faults source.new)) → ¬ (Rose (K.faults out.old) (K.faults out.new)) → ¬ (Rose (E.faults errs.old) (E.faults errs.new)) → (result ≡ 0) ⊎ (result ≡ 6) }
+    // With status 0 no stream counted a fault, and nothing was said.
+    ensures source_steady { result ≡ 0 → S.faults source.new ≡ S.faults source.old }
+    ensures out_steady { result ≡ 0 → K.faults out.new ≡ K.faults out.old }
+    ensures errs_steady { result ≡ 0 → E.faults errs.new ≡ E.faults errs.old }
+    ensures errs { result ≡ 0 → E.written errs.new ≡ E.written errs.old }
+
+    // A definition's first fault is status 1 with its line, unless the world outside or memory failed.
+    ensures definition { (task : Task) (held : Holding) → command_of words.now ≡ Some task
+        → L.files library.old ≡ Some held → result ≡ 1
+        → (file : List ℕ) × (bag : List ℕ) × (fault : Fault)
+        × (task ≡ check file bag) × IsFirstFaultOf held file bag fault
+        × Appends (E.written errs.old) (E.written errs.new) (line_of (blamed fault)) }
+    ensures fault { (file bag : List ℕ) (held : Holding) (fault : Fault)
+        → command_of words.now ≡ Some (check file bag) → L.files library.old ≡ Some held
+        → IsFirstFaultOf held file bag fault
+        → ((result ≡ 1) × Appends (E.written errs.old) (E.written errs.new) (line_of (blamed fault)))
+        ⊎ IsFailure result }
+
+    // What is wrong with an input is status 2 or 3 with its line, unless the same failed.
+    ensures input { (task : Task) (input : List ℕ) → command_of words.now ≡ Some task
+        → S.left source.old ≡ Some input → (result ≡ 2) ⊎ (result ≡ 3)
+        → (number : ℕ) × (fault : InputFault) × (result ≡ input_status fault)
+        × InputGives task input (Err (Refusal.Input number fault))
+        × Appends (E.written errs.old) (E.written errs.new) (input_line number fault) }
+    ensures bad_line { (task : Task) (input : List ℕ) (number : ℕ) (fault : InputFault)
+        → command_of words.now ≡ Some task → S.left source.old ≡ Some input
+        → InputGives task input (Err (Refusal.Input number fault))
+        → ((result ≡ input_status fault)
+        × Appends (E.written errs.old) (E.written errs.new) (input_line number fault))
+        ⊎ IsFailure result }
+
+    // The other statuses have their causes and lines.
+    ensures failed { (task : Task) → command_of words.now ≡ Some task → result ≡ 4
+        → (FetchesFiles task × Rose (L.faults library.old) (L.faults library.new)
+        × Appends (E.written errs.old) (E.written errs.new) (notice_line Notice.LibraryFailed))
+        ⊎ (ReadsSource task × Rose (S.faults source.old) (S.faults source.new)
+        × Appends (E.written errs.old) (E.written errs.new) (notice_line Notice.SourceFailed)) }
+    ensures sink_failed { result ≡ 5
+        → Rose (K.faults out.old) (K.faults out.new) ⊎ Rose (E.faults errs.old) (E.faults errs.new) }
+    ensures memory { (task : Task) → command_of words.now ≡ Some task → result ≡ 6
+        → Appends (E.written errs.old) (E.written errs.new) (notice_line Notice.Memory) }
+    ensures words { result ≡ 7 → (command_of words.now ≡ None)
+        × Appends (E.written errs.old) (E.written errs.new) (notice_line Notice.WordsRefused) }
+    ensures unasked { command_of words.now ≡ None → (result ≡ 7) ⊎ (result ≡ 5) }
+
+    // Where a task has nothing to refuse and no count rose, there is only success and want of memory.
+    ensures complete { (task : Task) → command_of words.now ≡ Some task
+        → Accepts task (L.files library.old) (S.left source.old)
+        → HasNoFault (scene_of (change L.files L.faults library.old library.new)
+        (change L.asked L.faults library.old library.new)
+        (change S.left S.faults source.old source.new)
+        (change K.written K.faults out.old out.new)
+        (change E.written E.faults errs.old errs.new))
+        → (result ≡ 0) ⊎ (result ≡ 6) }
 {
+    // Only the proof needs these: a definition has one table or one first fault.
+    laws::tables_exclude_faults();
+    laws::faults_are_unique();
     answer_words(alloc, words, library, source, out, errs)
 }

@@ -1,67 +1,67 @@
 //! The command that cuts one line of atoms to a budget.
 
-ghost use Rattle.std.specs.Prelude.{◌≡◌, ◌⊎◌, ◌<◌, ℕ, [], ◌∷◌, Ok, Err, IfOk, IfErr, string_bytes};
+ghost use Rattle.std.specs.Prelude.{◌≡◌, ◌⊎◌, [], ◌∷◌, IfOk, IfErr};
+ghost use Rattle.std.specs.Int.NonZero.{non_zero_u32_get};
+ghost use Rattle.text_lines.specs.Lines.{lines_of};
+ghost use Rattle.text_lines.specs.Readings.{AllSay};
 ghost use Rattle.baggage_cli.specs.Scene.{change};
-ghost use Rattle.baggage_cli.specs.InputLines.{lines_of};
-ghost use Rattle.baggage_cli.specs.ReadLines.{AllSay};
-ghost use Rattle.baggage_cli.specs.ReadLines.Wanted.{AnyList};
-ghost use Rattle.baggage_cli.specs.Answer.{RefusesOne, TrimsLines, TrimGives, Reads, GivesOne};
+ghost use Rattle.baggage_cli.specs.Outcomes.{outcome_of, OrMemory};
+ghost use Rattle.baggage_cli.specs.Reading.{Reads, list_lines};
+ghost use Rattle.baggage_cli.specs.Trimming.{only_one, RefusesOne, TrimsLines, TrimGives};
 
-use crate::hex_lines::hex_line;
-use crate::input_lines::Lines;
 use crate::reading::{line_list, read_input};
-use crate::refusals::{InputCode, Refusal};
+use crate::refusals::{InputCode, InputFault, Notice, Refusal};
 use atom_list::AtomList;
 use outside::Source;
 use overflow_trim::trim;
 use std::alloc::Global;
+use std::num::NonZeroU32;
+use text_lines::{hex_line, lines_of};
 use wire_bytes::write;
 
 /// The list of the one line of an input.
 fn only_list(alloc: Global, input: &[u8]) -> Result<AtomList, Refusal>
-    ensures ok { IfOk result (λ list. AllSay AnyList (lines_of input.now) (list ∷ [])) }
-    ensures err { IfErr result (λ refusal. (refusal ≡ Refusal.Memory) ⊎ RefusesOne AnyList (lines_of input.now) refusal) }
+    ensures ok { IfOk result (λ list.
+        AllSay (only_one list_lines) [] (lines_of input.now) (list ∷ [])) }
+    ensures err { IfErr result (λ refusal.
+        (refusal ≡ Refusal.Plain Notice.Memory) ⊎ RefusesOne list_lines (lines_of input.now) refusal) }
 {
-    let mut lines = Lines::of(input);
-    let Some(line) = lines.next_line() else {
+    let mut lines = lines_of(input);
+    let Some(line) = lines.next() else {
         return Err(Refusal::Input {
             line: 0,
-            code: InputCode::NoLine,
+            fault: InputFault::Code(InputCode::NoLine),
         });
     };
     let list = line_list(alloc, &line)?;
-    match lines.next_line() {
+    match lines.next() {
         None => Ok(list),
         Some(second) => Err(Refusal::Input {
             line: second.number,
-            code: InputCode::Form,
+            fault: InputFault::Code(InputCode::Form),
         }),
     }
 }
 
 /// The line of the list of an input's one line, trimmed to the budget.
-fn trimmed_line(alloc: Global, input: &[u8], budget: u32) -> Result<String, Refusal>
-    requires { 0 < budget }
-    ensures ok { IfOk result (λ output. TrimsLines budget (lines_of input.now) (Ok (string_bytes output))) }
-    ensures err { IfErr result (λ refusal. (refusal ≡ Refusal.Memory) ⊎ TrimsLines budget (lines_of input.now) (Err refusal)) }
+fn trimmed_line(alloc: Global, input: &[u8], budget: NonZeroU32) -> Result<Vec<u8>, Refusal>
+    ensures { OrMemory (TrimsLines (non_zero_u32_get budget) (lines_of input.now)) (outcome_of result) }
 {
     let mut list = only_list(alloc, input)?;
-    trim(&mut list, u64::from(budget));
+    trim(&mut list, u64::from(budget.get()));
     let bytes = write(alloc, &list)?;
     Ok(hex_line(alloc, bytes.as_slice())?)
 }
 
 /// Reads the source to its end and answers the line of its list, trimmed to the budget.
-pub fn trim_source<S: Source>(alloc: Global, source: &mut S, budget: u32) -> Result<String, Refusal>
-    requires { 0 < budget }
-    ensures ok { IfOk result (λ output. Reads (TrimGives budget) (change S.left S.faults source.old source.new) (Ok (string_bytes output))) }
-    ensures err { IfErr result (λ refusal. Reads (TrimGives budget) (change S.left S.faults source.old source.new) (Err refusal)) }
+pub fn trim_source<S: Source>(
+    alloc: Global,
+    source: &mut S,
+    budget: NonZeroU32,
+) -> Result<Vec<u8>, Refusal>
+    ensures { Reads (TrimGives (non_zero_u32_get budget))
+        (change S.left S.faults source.old source.new) (outcome_of result) }
 {
     let input = read_input(alloc, source)?;
     trimmed_line(alloc, input.as_slice(), budget)
 }
-
-/// Trimming gives one outcome for an input.
-pub fn trim_gives_one()
-    ensures { (budget : ℕ) → GivesOne (TrimGives budget) }
-{}

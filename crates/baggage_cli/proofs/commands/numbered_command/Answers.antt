@@ -1,5 +1,10 @@
+use Rattle.std.proofs.Common.{arith}
 use Rattle.baggage_cli.proofs.Numbers.{positive_at}
 use Rattle.baggage_cli.proofs.commands.numbered_command.Goals as goal
 
-pub returns-clause-sound : goal.returns-clause-sound
-returns-clause-sound c = positive_at c.args.word.now c.in_ok-budget.budget c.in_ok-budget.ensures
+-- A number of that form isn't 0.
+pub returns-in_err-budget : goal.returns-in_err-budget
+returns-in_err-budget c =
+    let some = positive_at c.args.word.now c.in_ok-read_number.field-0 c.in_ok-read_number.ensures in
+    let none = c.in_err-budget.ensures in
+    absurd (omega arith)

@@ -1,8 +1,19 @@
-use Rattle.std.proofs.Common.{inl}
+use Rattle.std.proofs.Common.{◌≡◌, ◌⊎◌, inl, inr, Result, Ok, Err, IfOk, MatchResult, string_bytes, subst}
+use Rattle.baggage_cli.specs.Delivery.{Tells}
+use Rattle.baggage_cli.specs.Refusals.{definition_line}
+use Rattle.baggage_cli.specs.Scene.{change}
 use Rattle.baggage_cli.proofs.delivery.refuse.Goals as goal
 
-pub returns-in-SourceFailed : goal.returns-in-SourceFailed
-returns-in-SourceFailed g c = rw c.in-SourceFailed.is (inl c.tell-in-SourceFailed.ensures)
+-- A line was told, or a notice in its place.
+told_or_not : {S E Told Noticed : Type 0} (line : Result S E) (Is Says : S → Type 0) → IfOk line Is → MatchResult line Says (λ _. Noticed)
+    → ((said : S) → Is said → Says said → Told) → Told ⊎ Noticed
+told_or_not (Ok said) Is Says is says tells = inl (tells said is says)
+told_or_not (Err wanting) Is Says is says tells = inr says
 
-pub returns-in-LibraryFailed : goal.returns-in-LibraryFailed
-returns-in-LibraryFailed g c = rw c.in-LibraryFailed.is (inl c.tell.ensures)
+pub returns-in-Definition : goal.returns-in-Definition
+returns-in-Definition g c =
+    let errs = change g.E.Sink.written g.E.Sink.faults c.args.errs.now c.tell_in_full-in-Definition.new.errs in
+    let answer = c.tell_in_full-in-Definition.result in
+    let told = definition_line c.as_str.result.now c.in-Definition.line c.in-Definition.column c.in-Definition.code in
+    rw (c.in-Definition.is, ← c.as_str.ensures.value) (told_or_not c.definition_line-line.result (λ said. string_bytes said ≡ told) (λ said. Tells 1 (string_bytes said) errs answer)
+    c.definition_line-line.ensures c.tell_in_full-in-Definition.ensures (λ said is says. subst (λ bytes. Tells 1 bytes errs answer) is says))

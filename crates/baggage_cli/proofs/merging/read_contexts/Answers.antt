@@ -1,37 +1,49 @@
-use Rattle.std.proofs.Common.{◌≡◌, ◌<◌, inl, inr, sym, ◌∙◌, [], ◌∷◌, ◌++◌, length, ap, subst, append_assoc, arith}
+use Rattle.std.proofs.Common.{◌≡◌, ◌<◌, ◌≤◌, inl, inr, refl, sym, ◌∙◌, [], ◌∷◌, ◌++◌, length, map, subst, arith}
+use Rattle.std.proofs.lemmas.List.{map-append}
 use Rattle.std.proofs.lemmas.Result.{err_from_is_err_and}
+use Rattle.text_lines.specs.Lines.{line_value, lines_of}
+use Rattle.text_lines.specs.Readings.{AllSay}
+use Rattle.text_lines.proofs.LineLaws.{taken_before}
+use Rattle.text_lines.proofs.ReadingLaws.{all_say_more, at_most-few, next_bad}
+use Rattle.baggage_cli.specs.declared.merging.TheConstants.{LINES_MAX}
 use Rattle.baggage_cli.specs.declared.refusals.InputCode.TheVariants.{TooManyLines}
-use Rattle.baggage_cli.specs.InputLines.{Line, lines_of}
-use Rattle.baggage_cli.specs.ReadLines.{AllSay}
-use Rattle.baggage_cli.specs.ReadLines.Wanted.{OnlyContext}
-use Rattle.baggage_cli.proofs.FirstBad.{next_bad, next_extra, all_say_more}
+use Rattle.baggage_cli.specs.declared.refusals.InputFault.TheVariants.{Code}
+use Rattle.baggage_cli.specs.Merging.{merged_lines}
+use Rattle.baggage_cli.specs.Reading.{context_lines}
+use Rattle.baggage_cli.proofs.ContextLines.{next_refused}
 use Rattle.baggage_cli.proofs.merging.read_contexts.Goals as goal
 
 pub returns-then-len-eq-LINES_MAX-clause-err : goal.returns-then-len-eq-LINES_MAX-clause-err
 returns-then-len-eq-LINES_MAX-clause-err c =
-    let read = c.loop-line.invariant.read in
-    let all : length c.loop-line.contexts.items ≡ 4096 = omega arith in
-    inr (next_extra OnlyContext 4096 TooManyLines (lines_of c.args.input.now) read.0 _ _ c.loop-line.lines c.loop-line.contexts.items read.1 c.in-Some.ensures read.2 all)
+    let start : lines_of c.args.input.now ≡ c.into_iter-line-iterator.result = cc (c.lines_of-line-items.ensures, c.into_iter-line-iterator.ensures.into_iter_gives) in
+    let split = start ∙ taken_before c.into_iter-line-iterator.result c.loop-line.yielded c.loop-line.line-iterator c.loop-line.yielded_by in
+    let all : LINES_MAX ≤ length c.loop-line.contexts.items = omega arith in
+    let fault = Code TooManyLines in
+    inr (
+      c.in-Some.line.number,
+      fault,
+      next_bad merged_lines (lines_of c.args.input.now) (map line_value c.loop-line.yielded) (line_value c.in-Some.line) c.next.new.self c.loop-line.line-iterator c.loop-line.contexts.items fault
+          split c.in-Some.ensures.steps c.loop-line.invariant (inr (all, refl)),
+      refl,
+    )
 
-pub returns-in_err-context-clause-err : goal.returns-in_err-context-clause-err
-returns-in_err-context-clause-err c =
-    let read = c.loop-line.invariant.read in
-    let few : length c.loop-line.contexts.items < 4096 = omega arith in
+pub returns-in_err-line_context-clause-err : goal.returns-in_err-line_context-clause-err
+returns-in_err-line_context-clause-err c =
+    let start : lines_of c.args.input.now ≡ c.into_iter-line-iterator.result = cc (c.lines_of-line-items.ensures, c.into_iter-line-iterator.ensures.into_iter_gives) in
+    let split = start ∙ taken_before c.into_iter-line-iterator.result c.loop-line.yielded c.loop-line.line-iterator c.loop-line.yielded_by in
+    let most = at_most-few LINES_MAX (Code TooManyLines) context_lines (map line_value c.loop-line.yielded) c.loop-line.contexts.items c.loop-line.invariant in
+    let few : length c.loop-line.contexts.items < LINES_MAX = omega arith in
     let same = err_from_is_err_and c.from_residual.result c.from_residual.ensures.1 in
-    rw (same.1, same.2) (elim c.in_err-context.ensures.err [
-      | inl wanting ↦ inl wanting
-      | inr bad ↦ inr (next_bad OnlyContext 4096 TooManyLines (lines_of c.args.input.now) read.0 _ _ c.loop-line.lines c.loop-line.contexts.items _ read.1 c.in-Some.ensures read.2 few bad)
-    ])
+    rw (same.1, same.2) (next_refused (lines_of c.args.input.now) (map line_value c.loop-line.yielded) (line_value c.in-Some.line) c.next.new.self c.loop-line.line-iterator c.loop-line.contexts.items
+    c.in_err-line_context.field-0.0 split c.in-Some.ensures.steps c.loop-line.invariant few c.in_err-line_context.ensures.err)
 
 pub loop-line-preserved : goal.loop-line-preserved
 loop-line-preserved c =
-    let read = c.loop-line.invariant.read in
-    let line : Line = (c.in-Some.line.number, c.in-Some.line.text.now) in
-    record {
-      read = (
-        read.0 ++ line ∷ [],
-        read.1 ∙ ap (λ ls. read.0 ++ ls) c.in-Some.ensures ∙ sym (append_assoc read.0 (line ∷ []) c.next_line.new.self),
-        subst (AllSay OnlyContext (read.0 ++ line ∷ [])) (sym c.in_ok-push.ensures.items) (all_say_more OnlyContext read.0 c.loop-line.contexts.items line c.in_ok-context.context read.2 c.in_ok-context.ensures.ok),
-      );
-      fits = omega arith;
-    }
+    let before = map line_value c.loop-line.yielded in
+    let line = line_value c.in-Some.line in
+    let list = c.in_ok-line_context.field-0 in
+    let most = at_most-few LINES_MAX (Code TooManyLines) context_lines before c.loop-line.contexts.items c.loop-line.invariant in
+    let few : length c.loop-line.contexts.items < LINES_MAX = omega arith in
+    subst (λ lists. AllSay merged_lines [] (map line_value (c.loop-line.yielded ++ c.in-Some.line ∷ [])) lists) (sym c.in_ok-push.ensures.items)
+    (subst (λ lines. AllSay merged_lines [] lines (c.loop-line.contexts.items ++ list ∷ [])) (sym (map-append line_value c.loop-line.yielded (c.in-Some.line ∷ [])))
+    (all_say_more merged_lines before c.loop-line.contexts.items line list c.loop-line.invariant (few, c.in_ok-line_context.ensures.ok)))

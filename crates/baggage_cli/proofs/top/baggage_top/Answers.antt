@@ -1,29 +1,103 @@
-use Rattle.baggage_cli.proofs.Outcomes.{trim_appends, merge_appends, check_appends, failed_rose, says_definition, has_asked, completes}
+use Rattle.baggage_cli.specs.Scene.{change, scene_of}
+use Rattle.baggage_cli.proofs.Calls.{files_kept, counts_kept, steady_call, quiet_call, sink_call, words_call, unasked_call}
+use Rattle.baggage_cli.proofs.Facts.{trim_appends, merge_appends, check_appends, has_asked, ended_source, left_told, definition_told, fault_told, input_told, bad_told, failed_told, memory_told, completes}
 use Rattle.baggage_cli.proofs.top.baggage_top.Goals as goal
 
 pub returns-clause-trim : goal.returns-clause-trim
-returns-clause-trim g c = λ budget input list is told says done.
-    trim_appends c.args.words.now budget input list _ c.answer_words.result (rw is at c.answer_words.ensures) told says done
+returns-clause-trim g c = λ budget input list is told says done. trim_appends budget input list _ c.answer_words.result (rw is at c.answer_words.ensures) told says done
 
 pub returns-clause-merge : goal.returns-clause-merge
-returns-clause-merge g c = λ input lists merged is told says merges done.
-    merge_appends c.args.words.now input lists merged _ c.answer_words.result (rw is at c.answer_words.ensures) told says merges done
-
-pub returns-clause-complete : goal.returns-clause-complete
-returns-clause-complete g c = λ command is accepts library_sure sure out_sure errs_sure.
-    completes c.args.words.now command _ c.answer_words.result (rw is at c.answer_words.ensures) accepts library_sure sure out_sure errs_sure
+returns-clause-merge g c = λ input lists merged is told says merges done. merge_appends input lists merged _ c.answer_words.result (rw is at c.answer_words.ensures) told says merges done
 
 pub returns-clause-check : goal.returns-clause-check
-returns-clause-check g c = λ held is told done.
-    check_appends c.args.words.now _ held _ c.answer_words.result c.answer_words.ensures is told done
-
-pub returns-clause-failed : goal.returns-clause-failed
-returns-clause-failed g c = λ four. failed_rose c.args.words.now _ _ c.answer_words.result c.answer_words.ensures four
-
-pub returns-clause-definition : goal.returns-clause-definition
-returns-clause-definition g c = λ held told one.
-    says_definition c.args.words.now _ held _ c.answer_words.result c.answer_words.ensures told one
+returns-clause-check g c =
+    let scene = scene_of
+    (change g.L.Library.files g.L.Library.faults c.args.library.now c.answer_words.new.library)
+    (change g.L.Library.asked g.L.Library.faults c.args.library.now c.answer_words.new.library)
+    (change g.S.Source.left g.S.Source.faults c.args.source.now c.answer_words.new.source)
+    (change g.K.Sink.written g.K.Sink.faults c.args.out.now c.answer_words.new.out)
+    (change g.E.Sink.written g.E.Sink.faults c.args.errs.now c.answer_words.new.errs) in
+    λ file bag held is told done. check_appends file bag held scene c.answer_words.result (rw is at c.answer_words.ensures) told done
 
 pub returns-clause-fetched : goal.returns-clause-fetched
-returns-clause-fetched g c = λ held is told ended.
-    has_asked c.args.words.now _ held _ c.answer_words.result c.answer_words.ensures is told ended
+returns-clause-fetched g c =
+    let scene = scene_of
+    (change g.L.Library.files g.L.Library.faults c.args.library.now c.answer_words.new.library)
+    (change g.L.Library.asked g.L.Library.faults c.args.library.now c.answer_words.new.library)
+    (change g.S.Source.left g.S.Source.faults c.args.source.now c.answer_words.new.source)
+    (change g.K.Sink.written g.K.Sink.faults c.args.out.now c.answer_words.new.out)
+    (change g.E.Sink.written g.E.Sink.faults c.args.errs.now c.answer_words.new.errs) in
+    λ file bag held is told ended. has_asked file bag held scene c.answer_words.result (rw is at c.answer_words.ensures) told ended
+
+pub returns-clause-same : goal.returns-clause-same
+returns-clause-same g c = files_kept _ _ c.answer_words.result c.answer_words.ensures
+
+pub returns-clause-library_counts : goal.returns-clause-library_counts
+returns-clause-library_counts g c = (counts_kept _ _ c.answer_words.result c.answer_words.ensures).library
+
+pub returns-clause-source_counts : goal.returns-clause-source_counts
+returns-clause-source_counts g c = (counts_kept _ _ c.answer_words.result c.answer_words.ensures).source
+
+pub returns-clause-out_counts : goal.returns-clause-out_counts
+returns-clause-out_counts g c = (counts_kept _ _ c.answer_words.result c.answer_words.ensures).out
+
+pub returns-clause-errs_counts : goal.returns-clause-errs_counts
+returns-clause-errs_counts g c = (counts_kept _ _ c.answer_words.result c.answer_words.ensures).errs
+
+pub returns-clause-quiet : goal.returns-clause-quiet
+returns-clause-quiet g c = λ not_zero not_five. quiet_call _ _ c.answer_words.result c.answer_words.ensures not_zero not_five
+
+pub returns-clause-ended : goal.returns-clause-ended
+returns-clause-ended g c = λ task is reads done. ended_source task _ c.answer_words.result (rw is at c.answer_words.ensures) reads done
+
+pub returns-clause-left : goal.returns-clause-left
+returns-clause-left g c = λ task input is reads told ended. left_told task input _ c.answer_words.result (rw is at c.answer_words.ensures) reads told ended
+
+pub returns-clause-source_steady : goal.returns-clause-source_steady
+returns-clause-source_steady g c = λ done. (steady_call _ _ c.answer_words.result c.answer_words.ensures done).0
+
+pub returns-clause-out_steady : goal.returns-clause-out_steady
+returns-clause-out_steady g c = λ done. (steady_call _ _ c.answer_words.result c.answer_words.ensures done).1
+
+pub returns-clause-errs_steady : goal.returns-clause-errs_steady
+returns-clause-errs_steady g c = λ done. (steady_call _ _ c.answer_words.result c.answer_words.ensures done).2.1
+
+pub returns-clause-errs : goal.returns-clause-errs
+returns-clause-errs g c = λ done. (steady_call _ _ c.answer_words.result c.answer_words.ensures done).2.0
+
+pub returns-clause-definition : goal.returns-clause-definition
+returns-clause-definition g c = λ task held is told one. definition_told task held _ c.answer_words.result (rw is at c.answer_words.ensures) told one
+
+pub returns-clause-fault : goal.returns-clause-fault
+returns-clause-fault g c =
+    let scene = scene_of
+    (change g.L.Library.files g.L.Library.faults c.args.library.now c.answer_words.new.library)
+    (change g.L.Library.asked g.L.Library.faults c.args.library.now c.answer_words.new.library)
+    (change g.S.Source.left g.S.Source.faults c.args.source.now c.answer_words.new.source)
+    (change g.K.Sink.written g.K.Sink.faults c.args.out.now c.answer_words.new.out)
+    (change g.E.Sink.written g.E.Sink.faults c.args.errs.now c.answer_words.new.errs) in
+    λ file bag held fault is told first. fault_told c.tables_exclude_faults.ensures c.faults_are_unique.ensures file bag held fault scene c.answer_words.result (rw is at c.answer_words.ensures) told first
+
+pub returns-clause-input : goal.returns-clause-input
+returns-clause-input g c = λ task input is told ended. input_told task input _ c.answer_words.result (rw is at c.answer_words.ensures) told ended
+
+pub returns-clause-bad_line : goal.returns-clause-bad_line
+returns-clause-bad_line g c = λ task input number fault is told bad. bad_told task input number fault _ c.answer_words.result (rw is at c.answer_words.ensures) told bad
+
+pub returns-clause-failed : goal.returns-clause-failed
+returns-clause-failed g c = λ task is four. failed_told task _ c.answer_words.result (rw is at c.answer_words.ensures) four
+
+pub returns-clause-sink_failed : goal.returns-clause-sink_failed
+returns-clause-sink_failed g c = λ five. sink_call _ _ c.answer_words.result c.answer_words.ensures five
+
+pub returns-clause-memory : goal.returns-clause-memory
+returns-clause-memory g c = λ task is six. memory_told task _ c.answer_words.result (rw is at c.answer_words.ensures) six
+
+pub returns-clause-words : goal.returns-clause-words
+returns-clause-words g c = λ seven. words_call _ _ c.answer_words.result c.answer_words.ensures seven
+
+pub returns-clause-unasked : goal.returns-clause-unasked
+returns-clause-unasked g c = λ is. unasked_call _ c.answer_words.result (rw is at c.answer_words.ensures)
+
+pub returns-clause-complete : goal.returns-clause-complete
+returns-clause-complete g c = λ task is accepts sure. completes task _ c.answer_words.result (rw is at c.answer_words.ensures) accepts sure

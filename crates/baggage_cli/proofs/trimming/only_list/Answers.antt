@@ -1,20 +1,16 @@
-use Rattle.std.proofs.Common.{inl, inr, refl, sym, ◌∙◌, [], ◌∷◌, arith}
+use Rattle.std.proofs.Common.{inr, sym, ◌∙◌}
 use Rattle.std.proofs.lemmas.Result.{err_from_is_err_and}
-use Rattle.baggage_cli.specs.declared.refusals.InputCode.TheVariants.{Form}
-use Rattle.baggage_cli.specs.InputLines.{Line, lines_of}
-use Rattle.baggage_cli.specs.ReadLines.Wanted.{AnyList}
-use Rattle.baggage_cli.proofs.FirstBad.{next_bad, next_extra}
+use Rattle.text_lines.specs.Lines.{line_value, lines_of}
+use Rattle.baggage_cli.proofs.OnlyLines.{first_is_bad, second_is_bad}
 use Rattle.baggage_cli.proofs.trimming.only_list.Goals as goal
 
 pub returns-in_err-list-clause-err : goal.returns-in_err-list-clause-err
 returns-in_err-list-clause-err c =
     let same = err_from_is_err_and c.from_residual.result c.from_residual.ensures.1 in
-    rw (same.1, same.2) (elim c.in_err-list.ensures.err [
-      | inl wanting ↦ inl wanting
-      | inr bad ↦ inr (inr (next_bad AnyList 1 Form (lines_of c.args.input.now) [] _ _ (lines_of c.args.input.now) [] _ refl (sym c.of-lines.ensures ∙ c.in-Some.ensures) tt (omega arith) bad))
-    ])
+    rw (same.1, same.2) (first_is_bad (lines_of c.args.input.now) (line_value c.in-Some.line) c.next.new.self c.in_err-list.field-0.0
+    (sym c.lines_of-lines.ensures ∙ c.in-Some.ensures.steps) c.in_err-list.ensures.err)
 
-pub returns-in-Some-next_line-clause-err : goal.returns-in-Some-next_line-clause-err
-returns-in-Some-next_line-clause-err c =
-    let first : Line = (c.in-Some.line.number, c.in-Some.line.text.now) in
-    inr (inr (next_extra AnyList 1 Form (lines_of c.args.input.now) (first ∷ []) _ _ _ (c.in_ok-list.list ∷ []) (sym c.of-lines.ensures ∙ c.in-Some.ensures) c.in-Some-next_line.ensures (c.in_ok-list.ensures.ok, tt) refl))
+pub returns-in-Some-next-clause-err : goal.returns-in-Some-next-clause-err
+returns-in-Some-next-clause-err c =
+    inr (second_is_bad (lines_of c.args.input.now) (line_value c.in-Some.line) (line_value c.in-Some-next.second) c.next.new.self c.next-2.new.self c.in_ok-list.list
+    (sym c.lines_of-lines.ensures ∙ c.in-Some.ensures.steps) c.in-Some-next.ensures.steps c.in_ok-list.ensures.ok)

@@ -1,0 +1,87 @@
+-- What holds of every call.
+use Rattle.std.proofs.Common.{◌≡◌, ◌≢◌, ◌⊎◌, inl, inr, ℕ, ◌≤◌, List, Option, Some, None, Ok, Err, refl, arith}
+use Rattle.std.specs.Io.KnownBytes.{Appends}
+use Rattle.bdl_load.specs.Loading.{Holding}
+use Rattle.baggage_cli.specs.Commands.{Task}
+use Rattle.baggage_cli.specs.Commands.Task.{trim, merge, check}
+use Rattle.baggage_cli.specs.declared.refusals.Notice.TheVariants.{WordsRefused}
+use Rattle.baggage_cli.specs.Delivery.{Tells, Delivers}
+use Rattle.baggage_cli.specs.Outcomes.{Outcome}
+use Rattle.baggage_cli.specs.Refusals.{notice_line}
+use Rattle.baggage_cli.specs.Scene.{Change, Scene, IsSame, IsSteady, NeverFell, HasFailed, Takes, TakesPart, KeepsCounts}
+use Rattle.baggage_cli.specs.Top.{Comes, Answers}
+use Rattle.baggage_cli.proofs.Facts.{steady_done, quiet_task, sink_told, never_seven}
+
+-- ---- counts
+
+same_never_fell : {A : Type 0} (c : Change A) → IsSame c → NeverFell c
+same_never_fell c same = let e = same.1 in omega arith
+
+takes_never_fell : (c : Change (List ℕ)) (bytes : List ℕ) → Takes c bytes → NeverFell c
+takes_never_fell c bytes takes = let e = takes.1 in omega arith
+
+told_never_fell : (status : ℕ) (line : List ℕ) (errs : Change (List ℕ)) (answer : ℕ) → Tells status line errs answer → NeverFell errs
+told_never_fell status line errs answer (inl told) = takes_never_fell errs line told.1
+told_never_fell status line errs answer (inr failed) = failed.1.2
+
+-- The files of the library are as before, and no count of the library and the source fell.
+came_kept : (task : Task) (scene : Scene) (outcome : Outcome) → Comes task scene.library scene.requests scene.source outcome
+    → (scene.library.after ≡ scene.library.before) × NeverFell scene.library × NeverFell scene.source
+came_kept (trim budget) scene outcome (same, unasked, (counts, why)) = (same.0, same_never_fell scene.library same, counts)
+came_kept merge scene outcome (same, unasked, (counts, why)) = (same.0, same_never_fell scene.library same, counts)
+came_kept (check file bag) scene outcome (unread, inl (refusal, (same, counts, why), begun, is)) = (same, counts, same_never_fell scene.source unread)
+came_kept (check file bag) scene outcome (unread, inr (table, (same, counts, why), built)) = (same, counts, same_never_fell scene.source unread)
+
+delivered_kept : (outcome : Outcome) (out errs : Change (List ℕ)) (answer : ℕ) → Delivers outcome out errs answer → NeverFell out × NeverFell errs
+delivered_kept (Ok output) out errs answer (inl done) = (takes_never_fell out output done.1, same_never_fell errs done.2)
+delivered_kept (Ok output) out errs answer (inr (five, part, inl told)) = (part.2, takes_never_fell errs _ told)
+delivered_kept (Ok output) out errs answer (inr (five, part, inr failed)) = (part.2, failed.2)
+delivered_kept (Err refusal) out errs answer (same, told) = (same_never_fell out same, told_never_fell _ _ errs answer told)
+
+-- The files of the library are as before, whatever the call answers.
+pub files_kept : (asked : Option Task) (scene : Scene) (answer : ℕ) → Answers asked scene answer → scene.library.after ≡ scene.library.before
+files_kept None scene answer (library, requests, source, out, told) = library.0
+files_kept (Some task) scene answer (outcome, comes, delivers) = (came_kept task scene outcome comes).0
+
+-- No count falls.
+pub counts_kept : (asked : Option Task) (scene : Scene) (answer : ℕ) → Answers asked scene answer → KeepsCounts scene
+counts_kept None scene answer (library, requests, source, out, told) = record {
+  library = same_never_fell scene.library library;
+  source = same_never_fell scene.source source;
+  out = same_never_fell scene.out out;
+  errs = told_never_fell _ _ scene.errs answer told;
+}
+counts_kept (Some task) scene answer (outcome, comes, delivers) =
+    let came = came_kept task scene outcome comes in
+    let kept = delivered_kept outcome scene.out scene.errs answer delivers in
+    record { library = came.1; source = came.2; out = kept.0; errs = kept.1 }
+
+-- ---- statuses
+
+-- With status 0 no count of the streams rose, and nothing was said.
+pub steady_call : (asked : Option Task) (scene : Scene) (answer : ℕ) → Answers asked scene answer → answer ≡ 0 → IsSteady scene.source × IsSteady scene.out × IsSame scene.errs
+steady_call None scene answer (library, requests, source, out, inl told) zero = absurd (let seven = told.0 in omega arith)
+steady_call None scene answer (library, requests, source, out, inr failed) zero = absurd (let five = failed.0 in omega arith)
+steady_call (Some task) scene answer answers zero = steady_done task scene answer answers zero
+
+-- Nothing is written but with 0 and 5.
+pub quiet_call : (asked : Option Task) (scene : Scene) (answer : ℕ) → Answers asked scene answer → answer ≢ 0 → answer ≢ 5 → scene.out.after ≡ scene.out.before
+quiet_call None scene answer (library, requests, source, out, told) not_zero not_five = out.0
+quiet_call (Some task) scene answer answers not_zero not_five = quiet_task task scene answer answers not_zero not_five
+
+-- The answer 5 has its cause.
+pub sink_call : (asked : Option Task) (scene : Scene) (answer : ℕ) → Answers asked scene answer → answer ≡ 5 → HasFailed scene.out ⊎ HasFailed scene.errs
+sink_call None scene answer (library, requests, source, out, inl told) five = absurd (let seven = told.0 in omega arith)
+sink_call None scene answer (library, requests, source, out, inr failed) five = inr failed.1.0
+sink_call (Some task) scene answer answers five = sink_told task scene answer answers five
+
+-- The answer 7 comes only for words that ask for nothing, with its line.
+pub words_call : (asked : Option Task) (scene : Scene) (answer : ℕ) → Answers asked scene answer → answer ≡ 7 → (asked ≡ None) × Appends scene.errs.before scene.errs.after (notice_line WordsRefused)
+words_call None scene answer (library, requests, source, out, inl told) seven = (refl, told.1.0)
+words_call None scene answer (library, requests, source, out, inr failed) seven = absurd (let five = failed.0 in omega arith)
+words_call (Some task) scene answer answers seven = absurd (never_seven task scene answer answers seven)
+
+-- Words that ask for nothing are answered by 7, unless their line can't be written.
+pub unasked_call : (scene : Scene) (answer : ℕ) → Answers None scene answer → (answer ≡ 7) ⊎ (answer ≡ 5)
+unasked_call scene answer (library, requests, source, out, inl told) = inl told.0
+unasked_call scene answer (library, requests, source, out, inr failed) = inr failed.0

@@ -1,0 +1,48 @@
+-- What the words of a command line ask for.
+use Rattle.std.specs.Prelude.{ℕ, ◌^◌, ◌==◌, ◌&&◌, not, List, [], ◌∷◌, length, nat_lt, slice_index, if◌then◌else◌, codes, bytes_eq, Option, Some, None}
+use Rattle.std.specs.Option.{option_map}
+use Rattle.std.specs.Int.NonZero.{non_zero_u32_get}
+use Rattle.std.specs.Str.{all_ascii_digits}
+use Rattle.std.specs.Str.Parse.{digits_value}
+use Rattle.baggage_cli.specs.declared.commands.Command.{Command}
+use Rattle.baggage_cli.specs.declared.commands.Command.TheVariants.{Trim, Merge, Check}
+
+-- What is to be done: a list cut to a budget, contexts merged, or the slots of a bag counted, whose
+-- definition has its root in a file.
+pub data Task : Type 0 where
+  trim : ℕ → Task
+  merge : Task
+  check : List ℕ → List ℕ → Task
+
+-- What the code's command asks for.
+abbrev pub task_of : Command → Task
+task_of (Trim budget) = trim (non_zero_u32_get budget)
+task_of Merge = merge
+task_of (Check file bag) = check file.now bag.now
+
+-- A number from 1 to 4,294,967,295 in decimal digits, without sign or leading zero.
+unfoldable pub number_of : List ℕ → Option ℕ
+number_of word =
+    if nat_lt 0 (length word) && not (slice_index word 0 == 48) && all_ascii_digits word
+    && nat_lt (digits_value 10 word) (2 ^ 32)
+    then Some (digits_value 10 word)
+    else None
+
+-- What the words ask for, by their first one and their number; `None` where they have no form.
+unfoldable pub command_of : List (List ℕ) → Option Task
+command_of (name ∷ file ∷ bag ∷ []) = if bytes_eq name (codes "check") then Some (check file bag) else None
+command_of (name ∷ word ∷ []) = if bytes_eq name (codes "trim") then option_map trim (number_of word) else None
+command_of (name ∷ []) = if bytes_eq name (codes "merge") then Some merge else None
+command_of words = None
+
+-- The task reads the source.
+abbrev pub ReadsSource : Task → Type 0
+ReadsSource (trim budget) = Unit {0}
+ReadsSource merge = Unit {0}
+ReadsSource (check file bag) = ⊥
+
+-- The task fetches files of the library.
+abbrev pub FetchesFiles : Task → Type 0
+FetchesFiles (trim budget) = ⊥
+FetchesFiles merge = ⊥
+FetchesFiles (check file bag) = Unit {0}

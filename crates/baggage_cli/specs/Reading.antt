@@ -1,0 +1,112 @@
+-- An input, and what its lines come to.
+use Rattle.std.specs.Prelude.{◌≡◌, ◌⊎◌, ℕ, ◌+◌, ◌<◌, ◌≤◌, List, [], ◌∷◌, length, take, Result, Ok, Err}
+use Rattle.std.specs.Io.KnownBytes.{Consumes, IsAtEnd}
+use Rattle.std.specs.Global.{Vec}
+use Rattle.context_model.specs.Atoms.{Atom, AreAtoms}
+use Rattle.context_model.specs.Framing.{bytes_of}
+use Rattle.context_model.specs.ContextFault.{IsContextOf, IsFirstContextFault}
+use Rattle.context_model.specs.WireFault.{IsFirstWireFault}
+use Rattle.text_lines.specs.declared.TheConstants.{INPUT_MAX}
+use Rattle.text_lines.specs.declared.hex_lines.HexCode.{HexCode}
+use Rattle.text_lines.specs.HexLines.{IsHexFault, hex_lines}
+use Rattle.text_lines.specs.Lines.{Line, lines_of}
+use Rattle.text_lines.specs.Readings.{Reading, AllSay, IsFirstBad}
+use Rattle.wire_bytes.specs.declared.contexts.ByteCode.{ByteCode}
+use Rattle.wire_bytes.specs.Codes.{byte_code_of}
+use Rattle.baggage_cli.specs.declared.refusals.InputCode.TheVariants.{TooLong}
+use Rattle.baggage_cli.specs.declared.refusals.InputFault.{InputFault}
+use Rattle.baggage_cli.specs.declared.refusals.InputFault.TheVariants.{Code, Hex, Bytes}
+use Rattle.baggage_cli.specs.declared.refusals.Notice.TheVariants.{SourceFailed, Memory}
+use Rattle.baggage_cli.specs.declared.refusals.Refusal.{Refusal}
+use Rattle.baggage_cli.specs.declared.refusals.Refusal.TheVariants.{Input, Plain}
+use Rattle.baggage_cli.specs.Outcomes.{Outcome}
+use Rattle.baggage_cli.specs.Scene.{Change, NeverFell, IsSteady, HasFailed, Held}
+
+-- ---- the source
+
+-- The input that was read: all that the source held, or one byte more than an input may have of it.
+pub record IsRead (source : Change (List ℕ)) (input : List ℕ) : Type 0 where
+  pub held : Held source input
+  pub taken : Consumes source.before source.after (take (INPUT_MAX + 1) input)
+  pub ended : length input ≤ INPUT_MAX → IsAtEnd source.after
+  pub steady : length input ≤ INPUT_MAX → IsSteady source
+
+-- The input is too long, and refused as a whole.
+abbrev pub IsTooLong : List ℕ → Refusal → Type 0
+IsTooLong input refusal = (INPUT_MAX < length input) × (refusal ≡ Input 0 (Code TooLong))
+
+-- Why a source gives no input. Memory may be wanting, and a source that failed has its cause.
+abbrev pub IsUnread : (List ℕ → Type 0) → Change (List ℕ) → Refusal → Type 0
+IsUnread Refuses source refusal =
+    (refusal ≡ Plain Memory)
+    ⊎ ((refusal ≡ Plain SourceFailed) × HasFailed source)
+    ⊎ ((input : List ℕ) × IsRead source input × Refuses input)
+
+-- What reading a source answers: its input, or why there is none.
+abbrev pub ReadsInput : Change (List ℕ) → Result (Vec ℕ) Refusal → Type 0
+ReadsInput source (Ok input) = NeverFell source × IsRead source input.items × (length input.items ≤ INPUT_MAX)
+ReadsInput source (Err refusal) = NeverFell source × IsUnread (λ input. IsTooLong input refusal) source refusal
+
+-- The source is read, and what it held gives the outcome. Memory may be wanting, and a source that failed
+-- has its cause. A source that doesn't tell had some input for which it is so.
+abbrev pub Reads : (List ℕ → Outcome → Type 0) → Change (List ℕ) → Outcome → Type 0
+Reads gives source outcome =
+    NeverFell source
+    × ((outcome ≡ Err (Plain Memory))
+    ⊎ ((outcome ≡ Err (Plain SourceFailed)) × HasFailed source)
+    ⊎ ((input : List ℕ) × IsRead source input × gives input outcome))
+
+-- ---- lines
+
+-- An input that is too long is refused, and the lines of any other come to the outcome.
+abbrev pub Within : (List Line → Outcome → Type 0) → List ℕ → Outcome → Type 0
+Within gives input outcome =
+    ((INPUT_MAX < length input) × (outcome ≡ Err (Input 0 (Code TooLong))))
+    ⊎ ((length input ≤ INPUT_MAX) × gives (lines_of input) outcome)
+
+-- The first bad line of some lines is refused, with what is wrong with it.
+abbrev pub RefusesLines : {A : Type 0} → Reading A InputFault → List Line → Refusal → Type 0
+RefusesLines reading lines refusal =
+    (number : ℕ) × (fault : InputFault) × IsFirstBad reading lines number fault × (refusal ≡ Input number fault)
+
+-- What all lines say gives the output, or the first bad one is refused.
+abbrev pub ReadsLines : {A : Type 0} → Reading A InputFault → (List A → List ℕ → Type 0) → List Line → Outcome → Type 0
+ReadsLines {A} reading gives lines (Ok output) = (said : List A) × AllSay reading [] lines said × gives said output
+ReadsLines reading gives lines (Err refusal) = RefusesLines reading lines refusal
+
+-- ---- lists and contexts
+
+-- Bytes say a list of atoms, or have a first fault.
+abbrev pub list_bytes : Reading (List Atom) InputFault
+list_bytes = record {
+  says = λ earlier bytes list. AreAtoms list × (bytes ≡ bytes_of list);
+  faults = λ earlier bytes fault.
+      (offset : ℕ) × (code : ByteCode) × IsFirstWireFault bytes offset (byte_code_of code) × (fault ≡ Bytes offset code);
+}
+
+-- Bytes say a context, or have a first fault.
+abbrev pub context_bytes : Reading (List Atom) InputFault
+context_bytes = record {
+  says = λ earlier bytes list. IsContextOf list bytes;
+  faults = λ earlier bytes fault.
+      (offset : ℕ) × (code : ByteCode) × IsFirstContextFault bytes offset (byte_code_of code) × (fault ≡ Bytes offset code);
+}
+
+-- Lines of digits say lists, or contexts.
+abbrev pub list_lines : Reading (List Atom) InputFault
+list_lines = hex_lines Hex list_bytes
+
+abbrev pub context_lines : Reading (List Atom) InputFault
+context_lines = hex_lines Hex context_bytes
+
+-- A line isn't one of digits: memory is wanting for its bytes, or this is wrong with it.
+abbrev pub IsNoHex : Line → Refusal → Type 0
+IsNoHex line refusal =
+    (refusal ≡ Plain Memory)
+    ⊎ ((code : HexCode) × IsHexFault line.1 code × (refusal ≡ Input line.0 (Hex code)))
+
+-- A line isn't what a reading of single lines wants: memory is wanting for it, or this is wrong with it.
+abbrev pub RefusesLine : {A : Type 0} → Reading A InputFault → Line → Refusal → Type 0
+RefusesLine reading line refusal =
+    (refusal ≡ Plain Memory)
+    ⊎ ((fault : InputFault) × reading.faults [] line.1 fault × (refusal ≡ Input line.0 fault))

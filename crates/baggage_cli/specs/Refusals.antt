@@ -1,0 +1,84 @@
+-- The status and the line of each refusal.
+use Rattle.std.specs.Prelude.{ℕ, List, [], ◌∷◌, ◌++◌, codes}
+use Rattle.std.specs.Fmt.{decimal}
+use Rattle.context_model.specs.ByteCodes.{code_name}
+use Rattle.text_lines.specs.HexLines.{hex_name}
+use Rattle.wire_bytes.specs.Codes.{byte_code_of}
+use Rattle.bdl_load.specs.CodeNames.{def_name}
+use Rattle.bdl_load.specs.declared.faults.DefCode.{DefCode}
+use Rattle.bdl_load.specs.declared.faults.DefFault.{DefFault}
+use Rattle.bdl_load.specs.declared.faults.DefFault.TheVariants as defs
+use Rattle.bdl_load.specs.declared.faults.Fault.{Fault}
+use Rattle.baggage_cli.specs.declared.refusals.InputCode.{InputCode}
+use Rattle.baggage_cli.specs.declared.refusals.InputCode.TheVariants.{TooLong, NoLine, Form, TooManyLines}
+use Rattle.baggage_cli.specs.declared.refusals.InputFault.{InputFault}
+use Rattle.baggage_cli.specs.declared.refusals.InputFault.TheVariants.{Code, Hex, Bytes}
+use Rattle.baggage_cli.specs.declared.refusals.Notice.{Notice}
+use Rattle.baggage_cli.specs.declared.refusals.Notice.TheVariants.{LibraryFailed, SourceFailed, SinkFailed, Memory, WordsRefused}
+use Rattle.baggage_cli.specs.declared.refusals.Refusal.{Refusal}
+use Rattle.baggage_cli.specs.declared.refusals.Refusal.TheVariants.{Input, Definition, Plain}
+
+-- The name of a code, as it is printed.
+abbrev pub input_name : InputCode → List ℕ
+input_name TooLong = codes "TooLong"
+input_name NoLine = codes "NoLine"
+input_name Form = codes "Form"
+input_name TooManyLines = codes "TooManyLines"
+
+-- The status of what is wrong with an input or a line of it.
+abbrev pub input_status : InputFault → ℕ
+input_status (Code code) = 2
+input_status (Hex code) = 2
+input_status (Bytes offset code) = 3
+
+-- The line that says what is wrong with a line of an input.
+abbrev pub input_line : ℕ → InputFault → List ℕ
+input_line line (Code code) = codes "input line " ++ (decimal line ++ (codes " " ++ (input_name code ++ 10 ∷ [])))
+input_line line (Hex code) = codes "input line " ++ (decimal line ++ (codes " " ++ (hex_name code ++ 10 ∷ [])))
+input_line line (Bytes offset code) =
+    codes "context line "
+    ++ (decimal line ++ (codes " offset " ++ (decimal offset ++ (codes " " ++ (code_name (byte_code_of code) ++ 10 ∷ [])))))
+
+-- The line that says what is wrong with a definition.
+abbrev pub definition_line : List ℕ → ℕ → ℕ → DefCode → List ℕ
+definition_line file line column code =
+    codes "definition "
+    ++ (file ++ (codes " " ++ (decimal line ++ (codes ":" ++ (decimal column ++ (codes " " ++ (def_name code ++ 10 ∷ [])))))))
+
+-- The status of a notice.
+abbrev pub notice_status : Notice → ℕ
+notice_status LibraryFailed = 4
+notice_status SourceFailed = 4
+notice_status SinkFailed = 5
+notice_status Memory = 6
+notice_status WordsRefused = 7
+
+-- The line of a notice.
+abbrev pub notice_line : Notice → List ℕ
+notice_line LibraryFailed = codes "library failed" ++ 10 ∷ []
+notice_line SourceFailed = codes "source failed" ++ 10 ∷ []
+notice_line SinkFailed = codes "sink failed" ++ 10 ∷ []
+notice_line Memory = codes "memory" ++ 10 ∷ []
+notice_line WordsRefused = codes "words refused" ++ 10 ∷ []
+
+-- The status that the program ends with.
+abbrev pub status_of : Refusal → ℕ
+status_of (Input line fault) = input_status fault
+status_of (Definition file line column code) = 1
+status_of (Plain notice) = notice_status notice
+
+-- The line that is written to the sink of errors.
+abbrev pub line_of : Refusal → List ℕ
+line_of (Input line fault) = input_line line fault
+line_of (Definition file line column code) = definition_line file line column code
+line_of (Plain notice) = notice_line notice
+
+-- The refusal of a definition that has this first fault.
+abbrev pub blamed : Fault → Refusal
+blamed fault = Definition fault.file fault.line fault.column fault.code
+
+-- The refusal of a definition that isn't compiled.
+abbrev pub refusal_of : DefFault → Refusal
+refusal_of (defs.At file line column code) = Definition file line column code
+refusal_of defs.Failed = Plain LibraryFailed
+refusal_of defs.Memory = Plain Memory
