@@ -1,6 +1,6 @@
 //! Lists that are built atom by atom in room that was taken first.
 
-ghost use Rattle.std.specs.Prelude.{◌≡◌, ℕ, List, ◌+◌, ◌≤◌, [], ◌∷◌, ◌++◌, length, drop, slice_range, IfOk};
+ghost use Rattle.std.specs.Prelude.{◌≡◌, ℕ, List, ◌+◌, ◌≤◌, [], ◌∷◌, ◌++◌, length, drop, slice_range, IfOk, OnOk};
 ghost use Rattle.context_model.specs.Framing.{bytes_of};
 ghost use Rattle.atom_list.specs.Builder.{room_of, run_room, AddsPiece};
 ghost use Rattle.atom_list.specs.Spans.{IsPieceOf};
@@ -58,6 +58,21 @@ impl Builder {
             bytes: Vec::with_capacity(alloc, bytes)?,
             spans: Vec::with_capacity(alloc, atoms)?,
         })
+    }
+
+    /// Takes room for so many more bytes and atoms, and where room is wanting for about as many again as are there, so that a
+    /// list grows in few turns. A buffer holds fewer than 2 ^ 32 bytes: for more there is no memory.
+    pub fn reserve(&mut self, bytes: usize, atoms: usize) -> Result<(), Memory>
+        ensures atoms { self.new.atoms ≡ self.old.atoms }
+        ensures byte_room { OnOk result (bytes ≤ self.new.byte_room) }
+        ensures atom_room { OnOk result (atoms ≤ self.new.atom_room) }
+    {
+        if BUFFER_MAX - self.bytes.len() < bytes {
+            return Err(Memory);
+        }
+        self.bytes.reserve(bytes)?;
+        self.spans.reserve(atoms)?;
+        Ok(())
     }
 
     /// Adds an atom at the end. It takes no memory.
