@@ -1,6 +1,7 @@
 //! Bytes as hexadecimal digits.
 
 ghost use Rattle.std.specs.Prelude.{◌≡◌, ◌++◌, IfOk, IfErr, OnOk, OnErr};
+ghost use Rattle.hex.specs.Hex.{encode_lower};
 ghost use Rattle.text_lines.specs.HexLines as spec;
 
 use crate::DIGITS_MAX;
@@ -41,8 +42,21 @@ pub enum HexFault {
     Memory,
 }
 
-/// Appends the digits of these bytes: two a byte in lower case, or a dash for none. Want of memory leaves the buffer
-/// as it was.
+/// Appends the digits of these bytes: two a byte in lower case. Want of memory leaves the buffer as it was.
+pub fn push_digits(buffer: &mut Vec<u8>, bytes: &[u8]) -> Result<(), Memory>
+    ensures ok { OnOk result (buffer.new.items ≡ buffer.old.items ++ encode_lower bytes.now) }
+    ensures err { OnErr result (buffer.new.items ≡ buffer.old.items) }
+{
+    let start = buffer.len();
+    let Some(len) = start.checked_add(bytes.len().saturating_mul(2)) else {
+        return Err(Memory);
+    };
+    buffer.resize(len, 0)?;
+    hex::encode_to_slice(bytes, &mut buffer[start..]).unwrap();
+    Ok(())
+}
+
+/// Appends the digits of these bytes, or a dash for none. Want of memory leaves the buffer as it was.
 #[tactic(auto, unfolding(crate::specs::HexLines::hex_text))]
 pub fn push_hex(buffer: &mut Vec<u8>, bytes: &[u8]) -> Result<(), Memory>
     ensures ok { OnOk result (buffer.new.items ≡ buffer.old.items ++ spec.hex_text bytes.now) }
@@ -52,13 +66,7 @@ pub fn push_hex(buffer: &mut Vec<u8>, bytes: &[u8]) -> Result<(), Memory>
         buffer.push(b'-')?;
         return Ok(());
     }
-    let start = buffer.len();
-    let Some(len) = start.checked_add(bytes.len().saturating_mul(2)) else {
-        return Err(Memory);
-    };
-    buffer.resize(len, 0)?;
-    hex::encode_to_slice(bytes, &mut buffer[start..]).unwrap();
-    Ok(())
+    push_digits(buffer, bytes)
 }
 
 /// The line of these bytes: their digits and a line feed.

@@ -5,6 +5,7 @@ ghost use Rattle.std.specs.Str.Lines.{lines, strip_carriage_return};
 ghost use Rattle.std.specs.Iterator.{YieldsFirstBy, item_count};
 ghost use Rattle.text_lines.specs.Lines as spec;
 
+use memchr::memchr;
 use std::marker::Model;
 
 /// A line of an input, without what ends it.
@@ -63,7 +64,7 @@ fn feed_at(bytes: &[u8]) -> Option<usize>
     ensures first { IfSome result (λ at. (k : ℕ) → k < at → slice_index bytes.now k ≢ 10) }
     ensures feed { IfSome result (λ at. slice_index bytes.now at ≡ 10) }
 {
-    bytes.iter().position(|byte| *byte == b'\n')
+    memchr(b'\n', bytes)
 }
 
 /// The first line of some bytes and the bytes behind it; `None` where there is none.
