@@ -1,0 +1,18 @@
+//! Searches over the atoms of a list: where data and what stands below a header end, and where the header of a field or of
+//! a key stands. Each goes on from a place, so that a walk over a table looks at each atom a fixed number of times.
+#![tactic(auto)]
+
+mod data;
+mod headers;
+mod parts;
+mod searches;
+mod spans;
+mod states;
+#[cfg(test)]
+mod tests;
+
+pub use data::{first_datum, is_datum, last_datum};
+pub use parts::{atom, data_end, segment_end};
+pub use searches::{find_field, find_key};
+pub use spans::{Span, spans_of};
+pub use states::{State, first_marker, state_of};
