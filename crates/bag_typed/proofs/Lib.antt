@@ -1,0 +1,6 @@
+mod Orders
+mod Data
+mod Keys
+mod Fields
+mod Spellings
+mod Shapes

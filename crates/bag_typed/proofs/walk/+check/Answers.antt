@@ -1,0 +1,185 @@
+use Rattle.std.proofs.Common.{◌≡◌, ◌+◌, drop, sym, ap, ◌∙◌, subst, arith, rules, IfOk, IfErr}
+use Rattle.context_model.specs.Paths.{path_before}
+use Rattle.bag_model.specs.Shapes as model
+use Rattle.bag_model.specs.Typed.{IsSpelling, Misspells}
+use Rattle.bag_model.proofs.PathLaws.{is_field}
+use Rattle.bag_model.proofs.SizeLaws.{size_at}
+use Rattle.field_table.specs.Plain.{nodes_of, shape_of}
+use Rattle.field_table.proofs.Held.{levels_there}
+use Rattle.field_table.proofs.Shown.{taint_shown, scalar_shown, set_shown}
+use Rattle.scalar_types.specs.KindViews.{kind_of}
+use Rattle.bag_typed.specs.Faults.{HasNone, IsFirstOf}
+use Rattle.bag_typed.proofs.Data.{not_both}
+use Rattle.bag_typed.proofs.Fields.{ClearsFields, plain_slot, slot_there, fields_end, field_turn, field_missing}
+use Rattle.bag_typed.proofs.Keys.{OfSomeKey, key_end, key_turn}
+use Rattle.bag_typed.proofs.Shapes.{none_alike, first_alike, of_key, key_under, from_key, to_key, entry_none, entry_fault, key_fault}
+use Rattle.bag_typed.proofs.Spellings.{spelling_told}
+use Rattle.bag_typed.proofs.walk.+check.Goals as goal
+use Rattle.bag_typed.proofs.walk.+check.Goals.{check_fields-in-Ok+in_ok-place-in-Ok, check_fields-in-Err}
+
+-- ---- a field
+
+pub check_field-returns-in-Taint-clause-typed : goal.check_field-returns-in-Taint-clause-typed
+check_field-returns-in-Taint-clause-typed t c =
+    let list = c.args.list.now in
+    let q = path_before list c.args.from in
+    let shown = ap shape_of c.in-Taint.is ∙ taint_shown.0 in
+    subst (λ (shape : model.Shape). IfOk c.check_data.result (λ _. HasNone list (Misspells shape q))) (sym shown) c.check_data.ensures.right
+
+pub check_field-returns-in-Taint-clause-fault : goal.check_field-returns-in-Taint-clause-fault
+check_field-returns-in-Taint-clause-fault t c =
+    let list = c.args.list.now in
+    let q = path_before list c.args.from in
+    let shown = ap shape_of c.in-Taint.is ∙ taint_shown.0 in
+    subst (λ (shape : model.Shape). IfErr c.check_data.result (IsFirstOf list (Misspells shape q))) (sym shown) c.check_data.ensures.fault
+
+pub check_field-returns-in-Scalar-clause-typed : goal.check_field-returns-in-Scalar-clause-typed
+check_field-returns-in-Scalar-clause-typed t c =
+    let list = c.args.list.now in
+    let q = path_before list c.args.from in
+    let shown = ap shape_of c.in-Scalar.is ∙ (scalar_shown c.in-Scalar.kind).0 in
+    subst (λ (shape : model.Shape). IfOk c.check_data-in-Scalar.result (λ _. HasNone list (Misspells shape q))) (sym shown) c.check_data-in-Scalar.ensures.right
+
+pub check_field-returns-in-Scalar-clause-fault : goal.check_field-returns-in-Scalar-clause-fault
+check_field-returns-in-Scalar-clause-fault t c =
+    let list = c.args.list.now in
+    let q = path_before list c.args.from in
+    let shown = ap shape_of c.in-Scalar.is ∙ (scalar_shown c.in-Scalar.kind).0 in
+    subst (λ (shape : model.Shape). IfErr c.check_data-in-Scalar.result (IsFirstOf list (Misspells shape q))) (sym shown) c.check_data-in-Scalar.ensures.fault
+
+pub check_field-returns-in-Set-clause-typed : goal.check_field-returns-in-Set-clause-typed
+check_field-returns-in-Set-clause-typed t c =
+    let list = c.args.list.now in
+    let q = path_before list c.args.from in
+    let shown = ap shape_of c.in-Set.is ∙ (set_shown c.in-Set.kind).0 in
+    subst (λ (shape : model.Shape). IfOk c.check_data-in-Set.result (λ _. HasNone list (Misspells shape q))) (sym shown) c.check_data-in-Set.ensures.right
+
+pub check_field-returns-in-Set-clause-fault : goal.check_field-returns-in-Set-clause-fault
+check_field-returns-in-Set-clause-fault t c =
+    let list = c.args.list.now in
+    let q = path_before list c.args.from in
+    let shown = ap shape_of c.in-Set.is ∙ (set_shown c.in-Set.kind).0 in
+    subst (λ (shape : model.Shape). IfErr c.check_data-in-Set.result (IsFirstOf list (Misspells shape q))) (sym shown) c.check_data-in-Set.ensures.fault
+
+-- ---- the entries of a map
+
+pub check_entries-returns-then-not-spelled-clause-fault : goal.check_entries-returns-then-not-spelled-clause-fault
+check_entries-returns-then-not-spelled-clause-fault t c =
+    let list = c.args.list.now in
+    let q = path_before list c.args.from in
+    let kind = kind_of c.args.kind.now in
+    let value = shape_of c.args.value.now in
+    let turn = key_turn (of_key kind value q) list q c.args.from c.args.level c.requires.level c.requires.behind (omega (arith, c.requires.room)) (key_under kind value q)
+    c.loop-at.place c.loop-at.invariant c.in-Ok.at c.in-Ok.ensures.found in
+    let bytes : c.rest.result.now ≡ turn.key = c.rest.ensures ∙ ap (λ a. drop 1 a) c.atom.ensures ∙ turn.rest in
+    let wrong = λ (spelled : IsSpelling kind turn.key).
+    not_both c.spelled.result (c.spelled.ensures.1 ((spelling_told kind c.rest.result.now).1 (subst (IsSpelling kind) (sym bytes) spelled))) c.if-not-spelled.true in
+    let own = key_fault kind value list q turn.key c.in-Ok.at turn.behind wrong in
+    first_alike list (OfSomeKey (of_key kind value q)) (Misspells (model.Shape.Map kind value) q) c.in-Ok.at (from_key kind value q) (to_key kind value q) (turn.fault c.in-Ok.at own)
+
+pub check_entries-check_field-requires : goal.check_entries-check_field-requires
+check_entries-check_field-requires t c =
+    let list = c.args.list.now in
+    let q = path_before list c.args.from in
+    let kind = kind_of c.args.kind.now in
+    let value = shape_of c.args.value.now in
+    let turn = key_turn (of_key kind value q) list q c.args.from c.args.level c.requires.level c.requires.behind (omega (arith, c.requires.room)) (key_under kind value q)
+    c.loop-at.place c.loop-at.invariant c.in-Ok.at c.in-Ok.ensures.found in
+    (omega (arith, c.decreases), (turn.starts, (turn.deeper, (c.requires.shape, omega (arith, c.requires.room)))))
+
+pub check_entries-returns-in_err-place-in-Ok-clause-fault : goal.check_entries-returns-in_err-place-in-Ok-clause-fault
+check_entries-returns-in_err-place-in-Ok-clause-fault t c =
+    let list = c.args.list.now in
+    let q = path_before list c.args.from in
+    let kind = kind_of c.args.kind.now in
+    let value = shape_of c.args.value.now in
+    let turn = key_turn (of_key kind value q) list q c.args.from c.args.level c.requires.level c.requires.behind (omega (arith, c.requires.room)) (key_under kind value q)
+    c.loop-at.place c.loop-at.invariant c.in-Ok.at c.in-Ok.ensures.found in
+    let first = c.in_err-place-in-Ok.field-0.0 in
+    let bytes : c.rest.result.now ≡ turn.key = c.rest.ensures ∙ ap (λ a. drop 1 a) c.atom.ensures ∙ turn.rest in
+    let spelled = subst (IsSpelling kind) bytes ((spelling_told kind c.rest.result.now).0 (c.spelled.ensures.0 c.if-not-spelled.false)) in
+    let own = entry_fault kind value list q turn.key first spelled (subst (λ p. IsFirstOf list (Misspells value p) first) turn.behind.path c.in_err-place-in-Ok.ensures.fault) in
+    let fault : IsFirstOf list (Misspells (model.Shape.Map kind value) q) first =
+    first_alike list (OfSomeKey (of_key kind value q)) (Misspells (model.Shape.Map kind value) q) first (from_key kind value q) (to_key kind value q) (turn.fault first own) in
+    search rules
+
+pub check_entries-loop-at-preserved : goal.check_entries-loop-at-preserved
+check_entries-loop-at-preserved t c =
+    let list = c.args.list.now in
+    let q = path_before list c.args.from in
+    let kind = kind_of c.args.kind.now in
+    let value = shape_of c.args.value.now in
+    let turn = key_turn (of_key kind value q) list q c.args.from c.args.level c.requires.level c.requires.behind (omega (arith, c.requires.room)) (key_under kind value q)
+    c.loop-at.place c.loop-at.invariant c.in-Ok.at c.in-Ok.ensures.found in
+    let bytes : c.rest.result.now ≡ turn.key = c.rest.ensures ∙ ap (λ a. drop 1 a) c.atom.ensures ∙ turn.rest in
+    let spelled = subst (IsSpelling kind) bytes ((spelling_told kind c.rest.result.now).0 (c.spelled.ensures.0 c.if-not-spelled.false)) in
+    let none = entry_none kind value list q turn.key spelled (subst (λ p. HasNone list (Misspells value p)) turn.behind.path c.in_ok-place-in-Ok.ensures.typed) in
+    turn.more c.in_ok-place-in-Ok.place none c.in_ok-place-in-Ok.ensures.end
+
+pub check_entries-returns-in-Err-clause-typed : goal.check_entries-returns-in-Err-clause-typed
+check_entries-returns-in-Err-clause-typed t c =
+    let list = c.args.list.now in
+    let q = path_before list c.args.from in
+    let kind = kind_of c.args.kind.now in
+    let value = shape_of c.args.value.now in
+    none_alike list (OfSomeKey (of_key kind value q)) (Misspells (model.Shape.Map kind value) q) (to_key kind value q)
+    (key_end (of_key kind value q) list q c.args.from c.args.level c.requires.level c.requires.behind (omega (arith, c.requires.room)) (key_under kind value q)
+    c.loop-at.place c.loop-at.invariant c.in-Err.stop c.in-Err.ensures.none)
+
+-- ---- the fields of a bag
+
+pub check_fields-find_field-requires-clause-level : goal.check_fields-find_field-requires-clause-level
+check_fields-find_field-requires-clause-level t c =
+    let at = c.loop-at.at in
+    let there = slot_there c.args.fields.now at c.get.result c.unwrap-field.result c.get.ensures c.unwrap-field.ensures in
+    omega (arith, levels_there (nodes_of c.args.fields.now) at (plain_slot c.unwrap-field.result.now) there, c.requires.room)
+
+pub check_fields-check_field-requires : goal.check_fields-check_field-requires
+check_fields-check_field-requires t c =
+    let list = c.args.list.now in
+    let q = path_before list c.args.from in
+    let nodes = nodes_of c.args.fields.now in
+    let at = c.loop-at.at in
+    let f = plain_slot c.unwrap-field.result.now in
+    let there = slot_there c.args.fields.now at c.get.result c.unwrap-field.result c.get.ensures c.unwrap-field.ensures in
+    let turn = field_turn nodes list q c.args.from c.args.level c.requires.level c.requires.behind c.requires.fields c.requires.room at c.loop-at.place f there c.loop-at.invariant
+    c.from.result c.from.ensures c.in-Ok.behind c.in-Ok.ensures.found in
+    let levels = levels_there nodes at f there in
+    (omega (arith, c.decreases, size_at nodes at f there), (turn.starts, (turn.deeper, ((is_field nodes at f c.requires.fields there).1, omega (arith, levels, c.requires.room)))))
+
+pub check_fields-returns-in_err-place-in-Ok-clause-fault : goal.check_fields-returns-in_err-place-in-Ok-clause-fault
+check_fields-returns-in_err-place-in-Ok-clause-fault t c =
+    let list = c.args.list.now in
+    let q = path_before list c.args.from in
+    let nodes = nodes_of c.args.fields.now in
+    let at = c.loop-at.at in
+    let f = plain_slot c.unwrap-field.result.now in
+    let there = slot_there c.args.fields.now at c.get.result c.unwrap-field.result c.get.ensures c.unwrap-field.ensures in
+    let turn = field_turn nodes list q c.args.from c.args.level c.requires.level c.requires.behind c.requires.fields c.requires.room at c.loop-at.place f there c.loop-at.invariant
+    c.from.result c.from.ensures c.in-Ok.behind c.in-Ok.ensures.found in
+    let fault = turn.fault c.in_err-place-in-Ok.field-0.0 c.in_err-place-in-Ok.ensures.fault in
+    search rules
+
+pub check_fields-loop-at-preserved : goal.check_fields-loop-at-preserved
+check_fields-loop-at-preserved t c =
+    let list = c.args.list.now in
+    let q = path_before list c.args.from in
+    let nodes = nodes_of c.args.fields.now in
+    let at = c.loop-at.at in
+    let f = plain_slot c.unwrap-field.result.now in
+    let there = slot_there c.args.fields.now at c.get.result c.unwrap-field.result c.get.ensures c.unwrap-field.ensures in
+    let Clears = ClearsFields nodes list q c.args.from (at + 1) in
+    elim c.match-find_field.branch [
+      | check_fields-in-Ok+in_ok-place-in-Ok w ↦ (
+          let turn = field_turn nodes list q c.args.from c.args.level c.requires.level c.requires.behind c.requires.fields c.requires.room at c.loop-at.place f there c.loop-at.invariant
+          c.from.result c.from.ensures w.in-Ok.behind w.in-Ok.ensures.found in
+          subst Clears (sym w.place-is) (turn.more w.in_ok-place-in-Ok.place w.in_ok-place-in-Ok.ensures.typed w.in_ok-place-in-Ok.ensures.end))
+      | check_fields-in-Err w ↦ subst Clears (sym w.place-is)
+          (field_missing nodes list q c.args.from c.args.level c.requires.level c.requires.behind c.requires.fields c.requires.room at c.loop-at.place f there c.loop-at.invariant
+          c.from.result c.from.ensures w.in-Err.stop w.in-Err.ensures.missing)
+    ]
+
+pub check_fields-returns-clause-typed : goal.check_fields-returns-clause-typed
+check_fields-returns-clause-typed t c =
+    fields_end (nodes_of c.args.fields.now) c.args.list.now (path_before c.args.list.now c.args.from) c.args.from c.loop-at.at c.loop-at.place
+    (omega (arith, c.loop-at-test.false, c.len-at-end.ensures)) c.loop-at.invariant

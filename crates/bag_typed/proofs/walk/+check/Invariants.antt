@@ -1,0 +1,28 @@
+use Rattle.std.proofs.Common.{◌+◌, ◌-◌, length}
+use Rattle.context_model.specs.Paths.{path_before}
+use Rattle.bag_model.specs.Sizes.{shape_size, nodes_size}
+use Rattle.field_table.specs.Plain.{shape_of, nodes_of}
+use Rattle.scalar_types.specs.KindViews.{kind_of}
+use Rattle.bag_typed.proofs.Fields.{ClearsFields}
+use Rattle.bag_typed.proofs.Keys.{ClearsKeys}
+use Rattle.bag_typed.proofs.Shapes.{of_key}
+use Rattle.bag_typed.proofs.walk.+check.Given as goal
+
+abbrev pub decreases-check_field : goal.decreases-check_field
+decreases-check_field l = shape_size (shape_of l.shape.now)
+
+abbrev pub decreases-check_fields : goal.decreases-check_fields
+decreases-check_fields l = nodes_size (nodes_of l.fields.now)
+
+abbrev pub decreases-check_entries : goal.decreases-check_entries
+decreases-check_entries l = 1 + shape_size (shape_of l.value.now)
+
+abbrev pub invariant-check_entries-loop-at : goal.invariant-check_entries-loop-at
+invariant-check_entries-loop-at l =
+    ClearsKeys (of_key (kind_of l.kind) (shape_of l.value) (path_before l.list l.from)) l.list (path_before l.list l.from) l.from l.place
+
+abbrev pub decreases-check_entries-loop-at : goal.decreases-check_entries-loop-at
+decreases-check_entries-loop-at l = length l.list - l.place
+
+abbrev pub invariant-check_fields-loop-at : goal.invariant-check_fields-loop-at
+invariant-check_fields-loop-at l = ClearsFields (nodes_of l.fields) l.list (path_before l.list l.from) l.from l.at l.place

@@ -1,0 +1,72 @@
+//! Data with the payloads that their fields ask for.
+
+ghost use Rattle.std.specs.Prelude.{◌↔◌, IsTrue, IfOk, IfErr};
+ghost use Rattle.context_model.specs.Paths.{path_before};
+ghost use Rattle.bag_model.specs.Typed.{IsCount};
+ghost use Rattle.bag_walks.specs.Parts.{IsBehind, IsSegment};
+ghost use Rattle.bag_typed.specs.Faults.{HasNone, IsFirstOf, IsWrongDatum};
+ghost use Rattle.bag_typed.specs.Payloads.{IsPayload};
+
+use atom_kinds::rest;
+use atom_list::AtomList;
+use bag_scan::{atom, data_end, is_datum, segment_end};
+use lex_varint::take_u64;
+use scalar_types::{Codec, ScalarKind};
+
+/// What the payload of a datum is to be.
+#[derive(Clone, Copy)]
+pub(crate) enum Payload<'a> {
+    /// Nothing, as in a taint.
+    Empty,
+    /// A count of 64 bits.
+    Count,
+    /// A scalar of a kind.
+    Scalar(&'a ScalarKind),
+}
+
+impl Payload<'_> {
+    /// Whether the bytes are such a payload.
+    fn fits(&self, bytes: &[u8]) -> bool
+        ensures { IsTrue result ↔ IsPayload self.now bytes.now }
+    {
+        match self {
+            Payload::Empty => bytes.is_empty(),
+            Payload::Count => is_count(bytes),
+            Payload::Scalar(kind) => kind.spelled(bytes),
+        }
+    }
+}
+
+/// Whether the bytes are a count of 64 bits and nothing more.
+fn is_count(bytes: &[u8]) -> bool
+    ensures { IsTrue result ↔ IsCount bytes.now }
+{
+    match take_u64(bytes) {
+        Ok((_, count)) => count == bytes.len(),
+        Err(_) => false,
+    }
+}
+
+/// The end of what stands below a header, if the data right behind the header have such payloads; otherwise the place of the
+/// first that hasn't.
+pub(crate) fn check_data(
+    payload: &Payload,
+    list: &AtomList,
+    level: usize,
+    from: usize,
+) -> Result<usize, usize>
+    requires behind { IsBehind list.now (path_before list.now from) from }
+    ensures end { IfOk result (IsSegment list.now level from) }
+    ensures right { IfOk result (λ _. HasNone list.now
+        (IsWrongDatum (IsPayload payload.now) (path_before list.now from))) }
+    ensures fault { IfErr result (IsFirstOf list.now
+        (IsWrongDatum (IsPayload payload.now) (path_before list.now from))) }
+{
+    let to = data_end(list, from);
+    for at in from..to {
+        if is_datum(list, at) && !payload.fits(rest(atom(list, at))) {
+            return Err(at);
+        }
+    }
+    Ok(segment_end(list, level, to))
+}
