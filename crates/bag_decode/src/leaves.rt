@@ -1,0 +1,157 @@
+//! Fields of one part: taints, scalars, sets and counters, each read behind its header.
+
+ghost use Rattle.std.specs.Prelude.{◌≡◌, ◌<◌, ◌≤◌, length, map, IfOk, IfErr};
+ghost use Rattle.std.specs.Option.{option_map};
+ghost use Rattle.context_model.specs.Paths.{path_before};
+ghost use Rattle.context_model.specs.Varints.{unsigned_varint};
+ghost use Rattle.bag_model.specs.Readings.{PathsOf, IsGreatest, Reads};
+ghost use Rattle.bag_model.specs.Scalars.{IsScalarOf, spelling};
+ghost use Rattle.bag_model.specs.Shapes as shapes;
+ghost use Rattle.bag_model.specs.Typed.{IsCount, IsSpelling, IsTyped};
+ghost use Rattle.bag_model.specs.Values as values;
+ghost use Rattle.bag_walks.specs.Parts.{IsBehind, IsSegment};
+ghost use Rattle.bag_scan.specs.Found.{HasNoKey};
+ghost use Rattle.scalar_types.specs.KindViews.{kind_of};
+ghost use Rattle.scalar_types.specs.ScalarViews.{value_of};
+ghost use Rattle.bag_decode.specs.Walked.{AreCountsAt, IsNextKey};
+
+use atom_kinds::rest;
+use atom_list::AtomList;
+use bag_model::MAX_LEVELS;
+use bag_scan::{atom, data_end, find_key, first_datum, is_datum, last_datum};
+use bag_value::ScalarSet;
+use counter_type::Counts;
+use lex_varint::take_u64;
+use outside::Memory;
+use scalar_types::{Codec, Scalar, ScalarKind, TakeFault};
+use set_map_types::SetOf;
+use std::alloc::Global;
+
+/// Whether a datum stands behind the header.
+pub(crate) fn has_datum(list: &AtomList, from: usize) -> bool
+    requires { IsBehind list.now (path_before list.now from) from }
+    ensures { Reads shapes.Shape.Taint (PathsOf list.now) (path_before list.now from) (values.Value.Taint result) }
+{
+    first_datum(list, from, data_end(list, from)).is_some()
+}
+
+/// The scalar that the bytes are known to spell.
+pub(crate) fn take_known(alloc: Global, kind: &ScalarKind, bytes: &[u8]) -> Result<Scalar, Memory>
+    requires { IsSpelling (kind_of kind.now) bytes.now }
+    ensures fits { IfOk result (λ value. IsScalarOf (kind_of kind.now) (value_of value)) }
+    ensures spelled { IfOk result (λ value. bytes.now ≡ spelling (kind_of kind.now) (value_of value)) }
+{
+    match kind.take(alloc, bytes) {
+        Ok(value) => Ok(value),
+        Err(TakeFault::Memory) => Err(Memory),
+        Err(TakeFault::NotSpelled) => unreachable!(),
+    }
+}
+
+/// The scalar of the first datum behind the header.
+pub(crate) fn first_scalar(
+    alloc: Global,
+    kind: &ScalarKind,
+    list: &AtomList,
+    from: usize,
+) -> Result<Option<Scalar>, Memory>
+    requires behind { IsBehind list.now (path_before list.now from) from }
+    requires typed { IsTyped (shapes.Shape.Scalar (kind_of kind.now)) (PathsOf list.now) (path_before list.now from) }
+    ensures { IfOk result (λ found. Reads (shapes.Shape.Scalar (kind_of kind.now)) (PathsOf list.now)
+        (path_before list.now from) (values.Value.Scalar (option_map value_of found))) }
+{
+    match first_datum(list, from, data_end(list, from)) {
+        Some(at) => Ok(Some(take_known(alloc, kind, rest(atom(list, at)))?)),
+        None => Ok(None),
+    }
+}
+
+/// The set of the scalars of all data behind the header.
+pub(crate) fn set_of(
+    alloc: Global,
+    kind: &ScalarKind,
+    list: &AtomList,
+    from: usize,
+) -> Result<ScalarSet, Memory>
+    requires behind { IsBehind list.now (path_before list.now from) from }
+    requires typed { IsTyped (shapes.Shape.Set (kind_of kind.now)) (PathsOf list.now) (path_before list.now from) }
+    ensures { IfOk result (λ set. Reads (shapes.Shape.Set (kind_of kind.now)) (PathsOf list.now) (path_before list.now from)
+        (values.Value.Set (kind_of set.codec) (map value_of set.items))) }
+{
+    let mut set = SetOf::new(alloc, kind.copy()?)?;
+    for at in from..data_end(list, from) {
+        if is_datum(list, at) {
+            set.push(take_known(alloc, kind, rest(atom(list, at)))?)?;
+        }
+    }
+    Ok(set)
+}
+
+/// The count that the bytes are known to spell.
+fn known_count(bytes: &[u8]) -> u64
+    requires { IsCount bytes.now }
+    ensures { bytes.now ≡ unsigned_varint result }
+{
+    match take_u64(bytes) {
+        Ok((count, _)) => count,
+        Err(_) => unreachable!(),
+    }
+}
+
+/// The greatest count behind the header of a writer, which is that of the last datum.
+fn last_count(list: &AtomList, from: usize) -> u64
+    requires behind { IsBehind list.now (path_before list.now from) from }
+    requires counts { AreCountsAt (PathsOf list.now) (path_before list.now from) }
+    ensures { IsGreatest (PathsOf list.now) (path_before list.now from) result }
+{
+    match last_datum(list, from, data_end(list, from)) {
+        Some(at) => known_count(rest(atom(list, at))),
+        None => 0,
+    }
+}
+
+/// The next key of this level from a place on, and the place behind its header; or, where there is none, the place where
+/// what stands below ends.
+pub(crate) fn next_key(list: &AtomList, level: usize, from: usize) -> Result<(&[u8], usize), usize>
+    requires level { level < MAX_LEVELS }
+    requires from { from ≤ length list.now }
+    ensures found { IfOk result (λ found. IsNextKey list.now level from found.0.now found.1) }
+    ensures none { IfErr result (HasNoKey list.now level from) }
+{
+    match find_key(list, level, from) {
+        Ok(at) => {
+            let len = list.len();
+            prove!(at < len);
+            Ok((rest(atom(list, at)), at + 1))
+        }
+        Err(end) => Err(end),
+    }
+}
+
+/// The count of each writer behind the header of a counter, and the place where what stands below the header ends.
+pub(crate) fn counts_of(
+    alloc: Global,
+    list: &AtomList,
+    level: usize,
+    from: usize,
+) -> Result<(Counts, usize), Memory>
+    requires behind { IsBehind list.now (path_before list.now from) from }
+    requires level { length (path_before list.now from) ≡ level }
+    requires room { level < MAX_LEVELS }
+    requires typed { IsTyped shapes.Shape.Counter (PathsOf list.now) (path_before list.now from) }
+    ensures value { IfOk result (λ found. Reads shapes.Shape.Counter (PathsOf list.now) (path_before list.now from)
+        (values.Value.Counter found.0)) }
+    ensures end { IfOk result (λ found. IsSegment list.now level from found.1) }
+{
+    let mut counts = Counts::new(alloc);
+    let mut place = from;
+    'keys: loop {
+        match next_key(list, level, place) {
+            Ok((writer, behind)) => {
+                counts.push(writer, last_count(list, behind))?;
+                place = behind;
+            }
+            Err(end) => return Ok((counts, end)),
+        }
+    }
+}
