@@ -1,0 +1,2 @@
+pub mod BagValues
+pub mod Trees
