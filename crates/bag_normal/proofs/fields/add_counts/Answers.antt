@@ -1,0 +1,58 @@
+use Rattle.std.proofs.Common.{◌+◌, arith}
+use Rattle.context_model.specs.Paths.{path_before}
+use Rattle.bag_model.specs.Normal.{GreatestDatum}
+use Rattle.bag_walks.proofs.Inside.{no_header_stays}
+use Rattle.bag_normal.specs.Superseded.{GivesWayAt}
+use Rattle.bag_normal.proofs.Places.{rises_on}
+use Rattle.bag_normal.proofs.Below.{key_gives_way}
+use Rattle.bag_normal.proofs.Keys.{key_behind, place_on, keys_more, keys_all, stop_on, no_key_at_end}
+use Rattle.bag_normal.proofs.fields.add_counts.Goals as goal
+
+pub add_earlier_data-requires-clause-behind : goal.add_earlier_data-requires-clause-behind
+add_earlier_data-requires-clause-behind c =
+    let list = c.args.list.now in
+    key_behind (GivesWayAt GreatestDatum list) list (path_before list c.args.from) c.args.level c.args.from c.writers.place
+    c.requires.level c.requires.room c.requires.behind c.args.gone.now.items c.writers.gone.items c.writers.invariant.keys c.in-Ok.writer c.in-Ok.ensures.found
+
+pub add_earlier_data-requires-clause-rises : goal.add_earlier_data-requires-clause-rises
+add_earlier_data-requires-clause-rises c =
+    let list = c.args.list.now in
+    let on = place_on (GivesWayAt GreatestDatum list) list (path_before list c.args.from) c.args.level c.args.from c.writers.place
+    c.requires.level c.requires.room c.requires.behind c.args.gone.now.items c.writers.gone.items c.writers.invariant.keys c.in-Ok.writer c.in-Ok.ensures.found in
+    rises_on c.writers.gone.items c.writers.place (c.in-Ok.writer + 1) (omega (arith, on)) c.writers.invariant.rises
+
+pub writers-preserved : goal.writers-preserved
+writers-preserved c =
+    let list = c.args.list.now in
+    let writer = c.in-Ok.writer in
+    let next = c.in_ok-place-in-Ok.place in
+    record {
+      rises = c.in_ok-place-in-Ok.ensures.rises;
+      keys = keys_more (GivesWayAt GreatestDatum list) list (path_before list c.args.from) c.args.level c.args.from c.writers.place
+          c.requires.level c.requires.room c.requires.behind c.args.gone.now.items c.writers.gone.items c.writers.invariant.keys writer c.in-Ok.ensures.found
+          next (no_header_stays list (c.args.level + 1) (writer + 1) next c.in_ok-place-in-Ok.ensures.part.part) c.add_earlier_data.new.gone.items c.in_ok-place-in-Ok.ensures.adds;
+    }
+
+pub returns-in-Err-clause-rises : goal.returns-in-Err-clause-rises
+returns-in-Err-clause-rises c =
+    let list = c.args.list.now in
+    let on = stop_on (GivesWayAt GreatestDatum list) list (path_before list c.args.from) c.args.level c.args.from c.writers.place
+    c.requires.level c.requires.room c.requires.behind c.args.gone.now.items c.writers.gone.items c.writers.invariant.keys c.in-Err.stop c.in-Err.ensures.none in
+    rises_on c.writers.gone.items c.writers.place c.in-Err.stop on c.writers.invariant.rises
+
+pub returns-in-Err-clause-adds : goal.returns-in-Err-clause-adds
+returns-in-Err-clause-adds c =
+    let list = c.args.list.now in
+    let q = path_before list c.args.from in
+    keys_all (GivesWayAt GreatestDatum list) list q c.args.level c.args.from c.writers.place
+    c.requires.level c.requires.room c.requires.behind c.args.gone.now.items c.writers.gone.items c.writers.invariant.keys c.in-Err.stop c.in-Err.ensures.none
+    (λ key p w. key_gives_way GreatestDatum list q key p w)
+
+pub returns-clause-adds : goal.returns-clause-adds
+returns-clause-adds c =
+    let list = c.args.list.now in
+    let q = path_before list c.args.from in
+    keys_all (GivesWayAt GreatestDatum list) list q c.args.level c.args.from c.writers.place
+    c.requires.level c.requires.room c.requires.behind c.args.gone.now.items c.writers.gone.items c.writers.invariant.keys c.writers.place
+    (no_key_at_end list c.args.level c.writers.place c.writers.invariant.keys.stays.within (omega (arith, c.writers-test.false, c.len.ensures.len)))
+    (λ key p w. key_gives_way GreatestDatum list q key p w)

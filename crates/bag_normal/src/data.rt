@@ -1,0 +1,68 @@
+//! The data of one place that normal form takes away.
+
+ghost use Rattle.std.specs.Prelude.{◌≤◌, length, OnOk, IfOk};
+ghost use Rattle.context_model.specs.Paths.{path_before};
+ghost use Rattle.bag_model.specs.Normal.{LeastDatum, GreatestDatum};
+ghost use Rattle.bag_walks.specs.Parts.{IsBehind, IsDataPart};
+ghost use Rattle.bag_normal.specs.Superseded.{GivesWayAt};
+ghost use Rattle.bag_normal.specs.Gone.{RisesTo, Adds, IsDatumBetween};
+
+use atom_list::AtomList;
+use bag_scan::{data_end, first_datum, is_datum, last_datum};
+use outside::Memory;
+
+/// Adds the places of all data from one place up to another.
+fn add_data(list: &AtomList, from: usize, to: usize, gone: &mut Vec<usize>) -> Result<(), Memory>
+    requires order { from ≤ to }
+    requires within { to ≤ length list.now }
+    requires rises { RisesTo gone.old.items from }
+    ensures rises { OnOk result (RisesTo gone.new.items to) }
+    ensures adds { OnOk result (Adds (IsDatumBetween list.now from to) gone.old.items gone.new.items) }
+{
+    for at in from..to {
+        if is_datum(list, at) {
+            gone.push(at)?;
+        }
+    }
+    Ok(())
+}
+
+/// Adds the places of all data but the first, whatever markers stand between, and gives the end of the data.
+pub(crate) fn add_later_data(
+    list: &AtomList,
+    from: usize,
+    gone: &mut Vec<usize>,
+) -> Result<usize, Memory>
+    requires behind { IsBehind list.now (path_before list.now from) from }
+    requires rises { RisesTo gone.old.items from }
+    ensures part { IfOk result (IsDataPart list.now from) }
+    ensures rises { IfOk result (RisesTo gone.new.items) }
+    ensures adds { OnOk result (Adds (GivesWayAt LeastDatum list.now (path_before list.now from))
+        gone.old.items gone.new.items) }
+{
+    let to = data_end(list, from);
+    if let Some(first) = first_datum(list, from, to) {
+        add_data(list, first + 1, to, gone)?;
+    }
+    Ok(to)
+}
+
+/// Adds the places of all data but the last, likewise.
+pub(crate) fn add_earlier_data(
+    list: &AtomList,
+    from: usize,
+    gone: &mut Vec<usize>,
+) -> Result<usize, Memory>
+    requires behind { IsBehind list.now (path_before list.now from) from }
+    requires rises { RisesTo gone.old.items from }
+    ensures part { IfOk result (IsDataPart list.now from) }
+    ensures rises { IfOk result (RisesTo gone.new.items) }
+    ensures adds { OnOk result (Adds (GivesWayAt GreatestDatum list.now (path_before list.now from))
+        gone.old.items gone.new.items) }
+{
+    let to = data_end(list, from);
+    if let Some(last) = last_datum(list, from, to) {
+        add_data(list, from, last, gone)?;
+    }
+    Ok(to)
+}

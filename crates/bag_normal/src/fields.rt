@@ -1,0 +1,135 @@
+//! The data of fields that normal form takes away.
+
+ghost use Rattle.std.specs.Prelude.{◌≡◌, ◌+◌, ◌<◌, ◌≤◌, length, OnOk, IfOk};
+ghost use Rattle.context_model.specs.Paths.{path_before};
+ghost use Rattle.bag_model.specs.Normal.{GreatestDatum};
+ghost use Rattle.bag_model.specs.Shapes.{Bag};
+ghost use Rattle.bag_model.specs.Tables.{IsShape, AreFields, levels, levels_under};
+ghost use Rattle.bag_walks.specs.Parts.{IsBehind, IsSegment};
+ghost use Rattle.field_table.specs.Plain.{shape_of, nodes_of};
+ghost use Rattle.bag_normal.specs.Superseded.{GivesWayAt, IsSupersededIn, HoldsAtKey};
+ghost use Rattle.bag_normal.specs.Gone.{RisesTo, Adds};
+
+use crate::data::{add_earlier_data, add_later_data};
+use atom_list::AtomList;
+use bag_scan::{find_field, find_key, segment_end};
+use field_table::{Shape, Slots};
+use outside::Memory;
+
+/// Adds the places of the data of a counter's writers that go, and gives the end of what stands below the counter.
+fn add_counts(
+    list: &AtomList,
+    level: usize,
+    from: usize,
+    gone: &mut Vec<usize>,
+) -> Result<usize, Memory>
+    requires behind { IsBehind list.now (path_before list.now from) from }
+    requires level { length (path_before list.now from) ≡ level }
+    requires room { level < 16 }
+    requires rises { RisesTo gone.old.items from }
+    ensures segment { IfOk result (IsSegment list.now level from) }
+    ensures rises { IfOk result (RisesTo gone.new.items) }
+    ensures adds { OnOk result (Adds (HoldsAtKey (GivesWayAt GreatestDatum list.now) (path_before list.now from))
+        gone.old.items gone.new.items) }
+{
+    let mut place = from;
+    'writers: while place < list.len() {
+        match find_key(list, level, place) {
+            Ok(writer) => place = add_earlier_data(list, writer + 1, gone)?,
+            Err(stop) => return Ok(stop),
+        }
+    }
+    Ok(place)
+}
+
+/// Adds the places of a field's data that go, from the place behind its header on, and gives the end of what stands below
+/// the header. `level` is that of the headers below it.
+#[cycle(adding)]
+pub(crate) fn add_field(
+    shape: &Shape,
+    list: &AtomList,
+    level: usize,
+    from: usize,
+    gone: &mut Vec<usize>,
+) -> Result<usize, Memory>
+    requires behind { IsBehind list.now (path_before list.now from) from }
+    requires level { length (path_before list.now from) ≡ level }
+    requires shape { IsShape (shape_of shape.now) }
+    requires room { level + levels_under (shape_of shape.now) ≤ 16 }
+    requires rises { RisesTo gone.old.items from }
+    ensures segment { IfOk result (IsSegment list.now level from) }
+    ensures rises { IfOk result (RisesTo gone.new.items) }
+    ensures adds { OnOk result (Adds (IsSupersededIn (shape_of shape.now) list.now (path_before list.now from))
+        gone.old.items gone.new.items) }
+{
+    match shape {
+        Shape::Taint => Ok(segment_end(list, level, from)),
+        Shape::Scalar(_) => {
+            let to = add_later_data(list, from, gone)?;
+            Ok(segment_end(list, level, to))
+        }
+        Shape::Set(_) => Ok(segment_end(list, level, from)),
+        Shape::Counter => add_counts(list, level, from, gone),
+        Shape::Map(_, value) => add_values(value, list, level, from, gone),
+        Shape::Bag(fields) => add_fields(fields, list, level, from, gone),
+    }
+}
+
+/// Adds the places of the data that go below the keys of a map, whose values have this shape, likewise.
+#[cycle(adding)]
+fn add_values(
+    shape: &Shape,
+    list: &AtomList,
+    level: usize,
+    from: usize,
+    gone: &mut Vec<usize>,
+) -> Result<usize, Memory>
+    requires behind { IsBehind list.now (path_before list.now from) from }
+    requires level { length (path_before list.now from) ≡ level }
+    requires shape { IsShape (shape_of shape.now) }
+    requires room { level + 1 + levels_under (shape_of shape.now) ≤ 16 }
+    requires rises { RisesTo gone.old.items from }
+    ensures segment { IfOk result (IsSegment list.now level from) }
+    ensures rises { IfOk result (RisesTo gone.new.items) }
+    ensures adds { OnOk result (Adds (HoldsAtKey (IsSupersededIn (shape_of shape.now) list.now) (path_before list.now from))
+        gone.old.items gone.new.items) }
+{
+    let mut place = from;
+    'keys: while place < list.len() {
+        match find_key(list, level, place) {
+            Ok(key) => place = add_field(shape, list, level + 1, key + 1, gone)?,
+            Err(stop) => return Ok(stop),
+        }
+    }
+    Ok(place)
+}
+
+/// Adds the places of the data that go in the fields of a bag, likewise.
+#[cycle(adding)]
+fn add_fields(
+    fields: &Slots,
+    list: &AtomList,
+    level: usize,
+    from: usize,
+    gone: &mut Vec<usize>,
+) -> Result<usize, Memory>
+    requires behind { IsBehind list.now (path_before list.now from) from }
+    requires level { length (path_before list.now from) ≡ level }
+    requires fields { AreFields (nodes_of fields.now) }
+    requires room { level + levels (nodes_of fields.now) ≤ 16 }
+    requires rises { RisesTo gone.old.items from }
+    ensures segment { IfOk result (IsSegment list.now level from) }
+    ensures rises { IfOk result (RisesTo gone.new.items) }
+    ensures adds { OnOk result (Adds (IsSupersededIn (Bag (nodes_of fields.now)) list.now (path_before list.now from))
+        gone.old.items gone.new.items) }
+{
+    let mut place = from;
+    for at in 0..fields.len() {
+        let field = fields.get(at).unwrap();
+        match find_field(list, level, u64::from(field.number), place) {
+            Ok(behind) => place = add_field(&field.shape, list, level + 1, behind, gone)?,
+            Err(stop) => place = stop,
+        }
+    }
+    Ok(segment_end(list, level, place))
+}

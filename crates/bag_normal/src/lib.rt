@@ -1,0 +1,10 @@
+//! Normal form: a context without the data to which others of their place are preferred.
+#![tactic(auto)]
+
+mod data;
+mod fields;
+mod normal_form;
+#[cfg(test)]
+mod tests;
+
+pub use normal_form::normal;
