@@ -1,0 +1,8 @@
+mod Joined
+mod Keys
+mod Parts
+mod Places
+mod Textless
+mod ValueRows
+mod OneBlock
+mod SlotLines

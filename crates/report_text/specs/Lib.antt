@@ -1,0 +1,4 @@
+pub mod Commas
+pub mod ScalarTexts
+pub mod ValueTexts
+pub mod Blocks

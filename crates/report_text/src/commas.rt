@@ -1,0 +1,16 @@
+//! Commas between texts.
+
+ghost use Rattle.std.specs.Prelude.{◌≡◌, ◌++◌, OnOk};
+ghost use Rattle.report_text.specs.Commas.{comma_before};
+
+use outside::Memory;
+
+/// Appends the comma before the text that has `at` texts before it: none before the first.
+pub(crate) fn put_comma(at: usize, into: &mut Vec<u8>) -> Result<(), Memory>
+    ensures { OnOk result (into.new.items ≡ into.old.items ++ comma_before at) }
+{
+    if at > 0 {
+        into.push(b',')?;
+    }
+    Ok(())
+}

@@ -1,0 +1,13 @@
+//! Texts of typed values, as reports show them.
+#![tactic(auto)]
+
+mod blocks;
+mod commas;
+pub mod laws;
+mod scalar_texts;
+#[cfg(test)]
+mod tests;
+mod value_texts;
+
+pub use blocks::{block, put_block};
+pub use value_texts::put_value;

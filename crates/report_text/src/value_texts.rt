@@ -1,0 +1,106 @@
+//! Texts of values of every shape.
+
+ghost use Rattle.std.specs.Prelude.{◌≡◌, ◌++◌, map, OnOk};
+ghost use Rattle.field_table.specs.Plain.{shape_of, nodes_of};
+ghost use Rattle.scalar_types.specs.ScalarViews.{value_of};
+ghost use Rattle.bag_value.specs.Plain.{plain};
+ghost use Rattle.report_text.specs.Commas.{in_braces, in_brackets};
+ghost use Rattle.report_text.specs.ValueTexts.{taint_text, set_text, counts_text, value_text, entry_texts, field_texts};
+
+use crate::commas::put_comma;
+use crate::scalar_texts::{put_bytes, put_number, put_scalar};
+use bag_value::{Entries, ScalarSet, Val, Vals};
+use counter_type::Counts;
+use field_table::{Shape, Slots};
+use outside::Memory;
+
+/// Appends the text of a value of a field of this shape. Want of memory may leave a part of the text.
+///
+/// The shape gives the names of a bag's fields, and nothing else. A map or a bag under a shape of another kind has no text.
+#[cycle(text)]
+pub fn put_value(shape: &Shape, value: &Val, into: &mut Vec<u8>) -> Result<(), Memory>
+    ensures { OnOk result (into.new.items ≡ into.old.items ++ value_text (shape_of shape.now) (plain value.now)) }
+{
+    match (shape, value) {
+        (_, Val::Taint(on)) => put_taint(*on, into),
+        (_, Val::Scalar(None)) => Ok(into.push(b'-')?),
+        (_, Val::Scalar(Some(scalar))) => put_scalar(scalar, into),
+        (_, Val::Set(set)) => put_set(set, into),
+        (_, Val::Counter(counts)) => put_counts(counts, into),
+        (Shape::Map(_, inner), Val::Map(entries)) => put_map(inner, entries, into),
+        (Shape::Bag(fields), Val::Bag(values)) => put_bag(fields, values, into),
+        _ => Ok(()),
+    }
+}
+
+/// Appends a map from each key to a value of this shape.
+#[cycle(text)]
+fn put_map(shape: &Shape, entries: &Entries, into: &mut Vec<u8>) -> Result<(), Memory>
+    ensures { OnOk result (into.new.items ≡ into.old.items ++ in_braces (entry_texts (shape_of shape.now) entries.now)) }
+{
+    into.push(b'{')?;
+    for (at, entry) in entries.as_slice().iter().enumerate() {
+        put_comma(at, into)?;
+        put_scalar(&entry.key, into)?;
+        into.push(b':')?;
+        put_value(shape, &entry.value, into)?;
+    }
+    into.push(b'}')?;
+    Ok(())
+}
+
+/// Appends a bag of these fields.
+#[cycle(text)]
+fn put_bag(fields: &Slots, values: &Vals, into: &mut Vec<u8>) -> Result<(), Memory>
+    ensures { OnOk result (into.new.items ≡ into.old.items ++ in_brackets (field_texts (nodes_of fields.now) values.now)) }
+{
+    into.push(b'[')?;
+    for at in 0..fields.len().min(values.len()) {
+        let field = fields.get(at).unwrap();
+        put_comma(at, into)?;
+        into.extend_from_slice(field.name.as_str().as_bytes())?;
+        into.push(b'=')?;
+        put_value(&field.shape, values.get(at).unwrap(), into)?;
+    }
+    into.push(b']')?;
+    Ok(())
+}
+
+/// Appends a taint.
+fn put_taint(on: bool, into: &mut Vec<u8>) -> Result<(), Memory>
+    ensures { OnOk result (into.new.items ≡ into.old.items ++ taint_text on) }
+{
+    let word = if on { "on" } else { "off" };
+    into.extend_from_slice(word.as_bytes())?;
+    Ok(())
+}
+
+/// Appends a set.
+fn put_set(set: &ScalarSet, into: &mut Vec<u8>) -> Result<(), Memory>
+    ensures { OnOk result (into.new.items ≡ into.old.items ++ set_text (map value_of set.now.items)) }
+{
+    into.push(b'{')?;
+    for at in 0..set.len() {
+        put_comma(at, into)?;
+        put_scalar(set.get(at).unwrap(), into)?;
+    }
+    into.push(b'}')?;
+    Ok(())
+}
+
+/// Appends a counter.
+fn put_counts(counts: &Counts, into: &mut Vec<u8>) -> Result<(), Memory>
+    ensures { OnOk result (into.new.items ≡ into.old.items ++ counts_text counts.now) }
+{
+    put_number(counts.total(), into)?;
+    into.push(b'{')?;
+    for at in 0..counts.len() {
+        let (writer, count) = counts.nth(at).unwrap();
+        put_comma(at, into)?;
+        put_bytes(writer, into)?;
+        into.push(b':')?;
+        put_number(count, into)?;
+    }
+    into.push(b'}')?;
+    Ok(())
+}
