@@ -1,0 +1,12 @@
+mod Answered
+mod Quoted
+mod Decimals
+mod Apart
+mod WordTexts
+mod Structs
+mod Unique
+mod Bags
+mod Taking
+mod Whole
+mod OneWrite
+mod Fits

@@ -1,0 +1,10 @@
+use Rattle.std.proofs.Common.{◌≡◌, ◌^◌, ◌<◌, take}
+use Rattle.std.specs.Str.Parse.{AllDigits, digits_value}
+use Rattle.write_text.proofs.numbers.number_of.Given as goal
+
+abbrev pub invariant-loop-digit : goal.invariant-loop-digit
+invariant-loop-digit l = record {
+  all : AllDigits 10 (take l.digit-index l.digits);
+  value : digits_value 10 (take l.digit-index l.digits) ≡ l.number;
+  fits : l.number < 2 ^ 64;
+}

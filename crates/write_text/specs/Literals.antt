@@ -1,0 +1,74 @@
+-- Literals of scalars.
+use Rattle.std.specs.Prelude.{◌≡◌, ◌⊎◌, ℕ, ◌+◌, ◌*◌, ◌<◌, ◌≤◌, Bool, false, IsTrue, List, [], ◌∷◌, ◌++◌, length, codes, Ok}
+use Rattle.std.specs.Char.{digit_value}
+use Rattle.std.specs.Fmt.{decimal, signed_decimal}
+use Rattle.hex.specs.Hex.{decode_of}
+use Rattle.bag_model.specs.Scalars.{Word, ScalarKind, Plain, ScalarValue, Truth, Signed, Unsigned, Text, Octets, IsScalarOf, spelling, Str, Bytes, form_of, SignedVarint, SignedFixedBytes, UnsignedVarint, FixedBytes}
+use Rattle.report_text.specs.Commas.{in_parentheses}
+use Rattle.report_text.specs.ScalarTexts.{is_marked, truth_text}
+use Rattle.write_text.specs.declared.TheConstants.{PAYLOAD_MAX}
+
+-- The two digits, of either case, are those of this byte, which is below 128.
+abbrev pub AreDigitsOf : ℕ → ℕ → ℕ → Type 0
+AreDigitsOf byte high low =
+    (digit_value high < 8) × (digit_value low < 16) × (byte ≡ 16 * digit_value high + digit_value low)
+
+-- What stands behind a backslash says this byte: it is a quotation mark or a backslash itself, or `x` and its digits.
+abbrev pub SaysEscaped : ℕ → List ℕ → Type 0
+SaysEscaped byte text =
+    ((text ≡ byte ∷ []) × IsTrue (is_marked byte))
+    ⊎ ((high low : ℕ) × AreDigitsOf byte high low × (text ≡ codes "x" ++ high ∷ low ∷ []))
+
+-- The text says this byte of a string: it is the byte itself, or says it behind a backslash. A quotation mark, a backslash
+-- and a byte below 32 don't stand by themselves.
+abbrev pub SaysByte : ℕ → List ℕ → Type 0
+SaysByte byte text =
+    ((text ≡ byte ∷ []) × (32 ≤ byte) × (is_marked byte ≡ false))
+    ⊎ ((escaped : List ℕ) × SaysEscaped byte escaped × (text ≡ codes "\\" ++ escaped))
+
+-- The text says these bytes of a string, one after another.
+abbrev pub SaysBytes : List ℕ → List ℕ → Type 0
+SaysBytes [] text = text ≡ []
+SaysBytes (byte ∷ bytes) text =
+    (first rest : List ℕ) × SaysByte byte first × SaysBytes bytes rest × (text ≡ first ++ rest)
+
+-- The text says this value of a word, whatever the word: the word of a truth value, a number in decimal with a minus
+-- before one below zero, a string between quotation marks, or bytes as digits of either case behind `0x`.
+abbrev pub IsPlainText : Plain → List ℕ → Type 0
+IsPlainText (Truth truth) text = text ≡ truth_text truth
+IsPlainText (Signed number) text = text ≡ signed_decimal number
+IsPlainText (Unsigned number) text = text ≡ decimal number
+IsPlainText (Text bytes) text =
+    (inside : List ℕ) × SaysBytes bytes inside × (text ≡ codes "\"" ++ inside ++ codes "\"")
+IsPlainText (Octets bytes) text = (digits : List ℕ) × (text ≡ codes "0x" ++ digits) × (decode_of digits ≡ Ok bytes)
+
+-- Each text says its value.
+abbrev pub ArePlainTexts : List Plain → List (List ℕ) → Type 0
+ArePlainTexts [] [] = Unit {0}
+ArePlainTexts [] (text ∷ texts) = ⊥
+ArePlainTexts (v ∷ vs) [] = ⊥
+ArePlainTexts (v ∷ vs) (text ∷ texts) = IsPlainText v text × ArePlainTexts vs texts
+
+-- The word is of numbers with a sign.
+abbrev pub HasSign : Word → Type 0
+HasSign word = (wide : Bool) × ((form_of word ≡ SignedVarint wide) ⊎ (form_of word ≡ SignedFixedBytes wide))
+
+-- The word is of numbers without a sign.
+abbrev pub HasNoSign : Word → Type 0
+HasNoSign word = (wide : Bool) × ((form_of word ≡ UnsignedVarint wide) ⊎ (form_of word ≡ FixedBytes wide))
+
+-- The text says the value of a word, or the values of a struct's fields between parentheses.
+abbrev pub IsScalarText : ScalarValue → List ℕ → Type 0
+IsScalarText (ScalarValue.One v) text = IsPlainText v text
+IsScalarText (ScalarValue.Packed vs) text =
+    (texts : List (List ℕ)) × ArePlainTexts vs texts × (text ≡ in_parentheses texts)
+
+-- The text is a literal of the kind for this value, which fits an atom.
+abbrev pub IsLiteral : ScalarKind → ScalarValue → List ℕ → Type 0
+IsLiteral kind v text = IsScalarOf kind v × (length (spelling kind v) ≤ PAYLOAD_MAX) × IsScalarText v text
+
+-- The text names this writer of a counter: it is a string's or a byte string's literal for the writer's bytes.
+abbrev pub IsWriter : List ℕ → List ℕ → Type 0
+IsWriter bytes text =
+    IsLiteral (ScalarKind.One Str) (ScalarValue.One (Text bytes)) text
+    ⊎ IsLiteral (ScalarKind.One Bytes) (ScalarValue.One (Octets bytes)) text

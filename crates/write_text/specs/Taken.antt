@@ -1,0 +1,32 @@
+-- What is taken from the front of a text.
+use Rattle.std.specs.Prelude.{◌≡◌, ℕ, ◌==◌, ◌||◌, Bool, false, IsTrue, List, [], ◌∷◌, ◌++◌, Option, Some, None}
+
+-- The answer is something of which the fact holds, or none where it holds of nothing.
+abbrev pub Answers : {A : Type 0} → (A → Type 0) → Option A → Type 0
+Answers holds (Some a) = holds a
+Answers {A} holds None = (a : A) → holds a → ⊥
+
+-- What was taken from the front of a text, with the rest of the text, is of the fact, or nothing is.
+abbrev pub Takes : {A : Type 0} → (A → List ℕ → Type 0) → Option (A × List ℕ) → Type 0
+Takes holds (Some (a, rest)) = holds a rest
+Takes {A} holds None = (a : A) (rest : List ℕ) → holds a rest → ⊥
+
+-- The byte is a comma, a colon or a closing parenthesis.
+abbrev pub is_stop : ℕ → Bool
+is_stop byte = (byte == 44) || (byte == 58) || (byte == 41)
+
+-- The byte is none of those.
+abbrev pub IsInside : ℕ → Type 0
+IsInside byte = is_stop byte ≡ false
+
+-- A literal ends before a comma, a colon or a closing parenthesis, and at the end of the text.
+abbrev pub IsEnd : List ℕ → Type 0
+IsEnd [] = Unit {0}
+IsEnd (byte ∷ bytes) = IsTrue (is_stop byte)
+
+-- The text begins with a front of which the fact holds, and this rest ends it.
+pub record Begins (holds : List ℕ → Type 0) (text rest : List ℕ) : Type 0 where
+  pub front : List ℕ
+  pub fact : holds front
+  pub same : text ≡ front ++ rest
+  pub end : IsEnd rest

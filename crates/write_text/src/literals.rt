@@ -1,0 +1,261 @@
+//! Literals of every kind of scalar.
+
+ghost use Rattle.std.specs.Prelude.{◌≡◌, ℕ, ◌≤◌, ◌++◌, List, codes, length, map, All, IfOk, IfSome, IsTrue, ◌↔◌};
+ghost use Rattle.std.specs.Option.{option_map};
+ghost use Rattle.bag_model.specs.Scalars as scalars;
+ghost use Rattle.bag_model.specs.Scalars.{IsPlainOf, IsScalarOf, ArePlainsOf, plain_bytes, spelling};
+ghost use Rattle.scalar_types.specs.KindViews.{IsWord, kind_of, word_of};
+ghost use Rattle.scalar_types.specs.ScalarViews.{IsPlain, plain_of, value_of};
+ghost use Rattle.report_text.specs.Commas.{comma_before, comma_joined};
+ghost use Rattle.write_text.specs.Literals.{ArePlainTexts, HasNoSign, HasSign, IsLiteral, IsPlainText, IsScalarText, IsWriter};
+ghost use Rattle.write_text.specs.Taken.{Answers, Begins, Takes};
+
+use crate::PAYLOAD_MAX;
+use crate::ends::{behind, is_end, split_at_stop};
+use crate::numbers::{read_octets, read_signed, read_truth, read_unsigned};
+use crate::strings::take_string;
+use outside::{Memory, Octets};
+use scalar_types::{Codec, Scalar, ScalarKind, ScalarList};
+use std::alloc::Global;
+
+/// The number of a word with a sign.
+fn signed_of(word: &ScalarKind, text: &[u8]) -> Option<Scalar>
+    requires word { IsWord word.now }
+    requires sign { HasSign (word_of word.now) }
+    ensures value { Answers (λ v. IsPlainOf (word_of word.now) v × IsPlainText v text.now) (option_map plain_of result) }
+    ensures plain { IfSome result IsPlain }
+{
+    let scalar = Scalar::Signed(read_signed(text)?);
+    if word.fits(&scalar) {
+        Some(scalar)
+    } else {
+        None
+    }
+}
+
+/// The number of a word without a sign.
+fn unsigned_of(word: &ScalarKind, text: &[u8]) -> Option<Scalar>
+    requires word { IsWord word.now }
+    requires no_sign { HasNoSign (word_of word.now) }
+    ensures value { Answers (λ v. IsPlainOf (word_of word.now) v × IsPlainText v text.now) (option_map plain_of result) }
+    ensures plain { IfSome result IsPlain }
+{
+    let scalar = Scalar::Unsigned(read_unsigned(text)?);
+    if word.fits(&scalar) {
+        Some(scalar)
+    } else {
+        None
+    }
+}
+
+/// The value of a word that is no string's, as the whole text says it.
+fn read_word(alloc: Global, word: &ScalarKind, text: &[u8]) -> Result<Option<Scalar>, Memory>
+    requires word { IsWord word.now }
+    requires no_string { word_of word.now ≡ scalars.Word.Str → ⊥ }
+    ensures value { IfOk result (λ read. Answers (λ v. IsPlainOf (word_of word.now) v × IsPlainText v text.now)
+        (option_map plain_of read)) }
+    ensures plain { IfOk result (λ read. IfSome read IsPlain) }
+{
+    match word {
+        ScalarKind::Bool => Ok(read_truth(text).map(Scalar::Bool)),
+        ScalarKind::Bytes => match read_octets(alloc, text)? {
+            Some(bytes) => Ok(Some(Scalar::Bytes(bytes))),
+            None => Ok(None),
+        },
+        ScalarKind::Int32
+        | ScalarKind::Int64
+        | ScalarKind::Sint32
+        | ScalarKind::Sint64
+        | ScalarKind::Sfixed32
+        | ScalarKind::Sfixed64 => Ok(signed_of(word, text)),
+        ScalarKind::Uint32 | ScalarKind::Uint64 | ScalarKind::Fixed32 | ScalarKind::Fixed64 => Ok(
+            unsigned_of(word, text),
+        ),
+        ScalarKind::Str | ScalarKind::Packed(_) => unreachable!(),
+    }
+}
+
+/// The value of a word that the text begins with, and the rest.
+fn take_word<'a>(
+    alloc: Global,
+    word: &ScalarKind,
+    text: &'a [u8],
+) -> Result<Option<(Scalar, &'a [u8])>, Memory>
+    requires { IsWord word.now }
+    ensures value { IfOk result (λ taken.
+        Takes (λ v rest. Begins (λ front. IsPlainOf (word_of word.now) v × IsPlainText v front) text.now rest)
+        (option_map (λ taken. (plain_of taken.0, taken.1.now)) taken)) }
+    ensures plain { IfOk result (λ taken. IfSome taken (λ taken. IsPlain taken.0)) }
+{
+    if let ScalarKind::Str = word {
+        return match take_string(alloc, text)? {
+            Some((string, rest)) => Ok(Some((Scalar::Str(string), rest))),
+            None => Ok(None),
+        };
+    }
+    let (front, rest) = split_at_stop(text);
+    match read_word(alloc, word, front)? {
+        Some(scalar) => Ok(Some((scalar, rest))),
+        None => Ok(None),
+    }
+}
+
+/// The text behind the comma before the field that has `at` fields before it: there is none before the first.
+fn without_comma(at: usize, text: &[u8]) -> Option<&[u8]>
+    ensures { Answers (λ rest. text.now ≡ comma_before at ++ rest) (option_map (λ rest. rest.now) result) }
+{
+    match text {
+        _ if at == 0 => Some(text),
+        [b',', rest @ ..] => Some(rest),
+        _ => None,
+    }
+}
+
+/// The values of a struct's fields that the text begins with behind the opening parenthesis, and what follows the
+/// closing one.
+fn take_fields<'a>(
+    alloc: Global,
+    kinds: &[ScalarKind],
+    text: &'a [u8],
+) -> Result<Option<(ScalarList, &'a [u8])>, Memory>
+    requires { All IsWord kinds.now }
+    ensures { IfOk result (λ taken. Takes (λ vs rest. (texts : List (List ℕ)) × ArePlainsOf (map word_of kinds.now) vs
+        × ArePlainTexts vs texts × (text.now ≡ comma_joined texts ++ codes ")" ++ rest))
+        (option_map (λ taken. (taken.0, taken.1.now)) taken)) }
+{
+    let mut fields = ScalarList::new(alloc);
+    let mut rest = text;
+    for (at, kind) in kinds.iter().enumerate() {
+        let Some(front) = without_comma(at, rest) else {
+            return Ok(None);
+        };
+        let Some((field, more)) = take_word(alloc, kind, front)? else {
+            return Ok(None);
+        };
+        fields.push(field)?;
+        rest = more;
+    }
+    match behind(b')', rest) {
+        Some(rest) => Ok(Some((fields, rest))),
+        None => Ok(None),
+    }
+}
+
+/// The values of a struct's fields that the text begins with, and the rest.
+fn take_struct<'a>(
+    alloc: Global,
+    kinds: &[ScalarKind],
+    text: &'a [u8],
+) -> Result<Option<(ScalarList, &'a [u8])>, Memory>
+    requires { All IsWord kinds.now }
+    ensures { IfOk result (λ taken. Takes (λ vs rest. Begins (λ front. ArePlainsOf (map word_of kinds.now) vs
+        × IsScalarText (scalars.ScalarValue.Packed vs) front) text.now rest)
+        (option_map (λ taken. (taken.0, taken.1.now)) taken)) }
+{
+    let Some(inside) = behind(b'(', text) else {
+        return Ok(None);
+    };
+    let Some((fields, rest)) = take_fields(alloc, kinds, inside)? else {
+        return Ok(None);
+    };
+    if is_end(rest) {
+        Ok(Some((fields, rest)))
+    } else {
+        Ok(None)
+    }
+}
+
+/// The scalar that the text begins with, of any size, and the rest.
+fn take_scalar<'a>(
+    alloc: Global,
+    kind: &ScalarKind,
+    text: &'a [u8],
+) -> Result<Option<(Scalar, &'a [u8])>, Memory>
+    ensures { IfOk result (λ taken.
+        Takes (λ v rest. Begins (λ front. IsScalarOf (kind_of kind.now) v × IsScalarText v front) text.now rest)
+        (option_map (λ taken. (value_of taken.0, taken.1.now)) taken)) }
+{
+    if let ScalarKind::Packed(kinds) = kind {
+        return match take_struct(alloc, kinds.as_slice(), text)? {
+            Some((fields, rest)) => Ok(Some((Scalar::Packed(fields), rest))),
+            None => Ok(None),
+        };
+    }
+    match take_word(alloc, kind, text)? {
+        Some((scalar, rest)) => Ok(Some((scalar, rest))),
+        None => Ok(None),
+    }
+}
+
+/// Whether an atom has room for the scalar.
+fn is_short(alloc: Global, kind: &ScalarKind, scalar: &Scalar) -> Result<bool, Memory>
+    requires { IsScalarOf (kind_of kind.now) (value_of scalar.now) }
+    ensures { IfOk result (λ short. IsTrue short ↔ (length (spelling (kind_of kind.now) (value_of scalar.now)) ≤ PAYLOAD_MAX)) }
+{
+    let mut payload = Vec::new(alloc);
+    kind.put(scalar, &mut payload)?;
+    Ok(payload.len() <= PAYLOAD_MAX)
+}
+
+/// The literal of this kind that the text begins with, by its value, and the rest.
+pub(crate) fn take_literal<'a>(
+    alloc: Global,
+    kind: &ScalarKind,
+    text: &'a [u8],
+) -> Result<Option<(Scalar, &'a [u8])>, Memory>
+    ensures { IfOk result (λ taken. Takes (λ v rest. Begins (IsLiteral (kind_of kind.now) v) text.now rest)
+        (option_map (λ taken. (value_of taken.0, taken.1.now)) taken)) }
+{
+    let Some((scalar, rest)) = take_scalar(alloc, kind, text)? else {
+        return Ok(None);
+    };
+    let short = is_short(alloc, kind, &scalar)?;
+    if short {
+        Ok(Some((scalar, rest)))
+    } else {
+        Ok(None)
+    }
+}
+
+/// The value of which the text is a literal of this kind.
+pub(crate) fn read_literal(
+    alloc: Global,
+    kind: &ScalarKind,
+    text: &[u8],
+) -> Result<Option<Scalar>, Memory>
+    ensures { IfOk result (λ read. Answers (λ v. IsLiteral (kind_of kind.now) v text.now) (option_map value_of read)) }
+{
+    let Some((scalar, rest)) = take_literal(alloc, kind, text)? else {
+        return Ok(None);
+    };
+    if rest.is_empty() {
+        Ok(Some(scalar))
+    } else {
+        Ok(None)
+    }
+}
+
+/// The bytes of a scalar that is a string or a byte string.
+fn bytes_of(scalar: &Scalar) -> &[u8]
+    ensures { result.now ≡ plain_bytes (plain_of scalar.now) }
+{
+    match scalar {
+        Scalar::Str(text) => text.as_str().as_bytes(),
+        Scalar::Bytes(bytes) => bytes.as_slice(),
+        _ => &[],
+    }
+}
+
+/// The writer that the text begins with, and the rest.
+pub(crate) fn take_writer(alloc: Global, text: &[u8]) -> Result<Option<(Octets, &[u8])>, Memory>
+    ensures { IfOk result (λ taken. Takes (λ bytes rest. Begins (IsWriter bytes) text.now rest)
+        (option_map (λ taken. (taken.0, taken.1.now)) taken)) }
+{
+    if let Some((writer, rest)) = take_literal(alloc, &ScalarKind::Str, text)? {
+        return Ok(Some((Octets::of(alloc, bytes_of(&writer))?, rest)));
+    }
+    match take_literal(alloc, &ScalarKind::Bytes, text)? {
+        Some((writer, rest)) => Ok(Some((Octets::of(alloc, bytes_of(&writer))?, rest))),
+        None => Ok(None),
+    }
+}
