@@ -1,16 +1,15 @@
 -- What holds of every call.
-use Rattle.std.proofs.Common.{◌≡◌, ◌≢◌, ◌⊎◌, inl, inr, ℕ, ◌≤◌, List, Option, Some, None, Ok, Err, refl, arith}
+use Rattle.std.proofs.Common.{◌≡◌, ◌≢◌, ◌⊎◌, inl, inr, ℕ, List, Option, Some, None, Ok, Err, refl, arith}
 use Rattle.std.specs.Io.KnownBytes.{Appends}
-use Rattle.bdl_load.specs.Loading.{Holding}
 use Rattle.baggage_cli.specs.Commands.{Task}
-use Rattle.baggage_cli.specs.Commands.Task.{trim, merge, check}
+use Rattle.baggage_cli.specs.Commands.Task.{trim, merge, check, decode}
 use Rattle.baggage_cli.specs.declared.refusals.Notice.TheVariants.{WordsRefused}
 use Rattle.baggage_cli.specs.Delivery.{Tells, Delivers}
 use Rattle.baggage_cli.specs.Outcomes.{Outcome}
 use Rattle.baggage_cli.specs.Refusals.{notice_line}
-use Rattle.baggage_cli.specs.Scene.{Change, Scene, IsSame, IsSteady, NeverFell, HasFailed, Takes, TakesPart, KeepsCounts}
+use Rattle.baggage_cli.specs.Scene.{Change, Scene, IsSame, IsSteady, NeverFell, HasFailed, Takes, KeepsCounts}
 use Rattle.baggage_cli.specs.Top.{Comes, Answers}
-use Rattle.baggage_cli.proofs.Facts.{steady_done, quiet_task, sink_told, never_seven}
+use Rattle.baggage_cli.proofs.Facts.{steady_done, unread_task, quiet_task, sink_told, never_seven}
 
 -- ---- counts
 
@@ -31,6 +30,8 @@ came_kept (trim budget) scene outcome (same, unasked, (counts, why)) = (same.0, 
 came_kept merge scene outcome (same, unasked, (counts, why)) = (same.0, same_never_fell scene.library same, counts)
 came_kept (check file bag) scene outcome (unread, inl (refusal, (same, counts, why), begun, is)) = (same, counts, same_never_fell scene.source unread)
 came_kept (check file bag) scene outcome (unread, inr (table, (same, counts, why), built)) = (same, counts, same_never_fell scene.source unread)
+came_kept (decode file bag) scene outcome (inl (refusal, (same, counts, why), unread, is)) = (same, counts, same_never_fell scene.source unread)
+came_kept (decode file bag) scene outcome (inr (table, (same, counts, why), (read, rest))) = (same, counts, read)
 
 delivered_kept : (outcome : Outcome) (out errs : Change (List ℕ)) (answer : ℕ) → Delivers outcome out errs answer → NeverFell out × NeverFell errs
 delivered_kept (Ok output) out errs answer (inl done) = (takes_never_fell out output done.1, same_never_fell errs done.2)
@@ -63,6 +64,11 @@ pub steady_call : (asked : Option Task) (scene : Scene) (answer : ℕ) → Answe
 steady_call None scene answer (library, requests, source, out, inl told) zero = absurd (let seven = told.0 in omega arith)
 steady_call None scene answer (library, requests, source, out, inr failed) zero = absurd (let five = failed.0 in omega arith)
 steady_call (Some task) scene answer answers zero = steady_done task scene answer answers zero
+
+-- With status 1 nothing was done to the source.
+pub unread_call : (asked : Option Task) (scene : Scene) (answer : ℕ) → Answers asked scene answer → answer ≡ 1 → IsSame scene.source
+unread_call None scene answer (library, requests, source, out, told) one = source
+unread_call (Some task) scene answer answers one = unread_task task scene answer answers one
 
 -- Nothing is written but with 0 and 5.
 pub quiet_call : (asked : Option Task) (scene : Scene) (answer : ℕ) → Answers asked scene answer → answer ≢ 0 → answer ≢ 5 → scene.out.after ≡ scene.out.before

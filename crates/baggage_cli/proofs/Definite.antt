@@ -1,32 +1,42 @@
 -- Lines and inputs come to one thing.
-use Rattle.std.proofs.Common.{◌≡◌, ◌⊎◌, inl, inr, ℕ, ◌<◌, ◌≤◌, List, [], ◌∷◌, length, Result, Ok, Err, refl, sym, ◌∙◌, ap, subst, arith}
+use Rattle.std.proofs.Common.{◌≡◌, inl, inr, ℕ, ◌≤◌, List, [], ◌∷◌, length, Option, Some, Ok, Err, refl, sym, ◌∙◌, ap, subst, arith}
+use Rattle.std.proofs.lemmas.Bool.{cases_lt}
 use Rattle.context_model.specs.Atoms.{Atom}
 use Rattle.context_model.specs.ByteCodes.{ByteCode as PlainCode}
 use Rattle.context_model.specs.ByteCodes as plain
-use Rattle.context_model.specs.Merged.{IsMerged}
+use Rattle.context_model.specs.ContextFault.{IsContextOf}
 use Rattle.context_model.proofs.Frames.{reads_one_way}
 use Rattle.context_model.proofs.ContextFronts.{has_one_context}
 use Rattle.context_model.proofs.MergedLaws.{has_one_merge}
 use Rattle.wire_bytes.specs.declared.contexts.ByteCode.{ByteCode}
 use Rattle.wire_bytes.specs.declared.contexts.ByteCode.TheVariants.{CutLength, AtomTooLong, LongForm, CutBody, BadPrefix, BadIndex, LevelJump, OutOfOrder}
 use Rattle.wire_bytes.specs.Codes.{byte_code_of}
+use Rattle.bag_model.specs.Readings.{PathsOf}
+use Rattle.bag_model.specs.Shapes.{Nodes}
+use Rattle.bag_model.specs.Typed.{AreTyped, IsFirstIllTyped}
+use Rattle.bag_model.proofs.IllTyped.{first_ill_typed}
+use Rattle.bdl_load.specs.declared.faults.Fault.{Fault}
+use Rattle.bdl_load.specs.Loading.{Holding}
+use Rattle.bdl_check.specs.Definitions.{IsTableOf, IsFirstFaultOf}
+use Rattle.report_text.specs.Blocks.{IsBlock, HasOneBlock}
+use Rattle.text_lines.specs.declared.TheConstants.{INPUT_MAX}
 use Rattle.text_lines.specs.Lines.{Line, lines_of}
 use Rattle.text_lines.specs.Readings.{Reading, IsDefinite, AllSay, IsFirstBad}
 use Rattle.text_lines.proofs.HexLaws.{hex_lines_definite}
-use Rattle.text_lines.proofs.ReadingLaws.{all_say_one, first_bad_one, good_not_bad, none_bad, at_most_definite}
+use Rattle.text_lines.proofs.ReadingLaws.{all_say_one, first_bad_one, good_not_bad, none_bad, at_most_definite, all_say-at_most}
 use Rattle.baggage_cli.specs.Commands.{Task}
-use Rattle.baggage_cli.specs.Commands.Task.{trim, merge, check}
+use Rattle.baggage_cli.specs.Commands.Task.{trim, merge, check, decode}
 use Rattle.baggage_cli.specs.declared.merging.TheConstants.{LINES_MAX}
-use Rattle.baggage_cli.specs.declared.refusals.InputCode.TheVariants.{NoLine, Form, TooLong, TooManyLines}
+use Rattle.baggage_cli.specs.declared.refusals.InputCode.TheVariants.{Form, TooManyLines}
 use Rattle.baggage_cli.specs.declared.refusals.InputFault.{InputFault}
 use Rattle.baggage_cli.specs.declared.refusals.InputFault.TheVariants.{Code, Hex, Bytes}
 use Rattle.baggage_cli.specs.declared.refusals.Refusal.{Refusal}
-use Rattle.baggage_cli.specs.declared.refusals.Refusal.TheVariants.{Input}
-use Rattle.baggage_cli.specs.Merging.{merged_lines, IsMergeOf, MergesLines, MergeGives}
+use Rattle.baggage_cli.specs.Decoding.{DecodesLines, DecodeGives}
+use Rattle.baggage_cli.specs.Merging.{merged_lines, IsMergeOf, MergesLines}
 use Rattle.baggage_cli.specs.Outcomes.{Outcome, GivesOne}
-use Rattle.baggage_cli.specs.Reading.{Within, RefusesLines, ReadsLines, list_bytes, context_bytes, list_lines, context_lines}
+use Rattle.baggage_cli.specs.Reading.{Within, RefusesLines, ReadsLines, only_one, ReadsOne, list_bytes, context_bytes, typed_bytes, list_lines, context_lines, typed_lines}
 use Rattle.baggage_cli.specs.Top.{InputGives}
-use Rattle.baggage_cli.specs.Trimming.{only_one, ReadsOne, trimmed_line, TrimsLines, TrimGives}
+use Rattle.baggage_cli.specs.Trimming.{trimmed_line, TrimsLines}
 
 -- ---- one code for what it says
 
@@ -77,14 +87,53 @@ context_bytes_definite = record {
   not_both = λ earlier bytes said fault f (i, c, first, is). (has_one_context bytes).either said i (byte_code_of c) f first;
 }
 
+-- A list has one first ill-typed place.
+one_place : (table : Nodes) (list : List Atom) (i j : ℕ) → IsFirstIllTyped table list i → IsFirstIllTyped table list j → i ≡ j
+one_place table list i j first other = elim (cases_lt i j) [
+  | inl less ↦ absurd (other.first i less first.misspells)
+  | inr more ↦ elim (cases_lt j i) [
+    | inl less ↦ absurd (first.first j less other.misspells)
+    | inr fewer ↦ omega arith
+  ]
+]
+
+-- What is wrong with bytes under a table.
+abbrev TypedFault : Nodes → List ℕ → InputFault → Type 0
+TypedFault table bytes fault = (typed_bytes table).faults [] bytes fault
+
+one_typed_fault : (table : Nodes) (bytes : List ℕ) (f g : InputFault) → TypedFault table bytes f → TypedFault table bytes g → f ≡ g
+one_typed_fault table bytes f g (inl bad) (inl other) = context_bytes_definite.one_fault [] bytes f g bad other
+one_typed_fault table bytes f g (inl bad) (inr (list, place, says, first, is)) = absurd (context_bytes_definite.not_both [] bytes list f says bad)
+one_typed_fault table bytes f g (inr (list, place, says, first, is)) (inl bad) = absurd (context_bytes_definite.not_both [] bytes list g says bad)
+one_typed_fault table bytes f g (inr (list, i, says, first, f_is)) (inr (others, j, say, other, g_is)) =
+    let same = (has_one_context bytes).list others list say says in
+    let place = one_place table list i j first (subst (λ l. IsFirstIllTyped table l j) same other) in
+    cc (f_is, g_is, same, place)
+
+said_not_ill_typed : (table : Nodes) (bytes : List ℕ) (said : List Atom) (fault : InputFault) → IsContextOf said bytes → AreTyped table (PathsOf said) [] → TypedFault table bytes fault → ⊥
+said_not_ill_typed table bytes said fault says typed (inl bad) = context_bytes_definite.not_both [] bytes said fault says bad
+said_not_ill_typed table bytes said fault says typed (inr (list, place, say, first, is)) =
+    let same = (has_one_context bytes).list list said say says in
+    first_ill_typed table said place (subst (λ l. IsFirstIllTyped table l place) same first) typed
+
 pub list_lines_definite : IsDefinite list_lines
 list_lines_definite = hex_lines_definite Hex list_bytes list_bytes_definite
 
 pub context_lines_definite : IsDefinite context_lines
 context_lines_definite = hex_lines_definite Hex context_bytes context_bytes_definite
 
-only_one_definite : IsDefinite (only_one list_lines)
-only_one_definite = at_most_definite 1 (Code Form) list_lines list_lines_definite
+typed_bytes_definite : (table : Nodes) → IsDefinite (typed_bytes table)
+typed_bytes_definite table = record {
+  one_said = λ earlier bytes a b f g. (has_one_context bytes).list a b f.0 g.0;
+  one_fault = λ earlier bytes f g. one_typed_fault table bytes f g;
+  not_both = λ earlier bytes said fault f. said_not_ill_typed table bytes said fault f.0 f.1;
+}
+
+pub typed_lines_definite : (table : Nodes) → IsDefinite (typed_lines table)
+typed_lines_definite table = hex_lines_definite Hex (typed_bytes table) (typed_bytes_definite table)
+
+only_one_definite : {A : Type 0} (reading : Reading A InputFault) → IsDefinite reading → IsDefinite (only_one reading)
+only_one_definite reading definite = at_most_definite 1 (Code Form) reading definite
 
 pub merged_lines_definite : IsDefinite merged_lines
 merged_lines_definite = at_most_definite LINES_MAX (Code TooManyLines) context_lines context_lines_definite
@@ -112,34 +161,68 @@ reads_lines_one reading definite gives one lines (Ok x) (Err s) (said, all, gave
 reads_lines_one reading definite gives one lines (Err r) (Ok y) refused (said, all, gave) = absurd (said_not_refused reading definite lines said r all refused)
 reads_lines_one reading definite gives one lines (Err r) (Err s) f g = ap Err (refuses_lines_one reading definite lines r s f g)
 
-trimmed_one : (budget : ℕ) (said : List (List Atom)) (x y : List ℕ) → (a : List Atom) × (said ≡ a ∷ []) × (x ≡ trimmed_line budget a)
-    → (a : List Atom) × (said ≡ a ∷ []) × (y ≡ trimmed_line budget a) → x ≡ y
-trimmed_one budget said x y (a, a_is, x_is) (b, b_is, y_is) =
-    let only : ◌≡◌ {A = List (List Atom)} (a ∷ []) (b ∷ []) = sym a_is ∙ b_is in
-    let same : a ≡ b = cc only in
-    x_is ∙ ap (trimmed_line budget) same ∙ sym y_is
-
 merged_one : (lists : List (List Atom)) (x y : List ℕ) → IsMergeOf lists x → IsMergeOf lists y → x ≡ y
 merged_one lists x y (a, is, x_is) (b, other, y_is) = let same = has_one_merge lists a b is other in cc (x_is, y_is, same)
 
-abbrev GivesTrimmed : ℕ → List (List Atom) → List ℕ → Type 0
-GivesTrimmed budget said output = (a : List Atom) × (said ≡ a ∷ []) × (output ≡ trimmed_line budget a)
+-- ---- one line
+
+-- What all lines say gives the output, where all is one.
+abbrev GivesOnly : {A : Type 0} → (A → List ℕ → Type 0) → List A → List ℕ → Type 0
+GivesOnly {A} gives said output = (a : A) × (said ≡ a ∷ []) × gives a output
+
+only_given : {A : Type 0} (gives : A → List ℕ → Type 0) → ((a : A) (x y : List ℕ) → gives a x → gives a y → x ≡ y)
+    → (said : List A) (x y : List ℕ) → GivesOnly gives said x → GivesOnly gives said y → x ≡ y
+only_given {A} gives one said x y (a, a_is, gave) (b, b_is, given) =
+    let only : ◌≡◌ {A = List A} (b ∷ []) (a ∷ []) = sym b_is ∙ a_is in
+    let same : b ≡ a = cc only in
+    one a x y gave (subst (λ c. gives c y) same given)
 
 -- Without a line nothing is said, and nothing is bad.
-none_said : (said : List (List Atom)) (list : List Atom) → said ≡ list ∷ [] → AllSay (only_one list_lines) [] [] said → ⊥
-none_said [] list is all = cc is
-none_said (a ∷ said) list is all = all
+none_said : {A : Type 0} (reading : Reading A InputFault) (said : List A) (a : A) → said ≡ a ∷ [] → AllSay reading [] [] said → ⊥
+none_said reading [] a is all = cc is
+none_said reading (b ∷ said) a is all = all
 
-no_line : (budget : ℕ) (lines : List Line) (outcome : Outcome) → lines ≡ [] → ReadsLines (only_one list_lines) (GivesTrimmed budget) lines outcome → ⊥
-no_line budget lines (Ok output) none (said, all, (list, is, output_is)) = none_said said list is (subst (λ ls. AllSay (only_one list_lines) [] ls said) none all)
-no_line budget lines (Err refusal) none (number, fault, bad, is) =
-    none_bad (only_one list_lines) number fault (subst (λ ls. IsFirstBad (only_one list_lines) ls number fault) none bad)
+no_line : {A : Type 0} (reading : Reading A InputFault) (gives : A → List ℕ → Type 0) (lines : List Line) (outcome : Outcome) → lines ≡ []
+    → ReadsLines reading (GivesOnly gives) lines outcome → ⊥
+no_line reading gives lines (Ok output) none (said, all, (a, is, gave)) = none_said reading said a is (subst (λ ls. AllSay reading [] ls said) none all)
+no_line reading gives lines (Err refusal) none (number, fault, bad, is) = none_bad reading number fault (subst (λ ls. IsFirstBad reading ls number fault) none bad)
 
-trims_one : (budget : ℕ) (lines : List Line) (a b : Outcome) → TrimsLines budget lines a → TrimsLines budget lines b → a ≡ b
-trims_one budget lines a b (inl f) (inl g) = f.1 ∙ sym g.1
-trims_one budget lines a b (inl f) (inr g) = absurd (no_line budget lines b f.0 g)
-trims_one budget lines a b (inr f) (inl g) = absurd (no_line budget lines a g.0 f)
-trims_one budget lines a b (inr f) (inr g) = reads_lines_one (only_one list_lines) only_one_definite (GivesTrimmed budget) (trimmed_one budget) lines a b f g
+reads_one_one : {A : Type 0} (reading : Reading A InputFault) → IsDefinite reading → (gives : A → List ℕ → Type 0)
+    → ((a : A) (x y : List ℕ) → gives a x → gives a y → x ≡ y)
+    → (lines : List Line) (a b : Outcome) → ReadsOne reading gives lines a → ReadsOne reading gives lines b → a ≡ b
+reads_one_one reading definite gives one lines a b (inl f) (inl g) = f.1 ∙ sym g.1
+reads_one_one reading definite gives one lines a b (inl f) (inr g) = absurd (no_line (only_one reading) gives lines b f.0 g)
+reads_one_one reading definite gives one lines a b (inr f) (inl g) = absurd (no_line (only_one reading) gives lines a g.0 f)
+reads_one_one reading definite gives one lines a b (inr f) (inr g) =
+    reads_lines_one (only_one reading) (only_one_definite reading definite) (GivesOnly gives) (only_given gives one) lines a b f g
+
+trims_one : (budget : ℕ) (list : List Atom) (x y : List ℕ) → x ≡ trimmed_line budget list → y ≡ trimmed_line budget list → x ≡ y
+trims_one budget list x y x_is y_is = x_is ∙ sym y_is
+
+only_says : {A : Type 0} (reading : Reading A InputFault) (lines : List Line) (a : A) → AllSay reading [] lines (a ∷ []) → AllSay (only_one reading) [] lines (a ∷ [])
+only_says reading lines a says = all_say-at_most 1 (Code Form) reading lines (a ∷ []) says (omega arith)
+
+-- One line that says something isn't refused.
+pub only_not_refused : {A : Type 0} (reading : Reading A InputFault) → IsDefinite reading → (gives : A → List ℕ → Type 0) (input : List ℕ) (a : A) (refusal : Refusal) → length input ≤ INPUT_MAX
+    → AllSay reading [] (lines_of input) (a ∷ []) → Within (ReadsOne reading gives) input (Err refusal) → ⊥
+only_not_refused reading definite gives input a refusal few says (inl long) = let above = long.0 in omega arith
+only_not_refused reading definite gives input a refusal few says (inr (short, inl none)) = none_said reading (a ∷ []) a refl (subst (λ ls. AllSay reading [] ls (a ∷ [])) none.0 says)
+only_not_refused reading definite gives input a refusal few says (inr (short, inr refused)) =
+    said_not_refused (only_one reading) (only_one_definite reading definite) (lines_of input) (a ∷ []) refusal (only_says reading (lines_of input) a says) refused
+
+pub ok_no_err : (output : List ℕ) (refusal : Refusal) → ◌≡◌ {A = Outcome} (Ok output) (Err refusal) → ⊥
+ok_no_err output refusal e = cc e
+
+-- What one line says gives the output.
+pub only_gave : {A : Type 0} (reading : Reading A InputFault) → IsDefinite reading → (gives : A → List ℕ → Type 0) (input : List ℕ) (a : A) (output : List ℕ)
+    → AllSay reading [] (lines_of input) (a ∷ []) → Within (ReadsOne reading gives) input (Ok output) → gives a output
+only_gave reading definite gives input a output says (inl long) = absurd (ok_no_err output _ long.1)
+only_gave reading definite gives input a output says (inr (short, inl none)) = absurd (ok_no_err output _ none.1)
+only_gave {A} reading definite gives input a output says (inr (short, inr (said, all, (b, is, gave)))) =
+    let all_same = all_say_one (only_one reading) (only_one_definite reading definite) (lines_of input) said (a ∷ []) all (only_says reading (lines_of input) a says) in
+    let only : ◌≡◌ {A = List A} (b ∷ []) (a ∷ []) = sym is ∙ all_same in
+    let same : b ≡ a = cc only in
+    subst (λ c. gives c output) same gave
 
 within_one : (gives : List Line → Outcome → Type 0) → ((lines : List Line) (a b : Outcome) → gives lines a → gives lines b → a ≡ b) → GivesOne (Within gives)
 within_one gives one input a b (inl f) (inl g) = f.1 ∙ sym g.1
@@ -147,8 +230,29 @@ within_one gives one input a b (inl f) (inr g) = absurd (let long = f.0 in let s
 within_one gives one input a b (inr f) (inl g) = absurd (let long = g.0 in let short = f.0 in omega arith)
 within_one gives one input a b (inr f) (inr g) = one (lines_of input) a b f.1 g.1
 
+-- ---- tasks
+
+-- What holds of all definitions and of all lists.
+pub record Laws : Type 0 where
+  pub one_table : (held : Holding) (root name : List ℕ) (table other : Nodes) → IsTableOf held root name table → IsTableOf held root name other → table ≡ other
+  pub no_fault : (held : Holding) (root name : List ℕ) (table : Nodes) (fault : Fault) → IsTableOf held root name table → IsFirstFaultOf held root name fault → ⊥
+  pub one_fault : (held : Holding) (root name : List ℕ) (fault other : Fault) → IsFirstFaultOf held root name fault → IsFirstFaultOf held root name other → fault ≡ other
+  pub one_block : HasOneBlock
+
+-- The files that were told have one table.
+pub same_table : Laws → (file bag : List ℕ) (files : Option Holding) (held other : Holding) (table found : Nodes) → files ≡ Some held → IsTableOf held file bag table
+    → files ≡ Some other → IsTableOf other file bag found → found ≡ table
+same_table laws file bag files held other table found told is same known =
+    let whole : ◌≡◌ {A = Option Holding} (Some other) (Some held) = sym same ∙ told in
+    let one : other ≡ held = cc whole in
+    laws.one_table held file bag found table (subst (λ h. IsTableOf h file bag found) one known) is
+
 -- An input gives one outcome.
-pub input_gives_one : (task : Task) → GivesOne (InputGives task)
-input_gives_one (trim budget) = within_one (TrimsLines budget) (trims_one budget)
-input_gives_one merge = within_one MergesLines (reads_lines_one merged_lines merged_lines_definite IsMergeOf merged_one)
-input_gives_one (check file bag) = λ input a b f g. absurd f
+pub input_gives_one : Laws → (task : Task) (files : Option Holding) → GivesOne (InputGives task files)
+input_gives_one laws (trim budget) files =
+    within_one (TrimsLines budget) (reads_one_one list_lines list_lines_definite (λ list output. output ≡ trimmed_line budget list) (trims_one budget))
+input_gives_one laws merge files = within_one MergesLines (reads_lines_one merged_lines merged_lines_definite IsMergeOf merged_one)
+input_gives_one laws (check file bag) files = λ input a b f g. absurd f
+input_gives_one laws (decode file bag) files = λ input a b (held, told, table, is, gave) (other, same, found, known, given).
+    within_one (DecodesLines table) (reads_one_one (typed_lines table) (typed_lines_definite table) (IsBlock table) (laws.one_block table)) input a b gave
+    (subst (λ t. DecodeGives t input b) (same_table laws file bag files held other table found told is same known) given)

@@ -2,6 +2,7 @@ pub mod Numbers
 pub mod Inputs
 pub mod OnlyLines
 pub mod ContextLines
+pub mod TypedLines
 pub mod Checks
 pub mod Interrupted
 pub mod CommandLine

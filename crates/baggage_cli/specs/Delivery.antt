@@ -1,7 +1,5 @@
 -- How an outcome is delivered.
 use Rattle.std.specs.Prelude.{◌≡◌, ◌⊎◌, ℕ, List, Ok, Err}
-use Rattle.bdl_load.specs.declared.faults.DefCode.{DefCode}
-use Rattle.baggage_cli.specs.declared.refusals.InputFault.{InputFault}
 use Rattle.baggage_cli.specs.declared.refusals.Notice.{Notice}
 use Rattle.baggage_cli.specs.declared.refusals.Notice.TheVariants.{SinkFailed, Memory}
 use Rattle.baggage_cli.specs.declared.refusals.Refusal.{Refusal}

@@ -6,5 +6,6 @@ pub mod Reading
 pub mod Trimming
 pub mod Merging
 pub mod Checking
+pub mod Decoding
 pub mod Delivery
 pub mod Top

@@ -3,19 +3,22 @@ use Rattle.std.specs.Prelude.{◌≡◌, ◌⊎◌, ℕ, ◌+◌, ◌<◌, ◌�
 use Rattle.std.specs.Io.KnownBytes.{Consumes, IsAtEnd}
 use Rattle.std.specs.Global.{Vec}
 use Rattle.context_model.specs.Atoms.{Atom, AreAtoms}
-use Rattle.context_model.specs.Framing.{bytes_of}
+use Rattle.context_model.specs.Framing.{bytes_of, size_of}
 use Rattle.context_model.specs.ContextFault.{IsContextOf, IsFirstContextFault}
 use Rattle.context_model.specs.WireFault.{IsFirstWireFault}
+use Rattle.bag_model.specs.Readings.{PathsOf}
+use Rattle.bag_model.specs.Shapes.{Nodes}
+use Rattle.bag_model.specs.Typed.{AreTyped, IsFirstIllTyped}
 use Rattle.text_lines.specs.declared.TheConstants.{INPUT_MAX}
 use Rattle.text_lines.specs.declared.hex_lines.HexCode.{HexCode}
 use Rattle.text_lines.specs.HexLines.{IsHexFault, hex_lines}
 use Rattle.text_lines.specs.Lines.{Line, lines_of}
-use Rattle.text_lines.specs.Readings.{Reading, AllSay, IsFirstBad}
+use Rattle.text_lines.specs.Readings.{Reading, AllSay, IsFirstBad, at_most}
 use Rattle.wire_bytes.specs.declared.contexts.ByteCode.{ByteCode}
 use Rattle.wire_bytes.specs.Codes.{byte_code_of}
-use Rattle.baggage_cli.specs.declared.refusals.InputCode.TheVariants.{TooLong}
+use Rattle.baggage_cli.specs.declared.refusals.InputCode.TheVariants.{TooLong, NoLine, Form}
 use Rattle.baggage_cli.specs.declared.refusals.InputFault.{InputFault}
-use Rattle.baggage_cli.specs.declared.refusals.InputFault.TheVariants.{Code, Hex, Bytes}
+use Rattle.baggage_cli.specs.declared.refusals.InputFault.TheVariants.{Code, Hex, Bytes, IllTyped}
 use Rattle.baggage_cli.specs.declared.refusals.Notice.TheVariants.{SourceFailed, Memory}
 use Rattle.baggage_cli.specs.declared.refusals.Refusal.{Refusal}
 use Rattle.baggage_cli.specs.declared.refusals.Refusal.TheVariants.{Input, Plain}
@@ -74,6 +77,31 @@ abbrev pub ReadsLines : {A : Type 0} → Reading A InputFault → (List A → Li
 ReadsLines {A} reading gives lines (Ok output) = (said : List A) × AllSay reading [] lines said × gives said output
 ReadsLines reading gives lines (Err refusal) = RefusesLines reading lines refusal
 
+-- ---- one line
+
+-- Only one line is read: a second one is bad, whatever it is.
+abbrev pub only_one : {A : Type 0} → Reading A InputFault → Reading A InputFault
+only_one reading = at_most 1 (Code Form) reading
+
+-- There is no line where one is wanted.
+abbrev pub HasNoLine : List Line → Refusal → Type 0
+HasNoLine lines refusal = (lines ≡ []) × (refusal ≡ Input 0 (Code NoLine))
+
+-- A line is left where none may be.
+abbrev pub HasExcess : List Line → Refusal → Type 0
+HasExcess left refusal =
+    (line : Line) × (after : List Line) × (left ≡ line ∷ after) × (refusal ≡ Input line.0 (Code Form))
+
+-- Why lines aren't one line: there is none, or they have a first bad one.
+abbrev pub RefusesOne : {A : Type 0} → Reading A InputFault → List Line → Refusal → Type 0
+RefusesOne reading lines refusal = HasNoLine lines refusal ⊎ RefusesLines (only_one reading) lines refusal
+
+-- What one line says gives the output. Where there is no line, that is refused.
+abbrev pub ReadsOne : {A : Type 0} → Reading A InputFault → (A → List ℕ → Type 0) → List Line → Outcome → Type 0
+ReadsOne {A} reading gives lines outcome =
+    ((lines ≡ []) × (outcome ≡ Err (Input 0 (Code NoLine))))
+    ⊎ ReadsLines (only_one reading) (λ said output. (a : A) × (said ≡ a ∷ []) × gives a output) lines outcome
+
 -- ---- lists and contexts
 
 -- Bytes say a list of atoms, or have a first fault.
@@ -92,12 +120,26 @@ context_bytes = record {
       (offset : ℕ) × (code : ByteCode) × IsFirstContextFault bytes offset (byte_code_of code) × (fault ≡ Bytes offset code);
 }
 
--- Lines of digits say lists, or contexts.
+-- Bytes say a context that is typed under a table, or have a first fault: that of the bytes, or the place of the
+-- context's first ill-typed atom.
+abbrev pub typed_bytes : Nodes → Reading (List Atom) InputFault
+typed_bytes table = record {
+  says = λ earlier bytes list. IsContextOf list bytes × AreTyped table (PathsOf list) [];
+  faults = λ earlier bytes fault.
+      context_bytes.faults earlier bytes fault
+      ⊎ ((list : List Atom) × (place : ℕ) × IsContextOf list bytes × IsFirstIllTyped table list place
+      × (fault ≡ IllTyped (size_of (take place list))));
+}
+
+-- Lines of digits say lists, or contexts, or contexts that are typed under a table.
 abbrev pub list_lines : Reading (List Atom) InputFault
 list_lines = hex_lines Hex list_bytes
 
 abbrev pub context_lines : Reading (List Atom) InputFault
 context_lines = hex_lines Hex context_bytes
+
+abbrev pub typed_lines : Nodes → Reading (List Atom) InputFault
+typed_lines table = hex_lines Hex (typed_bytes table)
 
 -- A line isn't one of digits: memory is wanting for its bytes, or this is wrong with it.
 abbrev pub IsNoHex : Line → Refusal → Type 0

@@ -12,7 +12,7 @@ use Rattle.bdl_load.specs.declared.faults.Fault.{Fault}
 use Rattle.baggage_cli.specs.declared.refusals.InputCode.{InputCode}
 use Rattle.baggage_cli.specs.declared.refusals.InputCode.TheVariants.{TooLong, NoLine, Form, TooManyLines}
 use Rattle.baggage_cli.specs.declared.refusals.InputFault.{InputFault}
-use Rattle.baggage_cli.specs.declared.refusals.InputFault.TheVariants.{Code, Hex, Bytes}
+use Rattle.baggage_cli.specs.declared.refusals.InputFault.TheVariants.{Code, Hex, Bytes, IllTyped}
 use Rattle.baggage_cli.specs.declared.refusals.Notice.{Notice}
 use Rattle.baggage_cli.specs.declared.refusals.Notice.TheVariants.{LibraryFailed, SourceFailed, SinkFailed, Memory, WordsRefused}
 use Rattle.baggage_cli.specs.declared.refusals.Refusal.{Refusal}
@@ -30,6 +30,7 @@ abbrev pub input_status : InputFault → ℕ
 input_status (Code code) = 2
 input_status (Hex code) = 2
 input_status (Bytes offset code) = 3
+input_status (IllTyped offset) = 3
 
 -- The line that says what is wrong with a line of an input.
 abbrev pub input_line : ℕ → InputFault → List ℕ
@@ -38,6 +39,8 @@ input_line line (Hex code) = codes "input line " ++ (decimal line ++ (codes " " 
 input_line line (Bytes offset code) =
     codes "context line "
     ++ (decimal line ++ (codes " offset " ++ (decimal offset ++ (codes " " ++ (code_name (byte_code_of code) ++ 10 ∷ [])))))
+input_line line (IllTyped offset) =
+    codes "context line " ++ (decimal line ++ (codes " offset " ++ (decimal offset ++ (codes " IllTyped" ++ 10 ∷ []))))
 
 -- The line that says what is wrong with a definition.
 abbrev pub definition_line : List ℕ → ℕ → ℕ → DefCode → List ℕ

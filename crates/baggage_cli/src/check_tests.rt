@@ -17,7 +17,7 @@ const Q: &str =
     "q.bdl|bag Req { fixed32 id = 0; set<string> tags = 1; counter hops = 2; taint debug = 3; map<string, uint32> load = 4; }";
 
 /// What that file holds.
-fn request() -> &'static [u8] {
+pub fn request() -> &'static [u8] {
     match Q.split_once('|') {
         Some((_, source)) => source.as_bytes(),
         None => b"",

@@ -16,6 +16,8 @@ pub enum Command<'a> {
     Merge,
     /// Count the slots of a bag of the definition whose root is a file.
     Check { file: &'a str, bag: &'a str },
+    /// Decode one line of a context under the table of such a bag.
+    Decode { file: &'a str, bag: &'a str },
 }
 
 /// A number from 1 to 4,294,967,295, without sign or leading zero.
@@ -60,6 +62,7 @@ fn definition_command<'a>(name: &str, file: &'a str, bag: &'a str) -> Option<Com
 {
     match name {
         "check" => Some(Command::Check { file, bag }),
+        "decode" => Some(Command::Decode { file, bag }),
         _ => None,
     }
 }

@@ -6,6 +6,9 @@ mod adapters;
 mod check_tests;
 mod checking;
 mod commands;
+#[cfg(test)]
+mod decode_tests;
+mod decoding;
 mod delivery;
 mod merging;
 mod reading;

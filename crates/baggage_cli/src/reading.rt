@@ -1,15 +1,16 @@
 //! An input, and what its lines say.
 
-ghost use Rattle.std.specs.Prelude.{◌≡◌, [], IfOk, IfErr};
+ghost use Rattle.std.specs.Prelude.{◌≡◌, [], ◌∷◌, OnOk, IfOk, IfErr};
 ghost use Rattle.baggage_cli.specs.Scene.{change};
-ghost use Rattle.baggage_cli.specs.Reading.{ReadsInput, IsNoHex, RefusesLine, list_lines, context_lines};
+ghost use Rattle.baggage_cli.specs.Reading.{ReadsInput, HasNoLine, HasExcess, IsNoHex, RefusesLine, list_lines, context_lines};
 ghost use Rattle.text_lines.specs.HexLines.{IsHexOf};
+ghost use Rattle.text_lines.specs.Lines.{line_value};
 
 use crate::refusals::{InputCode, InputFault, Notice, Refusal};
 use atom_list::{AtomList, Context};
 use outside::{ReadFault, Source, read_all};
 use std::alloc::Global;
-use text_lines::{HexFault, INPUT_MAX, Line, hex_bytes};
+use text_lines::{HexFault, INPUT_MAX, Line, Lines, hex_bytes};
 use wire_bytes::{ByteCode, ContextFault, WireFault, read_context_owned, read_owned};
 
 /// Reads the source to its end.
@@ -24,6 +25,34 @@ pub fn read_input<S: Source>(alloc: Global, source: &mut S) -> Result<Vec<u8>, R
         }),
         Err(ReadFault::Failed) => Err(Refusal::Plain(Notice::SourceFailed)),
         Err(ReadFault::Memory) => Err(Refusal::Plain(Notice::Memory)),
+    }
+}
+
+/// Takes the first of the lines, where a command wants one.
+pub fn first_line<'a>(lines: &mut Lines<'a>) -> Result<Line<'a>, Refusal>
+    ensures ok { IfOk result (λ line. lines.old ≡ line_value line ∷ lines.new) }
+    ensures err { IfErr result (HasNoLine lines.old) }
+{
+    match lines.next() {
+        Some(line) => Ok(line),
+        None => Err(Refusal::Input {
+            line: 0,
+            fault: InputFault::Code(InputCode::NoLine),
+        }),
+    }
+}
+
+/// Refuses a line behind the one that a command wants.
+pub fn end_lines(lines: &mut Lines<'_>) -> Result<(), Refusal>
+    ensures ok { OnOk result (lines.old ≡ []) }
+    ensures err { IfErr result (HasExcess lines.old) }
+{
+    match lines.next() {
+        None => Ok(()),
+        Some(second) => Err(Refusal::Input {
+            line: second.number,
+            fault: InputFault::Code(InputCode::Form),
+        }),
     }
 }
 

@@ -32,6 +32,8 @@ pub enum InputFault {
     Hex(HexCode),
     /// The bytes of the line aren't those of a list or a context.
     Bytes { offset: usize, code: ByteCode },
+    /// The atom behind so many bytes of the line is no spelling of a value of the type that a table gives it.
+    IllTyped { offset: u128 },
 }
 
 /// A refusal with nothing to say of the input: its line is always the same, and takes no memory.
@@ -142,6 +144,7 @@ impl InputFault {
             InputFault::Code(_) => 2,
             InputFault::Hex(_) => 2,
             InputFault::Bytes { .. } => 3,
+            InputFault::IllTyped { .. } => 3,
         }
     }
 
@@ -154,6 +157,9 @@ impl InputFault {
             InputFault::Hex(code) => Ok(format!(in alloc; "input line {line} {code}\n")?),
             InputFault::Bytes { offset, code } => Ok(format!(in alloc;
                 "context line {line} offset {offset} {code}\n"
+            )?),
+            InputFault::IllTyped { offset } => Ok(format!(in alloc;
+                "context line {line} offset {offset} IllTyped\n"
             )?),
         }
     }

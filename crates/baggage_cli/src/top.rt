@@ -11,25 +11,29 @@ ghost use Rattle.bag_model.specs.Slots.{slots_of};
 ghost use Rattle.bdl_load.specs.declared.faults.Fault.{Fault};
 ghost use Rattle.bdl_load.specs.Loading.{Holding, AsksAll};
 ghost use Rattle.bdl_check.specs.Definitions.{IsTableOf, IsFirstFaultOf};
+ghost use Rattle.report_text.specs.Blocks.{IsBlock};
 ghost use Rattle.text_lines.specs.declared.TheConstants.{INPUT_MAX};
 ghost use Rattle.text_lines.specs.HexLines.{hex_line};
-ghost use Rattle.baggage_cli.specs.Commands.{Task, task_of, command_of, ReadsSource, FetchesFiles};
-ghost use Rattle.baggage_cli.specs.Commands.Task.{trim, merge, check};
+ghost use Rattle.baggage_cli.specs.Commands.{Task, task_of, command_of, ReadsSource, FetchesFiles, NamesBag};
+ghost use Rattle.baggage_cli.specs.Commands.Task.{trim, merge, check, decode};
 ghost use Rattle.baggage_cli.specs.Refusals.{input_status, input_line, notice_line, line_of, blamed};
 ghost use Rattle.baggage_cli.specs.Scene.{change, scene_of, HasNoFault};
 ghost use Rattle.baggage_cli.specs.Outcomes.{outcome_of};
 ghost use Rattle.baggage_cli.specs.Trimming.{trimmed_line};
 ghost use Rattle.baggage_cli.specs.Checking.{ok_line};
-ghost use Rattle.baggage_cli.specs.Top.{InputGives, Comes, Answers, SaysList, SaysContexts, Accepts, IsFailure};
+ghost use Rattle.baggage_cli.specs.Top.{TellsFiles, InputGives, Comes, Answers, IsFailure};
+ghost use Rattle.baggage_cli.specs.Top.{SaysList, SaysContexts, SaysTyped, Accepts};
 
 use crate::checking::check_bag;
 use crate::commands::{Command, command_of};
+use crate::decoding::decode_bag;
 use crate::delivery::{deliver, notify, refuse};
 use crate::merging::merge_source;
 use crate::refusals::{InputFault, Notice, Refusal};
 use crate::trimming::trim_source;
 use bdl_check::laws;
 use outside::{Gate, Library, Sink, Source, Words};
+use report_text::laws::lists_have_one_block;
 use std::alloc::Global;
 use std::thread::Threads;
 
@@ -48,6 +52,7 @@ fn carry_out<L: Library, S: Source>(
         Command::Trim { budget } => trim_source(alloc, source, budget),
         Command::Merge => merge_source(alloc, source),
         Command::Check { file, bag } => check_bag(alloc, library, file, bag),
+        Command::Decode { file, bag } => decode_bag(alloc, library, source, file, bag),
     }
 }
 
@@ -84,6 +89,9 @@ fn answer_words<L: Library, S: Source, K: Sink, E: Sink>(
 /// line of their merge, a dash where there is no line. Empty lines and lines that begin with `#` are skipped.
 /// `check FILE BAG` reads nothing from the source: it compiles the bag of that name in the definition whose root is that file of
 /// the library, with the files that it imports, and writes the line `ok S`, where `S` is the number of the slots of its table.
+/// `decode FILE BAG` compiles the same, then reads one line from the source, which frames a context that is typed under the
+/// table, and writes the context's block: the line of its bytes and a line for each slot. Where the definition is refused
+/// the source isn't read.
 pub fn baggage_top<R: Threads + Sync, G: Gate, L: Library, S: Source, K: Sink, E: Sink>(
     _rt: &R,
     alloc: Global,
@@ -115,9 +123,15 @@ pub fn baggage_top<R: Threads + Sync, G: Gate, L: Library, S: Source, K: Sink, E
         → command_of words.now ≡ Some (check file bag) → L.files library.old ≡ Some held → result ≡ 0
         → (table : Nodes) × IsTableOf held file bag table
         × Appends (K.written out.old) (K.written out.new) (ok_line (length (slots_of table))) }
-    ensures fetched { (file bag : List ℕ) (held : Holding)
-        → command_of words.now ≡ Some (check file bag) → L.files library.old ≡ Some held
-        → (result ≡ 0) ⊎ (result ≡ 1)
+    ensures decode { (file bag : List ℕ) (held : Holding) (table : Nodes) (input : List ℕ) (list : List (List ℕ))
+        → command_of words.now ≡ Some (decode file bag) → L.files library.old ≡ Some held
+        → IsTableOf held file bag table → S.left source.old ≡ Some input
+        → SaysTyped table input list → result ≡ 0
+        → (text : List ℕ) × IsBlock table list text
+        × Appends (K.written out.old) (K.written out.new) text }
+    ensures fetched { (task : Task) (file bag : List ℕ) (held : Holding)
+        → command_of words.now ≡ Some task → NamesBag task file bag
+        → L.files library.old ≡ Some held → result ≤ 3
         → (names : List (List ℕ)) × AsksAll held file names
         × Asks names (L.asked library.old) (L.asked library.new) }
 
@@ -134,6 +148,8 @@ pub fn baggage_top<R: Threads + Sync, G: Gate, L: Library, S: Source, K: Sink, E
         → ReadsSource task → S.left source.old ≡ Some input
         → (result ≡ 0) ⊎ (result ≡ 2) ⊎ (result ≡ 3)
         → S.left source.new ≡ Some (drop (INPUT_MAX + 1) input) }
+    ensures unread { result ≡ 1 → S.left source.new ≡ S.left source.old }
+    ensures unread_steady { result ≡ 1 → S.faults source.new ≡ S.faults source.old }
 
     // With status 0 no stream counted a fault, and nothing was said.
     ensures source_steady { result ≡ 0 → S.faults source.new ≡ S.faults source.old }
@@ -145,23 +161,24 @@ pub fn baggage_top<R: Threads + Sync, G: Gate, L: Library, S: Source, K: Sink, E
     ensures definition { (task : Task) (held : Holding) → command_of words.now ≡ Some task
         → L.files library.old ≡ Some held → result ≡ 1
         → (file : List ℕ) × (bag : List ℕ) × (fault : Fault)
-        × (task ≡ check file bag) × IsFirstFaultOf held file bag fault
+        × NamesBag task file bag × IsFirstFaultOf held file bag fault
         × Appends (E.written errs.old) (E.written errs.new) (line_of (blamed fault)) }
-    ensures fault { (file bag : List ℕ) (held : Holding) (fault : Fault)
-        → command_of words.now ≡ Some (check file bag) → L.files library.old ≡ Some held
-        → IsFirstFaultOf held file bag fault
+    ensures fault { (task : Task) (file bag : List ℕ) (held : Holding) (fault : Fault)
+        → command_of words.now ≡ Some task → NamesBag task file bag
+        → L.files library.old ≡ Some held → IsFirstFaultOf held file bag fault
         → ((result ≡ 1) × Appends (E.written errs.old) (E.written errs.new) (line_of (blamed fault)))
         ⊎ IsFailure result }
 
     // What is wrong with an input is status 2 or 3 with its line, unless the same failed.
     ensures input { (task : Task) (input : List ℕ) → command_of words.now ≡ Some task
-        → S.left source.old ≡ Some input → (result ≡ 2) ⊎ (result ≡ 3)
+        → TellsFiles task (L.files library.old) → S.left source.old ≡ Some input
+        → (result ≡ 2) ⊎ (result ≡ 3)
         → (number : ℕ) × (fault : InputFault) × (result ≡ input_status fault)
-        × InputGives task input (Err (Refusal.Input number fault))
+        × InputGives task (L.files library.old) input (Err (Refusal.Input number fault))
         × Appends (E.written errs.old) (E.written errs.new) (input_line number fault) }
     ensures bad_line { (task : Task) (input : List ℕ) (number : ℕ) (fault : InputFault)
         → command_of words.now ≡ Some task → S.left source.old ≡ Some input
-        → InputGives task input (Err (Refusal.Input number fault))
+        → InputGives task (L.files library.old) input (Err (Refusal.Input number fault))
         → ((result ≡ input_status fault)
         × Appends (E.written errs.old) (E.written errs.new) (input_line number fault))
         ⊎ IsFailure result }
@@ -190,8 +207,10 @@ pub fn baggage_top<R: Threads + Sync, G: Gate, L: Library, S: Source, K: Sink, E
         (change E.written E.faults errs.old errs.new))
         → (result ≡ 0) ⊎ (result ≡ 6) }
 {
-    // Only the proof needs these: a definition has one table or one first fault.
+    // Only the proof needs these: a definition has one table or one first fault, and a list one block.
+    laws::tables_are_unique();
     laws::tables_exclude_faults();
     laws::faults_are_unique();
+    lists_have_one_block();
     answer_words(alloc, words, library, source, out, errs)
 }

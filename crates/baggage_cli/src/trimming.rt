@@ -6,11 +6,11 @@ ghost use Rattle.text_lines.specs.Lines.{lines_of};
 ghost use Rattle.text_lines.specs.Readings.{AllSay};
 ghost use Rattle.baggage_cli.specs.Scene.{change};
 ghost use Rattle.baggage_cli.specs.Outcomes.{outcome_of, OrMemory};
-ghost use Rattle.baggage_cli.specs.Reading.{Reads, list_lines};
-ghost use Rattle.baggage_cli.specs.Trimming.{only_one, RefusesOne, TrimsLines, TrimGives};
+ghost use Rattle.baggage_cli.specs.Reading.{Reads, only_one, RefusesOne, list_lines};
+ghost use Rattle.baggage_cli.specs.Trimming.{TrimsLines, TrimGives};
 
-use crate::reading::{line_list, read_input};
-use crate::refusals::{InputCode, InputFault, Notice, Refusal};
+use crate::reading::{end_lines, first_line, line_list, read_input};
+use crate::refusals::{Notice, Refusal};
 use atom_list::AtomList;
 use outside::Source;
 use overflow_trim::trim;
@@ -27,20 +27,10 @@ fn only_list(alloc: Global, input: &[u8]) -> Result<AtomList, Refusal>
         (refusal ≡ Refusal.Plain Notice.Memory) ⊎ RefusesOne list_lines (lines_of input.now) refusal) }
 {
     let mut lines = lines_of(input);
-    let Some(line) = lines.next() else {
-        return Err(Refusal::Input {
-            line: 0,
-            fault: InputFault::Code(InputCode::NoLine),
-        });
-    };
+    let line = first_line(&mut lines)?;
     let list = line_list(alloc, &line)?;
-    match lines.next() {
-        None => Ok(list),
-        Some(second) => Err(Refusal::Input {
-            line: second.number,
-            fault: InputFault::Code(InputCode::Form),
-        }),
-    }
+    end_lines(&mut lines)?;
+    Ok(list)
 }
 
 /// The line of the list of an input's one line, trimmed to the budget.

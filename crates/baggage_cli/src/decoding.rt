@@ -1,0 +1,92 @@
+//! The command that decodes one line of a context under the table of a bag.
+
+ghost use Rattle.std.specs.Prelude.{◌≡◌, ◌⊎◌, [], ◌∷◌, IfOk, IfErr};
+ghost use Rattle.text_lines.specs.Lines.{lines_of};
+ghost use Rattle.text_lines.specs.Readings.{AllSay};
+ghost use Rattle.baggage_cli.specs.Scene.{change};
+ghost use Rattle.baggage_cli.specs.Outcomes.{outcome_of, OrMemory};
+ghost use Rattle.baggage_cli.specs.Reading.{Reads, only_one, RefusesOne, RefusesLine, typed_lines};
+ghost use Rattle.baggage_cli.specs.Decoding.{DecodesLines, DecodeGives, Decodes};
+
+use crate::reading::{end_lines, first_line, line_context, read_input};
+use crate::refusals::{InputFault, Notice, Refusal};
+use atom_list::Context;
+use bag_typed::check_typed;
+use bdl_check::compile;
+use field_table::Table;
+use outside::{Library, Source};
+use report_text::block;
+use std::alloc::Global;
+use text_lines::{Line, lines_of};
+use wire_bytes::offset;
+
+/// The context that a line says, which is typed under the table.
+fn typed_context(alloc: Global, table: &Table, line: &Line<'_>) -> Result<Context, Refusal>
+    ensures ok { IfOk result (λ context.
+        (typed_lines table.now).says [] line.now.text.now context) }
+    ensures err { IfErr result (λ refusal.
+        RefusesLine (typed_lines table.now) (line.now.number, line.now.text.now) refusal) }
+{
+    let context = line_context(alloc, line)?;
+    match check_typed(table, &context) {
+        Ok(()) => Ok(context),
+        Err(place) => Err(Refusal::Input {
+            line: line.number,
+            fault: InputFault::IllTyped {
+                offset: offset(context.list(), place),
+            },
+        }),
+    }
+}
+
+/// The context of the one line of an input, which is typed under the table.
+fn only_context(alloc: Global, table: &Table, input: &[u8]) -> Result<Context, Refusal>
+    ensures ok { IfOk result (λ context.
+        AllSay (only_one (typed_lines table.now)) [] (lines_of input.now) (context ∷ [])) }
+    ensures err { IfErr result (λ refusal. (refusal ≡ Refusal.Plain Notice.Memory)
+        ⊎ RefusesOne (typed_lines table.now) (lines_of input.now) refusal) }
+{
+    let mut lines = lines_of(input);
+    let line = first_line(&mut lines)?;
+    let context = typed_context(alloc, table, &line)?;
+    end_lines(&mut lines)?;
+    Ok(context)
+}
+
+/// The block of the context of an input's one line.
+fn decoded_block(alloc: Global, table: &Table, input: &[u8]) -> Result<Vec<u8>, Refusal>
+    ensures { OrMemory (DecodesLines table.now (lines_of input.now)) (outcome_of result) }
+{
+    let context = only_context(alloc, table, input)?;
+    Ok(block(alloc, table, &context)?)
+}
+
+/// Reads the source to its end and answers the block of its context.
+fn decode_source<S: Source>(
+    alloc: Global,
+    table: &Table,
+    source: &mut S,
+) -> Result<Vec<u8>, Refusal>
+    ensures { Reads (DecodeGives table.now)
+        (change S.left S.faults source.old source.new) (outcome_of result) }
+{
+    let input = read_input(alloc, source)?;
+    decoded_block(alloc, table, input.as_slice())
+}
+
+/// Compiles a bag of the definition whose root is this file of the library, and answers the block of the source's context
+/// under its table. Where the definition is refused the source isn't read.
+pub fn decode_bag<L: Library, S: Source>(
+    alloc: Global,
+    library: &mut L,
+    source: &mut S,
+    file: &str,
+    bag: &str,
+) -> Result<Vec<u8>, Refusal>
+    ensures { Decodes file.now bag.now (change L.files L.faults library.old library.new)
+        (change L.asked L.faults library.old library.new)
+        (change S.left S.faults source.old source.new) (outcome_of result) }
+{
+    let table = compile(alloc, library, file, bag)?;
+    decode_source(alloc, &table, source)
+}
