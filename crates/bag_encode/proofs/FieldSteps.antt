@@ -85,13 +85,17 @@ pub AreAtoms-front : (xs ys : List Atom) → AreAtoms (xs ++ ys) → AreAtoms xs
 AreAtoms-front [] ys short = tt
 AreAtoms-front (x ∷ xs) ys short = (short.0, AreAtoms-front xs ys short.1)
 
+pub AreAtoms-back : (xs ys : List Atom) → AreAtoms (xs ++ ys) → AreAtoms ys
+AreAtoms-back [] ys short = short
+AreAtoms-back (x ∷ xs) ys short = AreAtoms-back xs ys short.1
+
 -- ---- one field
 
 -- A field that is bottom has no atoms,
 pub bottom_atoms : (f : Field) (level : ℕ) (v : Value) → IsBottom v → one_field_atoms f level v ≡ []
 bottom_atoms f level v b = ap (λ (t : Trees). atoms (header_over (atom_of (Indexed level f.number)) t bare)) (bottom_bare f.shape (level + 1) v b)
 
-header_atoms : (h : Atom) (t : Trees) → t ≢ bare → atoms (header_over h t bare) ≡ h ∷ atoms t
+pub header_atoms : (h : Atom) (t : Trees) → t ≢ bare → atoms (header_over h t bare) ≡ h ∷ atoms t
 header_atoms h bare some = absurd (some refl)
 header_atoms h (tree a under next) some = ap (λ l. h ∷ l) (append-nil (atoms (tree a under next)))
 

@@ -48,7 +48,7 @@ mutual
   bottom_bare (Bag nodes) n (Bag vs) b = bottoms_bare nodes n vs b
   bottom_bare (Bag nodes) n v b = refl
 
-  bottoms_bare : (nodes : Nodes) (n : ℕ) (vs : Values) → AreBottom vs → field_trees nodes n vs ≡ bare
+  pub bottoms_bare : (nodes : Nodes) (n : ℕ) (vs : Values) → AreBottom vs → field_trees nodes n vs ≡ bare
   bottoms_bare no_node n vs b = refl
   bottoms_bare (node name number shape nodes) n no_value b = refl
   bottoms_bare (node name number shape nodes) n (value v vs) b =

@@ -5,3 +5,6 @@ pub mod Steps
 pub mod FieldSteps
 pub mod EntrySteps
 pub mod OneField
+pub mod SlotTrees
+pub mod SlotSteps
+pub mod OneSlot

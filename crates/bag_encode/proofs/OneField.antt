@@ -16,12 +16,8 @@ use Rattle.bag_model.proofs.Finite.{in_append}
 use Rattle.bag_model.proofs.SlotLaws.{from-fields}
 use Rattle.bag_encode.specs.Trees.{Trees, bare, tree, atoms, header_over, trees_of, atoms_of, field_trees, field_atoms}
 use Rattle.bag_encode.proofs.TreeLaws.{tree_paths, last_atom-end, AreAtoms-append}
-use Rattle.bag_encode.proofs.FieldSteps.{AreAtoms-front, values_one}
+use Rattle.bag_encode.proofs.FieldSteps.{AreAtoms-front, AreAtoms-back, values_one}
 use Rattle.bag_encode.proofs.LaidOut.{paths-laid_fields}
-
-AreAtoms-back : (xs ys : List Atom) → AreAtoms (xs ++ ys) → AreAtoms ys
-AreAtoms-back [] ys short = short
-AreAtoms-back (x ∷ xs) ys short = AreAtoms-back xs ys short.1
 
 -- Paths of trees end with their atoms.
 ends_short : (t : Trees) (q p : Path) → AreAtoms (atoms t) → IsIn p (tree_paths q t) → length (last_atom p) ≤ ATOM_MAX

@@ -104,12 +104,11 @@ impl GrowingList {
     }
 
     /// Adds the header of a field.
-    pub(crate) fn push_index(&mut self, level: u8, number: u16) -> Result<(), Memory>
+    pub(crate) fn push_index(&mut self, level: u8, number: u64) -> Result<(), Memory>
         requires { level < 16 }
         ensures { OnOk result (self.new ≡ self.old ++ atom_of (Indexed level number) ∷ []) }
     {
-        let number = put_u64(u64::from(number));
-        self.push(OUTER_INDEXED - 8 * level, number.as_slice())
+        self.push(OUTER_INDEXED - 8 * level, put_u64(number).as_slice())
     }
 
     /// Adds the header of a counter's writer.

@@ -9,8 +9,10 @@
 
 mod encoding;
 mod growing_list;
+mod slots;
 #[cfg(test)]
 mod tests;
 mod values;
 
 pub use encoding::encode;
+pub use slots::encode_slot;

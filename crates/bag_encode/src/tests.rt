@@ -2,9 +2,12 @@
 
 ghost use Rattle.std.specs.Prelude.{◌≡◌, ◌+◌, ◌≤◌, ◌^◌, ◌<◌, [], ◌∷◌, ◌++◌, length, codes, Some, true, false, IfOk};
 ghost use Rattle.context_model.specs.Atoms.{AreAtoms};
+ghost use Rattle.std.specs.List.{slice_get};
 ghost use Rattle.bag_model.specs.Scalars.{One, Truth, Boolean};
 ghost use Rattle.bag_model.specs.Shapes as shapes;
 ghost use Rattle.bag_model.specs.Shapes.{no_node, node};
+ghost use Rattle.bag_model.specs.Slots.{SlotAt, slots_in, slot_count};
+ghost use Rattle.bag_model.specs.SlotValues.{only_in};
 ghost use Rattle.bag_model.specs.Tables.{IsShape, levels_under, nodes_under};
 ghost use Rattle.bag_model.specs.Values as values;
 ghost use Rattle.bag_model.specs.Values.{IsOfShape, no_entry, entry, no_value, value as value_before};
@@ -12,7 +15,7 @@ ghost use Rattle.field_table.specs.Plain.{nodes_of, shape_of, IsIndexed, IsIndex
 ghost use Rattle.bag_value.specs.Plain.{plain};
 ghost use Rattle.bag_encode.specs.Trees.{atoms_of};
 
-use crate::encode;
+use crate::{encode, encode_slot};
 use atom_list::Context;
 use bag_model::{MAX_FIELDS, MAX_LEVELS};
 use bag_value::{Entries, Entry, Val, Vals};
@@ -56,6 +59,20 @@ fn encoded(alloc: Global, shape: Shape, value: Val) -> Result<Context, Memory>
     let mut values = Vals::new(alloc);
     values.push(value)?;
     encode(alloc, &table, &Val::Bag(values))
+}
+
+/// The encoding of the values that are bottom but for this one at a slot of one field, which has the number 1.
+fn encoded_slot(alloc: Global, shape: Shape, slot: usize, value: Val) -> Result<Context, Memory>
+    requires shape { IsShape (shape_of shape) }
+    requires indexed { IsIndexedShape shape }
+    requires levels { levels_under (shape_of shape) < MAX_LEVELS }
+    requires nodes { nodes_under (shape_of shape) < MAX_FIELDS }
+    requires slot { slot < slot_count (shape_of shape) }
+    requires value { (at : SlotAt) → slice_get (slots_in (shape_of shape)) slot ≡ Some at → IsOfShape at.shape (plain value) }
+    requires fits { AreAtoms (atoms_of (shape_of shape) 1 (only_in (shape_of shape) slot (plain value))) }
+{
+    let table = table_of(alloc, shape)?;
+    encode_slot(alloc, &table, slot, &value)
 }
 
 /// A taint with the number 1 and a flag with the number 2.
@@ -237,5 +254,34 @@ fn bags_in_maps(rt: HostRuntime) -> Result<(), Fail> {
         &context,
         &[b"\xf8\x01", b"\xf1\0", b"\xe8\x01", b"\0", b"\xf1\x01"],
     );
+    Ok(())
+}
+
+#[test]
+fn slots_of_bags(rt: HostRuntime) -> Result<(), Fail> {
+    let alloc = rt.alloc();
+    let atoms: [&[u8]; 3] = [b"\xf8\x01", b"\xf0\x02", b"\0\x01"];
+    let slot = encoded_slot(alloc, Shape::Bag(two_fields(alloc)?), 1, flag(true))?;
+    has_atoms(&rt, &slot, &atoms);
+    let values = two_values(alloc, Val::Taint(false), flag(true))?;
+    let whole = encoded(alloc, Shape::Bag(two_fields(alloc)?), values)?;
+    has_atoms(&rt, &whole, &atoms);
+    let first = encoded_slot(alloc, Shape::Bag(two_fields(alloc)?), 0, Val::Taint(true))?;
+    has_atoms(&rt, &first, &[b"\xf8\x01", b"\xf0\x01", b"\0"]);
+    let nothing = encoded_slot(alloc, Shape::Bag(two_fields(alloc)?), 1, Val::Scalar(None))?;
+    has_atoms(&rt, &nothing, &[]);
+    Ok(())
+}
+
+#[test]
+fn slots_with_keys(rt: HostRuntime) -> Result<(), Fail> {
+    let alloc = rt.alloc();
+    let counts = Counts::of(alloc, b"a", 3)?;
+    let counter = encoded_slot(alloc, Shape::Counter, 0, Val::Counter(counts))?;
+    has_atoms(&rt, &counter, &[b"\xf8\x01", b"\xf1a", b"\0\x03"]);
+    let inner = Box::new(alloc, Shape::Taint)?;
+    let value = two_keys(alloc, Val::Taint(true), Val::Taint(false))?;
+    let map = encoded_slot(alloc, Shape::Map(ScalarKind::Bool, inner), 0, value)?;
+    has_atoms(&rt, &map, &[b"\xf8\x01", b"\xf1\0", b"\0", b"\xf1\x01"]);
     Ok(())
 }

@@ -23,7 +23,12 @@ use scalar_types::ScalarKind;
 
 /// Adds the atoms of a value of a shape. Headers begin at this level.
 #[cycle(put)]
-fn put_value(list: &mut GrowingList, level: u8, shape: &Shape, value: &Val) -> Result<(), Memory>
+pub(crate) fn put_value(
+    list: &mut GrowingList,
+    level: u8,
+    shape: &Shape,
+    value: &Val,
+) -> Result<(), Memory>
     requires shape { IsOfShape (shape_of shape.now) (plain value.now) }
     requires levels { level + levels_under (shape_of shape.now) ≤ MAX_LEVELS }
     requires fits { AreAtoms (atoms_of (shape_of shape.now) level (plain value.now)) }
@@ -130,6 +135,6 @@ fn put_field(list: &mut GrowingList, level: u8, field: &Slot, value: &Val) -> Re
     if value.is_bottom() {
         return Ok(());
     }
-    list.push_index(level, field.number)?;
+    list.push_index(level, u64::from(field.number))?;
     put_value(list, level + 1, &field.shape, value)
 }

@@ -37,12 +37,13 @@ put_field-returns t c =
     let v = plain c.args.value.now in
     let some : IsBottom v → ⊥ = λ b. (let clash = c.if-is_bottom.ensures.value.1 b in cc) in
     let said = said_atoms (field_of x) level v c.requires.shape some in
-    let header = atom_of (Indexed level x.number) in
-    let is : one_field_atoms (field_of x) level v ≡ header ∷ atoms_of (shape_of x.shape) (level + 1) v =
-    said ∙ ap (λ (f : Field). atom_of (Indexed level f.number) ∷ atoms_of f.shape (level + 1) v) (field_is x)
+    let header = atom_of (Indexed level c.from.result) in
+    let under = atoms_of (shape_of x.shape) (level + 1) v in
+    let is : one_field_atoms (field_of x) level v ≡ header ∷ under =
+    said ∙ ap (λ (f : Field). atom_of (Indexed level f.number) ∷ atoms_of f.shape (level + 1) v) (field_is x) ∙ ap (λ n. atom_of (Indexed level n) ∷ under) (sym c.from.ensures)
     in
     on_ok_weaker c.put_value.result
-    (λ e. e ∙ ap (λ l. l ++ atoms_of (shape_of x.shape) (level + 1) v) c.in_ok-push_index.ensures ∙ append_assoc c.args.list.now (header ∷ []) (atoms_of (shape_of x.shape) (level + 1) v) ∙ ap (λ l. c.args.list.now ++ l) (sym is))
+    (λ e. e ∙ ap (λ l. l ++ under) c.in_ok-push_index.ensures ∙ append_assoc c.args.list.now (header ∷ []) under ∙ ap (λ l. c.args.list.now ++ l) (sym is))
     c.put_value.ensures
 
 pub put_value-put_entries-requires : goal.put_value-put_entries-requires
