@@ -1,0 +1,6 @@
+pub mod Layouts
+pub mod Parts
+pub mod Rooms
+pub mod Said
+pub mod Named
+pub mod ThreeFields

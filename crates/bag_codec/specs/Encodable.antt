@@ -1,0 +1,55 @@
+-- What can be encoded, told by the parts of a value.
+use Rattle.std.specs.Prelude.{◌≡◌, ℕ, ◌<◌, List, length, None, Some}
+use Rattle.std.specs.List.{AllByRecursion}
+use Rattle.outside.specs.declared.TheConstants.{ATOM_MAX}
+use Rattle.context_model.specs.KeyedMerge.{EachPair}
+use Rattle.bag_model.specs.Scalars.{ScalarKind, ScalarValue, IsScalarOf, spelling}
+use Rattle.bag_model.specs.Shapes as shapes
+use Rattle.bag_model.specs.Shapes.{Shape, Nodes, no_node, node}
+use Rattle.bag_model.specs.Values.{Value, Values, Taint, Scalar, Set, Counter, Map, Bag, no_value, value, pairs}
+
+-- There is room in an atom for these bytes behind its first one.
+abbrev pub HasRoom : List ℕ → Type 0
+HasRoom bytes = length bytes < ATOM_MAX
+
+-- A scalar of the kind, with a spelling for which there is room in an atom.
+abbrev pub FitsAtom : ScalarKind → ScalarValue → Type 0
+FitsAtom kind v = IsScalarOf kind v × HasRoom (spelling kind v)
+
+-- The value has the variants and the scalars that the shape asks for, and there is room in an atom for each scalar and for
+-- each writer. Order, the counts' size and the kinds that sets name of themselves are left out.
+abbrev mutual
+  pub IsEncodable : Shape → Value → Type 0
+  IsEncodable shapes.Taint (Taint on) = Unit {0}
+  IsEncodable shapes.Taint other = ⊥
+  IsEncodable (shapes.Scalar kind) (Scalar None) = Unit {0}
+  IsEncodable (shapes.Scalar kind) (Scalar (Some v)) = FitsAtom kind v
+  IsEncodable (shapes.Scalar kind) other = ⊥
+  IsEncodable (shapes.Set kind) (Set own vs) = AllByRecursion (FitsAtom kind) vs
+  IsEncodable (shapes.Set kind) other = ⊥
+  IsEncodable shapes.Counter (Counter counts) = EachPair (λ writer n. HasRoom writer) counts
+  IsEncodable shapes.Counter other = ⊥
+  IsEncodable (shapes.Map kind shape) (Map es) = EachPair (λ key v. FitsAtom kind key × IsEncodable shape v) (pairs es)
+  IsEncodable (shapes.Map kind shape) other = ⊥
+  IsEncodable (shapes.Bag nodes) (Bag vs) = AreEncodable nodes vs
+  IsEncodable (shapes.Bag nodes) other = ⊥
+
+  -- The same of a bag's fields; there is a value for each.
+  pub AreEncodable : Nodes → Values → Type 0
+  AreEncodable no_node no_value = Unit {0}
+  AreEncodable no_node (value v vs) = ⊥
+  AreEncodable (node name number shape nodes) no_value = ⊥
+  AreEncodable (node name number shape nodes) (value v vs) = IsEncodable shape v × AreEncodable nodes vs
+
+-- Each set inside the value names the kind of its field.
+abbrev mutual
+  pub NamesKinds : Shape → Value → Type 0
+  NamesKinds (shapes.Set kind) (Set own vs) = own ≡ kind
+  NamesKinds (shapes.Map kind shape) (Map es) = EachPair (λ key v. NamesKinds shape v) (pairs es)
+  NamesKinds (shapes.Bag nodes) (Bag vs) = EachNamesKinds nodes vs
+  NamesKinds shape other = Unit {0}
+
+  -- The same of a bag's fields.
+  pub EachNamesKinds : Nodes → Values → Type 0
+  EachNamesKinds (node name number shape nodes) (value v vs) = NamesKinds shape v × EachNamesKinds nodes vs
+  EachNamesKinds nodes vs = Unit {0}
