@@ -1,0 +1,9 @@
+mod Separated
+mod Names
+mod Decimals
+mod FirstWords
+mod OneForm
+mod Paths
+mod Cutting
+mod Pushing
+mod Behind

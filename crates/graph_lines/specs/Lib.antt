@@ -1,0 +1,4 @@
+pub mod Statements
+pub mod Forms
+pub mod Taken
+pub mod Views

@@ -1,0 +1,15 @@
+//! The lines of a recorded graph: what the words of a line say, before any name is looked up.
+#![tactic(auto)]
+
+mod acts;
+mod laws;
+mod numbers;
+mod reading;
+mod statements;
+#[cfg(test)]
+mod tests;
+mod words;
+
+pub use laws::lines_have_one_form;
+pub use reading::read_statement;
+pub use statements::{NamedAct, NamedView, Statement};

@@ -1,0 +1,97 @@
+//! What a line says, from its words.
+
+ghost use Rattle.std.specs.Prelude.{ℕ, codes, IfOk, MatchOption};
+ghost use Rattle.std.specs.Option.{option_map};
+ghost use Rattle.graph_lines.specs.Statements as plain;
+ghost use Rattle.graph_lines.specs.Forms.{HasForm};
+ghost use Rattle.graph_lines.specs.Taken.{Answers, IsViewText, IsBehind, IsStatementText};
+ghost use Rattle.graph_lines.specs.Views.{view_of, statement_of};
+
+use crate::acts::read_act;
+use crate::numbers::{read_number, take_number};
+use crate::words::{cut_word, read_paths, take_name};
+use crate::{NamedView, Statement};
+use outside::Memory;
+use std::alloc::Global;
+
+/// The view of a service: `all`, `none` or `only PATH [PATH ..]`
+fn read_view(alloc: Global, text: &str) -> Result<Option<NamedView<'_>>, Memory>
+    ensures { IfOk result (λ read. Answers (IsViewText text.now) (option_map view_of read)) }
+{
+    let Some((word, rest)) = cut_word(text) else {
+        return Ok(match text {
+            "all" => Some(NamedView::All),
+            "none" => Some(NamedView::Nothing),
+            _ => None,
+        });
+    };
+    if word != "only" {
+        return Ok(None);
+    }
+    match read_paths(alloc, rest)? {
+        Some(paths) => Ok(Some(NamedView::Only(paths))),
+        None => Ok(None),
+    }
+}
+
+/// `service NAME` and a view
+fn read_service(alloc: Global, text: &str) -> Result<Option<Statement<'_>>, Memory>
+    ensures { IfOk result (λ read. Answers (IsBehind (codes "service") text.now) (option_map statement_of read)) }
+{
+    let Some((name, rest)) = take_name(text) else {
+        return Ok(None);
+    };
+    match read_view(alloc, rest)? {
+        Some(view) => Ok(Some(Statement::Service { name, view })),
+        None => Ok(None),
+    }
+}
+
+/// `show STEP`
+fn read_show(text: &str) -> Option<Statement<'_>>
+    ensures { Answers (IsBehind (codes "show") text.now) (option_map statement_of result) }
+{
+    let step = read_number(text)?;
+    Some(Statement::Show { step })
+}
+
+/// A step with an act of this name.
+fn read_step<'a>(alloc: Global, name: &str, text: &'a str) -> Result<Option<Statement<'a>>, Memory>
+    ensures { IfOk result (λ read. MatchOption read
+        ((number : ℕ) (act : plain.NamedAct) → IsBehind name.now text.now (plain.Step number act) → ⊥)
+        (λ statement. IsBehind name.now text.now (statement_of statement))) }
+{
+    let Some((number, rest)) = take_number(text) else {
+        return Ok(None);
+    };
+    match read_act(alloc, name, rest)? {
+        Some(act) => Ok(Some(Statement::Step { number, act })),
+        None => Ok(None),
+    }
+}
+
+/// What a line of characters says, or none where it has no form.
+fn read_words(alloc: Global, text: &str) -> Result<Option<Statement<'_>>, Memory>
+    ensures { IfOk result (λ read. Answers (IsStatementText text.now) (option_map statement_of read)) }
+{
+    let Some((first, rest)) = cut_word(text) else {
+        return Ok(None);
+    };
+    match first {
+        "service" => read_service(alloc, rest),
+        "show" => Ok(read_show(rest)),
+        _ => read_step(alloc, first, rest),
+    }
+}
+
+/// What a line of a recorded graph says, or none where it has no form.
+pub fn read_statement<'a>(alloc: Global, text: &'a [u8]) -> Result<Option<Statement<'a>>, Memory>
+    ensures { IfOk result (λ read. MatchOption read
+        ((statement : plain.Statement) → HasForm text.now statement → ⊥)
+        (λ statement. HasForm text.now (statement_of statement))) }
+{
+    match str::from_utf8(text) {
+        Ok(line) => read_words(alloc, line),
+        Err(_) => Ok(None),
+    }
+}
