@@ -1,0 +1,3 @@
+pub mod Plain
+pub mod GraphCode
+pub mod Growth
