@@ -1,0 +1,108 @@
+//! What each act gives.
+
+ghost use Rattle.std.specs.Prelude.{◌≡◌, ◌<◌, map, IfOk};
+ghost use Rattle.context_model.specs.Trimmed.{trimmed};
+ghost use Rattle.bag_model.specs.Normal.{IsNormalOf};
+ghost use Rattle.bag_value.specs.Plain.{plain};
+ghost use Rattle.field_table.specs.Views.{view_of};
+ghost use Rattle.recorded_graph.specs.Plain.{act_of};
+ghost use Rattle.trace_model.specs.Graphs.{parents_of, IsSoundAct, IsActOf, MayBeWritten};
+ghost use Rattle.trace_model.specs.Runs.{list_at, Gives, IsNormalMerge, IsNormalWrite};
+ghost use Rattle.step_rules.specs.Parents.{AreWithin, ArePlacesOf};
+
+use crate::parents::{copies, first};
+use atom_list::Context;
+use bag_encode::encode_slot;
+use bag_normal::normal;
+use bag_value::Val;
+use field_table::{Table, View};
+use lex_merge::{merge, merge_many};
+use outside::Memory;
+use overflow_trim::trim_context;
+use recorded_graph::Act;
+use std::alloc::Global;
+
+/// The normal form of a copy of a context.
+fn normal_copy(
+    alloc: Global,
+    table: &Table,
+    view: &View,
+    context: &Context,
+) -> Result<Context, Memory>
+    ensures { IfOk result (IsNormalOf table.now (view_of view.now) context.now) }
+{
+    let copied = context.copy()?;
+    normal(alloc, table, view, copied)
+}
+
+/// The normal form of a context with a value that is written to a slot.
+fn written(
+    alloc: Global,
+    table: &Table,
+    view: &View,
+    slot: usize,
+    value: &Val,
+    before: &Context,
+) -> Result<Context, Memory>
+    requires { MayBeWritten table.now (view_of view.now) slot (plain value.now) }
+    ensures { IfOk result (IsNormalWrite table.now (view_of view.now) slot (plain value.now) before.now) }
+{
+    let written = encode_slot(alloc, table, slot, value)?;
+    let merged = merge(alloc, before, &written)?;
+    normal(alloc, table, view, merged)
+}
+
+/// A copy of a context, cut to a budget of bytes.
+fn trimmed_copy(context: &Context, budget: u64) -> Result<Context, Memory>
+    requires { 0 < budget }
+    ensures { IfOk result (λ cut. cut ≡ trimmed context.now budget) }
+{
+    let mut cut = context.copy()?;
+    trim_context(&mut cut, budget);
+    Ok(cut)
+}
+
+/// The normal form of the merge of the lists at the places.
+fn joined(
+    alloc: Global,
+    table: &Table,
+    view: &View,
+    pool: &[Context],
+    places: &[usize],
+) -> Result<Context, Memory>
+    requires { AreWithin pool.now places.now }
+    ensures { IfOk result (IsNormalMerge table.now (view_of view.now) (map (list_at pool.now) places.now)) }
+{
+    let lists = copies(alloc, pool, places)?;
+    let merged = merge_many(alloc, lists)?;
+    normal(alloc, table, view, merged)
+}
+
+/// What an act gives at a service with this view, where its parents' lists stand at the places.
+pub(crate) fn give(
+    alloc: Global,
+    table: &Table,
+    view: &View,
+    act: &Act,
+    pool: &[Context],
+    places: &[usize],
+) -> Result<Context, Memory>
+    requires sound { IsSoundAct (act_of act.now) }
+    requires may { IsActOf table.now (view_of view.now) (act_of act.now) }
+    requires places { ArePlacesOf (parents_of (act_of act.now)) pool.now places.now }
+    ensures { IfOk result (Gives table.now (view_of view.now) (act_of act.now) (map (list_at pool.now) places.now)) }
+{
+    match act {
+        Act::Start => Ok(Context::empty(alloc)),
+        Act::Recv(received) => normal_copy(alloc, table, view, received),
+        Act::Set {
+            parent: _,
+            slot,
+            write,
+        } => written(alloc, table, view, *slot, write, first(pool, places)),
+        Act::Branch { parent: _ } => first(pool, places).copy(),
+        Act::Forward { parent: _ } => normal_copy(alloc, table, view, first(pool, places)),
+        Act::Trim { parent: _, budget } => trimmed_copy(first(pool, places), *budget),
+        Act::Join { parents: _ } => joined(alloc, table, view, pool, places),
+    }
+}
