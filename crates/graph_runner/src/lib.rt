@@ -1,0 +1,8 @@
+//! The run of a recorded graph: the lists of all its steps.
+#![tactic(auto)]
+
+mod runs;
+#[cfg(test)]
+mod tests;
+
+pub use runs::run_all;

@@ -1,0 +1,64 @@
+//! Runs of graphs.
+
+ghost use Rattle.std.specs.Prelude.{ℕ, ◌<◌, length, IfOk};
+ghost use Rattle.trace_model.specs.Graphs.{IsOfTable, IsTypedContext};
+ghost use Rattle.trace_model.specs.Runs.{list_at, IsRun};
+ghost use Rattle.trace_model.specs.Faithful.{IsFaithful};
+ghost use Rattle.graph_runner.specs.Alike.{AlikeStepsAgree};
+
+use atom_list::Context;
+use field_table::Table;
+use outside::Memory;
+use recorded_graph::Graph;
+use std::alloc::Global;
+use step_rules::run_step;
+use trace_model::laws::{graphs_have_one_run, runs_are_faithful, same_writes_read_alike};
+
+/// The lists of the steps, in their order.
+fn lists_of(alloc: Global, table: &Table, graph: &Graph) -> Result<Vec<Context>, Memory>
+    requires { IsOfTable table.now graph.now }
+    ensures { IfOk result (λ lists. IsRun table.now graph.now lists.items) }
+{
+    // The proof learns here that the graph is sound, that the fields make a table, and how a run grows.
+    graph.known();
+    let _ = table.nodes();
+    graphs_have_one_run();
+    let mut lists = Vec::new(alloc);
+    for number in 0..graph.steps() {
+        let own = graph.step(number);
+        let parents = own.act.parents();
+        let list = run_step(alloc, table, graph, number, lists.as_slice(), parents)?;
+        lists.push(list)?;
+    }
+    Ok(lists)
+}
+
+/// Tells what the lists of a run say of the truth. It does nothing.
+fn tell(table: &Table, graph: &Graph, lists: &[Context])
+    requires table { IsOfTable table.now graph.now }
+    requires run { IsRun table.now graph.now lists.now }
+    ensures faithful { (n : ℕ) → n < length graph.now.steps → IsFaithful table.now graph.now lists.now n }
+    ensures alike { AlikeStepsAgree table.now graph.now lists.now }
+{
+    graph.known();
+    let _ = table.nodes();
+    runs_are_faithful();
+    same_writes_read_alike();
+    let _ = lists;
+}
+
+/// The lists of all steps of a graph of a table, in the order of the steps.
+///
+/// Each list tells the truth of what was written and received on the way to its step, as far as it isn't cut off; and steps
+/// that the same writes and received lists reach say the same.
+pub fn run_all(alloc: Global, table: &Table, graph: &Graph) -> Result<Vec<Context>, Memory>
+    requires { IsOfTable table.now graph.now }
+    ensures run { IfOk result (λ lists. IsRun table.now graph.now lists.items) }
+    ensures faithful { IfOk result (λ lists. (n : ℕ) → n < length graph.now.steps → IsFaithful table.now graph.now lists.items n) }
+    ensures alike { IfOk result (λ lists. AlikeStepsAgree table.now graph.now lists.items) }
+    ensures typed { IfOk result (λ lists. (n : ℕ) → n < length lists.items → IsTypedContext table.now (list_at lists.items n)) }
+{
+    let lists = lists_of(alloc, table, graph)?;
+    tell(table, graph, lists.as_slice());
+    Ok(lists)
+}
