@@ -1,0 +1,58 @@
+-- Reports part by part.
+use Rattle.std.proofs.Common.{◌≡◌, inl, inr, zero, suc, ◌<◌, length, get_or, arith, ℕ, List, [], ◌∷◌, ◌++◌, refl, sym, ap, ◌∙◌, subst, append_assoc, codes}
+use Rattle.std.specs.Fmt.{decimal}
+use Rattle.std.proofs.lemmas.List.{append-nil}
+use Rattle.bag_model.specs.Shapes.{Nodes, no_node}
+use Rattle.context_model.specs.Atoms.{Atom}
+use Rattle.context_model.specs.Orders.{IsIn}
+use Rattle.context_model.specs.WellFormed.{IsWellFormed}
+use Rattle.trace_model.specs.Graphs.{Graph, IsGraph, IsTypedContext}
+use Rattle.trace_model.specs.Runs.{Lists, list_at}
+use Rattle.report_text.specs.Blocks.{IsBlock, HasOneBlock, AddsBlock}
+use Rattle.graph_report.specs.Reports.{step_text, IsReport, AddsStep}
+
+four_parts : (before word number end text : List ℕ) → (((before ++ word) ++ number) ++ end) ++ text ≡ before ++ ((word ++ number) ++ (end ++ text))
+four_parts before word number end text = simp append_assoc
+
+-- The word, the number, a line feed and the block make a step's part.
+pub step_added : (nodes : Nodes) (lists : Lists) (n : ℕ) (list : List Atom) (before mid after : List ℕ) → list ≡ list_at lists n → mid ≡ ((before ++ codes "step ") ++ decimal n) ++ 10 ∷ [] → AddsBlock nodes list mid after
+    → AddsStep nodes lists n before after
+step_added nodes lists n list before mid after same is (text, added, block) =
+    (text, subst (λ l. IsBlock nodes l text) same block, added ∙ ap (λ t. t ++ text) is ∙ four_parts before (codes "step ") (decimal n) (10 ∷ []) text)
+
+-- A report grows by a step at its end.
+pub one_more : (nodes : Nodes) (lists : Lists) (shows : List ℕ) (n : ℕ) (before after : List ℕ) → IsReport nodes lists shows before → AddsStep nodes lists n before after
+    → IsReport nodes lists (shows ++ n ∷ []) after
+one_more nodes lists [] n before after none (block, is, added) =
+    (block, [], is, refl, added ∙ ap (λ t. t ++ step_text n block) none ∙ sym (append-nil (step_text n block)))
+one_more nodes lists (m ∷ shows) n before after (block, rest, is, others, whole) (last, end, added) = (
+  block,
+  rest ++ step_text n last,
+  is,
+  one_more nodes lists shows n rest (rest ++ step_text n last) others (last, end, refl),
+  added ∙ ap (λ t. t ++ step_text n last) whole ∙ append_assoc (step_text m block) rest (step_text n last),
+)
+
+-- Where a list has one block, lists and steps have one report.
+pub one_report : HasOneBlock → (nodes : Nodes) (lists : Lists) (shows : List ℕ) (a b : List ℕ) → IsReport nodes lists shows a → IsReport nodes lists shows b → a ≡ b
+one_report blocks nodes lists [] a b e f = e ∙ sym f
+one_report blocks nodes lists (n ∷ shows) a b (block, rest, is, others, whole) (other, end, also, too, all) =
+    whole
+    ∙ ap (λ t. step_text n t ++ rest) (blocks nodes (list_at lists n) block other is also)
+    ∙ ap (λ t. step_text n other ++ t) (one_report blocks nodes lists shows rest end others too)
+    ∙ sym all
+
+-- What is shown are steps of the graph.
+pub shown_within : (graph : Graph) (items : List ℕ) (k : ℕ) → IsGraph graph → items ≡ graph.shows → k < length items → get_or items k 0 < length graph.steps
+shown_within graph items k sound same l =
+    sound.shows (get_or items k 0) (subst (λ (shows : List ℕ). IsIn (get_or items k 0) shows) same (in_at items k l))
+  where
+    in_at : (xs : List ℕ) (n : ℕ) → n < length xs → IsIn (get_or xs n 0) xs
+    in_at [] n less = absurd (omega (arith, less))
+    in_at (x ∷ xs) zero less = inl refl
+    in_at (x ∷ xs) (suc n) less = inr (in_at xs n (omega (arith, less)))
+
+-- Under a table without fields each list is typed.
+pub one_typed : (list : List Atom) → IsWellFormed list → (n : ℕ) → n < length (list ∷ []) → IsTypedContext no_node (list_at (list ∷ []) n)
+one_typed list w zero l = record { well_formed = w; typed = tt }
+one_typed list w (suc n) l = absurd (omega (arith, l))

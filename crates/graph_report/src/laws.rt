@@ -1,0 +1,12 @@
+//! Laws of reports, each the contract of a function that does nothing.
+
+ghost use Rattle.graph_report.specs.Reports.{HasOneReport};
+
+use report_text::laws::lists_have_one_block;
+
+/// Some lists and some steps have one report.
+pub fn lists_have_one_report()
+    ensures { HasOneReport }
+{
+    lists_have_one_block();
+}
