@@ -1,0 +1,13 @@
+mod NameLaws
+mod Members
+mod Ranges
+mod ViewPaths
+mod Meanings
+mod Definite
+mod Follows
+mod SlotFits
+mod Sound
+mod Grown
+mod KeepsTable
+mod Refusals
+mod TextSteps

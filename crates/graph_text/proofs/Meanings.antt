@@ -1,0 +1,126 @@
+-- What a line means under a table is one thing.
+use Rattle.std.proofs.Common.{◌≡◌, ◌⊎◌, inl, inr, ℕ, zero, suc, List, [], ◌∷◌, Option, Some, None, refl, sym, ◌∙◌, ap, subst}
+use Rattle.std.proofs.lemmas.Cmp.{nat_cmp_total}
+use Rattle.std.specs.List.{slice_get}
+use Rattle.std.specs.Option.{option_map}
+use Rattle.std.specs.Ordering.{nat_cmp}
+use Rattle.context_model.specs.Atoms.{Atom}
+use Rattle.context_model.specs.ContextFault.{IsContextOf}
+use Rattle.context_model.proofs.ContextFronts.{has_one_context}
+use Rattle.context_model.proofs.GreedyElements.{Rises-unique}
+use Rattle.bag_model.specs.Shapes.{Shape, Nodes, Taint, Scalar, Set, Counter, Map, Bag, no_node, node}
+use Rattle.bag_model.specs.Slots.{SlotAt, slots_of, slots_in}
+use Rattle.bag_model.specs.SlotValues.{HasSlot}
+use Rattle.bag_model.specs.Tables.{IsShape, AreFields, IsTable}
+use Rattle.bag_model.specs.Values.{Value}
+use Rattle.bag_model.specs.Views as views
+use Rattle.bag_model.specs.Views.{View}
+use Rattle.bag_model.proofs.NamePathLaws.{name_paths_differ}
+use Rattle.bag_model.proofs.SlotNumbers.{IsInFirst, IsLater, first_or_later}
+use Rattle.trace_model.specs.Graphs as graphs
+use Rattle.trace_model.specs.Graphs.{Act, Graph}
+use Rattle.write_text.specs.Writes.{IsWrite}
+use Rattle.graph_lines.specs.Statements as lines
+use Rattle.graph_lines.specs.Statements.{NamedView, NamedAct, Statement}
+use Rattle.graph_text.specs.Additions.{Addition, AddService, MeansView, SaysTyped, SaysWrite, MeansAct, StandsAt, Adds}
+
+-- A text is at most one write of a shape.
+abbrev pub HasOneWrite : Type 0
+HasOneWrite = (shape : Shape) (v w : Value) (text : List ℕ) → IsShape shape → IsWrite shape v text → IsWrite shape w text → v ≡ w
+
+-- ---- the shapes of slots
+
+alone_shape : (own : Shape) (place : ℕ) (at : SlotAt) → IsShape own → slice_get (record { names = []; numbers = []; shape = own } ∷ []) place ≡ Some at → IsShape at.shape
+alone_shape own zero at is e =
+    let same : record { names = []; numbers = []; shape = own } ≡ at = cc e in
+    subst (λ (s : SlotAt). IsShape s.shape) same is
+alone_shape own (suc place) at is e = absurd (cc e)
+
+node_shape : (name : List ℕ) (number : ℕ) (own : Shape) (nodes : Nodes) (place : ℕ) (at : SlotAt) → IsInFirst name number own place at ⊎ IsLater own nodes place at
+    → ((inner : SlotAt) → slice_get (slots_in own) place ≡ Some inner → IsShape inner.shape) → ((behind : ℕ) → HasSlot nodes behind at → IsShape at.shape) → IsShape at.shape
+node_shape name number own nodes place at (inl first) inside later = subst (λ (s : SlotAt). IsShape s.shape) first.is (inside first.inner first.at)
+node_shape name number own nodes place at (inr behind) inside later = later behind.behind behind.at
+
+mutual
+  -- The shape of a slot of a table is one.
+  pub slot_shape : (nodes : Nodes) (place : ℕ) (at : SlotAt) → AreFields nodes → HasSlot nodes place at → IsShape at.shape
+  slot_shape no_node place at are e = absurd (cc e)
+  slot_shape (node name number own nodes) place at are e =
+      node_shape name number own nodes place at (first_or_later name number own nodes place at e) (λ inner found. inner_shape own place inner are.2 found) (λ behind found. slot_shape nodes behind at are.4 found)
+
+  inner_shape : (own : Shape) (place : ℕ) (at : SlotAt) → IsShape own → slice_get (slots_in own) place ≡ Some at → IsShape at.shape
+  inner_shape (Bag nodes) place at is e = slot_shape nodes place at is e
+  inner_shape Taint place at is e = alone_shape Taint place at is e
+  inner_shape (Scalar kind) place at is e = alone_shape (Scalar kind) place at is e
+  inner_shape (Set kind) place at is e = alone_shape (Set kind) place at is e
+  inner_shape Counter place at is e = alone_shape Counter place at is e
+  inner_shape (Map key value) place at is e = alone_shape (Map key value) place at is e
+
+-- What is found as the shape of a slot is a shape.
+pub shape_is : (table : Nodes) → IsTable table → (slot : ℕ) (shape : Shape) → Some shape ≡ option_map (λ (at : SlotAt). at.shape) (slice_get (slots_of table) slot) → IsShape shape
+shape_is table is_table slot shape e = by (slice_get (slots_of table) slot) refl e
+  where
+    by : (found : Option SlotAt) → slice_get (slots_of table) slot ≡ found → Some shape ≡ option_map (λ (at : SlotAt). at.shape) found → IsShape shape
+    by None at is = absurd (cc is)
+    by (Some found) at is =
+        let same : found.shape ≡ shape = cc is in
+        subst IsShape same (slot_shape table slot found is_table.well_formed at)
+
+-- ---- names
+
+pub one_slot : {A : Type 0} (xs : List A) (i : ℕ) (a b : A) → slice_get xs i ≡ Some a → slice_get xs i ≡ Some b → a ≡ b
+one_slot xs i a b e f = let same : Some a ≡ Some b = sym e ∙ f in cc same
+
+one_view : (table : Nodes) (named : NamedView) (v w : View) → MeansView table named v → MeansView table named w → v ≡ w
+one_view table lines.All v w m n = m ∙ sym n
+one_view table lines.Nothing v w m n = m ∙ sym n
+one_view table (lines.Only paths) v w (xs, are, is) (ys, also, means) =
+    let same = Rises-unique nat_cmp nat_cmp_total xs ys are.rises also.rises (λ slot. ((λ i. (also.each slot).1 ((are.each slot).0 i)), λ i. (are.each slot).1 ((also.each slot).0 i))) in
+    is ∙ ap views.Only same ∙ sym means
+
+pub one_context : (table : Nodes) (hex : List ℕ) (a b : List Atom) → SaysTyped table hex a → SaysTyped table hex b → a ≡ b
+one_context table hex a b (bytes, says, is, typed) (others, say, also, too) =
+    let some : Some others ≡ Some bytes = sym say ∙ says in
+    let same : others ≡ bytes = cc some in
+    (has_one_context bytes).list a b is (subst (λ bs. IsContextOf b bs) same also)
+
+module _ (writes : HasOneWrite) (table : Nodes) (is_table : IsTable table) where
+  one_write : (path write : List ℕ) (i j : ℕ) (v w : Value) → SaysWrite table path write i v → SaysWrite table path write j w → (i ≡ j) × (v ≡ w)
+  one_write path write i j v w (at, (own, here, named), has, says) (other, (found, there, called), also, say) =
+      let place : i ≡ j = name_paths_differ table i j own found is_table here there (named ∙ sym called) in
+      let slots : other ≡ at = one_slot (slots_of table) j other at also (subst (λ k. HasSlot table k at) place has) in
+      let shape = slot_shape table i at is_table.well_formed has in
+      (place, writes at.shape v w write shape says (subst (λ (s : SlotAt). IsWrite s.shape w write) slots say))
+
+  one_act : (named : NamedAct) (a b : Act) → MeansAct table named a → MeansAct table named b → a ≡ b
+  one_act (lines.Start name) a b m n = m ∙ sym n
+  one_act (lines.Recv name hex) a b (list, says, is) (other, say, also) = is ∙ ap graphs.Recv (one_context table hex list other says say) ∙ sym also
+  one_act (lines.Set parent path write) a b (i, v, says, is) (j, w, say, also) =
+      let same = one_write path write i j v w says say in
+      let slots : i ≡ j = same.0 in
+      let values : v ≡ w = same.1 in
+      cc (is, also, slots, values)
+  one_act (lines.Branch parent) a b m n = m ∙ sym n
+  one_act (lines.Forward parent name) a b m n = m ∙ sym n
+  one_act (lines.Trim parent budget) a b m n = m ∙ sym n
+  one_act (lines.Join parents) a b m n = m ∙ sym n
+
+  one_place : (graph : Graph) (named : NamedAct) (m n : ℕ) → StandsAt graph named m → StandsAt graph named n → m ≡ n
+  one_place graph (lines.Start name) m n p q = cc (p, q)
+  one_place graph (lines.Recv name hex) m n p q = cc (p, q)
+  one_place graph (lines.Set parent path write) m n p q = cc (p, q)
+  one_place graph (lines.Branch parent) m n p q = cc (p, q)
+  one_place graph (lines.Forward parent name) m n p q = cc (p, q)
+  one_place graph (lines.Trim parent budget) m n p q = cc (p, q)
+  one_place graph (lines.Join []) m n p q = absurd p
+  one_place graph (lines.Join (parent ∷ parents)) m n p q = cc (p, q)
+
+  -- A line adds one thing.
+  pub one_addition : (graph : Graph) (line : Statement) (a b : Addition) → Adds table graph line a → Adds table graph line b → a ≡ b
+  one_addition graph (lines.Service name named) a b (v, means, is) (w, mean, also) =
+      is ∙ ap (λ view. AddService (record { name = name; view = view })) (one_view table named v w means mean) ∙ sym also
+  one_addition graph (lines.Step number named) a b (m, act, stands, means, is) (n, other, stand, mean, also) =
+      let places : m ≡ n = one_place graph named m n stands stand in
+      let acts : act ≡ other = one_act named act other means mean in
+      cc (is, also, places, acts)
+  one_addition graph (lines.Show n) a b is also = is ∙ sym also

@@ -1,0 +1,205 @@
+-- What a good line adds to a graph.
+use Rattle.std.specs.Prelude.{◌≡◌, ◌⊎◌, ◌↔◌, ℕ, List, [], ◌∷◌, length, take, None, Some}
+use Rattle.std.specs.Ordering.{nat_cmp}
+use Rattle.context_model.specs.Atoms.{Atom}
+use Rattle.context_model.specs.ContextFault.{IsContextOf, IsFirstContextFault}
+use Rattle.context_model.specs.Framing.{size_of}
+use Rattle.context_model.specs.Orders.{IsIn, Rises}
+use Rattle.bag_model.specs.Readings.{PathsOf}
+use Rattle.bag_model.specs.Shapes.{Nodes}
+use Rattle.bag_model.specs.Slots.{SlotAt, FindsSlot, FindsRange, IsInRange}
+use Rattle.bag_model.specs.SlotValues.{HasSlot}
+use Rattle.bag_model.specs.Typed.{AreTyped, IsFirstIllTyped}
+use Rattle.bag_model.specs.Values.{Value}
+use Rattle.bag_model.specs.Views as views
+use Rattle.bag_model.specs.Views.{View, Knows}
+use Rattle.text_lines.specs.declared.hex_lines.HexCode.{HexCode}
+use Rattle.text_lines.specs.declared.hex_lines.HexCode.TheVariants as digits
+use Rattle.text_lines.specs.HexLines.{hex_bytes, hex_codes, BreaksHex, IsHexFault}
+use Rattle.text_lines.specs.Readings.{IsFirstOf, NoneOf}
+use Rattle.trace_model.specs.Graphs as graphs
+use Rattle.trace_model.specs.Graphs.{Act, Graph, view_at}
+use Rattle.wire_bytes.specs.declared.contexts.ByteCode.{ByteCode}
+use Rattle.wire_bytes.specs.Codes.{byte_code_of}
+use Rattle.write_text.specs.Writes.{IsWrite}
+use Rattle.recorded_graph.specs.Growth.{empty_graph, with_service, with_step, with_show}
+use Rattle.graph_lines.specs.Statements.{NamedView, NamedAct, Statement, All, Nothing, Only, Start, Recv, Set, Branch, Forward, Trim, Join, Service, Step, Show}
+use Rattle.graph_text.specs.declared.faults.GraphCode.{GraphCode}
+use Rattle.graph_text.specs.declared.faults.GraphCode.TheVariants.{NoSuchPath, NotKnown, BadValue, HexTooLong, BadHex}
+use Rattle.graph_text.specs.declared.faults.LineFault.{LineFault}
+use Rattle.graph_text.specs.declared.faults.LineFault.TheVariants.{Code, Bytes, IllTyped}
+use Rattle.graph_text.specs.declared.faults.Refusal.{Refusal}
+use Rattle.graph_text.specs.declared.faults.Refusal.TheVariants.{Fault, Memory}
+use Rattle.graph_text.specs.Names.{service_named, service_at}
+use Rattle.graph_text.specs.Rules.{MissesPath, Breaks, rules}
+
+-- A service, a step, or a step that is shown.
+pub data Addition : Type 0 where
+  AddService : graphs.Service → Addition
+  AddStep : graphs.Step → Addition
+  AddShow : ℕ → Addition
+
+-- The graph with one addition more.
+abbrev pub with_addition : Graph → Addition → Graph
+with_addition graph (AddService service) = with_service graph service
+with_addition graph (AddStep step) = with_step graph step
+with_addition graph (AddShow n) = with_show graph n
+
+-- The graph with these additions, one behind the other.
+abbrev pub grown : Graph → List Addition → Graph
+grown graph [] = graph
+grown graph (addition ∷ more) = grown (with_addition graph addition) more
+
+-- The graph of these additions.
+abbrev pub graph_of : List Addition → Graph
+graph_of every = grown empty_graph every
+
+-- ---- what names stand for
+
+-- The slots of all fields with these paths, each once, in rising order.
+pub record AreSlotsOf (table : Nodes) (paths : List (List ℕ)) (slots : List ℕ) : Type 0 where
+  pub rises : Rises nat_cmp slots
+  pub each : (slot : ℕ)
+      → IsIn slot slots ↔ ((path : List ℕ) × (range : ℕ × ℕ)
+      × IsIn path paths × FindsRange table path (Some range) × IsInRange (Some range) slot)
+
+-- Some of these ranges has the slot.
+abbrev pub InSome : List (ℕ × ℕ) → ℕ → Type 0
+InSome ranges slot = (range : ℕ × ℕ) × IsIn range ranges × IsInRange (Some range) slot
+
+-- The ranges are those of the fields with these paths, one for each.
+abbrev pub AreRangesOf : Nodes → List (List ℕ) → List (ℕ × ℕ) → Type 0
+AreRangesOf table [] [] = Unit {0}
+AreRangesOf table [] (range ∷ ranges) = ⊥
+AreRangesOf table (path ∷ paths) [] = ⊥
+AreRangesOf table (path ∷ paths) (range ∷ ranges) = FindsRange table path (Some range) × AreRangesOf table paths ranges
+
+-- A view that names paths knows the slots of their fields.
+abbrev pub MeansView : Nodes → NamedView → View → Type 0
+MeansView table All view = view ≡ views.All
+MeansView table Nothing view = view ≡ views.Nothing
+MeansView table (Only paths) view = (slots : List ℕ) × AreSlotsOf table paths slots × (view ≡ views.Only slots)
+
+-- The digits are those of a context that is typed under the table.
+abbrev pub SaysTyped : Nodes → List ℕ → List Atom → Type 0
+SaysTyped table hex list =
+    (bytes : List ℕ) × (hex_bytes hex ≡ Some bytes) × IsContextOf list bytes × AreTyped table (PathsOf list) []
+
+-- The path is that of this slot, which the service of this step knows.
+abbrev pub FindsKnown : Nodes → Graph → ℕ → List ℕ → ℕ → Type 0
+FindsKnown table graph step path slot =
+    (service : ℕ) × FindsSlot table path (Some slot) × (service_at graph step ≡ Some service)
+    × Knows (view_at graph service) slot
+
+-- The text is a write of this value to this slot.
+abbrev pub IsWriteAt : Nodes → ℕ → Value → List ℕ → Type 0
+IsWriteAt table slot v write = (at : SlotAt) × HasSlot table slot at × IsWrite at.shape v write
+
+-- The text is a write of this value to the slot that has this path and this number.
+abbrev pub SaysWrite : Nodes → List ℕ → List ℕ → ℕ → Value → Type 0
+SaysWrite table path write slot v =
+    (at : SlotAt) × FindsSlot table path (Some slot) × HasSlot table slot at × IsWrite at.shape v write
+
+-- An act with its names is this act.
+abbrev pub MeansAct : Nodes → NamedAct → Act → Type 0
+MeansAct table (Start name) act = act ≡ graphs.Start
+MeansAct table (Recv name hex) act = (list : List Atom) × SaysTyped table hex list × (act ≡ graphs.Recv list)
+MeansAct table (Set parent path write) act =
+    (slot : ℕ) × (v : Value) × SaysWrite table path write slot v × (act ≡ graphs.Set parent slot v)
+MeansAct table (Branch parent) act = act ≡ graphs.Branch parent
+MeansAct table (Forward parent name) act = act ≡ graphs.Forward parent
+MeansAct table (Trim parent budget) act = act ≡ graphs.Trim parent budget
+MeansAct table (Join parents) act = act ≡ graphs.Join parents
+
+-- The act stands at the service with this number: the one that it goes to, or else that of its first parent.
+abbrev pub StandsAt : Graph → NamedAct → ℕ → Type 0
+StandsAt graph (Start name) service = service_named graph name ≡ Some service
+StandsAt graph (Recv name hex) service = service_named graph name ≡ Some service
+StandsAt graph (Set parent path write) service = service_at graph parent ≡ Some service
+StandsAt graph (Branch parent) service = service_at graph parent ≡ Some service
+StandsAt graph (Forward parent name) service = service_named graph name ≡ Some service
+StandsAt graph (Trim parent budget) service = service_at graph parent ≡ Some service
+StandsAt graph (Join []) service = ⊥
+StandsAt graph (Join (parent ∷ parents)) service = service_at graph parent ≡ Some service
+
+-- What a line adds, behind lines that said this graph.
+abbrev pub Adds : Nodes → Graph → Statement → Addition → Type 0
+Adds table graph (Service name named) addition =
+    (view : View) × MeansView table named view × (addition ≡ AddService (record { name = name; view = view }))
+Adds table graph (Step number named) addition =
+    (service : ℕ) × (act : Act) × StandsAt graph named service × MeansAct table named act
+    × (addition ≡ AddStep (record { service = service; act = act }))
+Adds table graph (Show n) addition = addition ≡ AddShow n
+
+-- ---- good and bad lines
+
+-- The line breaks no rule and adds this.
+abbrev pub IsGood : Nodes → Graph → Statement → Addition → Type 0
+IsGood table graph line addition = NoneOf (Breaks table graph line) rules × Adds table graph line addition
+
+-- An act is good as the next step, and this is the step.
+abbrev pub IsNext : Nodes → Graph → NamedAct → graphs.Step → Type 0
+IsNext table graph named step = IsGood table graph (Step (length graph.steps) named) (AddStep step)
+
+-- The graph grows to this one by what a good line adds.
+abbrev pub GrowsTo : Nodes → Graph → Statement → Graph → Type 0
+GrowsTo table graph line next =
+    (addition : Addition) × IsGood table graph line addition × (next ≡ with_addition graph addition)
+
+-- The digits are those of no context, or of one that isn't typed under the table: this is what is first wrong with them.
+abbrev pub HasBadBytes : Nodes → List ℕ → LineFault → Type 0
+HasBadBytes table hex fault =
+    (bytes : List ℕ) × (hex_bytes hex ≡ Some bytes)
+    × (((offset : ℕ) × (code : ByteCode) × IsFirstContextFault bytes offset (byte_code_of code) × (fault ≡ Bytes offset code))
+    ⊎ ((list : List Atom) × (place : ℕ) × IsContextOf list bytes × IsFirstIllTyped table list place
+    × (fault ≡ IllTyped (size_of (take place list)))))
+
+-- A fault of digits as that of a line.
+abbrev pub hex_rule : HexCode → GraphCode
+hex_rule digits.HexTooLong = HexTooLong
+hex_rule digits.BadHex = BadHex
+
+-- The digits are refused: they are none, or those of no typed context, or memory is wanting for them.
+abbrev pub IsRefusedHex : Nodes → List ℕ → Refusal → Type 0
+IsRefusedHex table hex (Fault fault) =
+    ((code : HexCode) × IsHexFault hex code × (fault ≡ Code (hex_rule code)))
+    ⊎ (NoneOf (BreaksHex hex) hex_codes × HasBadBytes table hex fault)
+IsRefusedHex table hex Memory = Unit {0}
+
+-- A path is refused for a write at a step: it is no slot's, or that of a slot that the service of the step doesn't know.
+abbrev pub IsRefusedPath : Nodes → Graph → ℕ → List ℕ → GraphCode → Type 0
+IsRefusedPath table graph step path code =
+    ((code ≡ NoSuchPath) × FindsSlot table path None)
+    ⊎ ((code ≡ NotKnown) × ((slot service : ℕ) × FindsSlot table path (Some slot) × (service_at graph step ≡ Some service)
+    × ¬ (Knows (view_at graph service) slot)))
+
+-- A text is refused as a write to a slot: it is no write of its shape, or memory is wanting for it.
+abbrev pub IsRefusedWrite : Nodes → ℕ → List ℕ → Refusal → Type 0
+IsRefusedWrite table slot write (Fault fault) =
+    ((at : SlotAt) × HasSlot table slot at × ((v : Value) → ¬ (IsWrite at.shape v write))) × (fault ≡ Code BadValue)
+IsRefusedWrite table slot write Memory = Unit {0}
+
+-- A view is refused: a path of it finds no field, or memory is wanting for it.
+abbrev pub IsRefusedView : Nodes → NamedView → Refusal → Type 0
+IsRefusedView table named (Fault fault) = MissesPath table named × (fault ≡ Code NoSuchPath)
+IsRefusedView table named Memory = Unit {0}
+
+-- What is first wrong with the context that a line receives.
+abbrev pub ReceivesBad : Nodes → Statement → LineFault → Type 0
+ReceivesBad table (Step number (Recv name hex)) fault = HasBadBytes table hex fault
+ReceivesBad table other fault = ⊥
+
+-- The line breaks this rule first, or it breaks none and this is wrong with the context that it receives.
+abbrev pub IsBad : Nodes → Graph → Statement → LineFault → Type 0
+IsBad table graph line fault =
+    ((code : GraphCode) × IsFirstOf (Breaks table graph line) rules code × (fault ≡ Code code))
+    ⊎ (NoneOf (Breaks table graph line) rules × ReceivesBad table line fault)
+
+-- The line is refused: it is bad, or memory is wanting for it.
+abbrev pub IsRefused : Nodes → Graph → Statement → Refusal → Type 0
+IsRefused table graph line (Fault fault) = IsBad table graph line fault
+IsRefused table graph line Memory = Unit {0}
+
+-- An act is refused as the next step.
+abbrev pub IsRefusedNext : Nodes → Graph → NamedAct → Refusal → Type 0
+IsRefusedNext table graph named refusal = IsRefused table graph (Step (length graph.steps) named) refusal

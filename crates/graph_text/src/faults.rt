@@ -1,0 +1,161 @@
+//! Why a text says no graph.
+
+ghost use Rattle.std.specs.Prelude.{◌≡◌};
+ghost use Rattle.graph_text.specs.GraphLines.{fault_at};
+
+use outside::Memory;
+use std::alloc::AllocFailed;
+use std::fmt;
+use wire_bytes::ByteCode;
+
+/// The rule that a line breaks. At one line the first of these counts.
+#[derive(Clone, Copy, Debug, PartialEq, Eq)]
+pub enum GraphCode {
+    /// The line isn't UTF-8, or has none of the forms.
+    Form,
+    /// The number of a step isn't that of the steps before it.
+    StepNumber,
+    /// A parent, or a step to be shown, is no step before the line.
+    NoSuchStep,
+    /// A step goes to a service that isn't declared before it.
+    NoSuchService,
+    /// A service is declared that was declared before.
+    DuplicateService,
+    /// The parents of a join don't all stand at one service.
+    WrongService,
+    /// A write's path is no slot's, or a view's path no field's that is reached through bags.
+    NoSuchPath,
+    /// A write is to a slot that the service doesn't know.
+    NotKnown,
+    /// A write's text is no write of the slot's shape.
+    BadValue,
+    /// A budget is 0, or above [`crate::BUDGET_MAX`].
+    BudgetRange,
+    /// A step stands behind as many as [`recorded_graph::STEPS_MAX`].
+    TooManySteps,
+    /// A join has more parents than [`crate::PARENTS_MAX`].
+    TooManyParents,
+    /// What is received has more digits than [`text_lines::DIGITS_MAX`].
+    HexTooLong,
+    /// What is received is neither a dash nor pairs of hexadecimal digits.
+    BadHex,
+}
+
+/// What is wrong with a line.
+#[derive(Clone, Copy, Debug, PartialEq, Eq)]
+pub enum LineFault {
+    /// It breaks this rule.
+    Code(GraphCode),
+    /// The bytes that it receives are those of no context.
+    Bytes { offset: usize, code: ByteCode },
+    /// The atom behind so many bytes of what it receives is no spelling of a value of the type that the table gives it.
+    IllTyped { offset: u128 },
+}
+
+/// Why a text says no graph: its first bad line, by its number from 1, and what is wrong with that.
+#[derive(Clone, Copy, Debug, PartialEq, Eq)]
+pub enum GraphFault {
+    /// The line breaks this rule.
+    At {
+        line: u64,
+        code: GraphCode,
+    },
+    /// The bytes that the line receives are those of no context.
+    Bytes {
+        line: u64,
+        offset: usize,
+        code: ByteCode,
+    },
+    /// The atom behind so many bytes of what the line receives is ill typed.
+    IllTyped {
+        line: u64,
+        offset: u128,
+    },
+    /// There is no memory for the graph.
+    Memory,
+}
+
+/// Why a line adds nothing to a graph.
+#[derive(Clone, Copy, Debug)]
+pub(crate) enum Refusal {
+    /// The line is bad.
+    Fault(LineFault),
+    /// There is no memory for what it says.
+    Memory,
+}
+
+impl Refusal {
+    /// The refusal of a text whose line with this number is refused.
+    pub(crate) fn at(self, line: u64) -> GraphFault
+        ensures { result ≡ fault_at line self }
+    {
+        match self {
+            Refusal::Fault(LineFault::Code(code)) => GraphFault::At { line, code },
+            Refusal::Fault(LineFault::Bytes { offset, code }) => {
+                GraphFault::Bytes { line, offset, code }
+            }
+            Refusal::Fault(LineFault::IllTyped { offset }) => GraphFault::IllTyped { line, offset },
+            Refusal::Memory => GraphFault::Memory,
+        }
+    }
+}
+
+impl From<GraphCode> for Refusal {
+    ghost use Rattle.std.specs.Prelude.{◌≡◌};
+    ghost use Rattle.graph_text.specs.declared.faults.LineFault.TheVariants.{Code};
+    ghost use Rattle.graph_text.specs.declared.faults.Refusal.TheVariants.{Fault};
+
+    ghost from_gives = { λ code refusal. refusal ≡ Fault (Code code) };
+
+    fn from(code: GraphCode) -> Refusal {
+        Refusal::Fault(LineFault::Code(code))
+    }
+}
+
+impl From<Memory> for Refusal {
+    ghost use Rattle.std.specs.Prelude.{◌≡◌};
+    ghost use Rattle.graph_text.specs.declared.faults.Refusal.TheVariants as refusals;
+
+    ghost from_gives = { λ _ refusal. refusal ≡ refusals.Memory };
+
+    fn from(_want: Memory) -> Refusal {
+        Refusal::Memory
+    }
+}
+
+impl<T: Drop> From<AllocFailed<T>> for Refusal {
+    ghost use Rattle.std.specs.Prelude.{◌≡◌};
+    ghost use Rattle.graph_text.specs.declared.faults.Refusal.TheVariants as refusals;
+
+    ghost from_gives = { λ _ refusal. refusal ≡ refusals.Memory };
+
+    fn from(_want: AllocFailed<T>) -> Refusal {
+        Refusal::Memory
+    }
+}
+
+impl fmt::Display for GraphCode {
+    ghost use Rattle.std.specs.Prelude.{Some};
+    ghost use Rattle.graph_text.specs.CodeNames.{graph_code_name};
+
+    ghost output = { λ code. Some (graph_code_name code) };
+
+    fn fmt<W: fmt::Write>(&self, f: &mut fmt::Formatter<W>) -> fmt::Result {
+        match self {
+            GraphCode::Form => write!(f, "Form"),
+            GraphCode::StepNumber => write!(f, "StepNumber"),
+            GraphCode::NoSuchStep => write!(f, "NoSuchStep"),
+            GraphCode::NoSuchService => write!(f, "NoSuchService"),
+            GraphCode::DuplicateService => write!(f, "DuplicateService"),
+            GraphCode::WrongService => write!(f, "WrongService"),
+            GraphCode::NoSuchPath => write!(f, "NoSuchPath"),
+            GraphCode::NotKnown => write!(f, "NotKnown"),
+            GraphCode::BadValue => write!(f, "BadValue"),
+            GraphCode::BudgetRange => write!(f, "BudgetRange"),
+            GraphCode::TooManySteps => write!(f, "TooManySteps"),
+            GraphCode::TooManyParents => write!(f, "TooManyParents"),
+            GraphCode::HexTooLong => write!(f, "HexTooLong"),
+            GraphCode::BadHex => write!(f, "BadHex"),
+        }
+    }
+}

@@ -1,0 +1,22 @@
+//! The text of a recorded graph, read line by line under the table of a bag: the graph that it says, or its first fault.
+#![tactic(auto)]
+
+mod faults;
+pub mod laws;
+mod names;
+mod reader;
+mod reading;
+mod received;
+mod steps;
+#[cfg(test)]
+mod tests;
+mod views;
+
+pub use faults::{GraphCode, GraphFault, LineFault};
+pub use reading::read_graph;
+
+/// The greatest budget of a trim, in bytes.
+pub const BUDGET_MAX: u64 = 4_294_967_295;
+
+/// The most parents of a join.
+pub const PARENTS_MAX: usize = 4_096;
