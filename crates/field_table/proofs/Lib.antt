@@ -5,7 +5,7 @@ pub mod Held
 pub mod Dots
 pub mod Found
 pub mod PathFinding
-pub mod Sets
+pub mod SlotRanges
 pub mod Places
 pub mod Pushed
 pub mod Shown

@@ -1,5 +1,5 @@
 -- The indexes with a field more at the end, and the places put in order.
-use Rattle.std.proofs.Common.{◌≡◌, ◌⊎◌, inl, inr, ℕ, ◌+◌, ◌<◌, ◌≤◌, List, [], ◌∷◌, ◌++◌, Bool, true, false, length, get_or, refl, ◌∙◌, ap, subst, arith}
+use Rattle.std.proofs.Common.{◌≡◌, ◌⊎◌, inl, inr, ℕ, ◌+◌, ◌<◌, ◌≤◌, zero, suc, List, [], ◌∷◌, ◌++◌, Bool, true, false, length, get_or, refl, ◌∙◌, ap, subst, arith}
 use Rattle.std.specs.Prelude.{◌≢◌}
 use Rattle.std.specs.Cmp.{IsStrictWeakOrder}
 use Rattle.std.specs.Cmp.Lexicographic.{slice_cmp}
@@ -17,7 +17,6 @@ use Rattle.bag_model.specs.Slots.{slot_count}
 use Rattle.bag_model.proofs.SlotLaws.{slots_list, length-slots}
 use Rattle.field_table.specs.Kept.{capped, ends_after, HasPlaces, IsNameOrder}
 use Rattle.field_table.proofs.Ranks.{ranked, stands}
-use Rattle.field_table.proofs.Sets.{there}
 
 -- The ends with one field more.
 pub ends_push : (b : ℕ) (fs : List model.Field) (f : model.Field) → ends_after b (fs ++ f ∷ []) ≡ ends_after b fs ++ capped (b + length (slots_list fs) + slot_count f.shape) ∷ []
@@ -26,6 +25,11 @@ ends_push b (g ∷ gs) f =
     ap (λ l. capped (b + slot_count g.shape) ∷ l) (
     ends_push (b + slot_count g.shape) gs f ∙ ap (λ n. ends_after (b + slot_count g.shape) gs ++ capped n ∷ []) (omega (arith, length-slots g gs))
     )
+
+there : (xs : List ℕ) (i d : ℕ) → i < length xs → IsIn (get_or xs i d) xs
+there [] i d h = absurd (omega (arith, h))
+there (x ∷ xs) zero d h = inl refl
+there (x ∷ xs) (suc i) d h = inr (there xs i d (omega (arith, h)))
 
 -- The places with one more.
 pub places_push : (names : List (List ℕ)) (places : List ℕ) (name : List ℕ) → HasPlaces names places → HasPlaces (names ++ name ∷ []) (places ++ length names ∷ [])

@@ -1,4 +1,5 @@
 pub mod Paths
 pub mod Kept
 pub mod Plain
+pub mod Ranges
 pub mod Views

@@ -120,15 +120,15 @@ fn views_know_their_slots(rt: HostRuntime) -> Result<(), Fail> {
     assert!(rt; View::All.knows(7));
     assert!(rt; !View::Nothing.knows(0));
     let mut slots = SlotSet::new(alloc);
+    slots.push_range(3, 3)?;
     assert!(rt; slots.is_empty());
-    slots.push(1)?;
-    slots.push(3)?;
-    slots.push(8)?;
-    assert!(rt; slots.len() == 3);
-    assert!(rt; slots.get(1) == Some(3) && slots.get(3).is_none());
+    slots.push_range(1, 2)?;
+    slots.push_range(2, 5)?;
+    slots.push_range(8, 9)?;
+    assert!(rt; !slots.is_empty());
     let view = View::Only(slots);
-    for slot in 0..10 {
-        assert!(rt; view.knows(slot) == (slot == 1 || slot == 3 || slot == 8));
+    for (slot, known) in "0111100010".chars().enumerate() {
+        assert!(rt; view.knows(slot) == (known == '1'));
     }
     Ok(())
 }

@@ -1,9 +1,9 @@
 //! The slots that a service knows.
 
-ghost use Rattle.std.specs.Prelude.{◌≡◌, ◌<◌, ◌↔◌, [], ◌∷◌, ◌++◌, length, IsTrue, OnOk, OnErr, All};
-ghost use Rattle.std.specs.List.{slice_get};
+ghost use Rattle.std.specs.Prelude.{◌≡◌, ◌<◌, ◌↔◌, [], ◌++◌, IsTrue, OnOk, OnErr, All};
 ghost use Rattle.context_model.specs.Orders.{IsIn};
 ghost use Rattle.bag_model.specs.Views.{Knows};
+ghost use Rattle.field_table.specs.Ranges.{slots_between};
 ghost use Rattle.field_table.specs.Views.{view_of};
 
 use outside::Memory;
@@ -18,22 +18,22 @@ pub enum View {
     Only(SlotSet),
 }
 
-/// Slot numbers, each greater than the one before.
+/// Slot numbers, each greater than the one before. They are kept as ranges, so that many slots in a row take as little room as one.
 #[derive(Drop)]
 pub struct SlotSet {
-    slots: Vec<usize>,
+    /// Each as its first slot and the number behind its last.
+    ranges: Vec<(usize, usize)>,
 }
 
 impl Model for SlotSet {
     ghost use Rattle.std.specs.Prelude.{ℕ, List};
-    ghost use Rattle.context_model.specs.Orders.{Rises};
-    ghost use Rattle.std.specs.Ordering.{nat_cmp};
+    ghost use Rattle.field_table.specs.Ranges.{slots_in, AreSlotRanges};
 
     ghost Value = { List ℕ };
 
-    ghost view = { λ set. set.slots.items };
+    ghost view = { λ set. slots_in set.ranges.items };
 
-    ghost invariant = { λ set. Rises nat_cmp set.slots.items };
+    ghost invariant = { λ set. AreSlotRanges set.ranges.items };
 }
 
 impl SlotSet {
@@ -42,38 +42,26 @@ impl SlotSet {
         ensures { result ≡ [] }
     {
         SlotSet {
-            slots: Vec::new(alloc),
+            ranges: Vec::new(alloc),
         }
-    }
-
-    /// How many slots there are.
-    pub fn len(&self) -> usize
-        ensures { result ≡ length self.now }
-    {
-        self.slots.len()
     }
 
     /// Whether there is none.
     pub fn is_empty(&self) -> bool
         ensures { IsTrue result ↔ (self.now ≡ []) }
     {
-        self.slots.is_empty()
+        self.ranges.is_empty()
     }
 
-    /// The slot at this place, from 0 on.
-    pub fn get(&self, at: usize) -> Option<usize>
-        ensures { result ≡ slice_get self.now at }
-    {
-        self.slots.get(at).copied()
-    }
-
-    /// Adds a slot at the end. Want of memory leaves the set as it was.
-    pub fn push(&mut self, slot: usize) -> Result<(), Memory>
-        requires greater { All (λ held. held < slot) self.old }
-        ensures ok { OnOk result (self.new ≡ self.old ++ slot ∷ []) }
+    /// Adds the slots from `first` on, up to but not `end`, at the end. Want of memory leaves the set as it was.
+    pub fn push_range(&mut self, first: usize, end: usize) -> Result<(), Memory>
+        requires greater { All (λ held. held < first) self.old }
+        ensures ok { OnOk result (self.new ≡ self.old ++ slots_between first end) }
         ensures err { OnErr result (self.new ≡ self.old) }
     {
-        self.slots.push(slot)?;
+        if first < end {
+            self.ranges.push((first, end))?;
+        }
         Ok(())
     }
 
@@ -81,8 +69,8 @@ impl SlotSet {
     fn contains(&self, slot: usize) -> bool
         ensures { IsTrue result ↔ IsIn slot self.now }
     {
-        let place = self.slots.partition_point(|held| *held < slot);
-        place < self.slots.len() && self.slots[place] == slot
+        let place = self.ranges.partition_point(|range| range.1 <= slot);
+        place < self.ranges.len() && self.ranges[place].0 <= slot
     }
 }
 
