@@ -1,13 +1,16 @@
 -- The slots in some ranges.
-use Rattle.std.proofs.Common.{◌≡◌, ◌⊎◌, ◌↔◌, inl, inr, ℕ, ◌+◌, ◌<◌, ◌≤◌, max, List, [], ◌∷◌, ◌++◌, length, get_or, take, All, Some, refl, sym, ◌∙◌, ap, subst, arith}
+use Rattle.std.proofs.Common.{◌≡◌, ◌⊎◌, ◌↔◌, inl, inr, ℕ, ◌+◌, ◌<◌, ◌≤◌, max, List, [], ◌∷◌, ◌++◌, length, get_or, take, Some, refl, sym, ◌∙◌, ap, subst, arith}
 use Rattle.std.proofs.lemmas.List.{get_or-take, length-take, get_or_default, take_more, take_all}
 use Rattle.std.proofs.lemmas.Bool.{cases_lt}
 use Rattle.std.proofs.lemmas.List.Sorted.{IsPermutation-sym}
 use Rattle.std.specs.List.Sorted.{IsNonDecreasingBy, IsPermutation}
 use Rattle.context_model.specs.Orders.{IsIn}
 use Rattle.bag_model.specs.Slots.{IsInRange}
+use Rattle.bag_model.proofs.Finite.{in_append_first, in_append_second, in_append}
+use Rattle.field_table.specs.Ranges.{slots_between}
+use Rattle.field_table.proofs.SlotRanges.{in_between}
 use Rattle.graph_text.specs.Additions.{InSome}
-use Rattle.graph_text.proofs.Members.{in_push, in_permutation, contains_from_in, all_from_each}
+use Rattle.graph_text.proofs.Members.{in_push, in_permutation, contains_from_in}
 
 -- The slots are those of the ranges; all are below the greatest end, and none is missing between the greatest start and that.
 pub record Covers (ranges : List (ℕ × ℕ)) (slots : List ℕ) (next : ℕ) : Type 0 where
@@ -75,6 +78,17 @@ starts_before ranges i d sorted h range among =
     let rises : (get_or ranges k range).0 ≤ (get_or ranges i range).0 = sorted k i range (omega arith) h in
     omega (arith, rises, ap (λ (r : ℕ × ℕ). r.0) here, ap (λ (r : ℕ × ℕ). r.0) (get_or_default ranges i range d h))
 
+-- The slots of a range more.
+pub pushed_range : (slots more : List ℕ) (low end : ℕ) → more ≡ slots ++ slots_between low end → (slot : ℕ) → IsIn slot more ↔ (IsIn slot slots ⊎ IsInRange (Some (low, end)) slot)
+pushed_range slots more low end is slot = (to, back)
+  where
+    to : IsIn slot more → IsIn slot slots ⊎ IsInRange (Some (low, end)) slot
+    to i = elim (in_append slot slots (slots_between low end) (subst (IsIn slot) is i)) [ inl old ↦ inl old | inr new ↦ inr ((in_between low end slot).0 new) ]
+
+    back : IsIn slot slots ⊎ IsInRange (Some (low, end)) slot → IsIn slot more
+    back (inl old) = subst (IsIn slot) (sym is) (in_append_first slot slots (slots_between low end) old)
+    back (inr new) = subst (IsIn slot) (sym is) (in_append_second slot slots (slots_between low end) ((in_between low end slot).1 new))
+
 -- A step of the loop over sorted ranges.
 pub covers_step : (ranges : List (ℕ × ℕ)) (i : ℕ) (d : ℕ × ℕ) (slots more : List ℕ) (next low top : ℕ) → IsNonDecreasingBy (λ range. range.0) ranges → i < length ranges
     → Covers (take i ranges) slots next → low ≡ max (get_or ranges i d).0 next
@@ -99,42 +113,3 @@ pub some_permutation : (xs ys : List (ℕ × ℕ)) → IsPermutation xs ys → (
     → (slot : ℕ) → IsIn slot slots ↔ InSome xs slot
 some_permutation xs ys p slots each slot =
     (λ i. some_moved ys xs (IsPermutation-sym xs ys p) slot ((each slot).0 i), λ some. (each slot).1 (some_moved xs ys p slot some))
-
--- ---- slots that are pushed one after another
-
-module _ (old now : List ℕ) (from at : ℕ) (low : (slot : ℕ) → IsIn slot old → slot < from) (le : from ≤ at)
-    (pushed : (slot : ℕ) → IsIn slot now ↔ (IsIn slot old ⊎ IsInRange (Some (from, at)) slot)) where
-  -- All are below the next.
-  pub pushed_below : All (λ held. held < at) now
-  pushed_below = all_from_each (λ held. held < at) now (λ slot i. elim ((pushed slot).0 i) [
-    | inl known ↦ (let h = low slot known in omega (arith, h))
-    | inr new ↦ new.1
-  ])
-
-  -- One more.
-  pub pushed_more : (more : List ℕ) → more ≡ now ++ at ∷ [] → (slot : ℕ) → IsIn slot more ↔ (IsIn slot old ⊎ IsInRange (Some (from, at + 1)) slot)
-  pushed_more more is slot = (to, back)
-    where
-      to : IsIn slot more → IsIn slot old ⊎ IsInRange (Some (from, at + 1)) slot
-      to i = elim ((in_push now slot at).0 (subst (IsIn slot) is i)) [
-        | inl among ↦ (elim ((pushed slot).0 among) [ inl known ↦ inl known | inr new ↦ inr (new.0, (let h = new.1 in omega (arith, h))) ])
-        | inr same ↦ inr (omega (arith, same), omega (arith, same))
-      ]
-
-      back : IsIn slot old ⊎ IsInRange (Some (from, at + 1)) slot → IsIn slot more
-      back (inl known) = subst (IsIn slot) (sym is) ((in_push now slot at).1 (inl ((pushed slot).1 (inl known))))
-      back (inr new) = subst (IsIn slot) (sym is) ((in_push now slot at).1 (elim (cases_lt slot at) [
-        | inl less ↦ inl ((pushed slot).1 (inr (new.0, less)))
-        | inr more' ↦ inr (let h = new.1 in omega (arith, h))
-      ]))
-
-  -- All are pushed.
-  pub pushed_all : (end : ℕ) → end ≤ at → at ≤ max from end → (slot : ℕ) → IsIn slot now ↔ (IsIn slot old ⊎ IsInRange (Some (from, end)) slot)
-  pushed_all end enough few slot = (to, back)
-    where
-      to : IsIn slot now → IsIn slot old ⊎ IsInRange (Some (from, end)) slot
-      to i = elim ((pushed slot).0 i) [ inl known ↦ inl known | inr new ↦ inr (new.0, (let a = new.0 in let b = new.1 in omega (arith, a, b))) ]
-
-      back : IsIn slot old ⊎ IsInRange (Some (from, end)) slot → IsIn slot now
-      back (inl known) = (pushed slot).1 (inl known)
-      back (inr new) = (pushed slot).1 (inr (new.0, (let h = new.1 in omega (arith, h))))

@@ -1,10 +1,9 @@
 //! Views of services.
 
-ghost use Rattle.std.specs.Prelude.{◌⊎◌, ◌↔◌, ◌<◌, ℕ, Some, map, IfOk, IfErr, OnOk};
+ghost use Rattle.std.specs.Prelude.{◌↔◌, ℕ, map, IfOk, IfErr};
 ghost use Rattle.std.specs.List.Sorted.{IsNonDecreasingBy};
 ghost use Rattle.std.specs.Ordering.{nat_cmp};
 ghost use Rattle.context_model.specs.Orders.{IsIn, Rises};
-ghost use Rattle.bag_model.specs.Slots.{IsInRange};
 ghost use Rattle.field_table.specs.Views as tables;
 ghost use Rattle.graph_lines.specs.Statements as lines;
 ghost use Rattle.graph_lines.specs.Views.{view_of};
@@ -32,17 +31,6 @@ fn ranges_of(alloc: Global, table: &Table, paths: &[&str]) -> Result<Vec<(usize,
     Ok(ranges)
 }
 
-/// Adds the slots from a number on up to another.
-fn push_slots(slots: &mut SlotSet, from: usize, end: usize) -> Result<(), Memory>
-    requires { (slot : ℕ) → IsIn slot slots.old → slot < from }
-    ensures { OnOk result ((slot : ℕ) → IsIn slot slots.new ↔ (IsIn slot slots.old ⊎ IsInRange (Some (from, end)) slot)) }
-{
-    for slot in from..end {
-        slots.push(slot)?;
-    }
-    Ok(())
-}
-
 /// The slots in ranges that are sorted by their starts, each once.
 fn merged(alloc: Global, ranges: &[(usize, usize)]) -> Result<SlotSet, Memory>
     requires { IsNonDecreasingBy (λ range. range.0) ranges.now }
@@ -53,7 +41,7 @@ fn merged(alloc: Global, ranges: &[(usize, usize)]) -> Result<SlotSet, Memory>
     let mut next = 0;
     for range in ranges {
         let (first, end) = *range;
-        push_slots(&mut slots, first.max(next), end)?;
+        slots.push_range(first.max(next), end)?;
         next = next.max(end);
     }
     Ok(slots)
