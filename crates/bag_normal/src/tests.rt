@@ -79,10 +79,10 @@ fn nested_table(alloc: Global) -> Result<Table, Memory> {
     Ok(Table::of(nodes))
 }
 
-/// The view of a service that knows one slot.
-fn only(alloc: Global, slot: usize) -> Result<View, Memory> {
+/// The view of a service that knows the slots from `first` on, up to but not `end`.
+fn only(alloc: Global, first: usize, end: usize) -> Result<View, Memory> {
     let mut slots = SlotSet::new(alloc);
-    slots.push(slot)?;
+    slots.push_range(first, end)?;
     Ok(View::Only(slots))
 }
 
@@ -135,7 +135,7 @@ fn normal_rows(rt: &impl Abort, alloc: Global, table: &Table, row: &str) -> Resu
     normal_row(rt, alloc, table, &View::All, row)?;
     normal_row(rt, alloc, table, &View::Nothing, row)?;
     for slot in 0..5 {
-        normal_row(rt, alloc, table, &only(alloc, slot)?, row)?;
+        normal_row(rt, alloc, table, &only(alloc, slot, slot + 1)?, row)?;
     }
     Ok(())
 }
