@@ -19,9 +19,12 @@ use outside::{ATOM_MAX, Memory, Octets};
 use std::alloc::Global;
 use std::cmp::Ordering;
 
+mod headers;
 pub mod laws;
 #[cfg(test)]
 mod tests;
+
+pub use headers::{FieldHeader, indexed_prefix, is_key, keyed_prefix};
 
 /// What an atom is. The key of a keyed header is what follows its first byte, and so is the payload of a datum.
 #[derive(Clone, Copy, Debug, PartialEq, Eq)]
@@ -139,7 +142,7 @@ pub fn indexed(alloc: Global, level: u8, number: u64) -> Result<Octets, Memory>
     ensures atom { IfOk result (λ made. made ≡ atom_of (PlainIndexed level number)) }
     ensures short { IfOk result (λ made. length made ≤ ATOM_MAX) }
 {
-    atom_from(alloc, 0xf8 - 8 * level, put_u64(number).as_slice())
+    atom_from(alloc, indexed_prefix(level), put_u64(number).as_slice())
 }
 
 /// The keyed header of a level and a key of fewer than [`ATOM_MAX`] bytes.
@@ -149,7 +152,7 @@ pub fn keyed(alloc: Global, level: u8, key: &[u8]) -> Result<Octets, Memory>
     ensures atom { IfOk result (λ made. made ≡ atom_of (PlainKeyed level key.now)) }
     ensures short { IfOk result (λ made. length made ≤ ATOM_MAX) }
 {
-    atom_from(alloc, 0xf9 - 8 * level, key)
+    atom_from(alloc, keyed_prefix(level), key)
 }
 
 /// The datum of a payload of fewer than [`ATOM_MAX`] bytes.

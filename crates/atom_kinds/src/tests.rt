@@ -1,4 +1,7 @@
-use crate::{Kind, KindFault, compare, datum, header_level, indexed, keyed, kind_of, rest};
+use crate::{
+    FieldHeader, Kind, KindFault, compare, datum, header_level, indexed, indexed_prefix, is_key,
+    keyed, keyed_prefix, kind_of, rest,
+};
 use std::cmp::Ordering;
 use std::test::Fail;
 
@@ -54,4 +57,15 @@ fn parts(rt: HostRuntime) {
     assert!(rt; rest(b"") == b"".as_slice());
     assert!(rt; rest(b"\x00") == b"".as_slice());
     assert!(rt; rest(b"\x00ab") == b"ab".as_slice());
+}
+
+#[test]
+fn headers(rt: HostRuntime) {
+    let header = FieldHeader::new(1, 4);
+    assert!(rt; indexed_prefix(15) == 0x80);
+    assert!(rt; keyed_prefix(15) == 0x81);
+    assert!(rt; header.is(b"\xf0\x04"));
+    assert!(rt; header.order_of(b"\xf0\x03\xff") == Ordering::Less);
+    assert!(rt; is_key(b"\xf1w", 1));
+    assert!(rt; !is_key(b"\xf1w", 0));
 }

@@ -2,31 +2,13 @@
 
 ghost use Rattle.std.specs.Prelude.{◌≡◌, ◌↔◌, ◌<◌, ◌≤◌, IsTrue, length};
 ghost use Rattle.context_model.specs.Ended.{field_path, IsBeyond, IsEnded};
-ghost use Rattle.context_model.specs.Kinds.{atom_of};
-ghost use Rattle.context_model.specs.Kinds.Kind.{Indexed};
-ghost use Rattle.context_model.specs.Orders.{atom_cmp};
 ghost use Rattle.atom_list.specs.Open.{ArePlaces, atoms_of};
 
 use crate::contexts::Context;
 use crate::lists::AtomList;
 use crate::open_places::OpenPlaces;
-use atom_kinds::{compare, header_level};
-use lex_varint::put_u64;
+use atom_kinds::{FieldHeader, header_level};
 use std::cmp::Ordering;
-
-/// How the indexed header of a level and a number compares with an atom.
-fn compare_field(level: u8, number: u64, atom: &[u8]) -> Ordering
-    requires { level < 16 }
-    ensures { result ≡ atom_cmp (atom_of (Indexed level number)) atom.now }
-{
-    let Some((first, rest)) = atom.split_first() else {
-        return Ordering::Greater;
-    };
-    match (0xf8 - 8 * level).cmp(first) {
-        Ordering::Equal => compare(put_u64(number).as_slice(), rest),
-        other => other,
-    }
-}
 
 /// Whether the headers at these places are beyond the field with these numbers.
 fn are_beyond(list: &AtomList, headers: &OpenPlaces, numbers: &[u64]) -> bool
@@ -36,10 +18,10 @@ fn are_beyond(list: &AtomList, headers: &OpenPlaces, numbers: &[u64]) -> bool
 {
     for level in 0..numbers.len().min(headers.len()) {
         let header = list.get(headers.get(level)).unwrap();
-        match compare_field(level as u8, numbers[level], header) {
-            Ordering::Less => return true,
+        match FieldHeader::new(level as u8, numbers[level]).order_of(header) {
+            Ordering::Greater => return true,
             Ordering::Equal => {}
-            Ordering::Greater => return false,
+            Ordering::Less => return false,
         }
     }
     false

@@ -7,6 +7,7 @@ ghost use Rattle.bag_model.specs.Scalars.{IsScalarOf, spelling};
 ghost use Rattle.scalar_types.specs.KindViews.{kind_of};
 ghost use Rattle.scalar_types.specs.ScalarViews.{value_of};
 
+use atom_kinds::{indexed_prefix, keyed_prefix};
 use atom_list::{AtomList, Builder};
 use lex_varint::put_u64;
 use outside::{ATOM_MAX, Memory};
@@ -16,12 +17,6 @@ use std::marker::Model;
 
 /// The first byte of a datum.
 const DATUM: u8 = 0;
-
-/// The first byte of an indexed header of level 0. A header one level further in begins with 8 less.
-const OUTER_INDEXED: u8 = 0xf8;
-
-/// The first byte of a keyed header of level 0.
-const OUTER_KEYED: u8 = 0xf9;
 
 /// A list in the making, which grows as atoms come, and the buffer that each atom is spelled in. Contracts see it as
 /// the list.
@@ -108,7 +103,7 @@ impl GrowingList {
         requires { level < 16 }
         ensures { OnOk result (self.new ≡ self.old ++ atom_of (Indexed level number) ∷ []) }
     {
-        self.push(OUTER_INDEXED - 8 * level, put_u64(number).as_slice())
+        self.push(indexed_prefix(level), put_u64(number).as_slice())
     }
 
     /// Adds the header of a counter's writer.
@@ -117,7 +112,7 @@ impl GrowingList {
         requires short { length writer.now < ATOM_MAX }
         ensures { OnOk result (self.new ≡ self.old ++ atom_of (Keyed level writer.now) ∷ []) }
     {
-        self.push(OUTER_KEYED - 8 * level, writer)
+        self.push(keyed_prefix(level), writer)
     }
 
     /// Adds the header of a map's key.
@@ -133,7 +128,7 @@ impl GrowingList {
         ensures { OnOk result
             (self.new ≡ self.old ++ atom_of (Keyed level (spelling (kind_of kind.now) (value_of key.now))) ∷ []) }
     {
-        self.push_spelled(OUTER_KEYED - 8 * level, kind, key)
+        self.push_spelled(keyed_prefix(level), kind, key)
     }
 
     /// The list.

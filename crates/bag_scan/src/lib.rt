@@ -3,7 +3,6 @@
 #![tactic(auto)]
 
 mod data;
-mod headers;
 mod parts;
 mod searches;
 mod spans;

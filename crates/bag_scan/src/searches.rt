@@ -6,9 +6,8 @@ ghost use Rattle.context_model.specs.Kinds.Kind.{Indexed};
 ghost use Rattle.bag_walks.specs.Searches.{IsPassed, IsStop, IsSought};
 ghost use Rattle.bag_scan.specs.Found.{IsFoundBehind, IsMissing, IsKeyFound, HasNoKey};
 
-use crate::headers::{FieldHeader, is_key};
 use crate::parts::atom;
-use atom_kinds::header_level;
+use atom_kinds::{FieldHeader, header_level, is_key};
 use atom_list::AtomList;
 
 /// Whether a search for a header of this level goes past the atom at a place.
@@ -46,7 +45,7 @@ pub fn find_field(list: &AtomList, level: usize, number: u64, from: usize) -> Re
     ensures found { IfOk result (IsFoundBehind list.now level (atom_of (Indexed level number)) from) }
     ensures missing { IfErr result (IsMissing list.now level (atom_of (Indexed level number)) from) }
 {
-    let header = FieldHeader::new(level, number);
+    let header = FieldHeader::new(level as u8, number);
     let at = seek(list, level, &header, from);
     if at < list.len() && header.is(atom(list, at)) {
         Ok(at + 1)
@@ -69,7 +68,7 @@ pub fn find_key(list: &AtomList, level: usize, from: usize) -> Result<usize, usi
             if own < level {
                 return Err(at);
             }
-            if is_key(atom, level) {
+            if is_key(atom, level as u8) {
                 return Ok(at);
             }
         }

@@ -1,18 +1,41 @@
-//! The header of a field, and whether an atom is the header of a key.
+//! The first bytes of headers, the header of a field, and whether an atom is the header of a key.
 
-ghost use Rattle.std.specs.Prelude.{◌≡◌, ◌↔◌, List, ℕ, ◌<◌, IsTrue};
+ghost use Rattle.std.specs.Prelude.{◌≡◌, ◌↔◌, List, ℕ, ◌<◌, ◌∷◌, IsTrue};
 ghost use Rattle.context_model.specs.Kinds.{atom_of};
 ghost use Rattle.context_model.specs.Kinds.Kind.{Indexed as PlainIndexed, Keyed as PlainKeyed};
 ghost use Rattle.context_model.specs.Orders.{atom_cmp};
+ghost use Rattle.context_model.specs.Varints.{unsigned_varint};
 
-use atom_kinds::compare;
+use crate::compare;
 use lex_varint::{Spelled, put_u64};
 use std::cmp::Ordering;
 use std::marker::Model;
 
-/// The indexed header of a field, spelled once for a whole search. Contracts see it as the atom.
+/// The first byte of an indexed header of level 0. A header one level further in begins with 8 less.
+const OUTER_INDEXED: u8 = 0xf8;
+
+/// The first byte of a keyed header of level 0.
+const OUTER_KEYED: u8 = 0xf9;
+
+/// The first byte of the indexed headers of a level, before the varint of the number.
+pub fn indexed_prefix(level: u8) -> u8
+    requires { level < 16 }
+    ensures { (number : ℕ) → atom_of (PlainIndexed level number) ≡ result ∷ unsigned_varint number }
+{
+    OUTER_INDEXED - 8 * level
+}
+
+/// The first byte of the keyed headers of a level, before the key.
+pub fn keyed_prefix(level: u8) -> u8
+    requires { level < 16 }
+    ensures { (key : List ℕ) → atom_of (PlainKeyed level key) ≡ result ∷ key }
+{
+    OUTER_KEYED - 8 * level
+}
+
+/// The indexed header of a field, spelled once for a whole search. It takes no memory. Contracts see it as the atom.
 #[derive(Drop)]
-pub(crate) struct FieldHeader {
+pub struct FieldHeader {
     first: u8,
     number: Spelled,
 }
@@ -27,18 +50,18 @@ impl Model for FieldHeader {
 
 impl FieldHeader {
     /// The header of a level and a number.
-    pub(crate) fn new(level: usize, number: u64) -> FieldHeader
+    pub fn new(level: u8, number: u64) -> FieldHeader
         requires { level < 16 }
         ensures { result ≡ atom_of (PlainIndexed level number) }
     {
         FieldHeader {
-            first: 0xf8 - 8 * level as u8,
+            first: indexed_prefix(level),
             number: put_u64(number),
         }
     }
 
     /// How an atom compares with the header.
-    pub(crate) fn order_of(&self, atom: &[u8]) -> Ordering
+    pub fn order_of(&self, atom: &[u8]) -> Ordering
         ensures { result ≡ atom_cmp atom.now self.now }
     {
         let own = self.first;
@@ -52,7 +75,7 @@ impl FieldHeader {
     }
 
     /// Whether an atom is the header.
-    pub(crate) fn is(&self, atom: &[u8]) -> bool
+    pub fn is(&self, atom: &[u8]) -> bool
         ensures { IsTrue result ↔ (atom.now ≡ self.now) }
     {
         self.order_of(atom).is_eq()
@@ -60,12 +83,12 @@ impl FieldHeader {
 }
 
 /// Whether an atom is the header of a key of this level.
-pub(crate) fn is_key(atom: &[u8], level: usize) -> bool
+pub fn is_key(atom: &[u8], level: u8) -> bool
     requires { level < 16 }
     ensures { IsTrue result ↔ ((key : List ℕ) × (atom.now ≡ atom_of (PlainKeyed level key))) }
 {
     match atom.split_first() {
-        Some((first, _)) => *first == 0xf9 - 8 * level as u8,
+        Some((first, _)) => *first == keyed_prefix(level),
         None => false,
     }
 }

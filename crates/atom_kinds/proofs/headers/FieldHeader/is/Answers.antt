@@ -4,7 +4,7 @@ use Rattle.std.proofs.lemmas.Cmp.{tied_itself}
 use Rattle.context_model.specs.Atoms.{Atom}
 use Rattle.context_model.specs.Orders.{atom_cmp}
 use Rattle.context_model.proofs.OrderLaws.{atoms_total, atoms_anti}
-use Rattle.bag_scan.proofs.headers.FieldHeader.is.Goals as goal
+use Rattle.atom_kinds.proofs.headers.FieldHeader.is.Goals as goal
 
 -- Two atoms tie exactly where they are one.
 tied : (a h : Atom) → IsTrue (is_eq (atom_cmp a h)) ↔ (a ≡ h)
