@@ -7,7 +7,7 @@ use Rattle.std.proofs.lemmas.List.{length-map}
 use Rattle.std.proofs.lemmas.Option.{slice_get-map, slice_get_within}
 use Rattle.bag_model.specs.declared.TheConstants.{MAX_FIELDS}
 use Rattle.bag_model.specs.Shapes as model
-use Rattle.bag_model.specs.Slots.{slots_of, slot_count, starts, FindsField}
+use Rattle.bag_model.specs.Slots.{slots_of, slot_count, FindsField}
 use Rattle.field_table.specs.Paths.{IsSplit}
 use Rattle.bag_model.specs.Tables.{IsTable}
 use Rattle.bag_model.proofs.SlotLaws.{slots_few}
@@ -15,10 +15,10 @@ use Rattle.bag_model.proofs.PathLaws.{reached_bound}
 use Rattle.field_table.specs.declared.shapes.Slot.{Slot}
 use Rattle.field_table.specs.declared.shapes.Slots.{Slots}
 use Rattle.field_table.specs.declared.shapes.Shape.TheViews.{out-Slots}
-use Rattle.field_table.specs.Kept.{KeptField, ends_of, start_at, IsPlaceOf, IsReady, capped, name}
+use Rattle.field_table.specs.Kept.{KeptField, IsPlaceOf, IsReady, capped, name}
 use Rattle.field_table.specs.Plain.{kept_bag, shape_of, nodes_of, name_of, IsIndexed, IsOrdered}
-use Rattle.field_table.proofs.Opened.{length_fields, names_of-items}
-use Rattle.field_table.proofs.Held.{field_open, item_at, item_field, start_is}
+use Rattle.field_table.proofs.Opened.{names_of-items}
+use Rattle.field_table.proofs.Held.{field_open, item_at, item_field}
 
 -- No field has a name that isn't found.
 pub other_name : (s : Slots) (own : List ℕ) → IsPlaceOf (map name_of (out-Slots s).items.items) own None → (place : ℕ) (f : model.Field) → slice_get (model.fields (nodes_of s)) place ≡ Some f → f.name ≢ own
@@ -40,10 +40,6 @@ named_at s own place x found is =
     let same : Some (name_of x) ≡ Some own = sym (slice_get-map name_of (out-Slots s).items.items place ∙ ap (option_map name_of) at) ∙ found in
     let named : name_of x ≡ own = cc same in
     record { at = at; field = item_field s place x at; named = sym (ap (λ (k : KeptField). k.name) (field_open x)) ∙ named }
-
--- Where a named field starts.
-pub named_start : (s : Slots) (own : List ℕ) (place before : ℕ) → IsReady (kept_bag s) → slice_get (map name_of (out-Slots s).items.items) place ≡ Some own → before ≡ start_at (ends_of (kept_bag s)) place → before ≡ starts (model.fields (nodes_of s)) place
-named_start s own place before ready found is = is ∙ start_is s place ready (omega (arith, place_within s own place found, length_fields s))
 
 pub found_bound : (nodes : model.Nodes) (path : List ℕ) (before : ℕ) (shape : model.Shape) → FindsField nodes path (Some (before, shape)) → before ≤ length (slots_of nodes)
 found_bound nodes path before shape found = omega (arith, reached_bound nodes found.0 found.1 before shape found.3)

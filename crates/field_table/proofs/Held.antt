@@ -19,7 +19,7 @@ use Rattle.field_table.specs.declared.shapes.Slots.{Slots}
 use Rattle.field_table.specs.declared.shapes.Shape.TheFolds.{fold-roll-Shape, fold_out-Slot, fold_out-Shape, map-Shape}
 use Rattle.field_table.specs.declared.shapes.Shape.TheOpen.{Shape-F}
 use Rattle.field_table.specs.declared.shapes.Shape.TheViews.{out-Slots, out-Shape, roll-Shape, roll-out-Shape}
-use Rattle.field_table.specs.Kept.{Kept, KeptField, KeptBag, Bag, plain, ends_of, start_at, Holds, IsReady, IsKept}
+use Rattle.field_table.specs.Kept.{Kept, KeptField, KeptBag, Bag, plain, plain_bag, ends_of, start_at, Holds, IsReady, IsKept}
 use Rattle.field_table.specs.Plain.{shape_step, slot_step, slots_step, kept_shape, kept_field, kept_bag, field_of, shape_of, nodes_of}
 use Rattle.field_table.proofs.Ends.{before_is, length-ends}
 use Rattle.field_table.proofs.Opened.{get_field, length_fields, has_indexes, open_ends}
@@ -60,20 +60,22 @@ start_next (g ∷ gs) zero f at =
 start_next (g ∷ gs) (suc i) f at = omega (arith, start_next gs i f at)
 
 -- A bag in a field is as ready as the bag around it.
-pub inner_ready : (s : Slots) (place : ℕ) (x : Slot) (inner : Slots) → IsReady (kept_bag s) → slice_get (out-Slots s).items.items place ≡ Some x → x.shape ≡ variants.Bag inner → IsReady (kept_bag inner)
-inner_ready s place x inner ready at is =
+pub bag_ready : (s : Slots) (place : ℕ) (x : Slot) (inner : KeptBag) → IsReady (kept_bag s) → slice_get (out-Slots s).items.items place ≡ Some x → kept_shape x.shape ≡ Bag inner → IsReady inner
+bag_ready s place x inner ready at is =
     let field = item_field s place x at in
-    let kept_is : kept_shape x.shape ≡ Bag (kept_bag inner) = ap kept_shape is ∙ shape_bag inner in
-    let plain_is : shape_of x.shape ≡ model.Shape.Bag (nodes_of inner) = ap plain kept_is in
-    let inside = subst IsKept (ap (λ (k : KeptField). k.shape) (field_open x) ∙ kept_is) ((has_indexes s ready.indexed).inside place x at) in
+    let plain_is : shape_of x.shape ≡ model.Shape.Bag (plain_bag inner) = ap plain is in
+    let inside = subst IsKept (ap (λ (k : KeptField). k.shape) (field_open x) ∙ is) ((has_indexes s ready.indexed).inside place x at) in
     let count = count_bound (model.fields (nodes_of s)) place (record { name = x.name; number = x.number; shape = shape_of x.shape }) field in
-    let bound : length (slots_of (nodes_of inner)) ≤ length (slots_list (model.fields (nodes_of s))) = subst (λ (shape : model.Shape). slot_count shape ≤ length (slots_list (model.fields (nodes_of s)))) plain_is count in
+    let bound : length (slots_of (plain_bag inner)) ≤ length (slots_list (model.fields (nodes_of s))) = subst (λ (shape : model.Shape). slot_count shape ≤ length (slots_list (model.fields (nodes_of s)))) plain_is count in
     record {
       fields = subst IsShape plain_is (is_field (nodes_of s) place (record { name = x.name; number = x.number; shape = shape_of x.shape }) ready.fields field).1;
       indexed = inside.0;
       in_order = inside.1;
       small = omega (arith, bound, ready.small, ap length (slots_of-list (nodes_of s)));
     }
+
+pub inner_ready : (s : Slots) (place : ℕ) (x : Slot) (inner : Slots) → IsReady (kept_bag s) → slice_get (out-Slots s).items.items place ≡ Some x → x.shape ≡ variants.Bag inner → IsReady (kept_bag inner)
+inner_ready s place x inner ready at is = bag_ready s place x (kept_bag inner) ready at (ap kept_shape is ∙ shape_bag inner)
 
 -- The slot with a number is one of the field that holds it.
 pub record IsHeld (s : Slots) (slot place : ℕ) (x : Slot) : Type 0 where
@@ -144,7 +146,7 @@ no_bag shape h nodes is = by (out-Shape shape) refl
     by (Shape-F.Map key value) e = let bad : model.Shape.Map (kind_of key) (plain (kept_shape value.value)) ≡ model.Shape.Bag nodes = plainly (Shape-F.Map key value) e in cc bad
 
 -- There are fewer fields inside a field than in the bag that it stands in.
-fewer : (nodes : model.Nodes) (i : ℕ) (f : model.Field) → slice_get (model.fields nodes) i ≡ Some f → nodes_under f.shape < node_count nodes
+pub fewer : (nodes : model.Nodes) (i : ℕ) (f : model.Field) → slice_get (model.fields nodes) i ≡ Some f → nodes_under f.shape < node_count nodes
 fewer model.Nodes.no_node i f at = absurd (cc at)
 fewer (model.Nodes.node name number shape nodes) zero f at =
     let same : record { name = name; number = number; shape = shape } ≡ f = cc at in
@@ -175,10 +177,9 @@ pub record IsHeldInside (s : Slots) (slot before : ℕ) (x : Slot) (inner : Slot
   pub deeper : 1 + levels (nodes_of inner) ≤ levels (nodes_of s)
 
 pub held_inside : (s : Slots) (slot place before : ℕ) (x : Slot) (inner : Slots) → IsReady (kept_bag s) → Holds (nodes_of s) slot place → x ≡ get_or (out-Slots s).items.items place x
-    → before ≡ start_at (ends_of (kept_bag s)) place → x.shape ≡ variants.Bag inner → IsHeldInside s slot before x inner
-held_inside s slot place before x inner ready holds at starts_at is =
+    → before ≡ starts (model.fields (nodes_of s)) place → x.shape ≡ variants.Bag inner → IsHeldInside s slot before x inner
+held_inside s slot place before x inner ready holds at here is =
     let h = held s slot place x holds at in
-    let here : before ≡ starts (model.fields (nodes_of s)) place = starts_at ∙ start_is s place ready (omega (arith, holds.within)) in
     let plain_is : shape_of x.shape ≡ model.Shape.Bag (nodes_of inner) = ap shape_of is ∙ ap plain (shape_bag inner) in
     let field : model.Field = record { name = x.name; number = x.number; shape = shape_of x.shape } in
     record {

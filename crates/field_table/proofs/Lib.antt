@@ -2,6 +2,7 @@ pub mod Opened
 pub mod Ranks
 pub mod Ends
 pub mod Held
+pub mod Numbers
 pub mod Dots
 pub mod Found
 pub mod PathFinding

@@ -123,6 +123,11 @@ abbrev pub IsPlaceOf : List (List ℕ) → List ℕ → Option ℕ → Type 0
 IsPlaceOf names name (Some place) = slice_get names place ≡ Some name
 IsPlaceOf names name None = (place : ℕ) → slice_get names place ≢ Some name
 
+-- The field with this number and its place, or none where no field has it.
+abbrev pub FindsNumber : List model.Field → ℕ → Option (ℕ × model.Field) → Type 0
+FindsNumber list number (Some found) = (slice_get list found.0 ≡ Some found.1) × (found.1.number ≡ number)
+FindsNumber list number None = (place : ℕ) (field : model.Field) → slice_get list place ≡ Some field → field.number ≢ number
+
 -- What look-ups rest on: the fields are a bag's, the indexes are right and in order, and all numbers of slots are kept.
 pub record IsReady (bag : KeptBag) : Type 0 where
   pub fields : AreFields (plain_bag bag)

@@ -64,3 +64,7 @@ IsIndexedField slot = IsLoose (kept_field slot).shape
 -- The name of a field.
 abbrev pub name_of : Slot → List ℕ
 name_of slot = (kept_field slot).name
+
+-- The number of a field.
+abbrev pub number_of : Slot → ℕ
+number_of slot = slot.number

@@ -2,17 +2,18 @@
 
 ghost use Rattle.std.specs.Prelude.{◌≡◌, ◌≢◌, ◌<◌, ◌≤◌, ◌+◌, ◌-◌, ◌↔◌, ◌++◌, [], ◌∷◌, length, map, get_or, IsTrue, OnOk, OnErr, Some, IfSome, string_bytes};
 ghost use Rattle.std.specs.List.{slice_get};
+ghost use Rattle.std.specs.List.Sorted.{IsNonDecreasingBy, IsPartitionPoint};
 ghost use Rattle.std.specs.Option.{option_map};
 ghost use Rattle.std.specs.Cmp.Lexicographic.{slice_cmp};
 ghost use Rattle.std.specs.Ordering.{nat_cmp};
 ghost use Rattle.std.specs.declared.cmp.Ordering.TheVariants.{Less};
 ghost use Rattle.bag_model.specs.Shapes.{fields, no_node};
-ghost use Rattle.bag_model.specs.Slots.{slots_of, slot_count, name_path, FindsField};
+ghost use Rattle.bag_model.specs.Slots.{slots_of, slot_count, starts, name_path, FindsField};
 ghost use Rattle.bag_model.specs.Words.{HasNoDot};
 ghost use Rattle.field_table.specs.Paths.{IsOnly, IsSplit};
-ghost use Rattle.bag_model.specs.Tables.{levels};
-ghost use Rattle.field_table.specs.Kept.{capped, ends_of, HasPlaces, IsKept, IsNameOrder, IsPlaceOf, IsRank, IsReady, Holds, start_at};
-ghost use Rattle.field_table.specs.Plain.{shape_of, kept_shape, name_of, field_of, nodes_of, kept_bag, IsIndexed, IsIndexedShape, IsIndexedField, IsOrdered};
+ghost use Rattle.bag_model.specs.Tables.{levels, AreFields};
+ghost use Rattle.field_table.specs.Kept.{capped, Bag, KeptBag, FindsNumber, HasPlaces, IsKept, IsNameOrder, IsPlaceOf, IsRank, IsReady, Holds};
+ghost use Rattle.field_table.specs.Plain.{shape_of, kept_shape, name_of, number_of, field_of, nodes_of, kept_bag, IsIndexed, IsIndexedShape, IsIndexedField, IsOrdered};
 
 use crate::slot_paths::SlotPath;
 use bag_model::MAX_LEVELS;
@@ -122,17 +123,41 @@ impl Slots {
         sort_places(&self.items, &mut self.by_name);
     }
 
+    /// The field with this number, and its place. It is found by halves.
+    pub fn find_number(&self, number: u64) -> Option<(usize, &Slot)>
+        requires { AreFields (nodes_of self.now) }
+        ensures found { FindsNumber (fields (nodes_of self.now)) number (option_map (λ found. (found.0, field_of found.1.now)) result) }
+        ensures ready { IsReady (kept_bag self.now) → IfSome result (λ found. (inner : KeptBag) → kept_shape found.1.now.shape ≡ Bag inner → IsReady inner) }
+    {
+        let place = lesser_numbers(&self.items, number);
+        if place == self.items.len() {
+            return None;
+        }
+        let item = &self.items[place];
+        if u64::from(item.number) == number {
+            Some((place, item))
+        } else {
+            None
+        }
+    }
+
     /// How many slots there are.
     pub(crate) fn slot_count(&self) -> usize
         ensures { IsIndexed self.now → result ≡ capped (length (slots_of (nodes_of self.now))) }
     {
-        self.slots_before(self.ends.len())
+        let fields = self.ends.len();
+        if fields == 0 {
+            0
+        } else {
+            self.ends[fields - 1]
+        }
     }
 
-    /// How many slots there are before the field at this place.
-    fn slots_before(&self, place: usize) -> usize
-        requires { place ≤ length (ends_of (kept_bag self.now)) }
-        ensures { result ≡ start_at (ends_of (kept_bag self.now)) place }
+    /// How many slots there are before the field at this place. It takes no walk.
+    pub fn slots_before(&self, place: usize) -> usize
+        requires ready { IsReady (kept_bag self.now) }
+        requires place { place ≤ length (fields (nodes_of self.now)) }
+        ensures { result ≡ starts (fields (nodes_of self.now)) place }
     {
         if place == 0 { 0 } else { self.ends[place - 1] }
     }
@@ -299,6 +324,14 @@ fn rank_of(items: &[Slot], by_name: &[usize], name: &[u8]) -> usize
     ensures rank { IsNameOrder (map name_of items.now) by_name.now → IsRank (map name_of items.now) by_name.now name.now result }
 {
     by_name.partition_point(|place| name_at(items, *place).cmp(name).is_lt())
+}
+
+/// How many of the fields have a lesser number.
+fn lesser_numbers(items: &[Slot], number: u64) -> usize
+    ensures bound { result ≤ length items.now }
+    ensures point { IsNonDecreasingBy number_of items.now → IsPartitionPoint (λ item. number_of item < number) (λ item. number ≤ number_of item) items.now result }
+{
+    items.partition_point(|item| u64::from(item.number) < number)
 }
 
 /// The place of the field with this name.

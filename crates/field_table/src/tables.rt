@@ -5,7 +5,8 @@ ghost use Rattle.std.specs.List.{slice_get};
 ghost use Rattle.std.specs.Option.{option_map};
 ghost use Rattle.bag_model.specs.Slots.{slots_of, name_path, FindsSlot, FindsRange};
 ghost use Rattle.bag_model.specs.Tables.{IsTable};
-ghost use Rattle.field_table.specs.Plain.{shape_of, nodes_of, IsIndexed};
+ghost use Rattle.field_table.specs.Kept.{IsReady};
+ghost use Rattle.field_table.specs.Plain.{shape_of, nodes_of, kept_bag, IsIndexed};
 
 use crate::shapes::{Shape, Slots};
 use crate::slot_paths::SlotPath;
@@ -50,6 +51,7 @@ impl Table {
     pub fn nodes(&self) -> &Slots
         ensures nodes { nodes_of result.now ≡ self.now }
         ensures table { IsTable self.now }
+        ensures ready { IsReady (kept_bag result.now) }
     {
         &self.nodes
     }

@@ -66,6 +66,30 @@ fn slots_of_fields(rt: HostRuntime) -> Result<(), Fail> {
     Ok(())
 }
 
+/// The number of slots before the field with a number, where there is one.
+fn slots_before_number(table: &Table, number: u64) -> Option<usize> {
+    let nodes = table.nodes();
+    match nodes.find_number(number) {
+        Some((place, _)) => Some(nodes.slots_before(place)),
+        None => None,
+    }
+}
+
+#[test]
+fn fields_are_found_by_number(rt: HostRuntime) -> Result<(), Fail> {
+    let alloc = rt.alloc();
+    let mixed = mixed_table(alloc)?;
+    for number in 0..4 {
+        assert!(rt; slots_before_number(&mixed, number) == Some(number as usize));
+    }
+    assert!(rt; slots_before_number(&mixed, 4).is_none());
+    let nested = nested_table(alloc)?;
+    assert!(rt; slots_before_number(&nested, 0).is_none());
+    assert!(rt; slots_before_number(&nested, 1) == Some(0));
+    assert!(rt; slots_before_number(&nested, 2).is_none());
+    Ok(())
+}
+
 /// A bag in a bag, its fields not in the order of their names.
 fn nested_table(alloc: Global) -> Result<Table, Memory> {
     let mut inner = Slots::new(alloc);

@@ -11,8 +11,8 @@ use Rattle.field_table.specs.declared.shapes.Slot.{Slot}
 use Rattle.field_table.specs.Kept.{plain, KeptField, IsKept, IsNameOrder, IsPlaceOf}
 use Rattle.field_table.specs.Plain.{nodes_of, name_of, shape_of}
 use Rattle.field_table.proofs.Opened.{length_fields, has_indexes, is_ordered}
-use Rattle.field_table.proofs.Held.{ends_are, inner_fewer, inner_ready, no_bag, shape_bag, field_open}
-use Rattle.field_table.proofs.Found.{other_name, named_at, named_start, place_within, found_bound, finds_nothing, whole_path, fits_sum}
+use Rattle.field_table.proofs.Held.{inner_fewer, inner_ready, no_bag, shape_bag, field_open}
+use Rattle.field_table.proofs.Found.{other_name, named_at, place_within, found_bound, finds_nothing, whole_path, fits_sum}
 use Rattle.field_table.proofs.shapes.Slots.+find.Goals as goal
 
 pub place_of-requires : goal.place_of-requires
@@ -38,7 +38,7 @@ slots_before-before-requires t c =
     let found : slice_get (map name_of (out-Slots s).items.items) c.in_ok-place.place ≡ Some c.as_bytes.result.now =
     subst (λ (items : List Slot). slice_get (map name_of items) c.in_ok-place.place ≡ Some c.as_bytes.result.now) c.deref.ensures.value c.in_ok-place.ensures
     in
-    omega (arith, place_within s c.as_bytes.result.now c.in_ok-place.place found, length_fields s, ends_are s c.requires.1.1)
+    record { ready = c.requires.1.1; place = omega (arith, place_within s c.as_bytes.result.now c.in_ok-place.place found, length_fields s) }
 
 pub index-requires : goal.index-requires
 index-requires t c =
@@ -58,7 +58,7 @@ returns-in_default-clause-found t c =
     subst (λ (items : List Slot). slice_get (map name_of items) place ≡ Some own) c.deref.ensures.value (c.in_ok-place.ensures ∙ ap Some c.as_bytes.ensures.value)
     in
     let named = named_at s own place x found c.index.ensures in
-    let start = named_start s own place c.slots_before-before.result c.requires.1.1 found c.slots_before-before.ensures in
+    let start = c.slots_before-before.ensures in
     let whole : c.args.path.now ≡ own = whole_path c.args.path.now own (λ rest. rest.now) c.split_name.result.1 c.in_default.not-Some c.split_name.ensures.split in
     subst (λ (n : ℕ). FindsField (nodes_of s) c.args.path.now (Some (n, shape_of x.shape))) (sym start)
     (finds_own (nodes_of s) place (record { name = x.name; number = x.number; shape = shape_of x.shape }) c.args.path.now own named.field named.named whole)
@@ -102,7 +102,7 @@ overflow_add-result t c =
     subst (λ (items : List Slot). slice_get (map name_of items) place ≡ Some own) c.deref.ensures.value (c.in_ok-place.ensures ∙ ap Some c.as_bytes.ensures.value)
     in
     let named = named_at s own place x found c.index.ensures in
-    let start = named_start s own place c.slots_before-before.result c.requires.1.1 found c.slots_before-before.ensures in
+    let start = c.slots_before-before.ensures in
     let inside = inner_ready s place x c.in-Bag.inner c.requires.1.1 named.at c.in-Bag.is in
     let behind = found_bound (nodes_of c.in-Bag.inner) c.in-Some.rest.now c.in_ok-behind.behind (shape_of c.in_ok-behind.shape.now) c.in_ok-behind.ensures.found in
     fits_sum c.slots_before-before.result c.in_ok-behind.behind
@@ -118,7 +118,7 @@ returns-in_ok-behind-clause-found t c =
     subst (λ (items : List Slot). slice_get (map name_of items) place ≡ Some own) c.deref.ensures.value (c.in_ok-place.ensures ∙ ap Some c.as_bytes.ensures.value)
     in
     let named = named_at s own place x found c.index.ensures in
-    let start = named_start s own place c.slots_before-before.result c.requires.1.1 found c.slots_before-before.ensures in
+    let start = c.slots_before-before.ensures in
     let plain_is : shape_of x.shape ≡ model.Shape.Bag (nodes_of c.in-Bag.inner) = ap shape_of c.in-Bag.is ∙ ap plain (shape_bag c.in-Bag.inner) in
     let split : c.args.path.now ≡ own ++ 46 ∷ c.in-Some.rest.now =
     subst (λ (rest : Option (Bor (List ℕ))). IsSplit c.args.path.now own (option_map (λ r. r.now) rest)) c.in-Some.is c.split_name.ensures.split

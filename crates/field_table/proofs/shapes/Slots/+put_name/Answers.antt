@@ -5,16 +5,16 @@ use Rattle.bag_model.specs.Slots.{slots_of, name_path, SlotAt}
 use Rattle.field_table.specs.declared.shapes.Shape.TheViews.{out-Slots}
 use Rattle.field_table.specs.Plain.{nodes_of}
 use Rattle.field_table.proofs.Opened.{length_fields}
-use Rattle.field_table.proofs.Held.{ends_are, start_is, held, held_own, held_inside, no_bag, path_within}
+use Rattle.field_table.proofs.Held.{held, held_own, held_inside, no_bag, path_within}
 use Rattle.field_table.proofs.shapes.Slots.+put_name.Goals as goal
 
 pub slots_before-requires : goal.slots_before-requires
-slots_before-requires t c = omega (arith, ends_are c.args.self.now c.requires.ready, c.place_holding-place.ensures.within)
+slots_before-requires t c = record { ready = c.requires.ready; place = omega (arith, c.place_holding-place.ensures.within) }
 
 pub overflow_sub-inside : goal.overflow_sub-inside
 overflow_sub-inside t c =
     let place = c.place_holding-place.result in
-    let is = c.slots_before.ensures ∙ start_is c.args.self.now place c.requires.ready (omega (arith, c.place_holding-place.ensures.within)) in
+    let is = c.slots_before.ensures in
     omega (arith, is, c.place_holding-place.ensures.from)
 
 pub index-item-requires : goal.index-item-requires

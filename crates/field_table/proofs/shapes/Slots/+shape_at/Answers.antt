@@ -7,16 +7,16 @@ use Rattle.std.specs.Option.{option_map}
 use Rattle.field_table.specs.Kept.{plain}
 use Rattle.field_table.specs.Plain.{nodes_of, shape_of}
 use Rattle.field_table.proofs.Opened.{length_fields}
-use Rattle.field_table.proofs.Held.{ends_are, start_is, held, held_own, inner_ready, inner_fewer, no_bag, shape_bag, shape_within}
+use Rattle.field_table.proofs.Held.{held, held_own, inner_ready, inner_fewer, no_bag, shape_bag, shape_within}
 use Rattle.field_table.proofs.shapes.Slots.+shape_at.Goals as goal
 
 pub slots_before-requires : goal.slots_before-requires
-slots_before-requires t c = omega (arith, ends_are c.args.self.now c.requires.ready, c.place_holding-place.ensures.within)
+slots_before-requires t c = record { ready = c.requires.ready; place = omega (arith, c.place_holding-place.ensures.within) }
 
 pub overflow_sub-inside : goal.overflow_sub-inside
 overflow_sub-inside t c =
     let place = c.place_holding-place.result in
-    let is = c.slots_before.ensures ∙ start_is c.args.self.now place c.requires.ready (omega (arith, c.place_holding-place.ensures.within)) in
+    let is = c.slots_before.ensures in
     omega (arith, is, c.place_holding-place.ensures.from)
 
 pub index-requires : goal.index-requires
@@ -29,7 +29,7 @@ shape_at-requires t c =
     let x = c.index.result.now in
     let inner = c.in-Bag.inner in
     let h = held s c.args.slot place x c.place_holding-place.ensures c.index.ensures in
-    let is = c.slots_before.ensures ∙ start_is s place c.requires.ready (omega (arith, c.place_holding-place.ensures.within)) in
+    let is = c.slots_before.ensures in
     let plain_is : shape_of x.shape ≡ model.Shape.Bag (nodes_of inner) = ap shape_of c.in-Bag.is ∙ ap plain (shape_bag inner) in
     let less : c.args.slot - c.slots_before.result < length (slots_of (nodes_of inner)) =
     subst (λ (n : ℕ). c.args.slot - n < length (slots_of (nodes_of inner))) (sym is) (subst (λ (shape : model.Shape). c.args.slot - starts (model.fields (nodes_of s)) place < slot_count shape) plain_is h.inside) in
@@ -42,7 +42,7 @@ returns-in-Bag t c =
     let x = c.index.result.now in
     let inner = c.in-Bag.inner in
     let h = held s c.args.slot place x c.place_holding-place.ensures c.index.ensures in
-    let is = c.slots_before.ensures ∙ start_is s place c.requires.ready (omega (arith, c.place_holding-place.ensures.within)) in
+    let is = c.slots_before.ensures in
     let plain_is : shape_of x.shape ≡ model.Shape.Bag (nodes_of inner) = ap shape_of c.in-Bag.is ∙ ap plain (shape_bag inner) in
     c.shape_at.ensures ∙ sym (ap (option_map (λ (found : SlotAt). found.shape)) (h.found ∙ ap (option_map (within x.name x.number)) (ap (λ shape. slice_get (slots_in shape) (c.args.slot - starts (model.fields (nodes_of s)) place)) plain_is ∙ ap (slice_get (slots_of (nodes_of inner))) (ap (λ n. c.args.slot - n) (sym is))))
     ∙ shape_within x.name x.number (slice_get (slots_of (nodes_of inner)) (c.args.slot - c.slots_before.result)))
