@@ -57,6 +57,13 @@ impl<C: Codec, L: Lattice> MapOf<C, L> {
         Ok(MapOf { codec, entries })
     }
 
+    /// The codec of the keys.
+    pub fn codec(&self) -> &C
+        ensures { result.now ≡ self.now.codec }
+    {
+        &self.codec
+    }
+
     /// How many keys there are.
     pub fn len(&self) -> usize
         ensures { result ≡ length self.now.items }

@@ -54,6 +54,13 @@ impl<C: Codec> SetOf<C> {
         Ok(SetOf { codec, entries })
     }
 
+    /// The codec of the elements.
+    pub fn codec(&self) -> &C
+        ensures { result.now ≡ self.now.codec }
+    {
+        &self.codec
+    }
+
     /// How many values there are.
     pub fn len(&self) -> usize
         ensures { result ≡ length self.now.items }

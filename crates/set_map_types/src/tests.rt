@@ -109,5 +109,7 @@ fn maps_of_maps(rt: HostRuntime) -> Result<(), Fail> {
     let key = Text::of(alloc, "k")?;
     let inner = same.value(&key).expect(&rt, "a map");
     assert_eq!(rt; inner.len(), 1);
+    assert!(rt; inner.codec().wide);
+    assert!(rt; SetOf::of(alloc, LexU { wide: true }, 7)?.codec().wide);
     Ok(())
 }
