@@ -1,10 +1,10 @@
 -- What the steps of compiling say of files and of definitions.
 use Rattle.std.proofs.Common.{◌≡◌, ◌∙◌, ℕ, List, [], ◌∷◌, refl, subst, sym}
 use Rattle.std.specs.Prelude.{Result, Ok, Err, IfErr, IfSome, None, Some}
-use Rattle.std.specs.List.{All, AllByRecursion}
+use Rattle.std.specs.List.{All}
 use Rattle.std.specs.Result.{IsErrAnd}
 use Rattle.std.proofs.lemmas.List.Concat.{flat_map-cons}
-use Rattle.std.proofs.lemmas.List.Elements.{All-nil, All-append, All-cons, All-head, All-tail, All-map}
+use Rattle.std.proofs.lemmas.List.Elements.{All-nil, All-append, All-head, All-tail, All-map}
 use Rattle.outside.specs.Told.{Files, Asked}
 use Rattle.bag_model.specs.Shapes.{Nodes}
 use Rattle.bdl_check.specs.declared.refusals.Refusal.{Refusal}
@@ -21,7 +21,7 @@ use Rattle.bdl_load.specs.declared.faults.DefFault.TheVariants as defs
 use Rattle.bdl_load.specs.declared.faults.Fault.{Fault}
 use Rattle.bdl_load.specs.declared.files.LoadedFile.{LoadedFile}
 use Rattle.bdl_load.specs.Faults.{Blames}
-use Rattle.bdl_load.specs.Loading.{Holding, OfLibrary, AsksAll, Loads, all_loaded, stopped, names_of}
+use Rattle.bdl_load.specs.Loading.{Holding, OfLibrary, Loads, all_loaded, stopped, names_of}
 use Rattle.bdl_parser.specs.Spelled.{IsSpelledDecl, AreSpelledDecls}
 use Rattle.topological_order.specs.Graphs.{Graph, Reaches}
 use Rattle.topological_order.specs.Orders.{IsOrder}

@@ -22,3 +22,4 @@ pub mod TableLaws
 pub mod ChosenBags
 pub mod Compiling
 pub mod OneOutcome
+pub mod SpelledFiles

@@ -1,20 +1,15 @@
 -- Sizes along an order in which each declaration stands behind those that it names.
-use Rattle.std.proofs.Common.{◌≡◌, ◌≢◌, ℕ, suc, zero, ◌<◌, Bool, true, List, [], ◌∷◌, ◌++◌, length, get_or, take, set, map, Option, Some, None, inl, inr, refl, sym, ◌∙◌, ap, subst, arith}
-use Rattle.std.specs.List.{list_all, filter_map, cons_option, slice_get, Contains}
-use Rattle.std.specs.Option.{option_map, is_none}
-use Rattle.std.specs.Str.{bytes_eq}
+use Rattle.std.proofs.Common.{◌≡◌, ◌≢◌, ℕ, suc, zero, List, [], ◌∷◌, ◌++◌, length, take, set, Option, Some, None, inl, inr, refl, sym, ◌∙◌, ap, subst, arith}
+use Rattle.std.specs.List.{filter_map, cons_option, slice_get, Contains}
+use Rattle.std.specs.Option.{option_map}
 use Rattle.std.proofs.lemmas.Bool.{cases_eq}
 use Rattle.std.proofs.lemmas.List.{length-map}
 use Rattle.std.proofs.lemmas.List.Elements.{Contains-push_cases}
-use Rattle.std.proofs.lemmas.Option.{slice_get-map, slice_get_within, get_or_from_slice_get}
+use Rattle.std.proofs.lemmas.Option.{slice_get-map, slice_get_within}
 use Rattle.bdl_check.specs.declared.sizes.Size.{Size}
-use Rattle.bdl_check.specs.Checks.{placed_faults}
-use Rattle.bdl_check.specs.Declarations.{Placed, name_of, number_named, kind_named}
-use Rattle.bdl_check.specs.Faults.{first}
-use Rattle.bdl_check.specs.Passes.{are_distinct, passes_decl, pass}
+use Rattle.bdl_check.specs.Declarations.{Placed, number_named}
 use Rattle.bdl_check.specs.Recursion.{uses, links}
 use Rattle.bdl_check.specs.Sizes.{IsSizeOf, IsSized, AreKnown, AreSizes}
-use Rattle.bdl_check.proofs.PassLaws.{faultless_pass}
 use Rattle.topological_order.specs.Orders.{IsOrder}
 use Rattle.bdl_check.proofs.Lists.{is_in_front, is_behind}
 

@@ -3,6 +3,7 @@
 ghost use Rattle.std.specs.Prelude.{◌≡◌, ℕ, List};
 ghost use Rattle.std.specs.Option.{is_none};
 ghost use Rattle.bag_model.specs.Shapes.{Nodes};
+ghost use Rattle.bag_model.specs.Tables.{IsTable};
 ghost use Rattle.bdl_check.specs.Checks.{declared_faults};
 ghost use Rattle.bdl_check.specs.Declarations.{all_placed};
 ghost use Rattle.bdl_check.specs.Faults.{first};
@@ -44,3 +45,9 @@ pub fn faults_are_unique()
 {
     laws::loading_is_unique();
 }
+
+/// What a definition has as its table for the name of a bag is a table.
+pub fn definitions_give_tables()
+    ensures { (held : Holding) (root name : List ℕ) (table : Nodes)
+        → IsTableOf held root name table → IsTable table }
+{}
