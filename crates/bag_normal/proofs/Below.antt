@@ -13,8 +13,8 @@ use Rattle.bag_model.specs.Readings.{PathsOf, key_path, node_path}
 use Rattle.bag_model.specs.Scalars.{ScalarKind}
 use Rattle.bag_model.specs.Shapes.{Shape, Nodes, Field, fields, Taint, Scalar, Set, Counter, Map, Bag, no_node, node}
 use Rattle.bag_model.proofs.DataPlaces.{HoldsData-below}
-use Rattle.bag_walks.proofs.Absent.{IsBare}
 use Rattle.bag_normal.specs.Superseded.{GivesWayAt, IsSupersededIn, HoldsAtKey}
+use Rattle.bag_normal.proofs.FieldHeaders.{HoldsAtField}
 
 -- ---- where each datum is kept
 
@@ -52,27 +52,18 @@ map_is kind shape list q place = (
 
 -- ---- some field of a bag
 
--- It is superseded in one of the first n fields of a bag.
-pub record IsInFirst (nodes : Nodes) (list : List Atom) (q : Path) (n place : ℕ) : Type 0 where
-  pub index : ℕ
-  pub field : Field
-  pub less : index < n
-  pub there : slice_get (fields nodes) index ≡ Some field
-  pub holds : IsSupersededIn field.shape list (node_path q field.number) place
-
 -- Some field holds data at the path.
 record HasHolder (nodes : Nodes) (q : Path) (keep : Keeping) (p : Path) : Type 0 where
   index : ℕ
   field : Field
-  less : index < length (fields nodes)
   there : slice_get (fields nodes) index ≡ Some field
   holds : HoldsData field.shape (node_path q field.number) keep p
 
 holder_of : (nodes : Nodes) (q : Path) (keep : Keeping) (p : Path) → SomeHoldsData nodes q keep p → HasHolder nodes q keep p
 holder_of no_node q keep p none = absurd none
-holder_of (node name number shape nodes) q keep p (inl h) = record { index = 0; field = record { name = name; number = number; shape = shape }; less = omega arith; there = refl; holds = h }
+holder_of (node name number shape nodes) q keep p (inl h) = record { index = 0; field = record { name = name; number = number; shape = shape }; there = refl; holds = h }
 holder_of (node name number shape nodes) q keep p (inr h) =
-    let s = holder_of nodes q keep p h in record { index = suc s.index; field = s.field; less = omega (arith, s.less); there = s.there; holds = s.holds }
+    let s = holder_of nodes q keep p h in record { index = suc s.index; field = s.field; there = s.there; holds = s.holds }
 
 holder_back : (nodes : Nodes) (q : Path) (keep : Keeping) (p : Path) (i : ℕ) (f : Field) → slice_get (fields nodes) i ≡ Some f → HoldsData f.shape (node_path q f.number) keep p → SomeHoldsData nodes q keep p
 holder_back no_node q keep p i f e h = cc
@@ -81,36 +72,16 @@ holder_back (node name number shape nodes) q keep p zero f e h =
     inl (subst (λ (g : Field). HoldsData g.shape (node_path q g.number) keep p) (sym same) h)
 holder_back (node name number shape nodes) q keep p (suc i) f e h = inr (holder_back nodes q keep p i f e h)
 
-pub bag_is : (nodes : Nodes) (list : List Atom) (q : Path) (place : ℕ) → IsInFirst nodes list q (length (fields nodes)) place ↔ IsSupersededIn (Bag nodes) list q place
+-- It is superseded in a field of this shape, whatever its place.
+abbrev pub InField : List Atom → ℕ → Field → Path → ℕ → Type 0
+InField list at field p place = IsSupersededIn field.shape list p place
+
+pub bag_is : (nodes : Nodes) (list : List Atom) (q : Path) (place : ℕ) → HoldsAtField nodes (InField list) q place ↔ IsSupersededIn (Bag nodes) list q place
 bag_is nodes list q place = (
-  λ s. record { keep = s.holds.keep; path = s.holds.path; holds = holder_back nodes q s.holds.keep s.holds.path s.index s.field s.there s.holds.holds; way = s.holds.way },
+  λ s. record { keep = s.holds.keep; path = s.holds.path; holds = holder_back nodes q s.holds.keep s.holds.path s.at s.field s.there s.holds.holds; way = s.holds.way },
   λ s. let h = holder_of nodes q s.keep s.path s.holds in
-      record { index = h.index; field = h.field; less = h.less; there = h.there; holds = record { keep = s.keep; path = s.path; holds = h.holds; way = s.way } },
+      record { at = h.index; field = h.field; there = h.there; holds = record { keep = s.keep; path = s.path; holds = h.holds; way = s.way } },
 )
-
-pub none_in_first : (nodes : Nodes) (list : List Atom) (q : Path) (place : ℕ) → IsInFirst nodes list q 0 place → ⊥
-none_in_first nodes list q place s = let l = s.less in omega (arith, l)
-
--- One field more.
-pub first_more : (nodes : Nodes) (list : List Atom) (q : Path) (n : ℕ) (f : Field) → slice_get (fields nodes) n ≡ Some f → (place : ℕ)
-    → (IsInFirst nodes list q n place ⊎ IsSupersededIn f.shape list (node_path q f.number) place) ↔ IsInFirst nodes list q (n + 1) place
-first_more nodes list q n f is place = (there, back)
-  where
-    there : IsInFirst nodes list q n place ⊎ IsSupersededIn f.shape list (node_path q f.number) place → IsInFirst nodes list q (n + 1) place
-    there (inl s) = record { index = s.index; field = s.field; less = let l = s.less in omega (arith, l); there = s.there; holds = s.holds }
-    there (inr h) = record { index = n; field = f; less = omega arith; there = is; holds = h }
-
-    here : (s : IsInFirst nodes list q (n + 1) place) → s.index ≡ n → IsSupersededIn f.shape list (node_path q f.number) place
-    here s same =
-        let one : s.field ≡ f = (let a : slice_get (fields nodes) n ≡ Some s.field = subst (λ i. slice_get (fields nodes) i ≡ Some s.field) same s.there in cc) in
-        subst (λ (g : Field). IsSupersededIn g.shape list (node_path q g.number) place) one s.holds
-
-    back : IsInFirst nodes list q (n + 1) place → IsInFirst nodes list q n place ⊎ IsSupersededIn f.shape list (node_path q f.number) place
-    back s = elim (cases_order s.index n) [
-      | inl same ↦ inr (here s same)
-      | inr (inl less) ↦ inl (record { index = s.index; field = s.field; less = less; there = s.there; holds = s.holds })
-      | inr (inr more) ↦ absurd (let l = s.less in omega (arith, l, more))
-    ]
 
 -- ---- what is superseded stands below the field's header
 
@@ -132,26 +103,3 @@ key_superseded shape list q key place s = superseded_below shape list q (atom_of
 
 pub node_superseded : (shape : Shape) (list : List Atom) (q : Path) (number place : ℕ) → IsSupersededIn shape list (node_path q number) place → PathsOf list (node_path q number)
 node_superseded shape list q number place s = superseded_below shape list q (atom_of (Indexed (length q) number)) place s
-
--- A field that isn't there adds nothing.
-pub first_absent : (nodes : Nodes) (list : List Atom) (q : Path) (n : ℕ) (f : Field) → slice_get (fields nodes) n ≡ Some f → IsBare (PathsOf list) (node_path q f.number) → (place : ℕ)
-    → IsInFirst nodes list q n place ↔ IsInFirst nodes list q (n + 1) place
-first_absent nodes list q n f is bare place = (
-  λ s. (first_more nodes list q n f is place).0 (inl s),
-  λ s. elim ((first_more nodes list q n f is place).1 s) [
-    | inl t ↦ t
-    | inr h ↦ absurd (bare [] (subst (PathsOf list) (sym (append-nil (node_path q f.number))) (node_superseded f.shape list q f.number place h)))
-  ],
-)
-
--- All fields.
-pub all_first : (nodes : Nodes) (list : List Atom) (q : Path) (n : ℕ) → length (fields nodes) ≤ n → (place : ℕ) → IsInFirst nodes list q n place ↔ IsSupersededIn (Bag nodes) list q place
-all_first nodes list q n all place = (
-  λ s. (bag_is nodes list q place).0 (record { index = s.index; field = s.field; less = get_within (fields nodes) s.index s.field s.there; there = s.there; holds = s.holds }),
-  λ s. let h = (bag_is nodes list q place).1 s in record { index = h.index; field = h.field; less = (let l = h.less in omega (arith, l, all)); there = h.there; holds = h.holds },
-)
-  where
-    get_within : (fs : List Field) (i : ℕ) (f : Field) → slice_get fs i ≡ Some f → i < length fs
-    get_within [] i f e = cc
-    get_within (g ∷ fs) zero f e = omega arith
-    get_within (g ∷ fs) (suc i) f e = omega (arith, get_within fs i f e)

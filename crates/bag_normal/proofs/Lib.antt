@@ -1,7 +1,8 @@
 mod Places
 mod DataParts
+mod Turns
+mod FieldHeaders
 mod Below
 mod Keys
-mod SlotShapes
 mod SlotTurns
 mod NamesApart

@@ -1,2 +1,3 @@
 pub mod Superseded
+pub mod Headers
 pub mod Gone

@@ -11,8 +11,9 @@ ghost use Rattle.bag_normal.specs.Superseded.{GivesWayAt, IsSupersededIn, HoldsA
 ghost use Rattle.bag_normal.specs.Gone.{RisesTo, Adds};
 
 use crate::data::{add_earlier_data, add_later_data};
+use crate::headers::next_field;
 use atom_list::AtomList;
-use bag_scan::{find_field, find_key, segment_end};
+use bag_scan::{find_key, segment_end};
 use field_table::{Shape, Slots};
 use outside::Memory;
 
@@ -124,12 +125,17 @@ fn add_fields(
         gone.old.items gone.new.items) }
 {
     let mut place = from;
-    for at in 0..fields.len() {
-        let field = fields.get(at).unwrap();
-        match find_field(list, level, u64::from(field.number), place) {
-            Ok(behind) => place = add_field(&field.shape, list, level + 1, behind, gone)?,
-            Err(stop) => place = stop,
+    'headers: while place < list.len() {
+        match next_field(fields, list, level, place) {
+            Ok((_, field, behind)) => place = add_field(
+                &field.shape,
+                list,
+                level + 1,
+                behind,
+                gone,
+            )?,
+            Err(stop) => return Ok(stop),
         }
     }
-    Ok(segment_end(list, level, place))
+    Ok(place)
 }

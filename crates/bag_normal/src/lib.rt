@@ -3,6 +3,8 @@
 
 mod data;
 mod fields;
+mod headers;
+mod known;
 mod normal_form;
 #[cfg(test)]
 mod tests;

@@ -6,9 +6,8 @@ ghost use Rattle.context_model.specs.Orders.{IsIn, Rises};
 ghost use Rattle.bag_model.specs.Normal.{IsNormalOf, IsSupersededAt};
 ghost use Rattle.field_table.specs.Views.{view_of};
 
-use crate::fields::add_field;
+use crate::known::add_known_fields;
 use atom_list::Context;
-use bag_scan::spans_of;
 use field_table::{Table, View};
 use outside::Memory;
 use std::alloc::Global;
@@ -23,6 +22,9 @@ pub fn normal(
 ) -> Result<Context, Memory>
     ensures { IfOk result (λ normal. IsNormalOf table.now (view_of view.now) context normal) }
 {
+    if let View::Nothing = view {
+        return Ok(context);
+    }
     let gone = superseded(alloc, table, view, &context)?;
     context.drop_data(gone.as_slice());
     Ok(context)
@@ -39,17 +41,7 @@ fn superseded(
     ensures exact { IfOk result (λ gone. (place : ℕ) →
         IsIn place gone.items ↔ IsSupersededAt table.now (view_of view.now) context.now place) }
 {
-    // The proof learns here that the fields make a table.
-    let _ = table.nodes();
-    let spans = spans_of(alloc, table, context)?;
     let mut gone = Vec::new(alloc);
-    for (slot, span) in spans.iter().enumerate() {
-        if let Some(from) = span.from {
-            if view.knows(slot) {
-                let level = table.numbers(slot).as_slice().len();
-                add_field(table.shape(slot), context.list(), level, from, &mut gone)?;
-            }
-        }
-    }
+    add_known_fields(table.nodes(), view, 0, context.list(), 0, 0, &mut gone)?;
     Ok(gone)
 }

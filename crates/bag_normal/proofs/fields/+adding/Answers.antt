@@ -1,27 +1,24 @@
-use Rattle.std.proofs.Common.{◌≡◌, ◌⊎◌, ℕ, ◌+◌, ◌<◌, ◌≤◌, Vec, Global, sym, ap, ◌∙◌, subst, arith}
-use Rattle.context_model.specs.Kinds.{atom_of}
-use Rattle.context_model.specs.Kinds.Kind.{Indexed}
+use Rattle.std.proofs.Common.{◌≡◌, ℕ, ◌+◌, ◌<◌, ◌≤◌, List, sym, ap, ◌∙◌, subst, arith}
+use Rattle.context_model.specs.Atoms.{Atom}
 use Rattle.context_model.specs.Paths.{path_before}
 use Rattle.bag_model.specs.Normal.{LeastDatum, GreatestDatum}
-use Rattle.bag_model.specs.Readings.{node_path}
 use Rattle.bag_model.specs.Shapes as model
-use Rattle.bag_model.specs.Shapes.{fields}
 use Rattle.bag_model.proofs.PathLaws.{is_field}
 use Rattle.scalar_types.specs.KindViews.{kind_of}
-use Rattle.field_table.specs.Plain.{nodes_of, shape_of}
-use Rattle.field_table.proofs.Held.{levels_there}
+use Rattle.field_table.specs.declared.shapes.Slot.{Slot}
+use Rattle.field_table.specs.Plain.{nodes_of, shape_of, field_of}
+use Rattle.field_table.proofs.Held.{levels_there, field_is}
+use Rattle.bag_model.proofs.SizeLaws.{size_at}
+use Rattle.bag_scan.proofs.FieldGets.{opened}
 use Rattle.field_table.proofs.Shown.{scalar_shown, counter_shown, map_shown}
-use Rattle.bag_walks.specs.Parts.{IsBehind}
-use Rattle.bag_scan.specs.Found.{IsFoundBehind, IsMissing}
-use Rattle.bag_scan.proofs.FieldGets.{opened, field_at, field_smaller, field_there}
-use Rattle.bag_scan.proofs.FieldTurns.{IsBefore, level_few, field_behind, field_level, field_passed, field_bare, field_missed}
-use Rattle.bag_normal.specs.Gone.{RisesTo, Adds}
+use Rattle.bag_normal.specs.Gone.{Adds}
+use Rattle.bag_normal.specs.Headers.{IsFieldFound}
 use Rattle.bag_normal.specs.Superseded.{GivesWayAt, IsSupersededIn, HoldsAtKey}
 use Rattle.bag_normal.proofs.Places.{rises_on, adds_same, adds_both, on_ok}
-use Rattle.bag_normal.proofs.Below.{scalar_is, counter_is, map_is, IsInFirst, first_more, first_absent, all_first, key_superseded}
+use Rattle.bag_normal.proofs.Below.{scalar_is, counter_is, map_is, bag_is, InField, key_superseded, node_superseded}
+use Rattle.bag_normal.proofs.FieldHeaders.{field_behind, field_level, field_on, fields_more, fields_all, HoldsAtField, no_field_at_end}
 use Rattle.bag_normal.proofs.Keys.{key_behind, key_level, place_on, keys_more, keys_all, stop_on, no_key_at_end}
 use Rattle.bag_normal.proofs.fields.+adding.Goals as goal
-use Rattle.bag_normal.proofs.fields.+adding.Goals.{add_fields-in-Ok+in_ok-place-in-Ok, add_fields-in-Err}
 
 -- ---- a field, by its shape
 
@@ -131,85 +128,74 @@ add_values-returns-clause-adds t c =
 
 -- ---- the fields of a bag
 
-pub add_fields-unwrap-field-requires : goal.add_fields-unwrap-field-requires
-add_fields-unwrap-field-requires t c = field_there c.args.fields.now c.loop-at.at c.get.result c.get.ensures (omega (arith, c.loop-at-test.true, c.len-at-end.ensures))
-
-pub add_fields-find_field-requires-clause-level : goal.add_fields-find_field-requires-clause-level
-add_fields-find_field-requires-clause-level t c =
-    let list = c.args.list.now in
-    let there = field_at c.args.fields.now c.loop-at.at c.get.result c.unwrap-field.result c.get.ensures c.unwrap-field.ensures in
-    level_few list (path_before list c.args.from) c.args.from c.args.level (nodes_of c.args.fields.now) c.loop-at.at (opened c.unwrap-field.result.now) c.loop-at.place
-    c.requires.level c.requires.behind c.requires.fields c.requires.room there c.loop-at.invariant.before
+-- The field that was found, by its parts.
+found_open : (nodes : model.Nodes) (list : List Atom) (level from at : ℕ) (x : Slot) (behind : ℕ) → IsFieldFound nodes list level from at (field_of x) behind → IsFieldFound nodes list level from at (opened x) behind
+found_open nodes list level from at x behind found = subst (λ f. IsFieldFound nodes list level from at f behind) (field_is x) found
 
 pub add_fields-add_field-requires : goal.add_fields-add_field-requires
 add_fields-add_field-requires t c =
     let list = c.args.list.now in
     let q = path_before list c.args.from in
     let nodes = nodes_of c.args.fields.now in
-    let at = c.loop-at.at in
-    let f = opened c.unwrap-field.result.now in
-    let there = field_at c.args.fields.now at c.get.result c.unwrap-field.result c.get.ensures c.unwrap-field.ensures in
-    let less = field_smaller c.args.fields.now at c.get.result c.unwrap-field.result c.get.ensures c.unwrap-field.ensures in
-    let found = subst (λ n. IsFoundBehind list c.args.level (atom_of (Indexed c.args.level n)) c.loop-at.place c.in-Ok.behind) c.from.ensures c.in-Ok.ensures.found in
-    let levels = levels_there nodes at f there in
-    let behind = field_behind list q c.args.from c.args.level nodes at f c.loop-at.place c.requires.level c.requires.behind c.requires.fields c.requires.room there c.loop-at.invariant.before c.in-Ok.behind found in
-    let on : c.loop-at.place ≤ c.in-Ok.behind = omega (arith, found.sought.before.stays.rises, found.next) in (
-      omega (arith, c.decreases, less),
+    let f = opened c.in-Ok.field.now in
+    let i = c.in-Ok.field-0-0 in
+    let found = found_open nodes list c.args.level c.headers.place i c.in-Ok.field.now c.in-Ok.behind c.in-Ok.ensures.found in
+    let come = c.headers.invariant.fields in
+    let before = c.args.gone.now.items in
+    let held = c.headers.gone.items in
+    let levels = levels_there nodes i f found.header.there in
+    let smaller = size_at nodes i f found.header.there in (
+      omega (arith, c.decreases, smaller),
       (
-        subst (λ p. IsBehind list p c.in-Ok.behind) (sym behind.path) behind,
+        field_behind nodes (InField list) list q c.args.level c.args.from c.headers.place c.requires.level c.requires.fields c.requires.room c.requires.behind before held come i f c.in-Ok.behind found,
         (
-          field_level list q c.args.from c.args.level nodes at f c.loop-at.place c.requires.level c.requires.behind c.requires.fields c.requires.room there c.loop-at.invariant.before c.in-Ok.behind found,
-          ((is_field nodes at f c.requires.fields there).1, (omega (arith, levels, c.requires.room), rises_on c.loop-at.gone.items c.loop-at.place c.in-Ok.behind on c.loop-at.invariant.rises)),
+          field_level nodes (InField list) list q c.args.level c.args.from c.headers.place c.requires.level c.requires.fields c.requires.room c.requires.behind before held come i f c.in-Ok.behind found,
+          (
+            (is_field nodes i f c.requires.fields found.header.there).1,
+            (
+              omega (arith, levels, c.requires.room),
+              rises_on held c.headers.place c.in-Ok.behind
+                  (field_on nodes (InField list) list q c.args.level c.args.from c.headers.place c.requires.level c.requires.fields c.requires.room c.requires.behind before held come i f c.in-Ok.behind found)
+                  c.headers.invariant.rises,
+            ),
+          ),
         ),
       ),
     )
 
-pub add_fields-loop-at-preserved : goal.add_fields-loop-at-preserved
-add_fields-loop-at-preserved t c =
+pub add_fields-headers-preserved : goal.add_fields-headers-preserved
+add_fields-headers-preserved t c =
     let list = c.args.list.now in
     let q = path_before list c.args.from in
     let nodes = nodes_of c.args.fields.now in
-    let at = c.loop-at.at in
-    let f = opened c.unwrap-field.result.now in
-    let start = c.args.gone.now.items in
-    let held = c.loop-at.gone.items in
-    let there = field_at c.args.fields.now at c.get.result c.unwrap-field.result c.get.ensures c.unwrap-field.ensures in
-    let Kept = λ (gone : Vec ℕ Global) (place : ℕ). record {
-      rises : RisesTo gone.items place;
-      before : IsBefore list c.args.level nodes c.args.from (at + 1) place;
-      adds : Adds (IsInFirst nodes list q (at + 1)) start gone.items;
-    } in
-    elim c.match-find_field.branch [
-      | add_fields-in-Ok+in_ok-place-in-Ok w ↦
-          let found = subst (λ n. IsFoundBehind list c.args.level (atom_of (Indexed c.args.level n)) c.loop-at.place w.in-Ok.behind) c.from.ensures w.in-Ok.ensures.found in
-          let behind = field_behind list q c.args.from c.args.level nodes at f c.loop-at.place c.requires.level c.requires.behind c.requires.fields c.requires.room there c.loop-at.invariant.before w.in-Ok.behind found in
-          let after = w.add_field.new.gone.items in
-          let added = subst (λ p. Adds (IsSupersededIn f.shape list p) held after) behind.path w.in_ok-place-in-Ok.ensures.adds in
-          subst (λ gone. Kept gone c.match-find_field.place) (sym w.gone-is) (subst (λ place. Kept w.add_field.new.gone place) (sym w.place-is) (record {
-            rises = w.in_ok-place-in-Ok.ensures.rises;
-            before = field_passed list q c.args.from c.args.level nodes at f c.loop-at.place c.requires.level c.requires.behind c.requires.fields c.requires.room there c.loop-at.invariant.before w.in-Ok.behind found
-                w.in_ok-place-in-Ok.place w.in_ok-place-in-Ok.ensures.segment;
-            adds = adds_same (λ p. IsInFirst nodes list q at p ⊎ IsSupersededIn f.shape list (node_path q f.number) p) (IsInFirst nodes list q (at + 1)) start after (first_more nodes list q at f there)
-                (adds_both (IsInFirst nodes list q at) (IsSupersededIn f.shape list (node_path q f.number)) start held after c.loop-at.invariant.adds added);
-          }))
-      | add_fields-in-Err w ↦
-          let missing = subst (λ n. IsMissing list c.args.level (atom_of (Indexed c.args.level n)) c.loop-at.place w.in-Err.stop) c.from.ensures w.in-Err.ensures.missing in
-          let bare = field_bare list q c.args.from c.args.level nodes at f c.loop-at.place c.requires.level c.requires.behind c.requires.fields c.requires.room there c.loop-at.invariant.before w.in-Err.stop missing in
-          subst (λ gone. Kept gone c.match-find_field.place) (sym w.gone-is) (subst (λ place. Kept c.loop-at.gone place) (sym w.place-is) (record {
-            rises = rises_on held c.loop-at.place w.in-Err.stop missing.sought.before.stays.rises c.loop-at.invariant.rises;
-            before = field_missed list q c.args.from c.args.level nodes at f c.loop-at.place c.requires.level c.requires.behind c.requires.fields c.requires.room there c.loop-at.invariant.before w.in-Err.stop missing;
-            adds = adds_same (IsInFirst nodes list q at) (IsInFirst nodes list q (at + 1)) start held (first_absent nodes list q at f there bare) c.loop-at.invariant.adds;
-          }))
-    ]
+    let f = opened c.in-Ok.field.now in
+    let i = c.in-Ok.field-0-0 in
+    let found = found_open nodes list c.args.level c.headers.place i c.in-Ok.field.now c.in-Ok.behind c.in-Ok.ensures.found in
+    record {
+      rises = c.in_ok-place-in-Ok.ensures.rises;
+      fields = fields_more nodes (InField list) list q c.args.level c.args.from c.headers.place c.requires.level c.requires.fields c.requires.room c.requires.behind c.args.gone.now.items c.headers.gone.items
+          c.headers.invariant.fields i f c.in-Ok.behind found c.in_ok-place-in-Ok.place c.in_ok-place-in-Ok.ensures.segment.part c.add_field.new.gone.items c.in_ok-place-in-Ok.ensures.adds;
+    }
 
-pub add_fields-returns-clause-rises : goal.add_fields-returns-clause-rises
-add_fields-returns-clause-rises t c = rises_on c.loop-at.gone.items c.loop-at.place c.segment_end.result c.segment_end.ensures.part.rises c.loop-at.invariant.rises
+pub add_fields-returns-in-Err-clause-rises : goal.add_fields-returns-in-Err-clause-rises
+add_fields-returns-in-Err-clause-rises t c = rises_on c.headers.gone.items c.headers.place c.in-Err.stop c.in-Err.ensures.none.segment.part.rises c.headers.invariant.rises
+
+pub add_fields-returns-in-Err-clause-adds : goal.add_fields-returns-in-Err-clause-adds
+add_fields-returns-in-Err-clause-adds t c =
+    let list = c.args.list.now in
+    let q = path_before list c.args.from in
+    let nodes = nodes_of c.args.fields.now in
+    adds_same (HoldsAtField nodes (InField list) q) (IsSupersededIn (model.Shape.Bag nodes) list q) c.args.gone.now.items c.headers.gone.items (bag_is nodes list q)
+    (fields_all nodes (InField list) list q c.args.level c.args.from c.headers.place c.requires.level c.requires.fields c.requires.room c.requires.behind c.args.gone.now.items c.headers.gone.items
+    c.headers.invariant.fields c.in-Err.stop c.in-Err.ensures.none (λ i f p s. node_superseded f.shape list q f.number p s))
 
 pub add_fields-returns-clause-adds : goal.add_fields-returns-clause-adds
 add_fields-returns-clause-adds t c =
     let list = c.args.list.now in
     let q = path_before list c.args.from in
     let nodes = nodes_of c.args.fields.now in
-    let n = c.loop-at.at in
-    adds_same (IsInFirst nodes list q n) (IsSupersededIn (model.Shape.Bag nodes) list q) c.args.gone.now.items c.loop-at.gone.items
-    (all_first nodes list q n (omega (arith, c.loop-at-test.false, c.len-at-end.ensures))) c.loop-at.invariant.adds
+    adds_same (HoldsAtField nodes (InField list) q) (IsSupersededIn (model.Shape.Bag nodes) list q) c.args.gone.now.items c.headers.gone.items (bag_is nodes list q)
+    (fields_all nodes (InField list) list q c.args.level c.args.from c.headers.place c.requires.level c.requires.fields c.requires.room c.requires.behind c.args.gone.now.items c.headers.gone.items
+    c.headers.invariant.fields c.headers.place
+    (no_field_at_end nodes list c.args.level c.headers.place c.headers.invariant.fields.stays.within (omega (arith, c.headers-test.false, c.len.ensures.len)))
+    (λ i f p s. node_superseded f.shape list q f.number p s))

@@ -2,10 +2,10 @@ use Rattle.std.proofs.Common.{◌+◌, ◌-◌, length}
 use Rattle.context_model.specs.Paths.{path_before}
 use Rattle.bag_model.specs.Sizes.{shape_size, nodes_size}
 use Rattle.field_table.specs.Plain.{nodes_of, shape_of}
-use Rattle.bag_scan.proofs.FieldTurns.{IsBefore}
-use Rattle.bag_normal.specs.Gone.{RisesTo, Adds}
+use Rattle.bag_normal.specs.Gone.{RisesTo}
 use Rattle.bag_normal.specs.Superseded.{IsSupersededIn}
-use Rattle.bag_normal.proofs.Below.{IsInFirst}
+use Rattle.bag_normal.proofs.Below.{InField}
+use Rattle.bag_normal.proofs.FieldHeaders.{AddsFields}
 use Rattle.bag_normal.proofs.Keys.{AddsKeys}
 use Rattle.bag_normal.proofs.fields.+adding.Given as goal
 
@@ -28,9 +28,11 @@ invariant-add_values-keys l = record {
 abbrev pub decreases-add_values-keys : goal.decreases-add_values-keys
 decreases-add_values-keys l = length l.list - l.place
 
-abbrev pub invariant-add_fields-loop-at : goal.invariant-add_fields-loop-at
-invariant-add_fields-loop-at l = record {
+abbrev pub invariant-add_fields-headers : goal.invariant-add_fields-headers
+invariant-add_fields-headers l = record {
   rises : RisesTo l.gone.items l.place;
-  before : IsBefore l.list l.level (nodes_of l.fields) l.fn.from l.at l.place;
-  adds : Adds (IsInFirst (nodes_of l.fields) l.list (path_before l.list l.fn.from) l.at) l.fn.gone.items l.gone.items;
+  fields : AddsFields (nodes_of l.fields) (InField l.list) l.list (path_before l.list l.fn.from) l.level l.fn.from l.place l.fn.gone.items l.gone.items;
 }
+
+abbrev pub decreases-add_fields-headers : goal.decreases-add_fields-headers
+decreases-add_fields-headers l = length l.list - l.place

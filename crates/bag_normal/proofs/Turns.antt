@@ -1,0 +1,167 @@
+-- One turn of a walk over the wanted headers of one level behind a path: the next is found, or there is none.
+use Rattle.std.proofs.Common.{◌≡◌, ◌⊎◌, inl, inr, ◌↔◌, ℕ, ◌+◌, ◌<◌, ◌≤◌, true, List, [], ◌∷◌, ◌++◌, length, refl, sym, ap, ◌∙◌, subst, arith, le_refl}
+use Rattle.std.proofs.lemmas.Bool.{cases_order}
+use Rattle.std.proofs.lemmas.List.{length-append}
+use Rattle.context_model.specs.Atoms.{Atom}
+use Rattle.context_model.specs.Orders.{Path}
+use Rattle.context_model.specs.Paths.{is_header, level, atom_at, path_before}
+use Rattle.bag_model.specs.Readings.{PathsOf}
+use Rattle.bag_walks.specs.Parts.{IsBehind, StaysBelow, IsSegment, Stands}
+use Rattle.bag_walks.proofs.Inside.{inside_along, child_behind}
+use Rattle.bag_walks.proofs.Bridge.{headers_are}
+use Rattle.bag_walks.proofs.Sets.{stands_on}
+use Rattle.bag_walks.proofs.Turns.{stays_none, stays_whole, stays_higher, segment_whole}
+use Rattle.bag_normal.specs.Gone.{Adds}
+use Rattle.bag_normal.proofs.Places.{adds_none, adds_both, adds_same}
+
+-- From the one place up to the other no wanted header stands, and no header of a lesser level.
+pub record PassesNone (W : Atom → Type 0) (list : List Atom) (depth from to : ℕ) : Type 0 where
+  pub stays : StaysBelow list depth from to
+  pub none : (k : ℕ) → from ≤ k → k < to → W (atom_at list k) → ⊥
+
+-- P holds of the place behind a wanted header that stands from the one place up to the other.
+pub record HoldsAtPassed (W : Atom → Type 0) (P : Atom → ℕ → Type 0) (list : List Atom) (from to place : ℕ) : Type 0 where
+  pub header : Atom
+  pub wanted : W header
+  pub stands : Stands list header from to
+  pub holds : P header place
+
+-- It holds of the place behind some wanted header.
+pub record HoldsAtWanted (W : Atom → Type 0) (P : Atom → ℕ → Type 0) (place : ℕ) : Type 0 where
+  pub header : Atom
+  pub wanted : W header
+  pub holds : P header place
+
+-- What was added at the wanted headers up to a place.
+pub record AddsBehind (W : Atom → Type 0) (P : Atom → ℕ → Type 0) (list : List Atom) (depth from to : ℕ) (before after : List ℕ) : Type 0 where
+  pub stays : StaysBelow list depth from to
+  pub adds : Adds (HoldsAtPassed W P list from to) before after
+
+pub behind_none : (W : Atom → Type 0) (P : Atom → ℕ → Type 0) (list : List Atom) (depth from : ℕ) (gone : List ℕ) → from ≤ length list → AddsBehind W P list depth from from gone gone
+behind_none W P list depth from gone within = record {
+  stays = stays_none list depth from within;
+  adds = adds_none (HoldsAtPassed W P list from from) gone (λ place h. let s = h.stands in omega (arith, s.from_on, s.up_to));
+}
+
+-- Nothing stands between a place and itself.
+pub passes_none : (W : Atom → Type 0) (list : List Atom) (depth at : ℕ) → at ≤ length list → PassesNone W list depth at at
+passes_none W list depth at within = record { stays = stays_none list depth at within; none = λ k m n. absurd (omega arith) }
+
+-- The end of the list ends what stands below any path.
+pub segment_at_end : (list : List Atom) (depth at : ℕ) → at ≤ length list → length list ≤ at → IsSegment list depth at at
+segment_at_end list depth at within l = record { part = stays_none list depth at within; ends = λ less. absurd (omega arith) }
+
+module _ (W : Atom → Type 0) (P : Atom → ℕ → Type 0) (list : List Atom) (q : Path) (depth from at : ℕ) (own : length q ≡ depth)
+    (at_level : (h : Atom) → W h → (is_header h ≡ true) × (level h ≡ depth)) (behind : IsBehind list q from) (before gone : List ℕ) (come : AddsBehind W P list depth from at before gone) where
+  -- ---- the next wanted header stands at a place
+
+  module _ (place : ℕ) (passed : PassesNone W list depth at place) (within : place < length list) (wanted : W (atom_at list place)) where
+    stays : StaysBelow list depth from place
+    stays = stays_whole list depth from at place come.stays passed.stays
+
+    its_level : level (atom_at list place) ≡ depth
+    its_level = (at_level (atom_at list place) wanted).1
+
+    it_behind : IsBehind list (q ++ atom_at list place ∷ []) (place + 1)
+    it_behind =
+        child_behind list q place behind.well_formed behind.headers within
+        (inside_along list q from place behind (subst (λ d. StaysBelow list d from place) (sym own) stays) place stays.rises (le_refl place))
+        (at_level (atom_at list place) wanted).0 (its_level ∙ sym own)
+
+    pub path_is : path_before list (place + 1) ≡ q ++ atom_at list place ∷ []
+    path_is = it_behind.path
+
+    pub header_behind : IsBehind list (path_before list (place + 1)) (place + 1)
+    header_behind = subst (λ p. IsBehind list p (place + 1)) (sym path_is) it_behind
+
+    pub header_level : length (path_before list (place + 1)) ≡ depth + 1
+    header_level = ap length path_is ∙ length-append q (atom_at list place ∷ []) ∙ (let e : length q + 1 ≡ depth + 1 = ap (λ n. n + 1) own in e)
+
+    pub place_on : at ≤ place
+    place_on = passed.stays.rises
+
+    module _ (next : ℕ) (deep : StaysBelow list (depth + 1) (place + 1) next) where
+      upto : StaysBelow list depth from (place + 1)
+      upto = record {
+        rises = omega (arith, stays.rises);
+        within = omega (arith, within);
+        deep = λ k l m e. elim (cases_order k place) [
+          | inl same ↦ (let lv : level (atom_at list k) ≡ depth = ap (λ i. level (atom_at list i)) same ∙ its_level in omega (arith, lv))
+          | inr (inl less) ↦ stays.deep k l less e
+          | inr (inr more) ↦ absurd (omega (arith, m, more))
+        ];
+      }
+
+      stays_next : StaysBelow list depth from next
+      stays_next = stays_whole list depth from (place + 1) next upto (stays_higher list (depth + 1) depth (place + 1) next (omega arith) deep)
+
+      -- A wanted header that stands up to the next place is an earlier one, or this.
+      split : (p : ℕ) → (HoldsAtPassed W P list from at p ⊎ P (atom_at list place) p) ↔ HoldsAtPassed W P list from next p
+      split p = (there, back)
+        where
+          there : HoldsAtPassed W P list from at p ⊎ P (atom_at list place) p → HoldsAtPassed W P list from next p
+          there (inl s) = record { header = s.header; wanted = s.wanted; stands = stands_on list s.header from at next (omega (arith, passed.stays.rises, deep.rises)) s.stands; holds = s.holds }
+          there (inr holds) = record {
+            header = atom_at list place;
+            wanted = wanted;
+            stands = record { place = place; from_on = stays.rises; up_to = omega (arith, deep.rises); atom = refl };
+            holds = holds;
+          }
+
+          back : HoldsAtPassed W P list from next p → HoldsAtPassed W P list from at p ⊎ P (atom_at list place) p
+          back s = elim (cases_order s.stands.place place) [
+            | inl same ↦ inr (subst (λ h. P h p) (sym s.stands.atom ∙ ap (atom_at list) same) s.holds)
+            | inr (inl less) ↦ elim (cases_order s.stands.place at) as (λ v. HoldsAtPassed W P list from at p ⊎ P (atom_at list place) p) [
+              | inl same ↦ absurd (passed.none s.stands.place (omega (arith, same)) less (subst W (sym s.stands.atom) s.wanted))
+              | inr (inl early) ↦ inl (record { header = s.header; wanted = s.wanted; stands = record { place = s.stands.place; from_on = s.stands.from_on; up_to = early; atom = s.stands.atom }; holds = s.holds })
+              | inr (inr late) ↦ absurd (passed.none s.stands.place (omega (arith, late)) less (subst W (sym s.stands.atom) s.wanted))
+            ]
+            | inr (inr more) ↦ absurd (
+                let e = at_level s.header s.wanted in
+                let d = deep.deep s.stands.place (omega (arith, more)) s.stands.up_to (ap is_header s.stands.atom ∙ e.0) in
+                let lv : level (atom_at list s.stands.place) ≡ depth = ap level s.stands.atom ∙ e.1 in
+                omega (arith, d, lv))
+          ]
+
+      -- What is added at this header is added to that at the earlier ones.
+      pub headers_more : (after : List ℕ) → Adds (P (atom_at list place)) gone after → AddsBehind W P list depth from next before after
+      headers_more after adds = record {
+        stays = stays_next;
+        adds = adds_same (λ p. HoldsAtPassed W P list from at p ⊎ P (atom_at list place) p) (HoldsAtPassed W P list from next) before after split
+            (adds_both (HoldsAtPassed W P list from at) (P (atom_at list place)) before gone after come.adds adds);
+      }
+
+  -- ---- there is none
+
+  module _ (stop : ℕ) (passed : PassesNone W list depth at stop) (segment : IsSegment list depth at stop) where
+    pub headers_end : IsSegment list depth from stop
+    headers_end = segment_whole list depth from at stop come.stays segment
+
+    -- Then what was added is all.
+    pub headers_all : ((h : Atom) (p : ℕ) → W h → P h p → PathsOf list (q ++ h ∷ [])) → Adds (HoldsAtWanted W P) before gone
+    headers_all below =
+        adds_same (HoldsAtPassed W P list from at) (HoldsAtWanted W P) before gone
+        (λ p. (λ s. record { header = s.header; wanted = s.wanted; holds = s.holds }, λ s. back p s)) come.adds
+      where
+        whole : IsSegment list (length q) from stop
+        whole = subst (λ d. IsSegment list d from stop) (sym own) headers_end
+
+        back : (p : ℕ) → HoldsAtWanted W P p → HoldsAtPassed W P list from at p
+        back p s =
+            let e = at_level s.header s.wanted in
+            let stands : Stands list s.header from stop = (headers_are list q from stop s.header behind whole e.0 (e.1 ∙ sym own)).0 (below s.header p s.wanted s.holds) in
+            record {
+              header = s.header;
+              wanted = s.wanted;
+              stands = record {
+                place = stands.place;
+                from_on = stands.from_on;
+                up_to = elim (cases_order stands.place at) [
+                  | inl same ↦ absurd (passed.none stands.place (omega (arith, same)) stands.up_to (subst W (sym stands.atom) s.wanted))
+                  | inr (inl early) ↦ early
+                  | inr (inr late) ↦ absurd (passed.none stands.place (omega (arith, late)) stands.up_to (subst W (sym stands.atom) s.wanted))
+                ];
+                atom = stands.atom;
+              };
+              holds = s.holds;
+            }
