@@ -5,7 +5,8 @@ use Rattle.std.specs.Option.{option_map}
 use Rattle.std.specs.List.{join_with_byte}
 use Rattle.graph_lines.specs.Statements.{NamedView, NamedAct, Statement, All, Nothing, Only, Step}
 use Rattle.graph_lines.specs.Forms.{HasNoSpace}
-use Rattle.graph_lines.specs.Taken.{Answers, IsCut, IsViewText, IsBehind, IsStatementText, first_word}
+use Rattle.decimal_text.specs.Answers.{Answers}
+use Rattle.graph_lines.specs.Taken.{IsCut, IsViewText, IsBehind, IsStatementText, first_word}
 use Rattle.graph_lines.specs.Views.{statement_of}
 use Rattle.graph_lines.specs.declared.statements.Statement as code
 use Rattle.graph_lines.proofs.Separated.{free_there, same_cut}

@@ -5,11 +5,6 @@ use Rattle.std.specs.List.{AllByRecursion, join_with_byte}
 use Rattle.graph_lines.specs.Statements.{NamedView, NamedAct, Statement, Service, Step, Show}
 use Rattle.graph_lines.specs.Forms.{IsNumber, IsName, IsPath, IsSoundView, IsSoundAct, IsSound, view_words, act_name, act_words, words_of}
 
--- The answer is something of which the fact holds, or none where it holds of nothing.
-abbrev pub Answers : {A : Type 0} → (A → Type 0) → Option A → Type 0
-Answers holds (Some a) = holds a
-Answers {A} holds None = (a : A) → holds a → ⊥
-
 -- What was taken from the front of a text, with the rest of the text, is the one pair of which the fact holds; nothing was
 -- taken where it holds of none.
 abbrev pub Takes : {A : Type 0} → (A → List ℕ → Type 0) → Option (A × List ℕ) → Type 0

@@ -2,7 +2,8 @@
 
 ghost use Rattle.std.specs.Prelude.{codes, IfOk};
 ghost use Rattle.std.specs.Option.{option_map};
-ghost use Rattle.graph_lines.specs.Taken.{Answers, IsActText};
+ghost use Rattle.decimal_text.specs.Answers.{Answers};
+ghost use Rattle.graph_lines.specs.Taken.{IsActText};
 ghost use Rattle.graph_lines.specs.Views.{act_of};
 
 use crate::NamedAct;

@@ -2,9 +2,10 @@
 
 ghost use Rattle.std.specs.Prelude.{ℕ, codes, IfOk, MatchOption};
 ghost use Rattle.std.specs.Option.{option_map};
+ghost use Rattle.decimal_text.specs.Answers.{Answers};
 ghost use Rattle.graph_lines.specs.Statements as plain;
 ghost use Rattle.graph_lines.specs.Forms.{HasForm};
-ghost use Rattle.graph_lines.specs.Taken.{Answers, IsViewText, IsBehind, IsStatementText};
+ghost use Rattle.graph_lines.specs.Taken.{IsViewText, IsBehind, IsStatementText};
 ghost use Rattle.graph_lines.specs.Views.{view_of, statement_of};
 
 use crate::acts::read_act;

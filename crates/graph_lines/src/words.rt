@@ -5,8 +5,9 @@ ghost use Rattle.std.specs.Char.{is_ascii_digit};
 ghost use Rattle.std.specs.List.{list_all};
 ghost use Rattle.std.specs.Option.{option_map};
 ghost use Rattle.bag_model.specs.Words.{is_letter, is_word};
+ghost use Rattle.decimal_text.specs.Answers.{Answers};
 ghost use Rattle.graph_lines.specs.Forms.{IsPath, IsOneWord, HasNoSpace};
-ghost use Rattle.graph_lines.specs.Taken.{Answers, Takes, IsCut, NameThen, PathThen, ArePaths};
+ghost use Rattle.graph_lines.specs.Taken.{Takes, IsCut, NameThen, PathThen, ArePaths};
 
 use outside::Memory;
 use std::alloc::Global;

@@ -1,6 +1,7 @@
 -- Answers of one fact are answers of another that holds of the same.
 use Rattle.std.proofs.Common.{ℕ, List, Option, Some, None}
-use Rattle.write_text.specs.Taken.{Answers, Takes}
+use Rattle.decimal_text.specs.Answers.{Answers}
+use Rattle.write_text.specs.Taken.{Takes}
 
 pub takes_same : {A : Type 0} (P Q : A → List ℕ → Type 0) (taken : Option (A × List ℕ))
     → ((a : A) (rest : List ℕ) → P a rest → Q a rest) → ((a : A) (rest : List ℕ) → Q a rest → P a rest) → Takes P taken → Takes Q taken

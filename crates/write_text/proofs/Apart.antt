@@ -6,7 +6,7 @@ use Rattle.std.specs.List.{AllByRecursion}
 use Rattle.std.specs.Str.Parse.{AllDigits}
 use Rattle.std.proofs.lemmas.Bool.{eqb-true, false_from_ne_true}
 use Rattle.std.proofs.lemmas.Int.{ints}
-use Rattle.std.proofs.lemmas.Fmt.{digits_decimal, decimal_injective}
+use Rattle.std.proofs.lemmas.Fmt.{decimal_injective, decimal_is_IsNumeral}
 use Rattle.std.proofs.lemmas.List.{append_cancel_left}
 use Rattle.std.proofs.lemmas.List.Elements.{recursion_from_All}
 use Rattle.std.proofs.lemmas.Str.Parse.{digit_from_value}
@@ -17,7 +17,7 @@ use Rattle.bag_model.specs.Scalars.{Word, Plain, Truth, Signed, Unsigned, Text, 
 use Rattle.report_text.specs.ScalarTexts.{truth_text}
 use Rattle.write_text.specs.Literals.{IsPlainText}
 use Rattle.write_text.specs.Taken.{is_stop, IsInside, IsEnd, Begins}
-use Rattle.write_text.proofs.Decimals.{own, no_minus}
+use Rattle.write_text.proofs.Decimals.{no_minus}
 use Rattle.write_text.proofs.Quoted.{InsideThen, inside_apart}
 
 -- ---- bytes at which a literal ends
@@ -87,7 +87,7 @@ truth_inside true = (refl, (refl, (refl, (refl, tt))))
 truth_inside false = (refl, (refl, (refl, (refl, (refl, tt)))))
 
 decimal_inside : (n : ℕ) → n < 2 ^ 64 → AreInside (decimal n)
-decimal_inside n small = digits_inside (decimal n) (digits_decimal own n small)
+decimal_inside n small = digits_inside (decimal n) (decimal_is_IsNumeral n small).0.1
 
 signed_inside : (z : ℤ) → FitsSigned w64 z → AreInside (signed_decimal z)
 signed_inside (pos n) fits = decimal_inside n (omega (arith, ints))

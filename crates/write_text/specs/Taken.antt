@@ -1,11 +1,6 @@
 -- What is taken from the front of a text.
 use Rattle.std.specs.Prelude.{◌≡◌, ℕ, ◌==◌, ◌||◌, Bool, false, IsTrue, List, [], ◌∷◌, ◌++◌, Option, Some, None}
 
--- The answer is something of which the fact holds, or none where it holds of nothing.
-abbrev pub Answers : {A : Type 0} → (A → Type 0) → Option A → Type 0
-Answers holds (Some a) = holds a
-Answers {A} holds None = (a : A) → holds a → ⊥
-
 -- What was taken from the front of a text, with the rest of the text, is of the fact, or nothing is.
 abbrev pub Takes : {A : Type 0} → (A → List ℕ → Type 0) → Option (A × List ℕ) → Type 0
 Takes holds (Some (a, rest)) = holds a rest

@@ -2,7 +2,8 @@
 
 ghost use Rattle.std.specs.Prelude.{◌≡◌, ◌∷◌, ◌++◌, ◌↔◌, All, IsTrue};
 ghost use Rattle.std.specs.Option.{option_map};
-ghost use Rattle.write_text.specs.Taken.{is_stop, Answers, IsEnd, IsInside};
+ghost use Rattle.decimal_text.specs.Answers.{Answers};
+ghost use Rattle.write_text.specs.Taken.{is_stop, IsEnd, IsInside};
 
 /// The text behind this byte; none where the text doesn't begin with it.
 pub(crate) fn behind(byte: u8, text: &[u8]) -> Option<&[u8]>

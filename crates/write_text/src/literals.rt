@@ -6,14 +6,16 @@ ghost use Rattle.bag_model.specs.Scalars as scalars;
 ghost use Rattle.bag_model.specs.Scalars.{IsPlainOf, IsScalarOf, ArePlainsOf, plain_bytes, spelling};
 ghost use Rattle.scalar_types.specs.KindViews.{IsWord, kind_of, word_of};
 ghost use Rattle.scalar_types.specs.ScalarViews.{IsPlain, plain_of, value_of};
+ghost use Rattle.decimal_text.specs.Answers.{Answers};
 ghost use Rattle.report_text.specs.Commas.{comma_before, comma_joined};
 ghost use Rattle.write_text.specs.Literals.{ArePlainTexts, HasNoSign, HasSign, IsLiteral, IsPlainText, IsScalarText, IsWriter};
-ghost use Rattle.write_text.specs.Taken.{Answers, Begins, Takes};
+ghost use Rattle.write_text.specs.Taken.{Begins, Takes};
 
 use crate::PAYLOAD_MAX;
 use crate::ends::{behind, is_end, split_at_stop};
-use crate::numbers::{read_octets, read_signed, read_truth, read_unsigned};
+use crate::numbers::{read_octets, read_signed, read_truth};
 use crate::strings::take_string;
+use decimal_text::read_decimal;
 use outside::{Memory, Octets};
 use scalar_types::{Codec, Scalar, ScalarKind, ScalarList};
 use std::alloc::Global;
@@ -40,7 +42,7 @@ fn unsigned_of(word: &ScalarKind, text: &[u8]) -> Option<Scalar>
     ensures value { Answers (λ v. IsPlainOf (word_of word.now) v × IsPlainText v text.now) (option_map plain_of result) }
     ensures plain { IfSome result IsPlain }
 {
-    let scalar = Scalar::Unsigned(read_unsigned(text)?);
+    let scalar = Scalar::Unsigned(read_decimal(text)?);
     if word.fits(&scalar) {
         Some(scalar)
     } else {

@@ -1,14 +1,14 @@
 //! Truth values, numbers and byte strings, each the whole of a text.
 
-ghost use Rattle.std.specs.Prelude.{◌≡◌, ℕ, ◌*◌, ◌+◌, ◌-◌, ◌^◌, ◌<◌, ◌++◌, suc, pos, negsuc, List, codes, length, slice_index, IfOk, IsTrue, Ok, FitsSigned, ◌↔◌};
-ghost use Rattle.std.specs.Fmt.{decimal, signed_decimal};
-ghost use Rattle.std.specs.Int.{w64, IsInRange};
-ghost use Rattle.std.specs.Str.Parse.{AllDigits, digits_value};
+ghost use Rattle.std.specs.Prelude.{◌≡◌, ℕ, ◌^◌, ◌<◌, ◌++◌, suc, pos, negsuc, List, codes, IfOk, Ok, FitsSigned};
+ghost use Rattle.std.specs.Fmt.{signed_decimal};
+ghost use Rattle.std.specs.Int.{w64};
 ghost use Rattle.hex.specs.Hex.{decode_of};
+ghost use Rattle.decimal_text.specs.Answers.{Answers};
 ghost use Rattle.report_text.specs.ScalarTexts.{truth_text};
-ghost use Rattle.write_text.specs.Taken.{Answers};
 
 use crate::ends::behind;
+use decimal_text::read_decimal;
 use hex::FromHexError;
 use outside::{Memory, Octets};
 use std::alloc::Global;
@@ -21,48 +21,6 @@ pub(crate) fn read_truth(text: &[u8]) -> Option<bool>
         b"true" => Some(true),
         b"false" => Some(false),
         _ => None,
-    }
-}
-
-/// The number with one digit more; none where it has more than 64 bits.
-fn with_digit(number: u64, digit: u8) -> Option<u64>
-    ensures { Answers (λ more. IsInRange 48 57 digit × (more ≡ number * 10 + (digit - 48)) × (more < 2 ^ 64)) result }
-{
-    if !digit.is_ascii_digit() {
-        return None;
-    }
-    number.checked_mul(10)?.checked_add(u64::from(digit - b'0'))
-}
-
-/// The number of 64 bits that decimal digits say; leading zeros are let through.
-fn number_of(digits: &[u8]) -> Option<u64>
-    ensures { Answers (λ number. AllDigits 10 digits.now × (digits_value 10 digits.now ≡ number) × (number < 2 ^ 64)) result }
-{
-    let mut number = 0;
-    for digit in digits {
-        let Some(more) = with_digit(number, *digit) else {
-            return None;
-        };
-        number = more;
-    }
-    Some(number)
-}
-
-/// Whether the text isn't empty, and no zero stands before other digits.
-fn has_no_leading_zero(text: &[u8]) -> bool
-    ensures { IsTrue result ↔ ((0 < length text.now) × (slice_index text.now 0 ≡ 48 → length text.now ≡ 1)) }
-{
-    text.len() == 1 || (text.len() > 1 && text[0] != b'0')
-}
-
-/// A number without a sign.
-pub(crate) fn read_unsigned(text: &[u8]) -> Option<u64>
-    ensures { Answers (λ number. (text.now ≡ decimal number) × (number < 2 ^ 64)) result }
-{
-    if has_no_leading_zero(text) {
-        number_of(text)
-    } else {
-        None
     }
 }
 
@@ -93,13 +51,13 @@ pub(crate) fn read_signed(text: &[u8]) -> Option<i64>
 {
     match behind(b'-', text) {
         Some(digits) => {
-            let Some(size) = read_unsigned(digits) else {
+            let Some(size) = read_decimal(digits) else {
                 return None;
             };
             negated(size)
         }
         None => {
-            let Some(size) = read_unsigned(text) else {
+            let Some(size) = read_decimal(text) else {
                 return None;
             };
             not_negated(size)

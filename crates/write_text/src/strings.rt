@@ -3,9 +3,10 @@
 ghost use Rattle.std.specs.Prelude.{◌≡◌, ℕ, ◌++◌, ◌∷◌, List, codes, IfOk, IsUtf8};
 ghost use Rattle.std.specs.Option.{option_map};
 ghost use Rattle.bag_model.specs.Scalars as scalars;
+ghost use Rattle.decimal_text.specs.Answers.{Answers};
 ghost use Rattle.report_text.specs.ScalarTexts.{is_marked};
 ghost use Rattle.write_text.specs.Literals.{AreDigitsOf, IsPlainText, SaysByte, SaysBytes, SaysEscaped};
-ghost use Rattle.write_text.specs.Taken.{Answers, Begins, Takes};
+ghost use Rattle.write_text.specs.Taken.{Begins, Takes};
 
 use crate::ends::{behind, is_end};
 use outside::{Memory, Text};

@@ -7,18 +7,19 @@ ghost use Rattle.bag_model.specs.Tables.{AreFields, IsShape};
 ghost use Rattle.bag_model.specs.Values as values;
 ghost use Rattle.bag_model.specs.Values.{bottom, values_list};
 ghost use Rattle.bag_value.specs.Plain.{plain};
+ghost use Rattle.decimal_text.specs.Answers.{Answers};
 ghost use Rattle.field_table.specs.Plain.{shape_of, nodes_of};
 ghost use Rattle.scalar_types.specs.KindViews.{kind_of};
 ghost use Rattle.scalar_types.specs.ScalarViews.{value_of};
-ghost use Rattle.write_text.specs.Taken.{Answers, Takes};
+ghost use Rattle.write_text.specs.Taken.{Takes};
 ghost use Rattle.write_text.specs.Writes.{HasNoEquals, IsFirstNamed, IsWrite, one_at};
 
 use crate::ends::behind;
 use crate::literals::{read_literal, take_literal, take_writer};
-use crate::numbers::read_unsigned;
 use bag_decode::bottom_of;
 use bag_value::{Entries, Entry, ScalarSet, Val, Vals};
 use counter_type::Counts;
+use decimal_text::read_decimal;
 use field_table::{Shape, Slots};
 use outside::Memory;
 use scalar_types::ScalarKind;
@@ -133,7 +134,7 @@ fn read_count(alloc: Global, text: &[u8]) -> Result<Option<Counts>, Memory>
     let Some(digits) = behind(b':', rest) else {
         return Ok(None);
     };
-    match read_unsigned(digits) {
+    match read_decimal(digits) {
         Some(count) => Ok(Some(Counts::of(alloc, writer.as_slice(), count)?)),
         None => Ok(None),
     }
