@@ -2,7 +2,7 @@
 use Rattle.std.proofs.Common.{◌≡◌, ◌≢◌, ◌⊎◌, inl, inr, ℕ, List, Option, Some, None, Ok, Err, refl, arith}
 use Rattle.std.specs.Io.KnownBytes.{Appends}
 use Rattle.baggage_cli.specs.Commands.{Task}
-use Rattle.baggage_cli.specs.Commands.Task.{trim, merge, check, decode}
+use Rattle.baggage_cli.specs.Commands.Task.{trim, merge, check, decode, run}
 use Rattle.baggage_cli.specs.declared.refusals.Notice.TheVariants.{WordsRefused}
 use Rattle.baggage_cli.specs.Delivery.{Tells, Delivers}
 use Rattle.baggage_cli.specs.Outcomes.{Outcome}
@@ -32,6 +32,8 @@ came_kept (check file bag) scene outcome (unread, inl (refusal, (same, counts, w
 came_kept (check file bag) scene outcome (unread, inr (table, (same, counts, why), built)) = (same, counts, same_never_fell scene.source unread)
 came_kept (decode file bag) scene outcome (inl (refusal, (same, counts, why), unread, is)) = (same, counts, same_never_fell scene.source unread)
 came_kept (decode file bag) scene outcome (inr (table, (same, counts, why), (read, rest))) = (same, counts, read)
+came_kept (run file bag) scene outcome (inl (refusal, (same, counts, why), unread, is)) = (same, counts, same_never_fell scene.source unread)
+came_kept (run file bag) scene outcome (inr (table, (same, counts, why), (read, rest))) = (same, counts, read)
 
 delivered_kept : (outcome : Outcome) (out errs : Change (List ℕ)) (answer : ℕ) → Delivers outcome out errs answer → NeverFell out × NeverFell errs
 delivered_kept (Ok output) out errs answer (inl done) = (takes_never_fell out output done.1, same_never_fell errs done.2)

@@ -13,30 +13,37 @@ use Rattle.wire_bytes.specs.declared.contexts.ByteCode.TheVariants.{CutLength, A
 use Rattle.wire_bytes.specs.Codes.{byte_code_of}
 use Rattle.bag_model.specs.Readings.{PathsOf}
 use Rattle.bag_model.specs.Shapes.{Nodes}
+use Rattle.bag_model.specs.Tables.{IsTable}
 use Rattle.bag_model.specs.Typed.{AreTyped, IsFirstIllTyped}
 use Rattle.bag_model.proofs.IllTyped.{first_ill_typed}
-use Rattle.bdl_load.specs.declared.faults.Fault.{Fault}
 use Rattle.bdl_load.specs.Loading.{Holding}
-use Rattle.bdl_check.specs.Definitions.{IsTableOf, IsFirstFaultOf}
-use Rattle.report_text.specs.Blocks.{IsBlock, HasOneBlock}
+use Rattle.bdl_check.specs.Definitions.{IsTableOf}
+use Rattle.report_text.specs.Blocks.{IsBlock}
+use Rattle.graph_report.specs.Reports.{IsReport}
+use Rattle.graph_text.specs.Additions.{graph_of}
+use Rattle.graph_text.specs.GraphLines.{LinesAreDefinite}
+use Rattle.trace_model.specs.Graphs.{Graph}
 use Rattle.text_lines.specs.declared.TheConstants.{INPUT_MAX}
 use Rattle.text_lines.specs.Lines.{Line, lines_of}
 use Rattle.text_lines.specs.Readings.{Reading, IsDefinite, AllSay, IsFirstBad}
 use Rattle.text_lines.proofs.HexLaws.{hex_lines_definite}
 use Rattle.text_lines.proofs.ReadingLaws.{all_say_one, first_bad_one, good_not_bad, none_bad, at_most_definite, all_say-at_most}
 use Rattle.baggage_cli.specs.Commands.{Task}
-use Rattle.baggage_cli.specs.Commands.Task.{trim, merge, check, decode}
+use Rattle.baggage_cli.specs.Commands.Task.{trim, merge, check, decode, run}
 use Rattle.baggage_cli.specs.declared.merging.TheConstants.{LINES_MAX}
 use Rattle.baggage_cli.specs.declared.refusals.InputCode.TheVariants.{Form, TooManyLines}
 use Rattle.baggage_cli.specs.declared.refusals.InputFault.{InputFault}
 use Rattle.baggage_cli.specs.declared.refusals.InputFault.TheVariants.{Code, Hex, Bytes}
 use Rattle.baggage_cli.specs.declared.refusals.Refusal.{Refusal}
 use Rattle.baggage_cli.specs.Decoding.{DecodesLines, DecodeGives}
+use Rattle.baggage_cli.specs.Laws.{DefinitionLaws, GraphLaws, Laws}
 use Rattle.baggage_cli.specs.Merging.{merged_lines, IsMergeOf, MergesLines}
 use Rattle.baggage_cli.specs.Outcomes.{Outcome, GivesOne}
 use Rattle.baggage_cli.specs.Reading.{Within, RefusesLines, ReadsLines, only_one, ReadsOne, list_bytes, context_bytes, typed_bytes, list_lines, context_lines, typed_lines}
-use Rattle.baggage_cli.specs.Top.{InputGives}
+use Rattle.baggage_cli.specs.Running.{input_fault, IsRunReport, graph_inputs, RunsLines, RunGives}
+use Rattle.baggage_cli.specs.Top.{InputGives, SaysGraph}
 use Rattle.baggage_cli.specs.Trimming.{trimmed_line, TrimsLines}
+use Rattle.baggage_cli.proofs.GraphInputs.{inputs_say, lines_say}
 
 -- ---- one code for what it says
 
@@ -230,17 +237,46 @@ within_one gives one input a b (inl f) (inr g) = absurd (let long = f.0 in let s
 within_one gives one input a b (inr f) (inl g) = absurd (let long = g.0 in let short = f.0 in omega arith)
 within_one gives one input a b (inr f) (inr g) = one (lines_of input) a b f.1 g.1
 
+-- ---- graphs
+
+graph_inputs_definite : LinesAreDefinite → (table : Nodes) → IsTable table → IsDefinite (graph_inputs table)
+graph_inputs_definite definite table is_table = record {
+  one_said = λ earlier text a b f g. (definite table is_table).one_said earlier text a b f g;
+  one_fault = λ earlier text f g (x, bad, f_is) (y, other, g_is). f_is ∙ ap input_fault ((definite table is_table).one_fault earlier text x y bad other) ∙ sym g_is;
+  not_both = λ earlier text said fault says (x, bad, is). (definite table is_table).not_both earlier text said x says bad;
+}
+
+module _ (laws : GraphLaws) (table : Nodes) (is_table : IsTable table) where
+  -- The lines of a text come to one outcome.
+  runs_one : (text : List ℕ) (a b : Outcome) → RunsLines table (lines_of text) a → RunsLines table (lines_of text) b → a ≡ b
+  runs_one text (Ok x) (Ok y) (every, all, (lists, ran, report)) (others, say, reported) =
+      let same = all_say_one (graph_inputs table) (graph_inputs_definite laws.definite table is_table) (lines_of text) others every say all in
+      let there : IsRunReport table (graph_of every) y = subst (λ said. IsRunReport table (graph_of said) y) same reported in
+      let recorded = laws.recorded table text (graph_of every) is_table (every, lines_say table [] (lines_of text) every all, refl) in
+      let one = laws.one_run table (graph_of every) there.0 lists recorded there.1 ran in
+      ap Ok (laws.one_report table lists (graph_of every).shows x y report (subst (λ ls. IsReport table ls (graph_of every).shows y) one there.2))
+  runs_one text (Ok x) (Err s) (every, all, report) refused =
+      absurd (said_not_refused (graph_inputs table) (graph_inputs_definite laws.definite table is_table) (lines_of text) every s all refused)
+  runs_one text (Err r) (Ok y) refused (every, all, report) =
+      absurd (said_not_refused (graph_inputs table) (graph_inputs_definite laws.definite table is_table) (lines_of text) every r all refused)
+  runs_one text (Err r) (Err s) f g = ap Err (refuses_lines_one (graph_inputs table) (graph_inputs_definite laws.definite table is_table) (lines_of text) r s f g)
+
+  run_gives_one : GivesOne (RunGives table)
+  run_gives_one input a b (inl f) (inl g) = f.1 ∙ sym g.1
+  run_gives_one input a b (inl f) (inr g) = absurd (let long = f.0 in let short = g.0 in omega arith)
+  run_gives_one input a b (inr f) (inl g) = absurd (let long = g.0 in let short = f.0 in omega arith)
+  run_gives_one input a b (inr f) (inr g) = runs_one input a b f.1 g.1
+
+  -- An input that says a graph isn't refused.
+  pub graph_not_refused : (input : List ℕ) (graph : Graph) (refusal : Refusal) → SaysGraph table input graph → RunGives table input (Err refusal) → ⊥
+  graph_not_refused input graph refusal (few, says) (inl long) = let above = long.0 in omega arith
+  graph_not_refused input graph refusal (few, (every, all, is)) (inr (short, refused)) =
+      said_not_refused (graph_inputs table) (graph_inputs_definite laws.definite table is_table) (lines_of input) every refusal (inputs_say table [] (lines_of input) every all) refused
+
 -- ---- tasks
 
--- What holds of all definitions and of all lists.
-pub record Laws : Type 0 where
-  pub one_table : (held : Holding) (root name : List ℕ) (table other : Nodes) → IsTableOf held root name table → IsTableOf held root name other → table ≡ other
-  pub no_fault : (held : Holding) (root name : List ℕ) (table : Nodes) (fault : Fault) → IsTableOf held root name table → IsFirstFaultOf held root name fault → ⊥
-  pub one_fault : (held : Holding) (root name : List ℕ) (fault other : Fault) → IsFirstFaultOf held root name fault → IsFirstFaultOf held root name other → fault ≡ other
-  pub one_block : HasOneBlock
-
 -- The files that were told have one table.
-pub same_table : Laws → (file bag : List ℕ) (files : Option Holding) (held other : Holding) (table found : Nodes) → files ≡ Some held → IsTableOf held file bag table
+pub same_table : DefinitionLaws → (file bag : List ℕ) (files : Option Holding) (held other : Holding) (table found : Nodes) → files ≡ Some held → IsTableOf held file bag table
     → files ≡ Some other → IsTableOf other file bag found → found ≡ table
 same_table laws file bag files held other table found told is same known =
     let whole : ◌≡◌ {A = Option Holding} (Some other) (Some held) = sym same ∙ told in
@@ -255,4 +291,7 @@ input_gives_one laws merge files = within_one MergesLines (reads_lines_one merge
 input_gives_one laws (check file bag) files = λ input a b f g. absurd f
 input_gives_one laws (decode file bag) files = λ input a b (held, told, table, is, gave) (other, same, found, known, given).
     within_one (DecodesLines table) (reads_one_one (typed_lines table) (typed_lines_definite table) (IsBlock table) (laws.one_block table)) input a b gave
-    (subst (λ t. DecodeGives t input b) (same_table laws file bag files held other table found told is same known) given)
+    (subst (λ t. DecodeGives t input b) (same_table laws.definitions file bag files held other table found told is same known) given)
+input_gives_one laws (run file bag) files = λ input a b (held, told, table, is, gave) (other, same, found, known, given).
+    run_gives_one laws.graphs table (laws.definitions.is_table held file bag table is) input a b gave
+    (subst (λ t. RunGives t input b) (same_table laws.definitions file bag files held other table found told is same known) given)

@@ -3,7 +3,7 @@ use Rattle.std.proofs.Common.{inl, inr, ℕ, List, Some, Err, refl}
 use Rattle.bdl_load.specs.Loading.{Holding}
 use Rattle.baggage_cli.specs.Checking.{TableGives}
 use Rattle.baggage_cli.specs.Commands.{Task}
-use Rattle.baggage_cli.specs.Commands.Task.{trim, merge, check, decode}
+use Rattle.baggage_cli.specs.Commands.Task.{trim, merge, check, decode, run}
 use Rattle.baggage_cli.specs.declared.refusals.Notice.TheVariants.{Memory}
 use Rattle.baggage_cli.specs.declared.refusals.Refusal.{Refusal}
 use Rattle.baggage_cli.specs.declared.refusals.Refusal.TheVariants.{Input, Definition, Plain}
@@ -23,6 +23,9 @@ memory_instead (check file bag) library requests source refusal (same, inr (tabl
 memory_instead (decode file bag) library requests source refusal (inl (other, compiled, same, is)) =
     inl (Plain Memory, compiled_memory (TableGives file bag) file library requests other compiled, same, refl)
 memory_instead (decode file bag) library requests source refusal (inr (table, compiled, (counts, why))) = inr (table, compiled, (counts, inl refl))
+memory_instead (run file bag) library requests source refusal (inl (other, compiled, same, is)) =
+    inl (Plain Memory, compiled_memory (TableGives file bag) file library requests other compiled, same, refl)
+memory_instead (run file bag) library requests source refusal (inr (table, compiled, (counts, why))) = inr (table, compiled, (counts, inl refl))
 
 -- A refusal that is said answers the call.
 pub refused : (task : Task) (scene : Scene) (refusal : Refusal) (answer : ℕ) → Comes task scene.library scene.requests scene.source (Err refusal)

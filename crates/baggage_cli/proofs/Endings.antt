@@ -7,7 +7,7 @@ use Rattle.bdl_load.specs.Loading.{Holding}
 use Rattle.bdl_check.specs.Definitions.{IsTableOf, IsFirstFaultOf, CameOf}
 use Rattle.baggage_cli.specs.Checking.{TableGives, Compiles, ok_line}
 use Rattle.baggage_cli.specs.Commands.{Task, ReadsSource, FetchesFiles, NamesBag}
-use Rattle.baggage_cli.specs.Commands.Task.{trim, merge, check, decode}
+use Rattle.baggage_cli.specs.Commands.Task.{trim, merge, check, decode, run}
 use Rattle.baggage_cli.specs.declared.refusals.InputCode.TheVariants.{TooLong, NoLine}
 use Rattle.baggage_cli.specs.declared.refusals.InputFault.{InputFault}
 use Rattle.baggage_cli.specs.declared.refusals.InputFault.TheVariants.{Code}
@@ -20,6 +20,7 @@ use Rattle.baggage_cli.specs.Merging.{MergeGives}
 use Rattle.baggage_cli.specs.Outcomes.{Outcome}
 use Rattle.baggage_cli.specs.Reading.{IsRead, Reads}
 use Rattle.baggage_cli.specs.Refusals.{status_of, line_of, input_status, input_line, notice_line, blamed}
+use Rattle.baggage_cli.specs.Running.{RunGives}
 use Rattle.baggage_cli.specs.Scene.{Scene, IsSame, HasFailed, Takes}
 use Rattle.baggage_cli.specs.Top.{Answers}
 use Rattle.baggage_cli.specs.Trimming.{TrimGives}
@@ -36,6 +37,8 @@ Gives merge scene = MergeGives
 Gives (check file bag) scene = λ input outcome. ⊥
 Gives (decode file bag) scene = λ input outcome.
     (table : Nodes) × OfFiles scene file (λ held. IsTableOf held file bag table) × DecodeGives table input outcome
+Gives (run file bag) scene = λ input outcome.
+    (table : Nodes) × OfFiles scene file (λ held. IsTableOf held file bag table) × RunGives table input outcome
 
 -- The line was said, and nothing was written.
 abbrev pub Said : Scene → List ℕ → Type 0
@@ -89,6 +92,8 @@ refuses_input (check file bag) scene input refusal gave = absurd gave
 refuses_input (decode file bag) scene input refusal (table, came, inl long) = (0, Code TooLong, cc (long.1))
 refuses_input (decode file bag) scene input refusal (table, came, inr (short, inl none)) = (0, Code NoLine, cc (none.1))
 refuses_input (decode file bag) scene input refusal (table, came, inr (short, inr (number, fault, bad, is))) = (number, fault, is)
+refuses_input (run file bag) scene input refusal (table, came, inl long) = (0, Code TooLong, cc (long.1))
+refuses_input (run file bag) scene input refusal (table, came, inr (short, (number, fault, bad, is))) = (number, fault, is)
 
 input_ending : (task : Task) (scene : Scene) (answer : ℕ) (input : List ℕ) (outcome : Outcome) → ReadsSource task → IsRead scene.source input → Gives task scene input outcome
     → Delivers outcome scene.out scene.errs answer → Ending task scene answer
@@ -127,6 +132,7 @@ fetches_named (trim budget) file bag names = absurd names
 fetches_named merge file bag names = absurd names
 fetches_named (check root name) file bag names = tt
 fetches_named (decode root name) file bag names = tt
+fetches_named (run root name) file bag names = tt
 
 -- A task whose definition is refused.
 uncompiled_ending : (task : Task) (file bag : List ℕ) (scene : Scene) (answer : ℕ) (refusal : Refusal) (outcome : Outcome) → NamesBag task file bag
@@ -173,3 +179,7 @@ ending (decode file bag) scene answer (outcome, inl (refusal, compiled, unread, 
     uncompiled_ending (decode file bag) file bag scene answer refusal outcome (refl, refl) compiled unread is delivers
 ending (decode file bag) scene answer (outcome, inr (table, compiled, reads), delivers) =
     reading_ending (decode file bag) scene answer outcome (DecodeGives table) tt (λ input gave. (table, compiled_table file bag scene.library scene.requests table compiled, gave)) reads delivers
+ending (run file bag) scene answer (outcome, inl (refusal, compiled, unread, is), delivers) =
+    uncompiled_ending (run file bag) file bag scene answer refusal outcome (refl, refl) compiled unread is delivers
+ending (run file bag) scene answer (outcome, inr (table, compiled, reads), delivers) =
+    reading_ending (run file bag) scene answer outcome (RunGives table) tt (λ input gave. (table, compiled_table file bag scene.library scene.requests table compiled, gave)) reads delivers

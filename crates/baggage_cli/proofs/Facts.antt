@@ -14,6 +14,11 @@ use Rattle.bdl_load.specs.declared.faults.Fault.{Fault}
 use Rattle.bdl_load.specs.Loading.{Holding, AsksAll}
 use Rattle.bdl_check.specs.Definitions.{IsTableOf, IsFirstFaultOf}
 use Rattle.report_text.specs.Blocks.{IsBlock}
+use Rattle.trace_model.specs.Graphs as model
+use Rattle.trace_model.specs.Graphs.{IsRecorded}
+use Rattle.trace_model.specs.Runs.{Lists, IsRun}
+use Rattle.graph_report.specs.Reports.{IsReport}
+use Rattle.graph_text.specs.GraphLines.{IsGraphOf}
 use Rattle.text_lines.specs.declared.TheConstants.{INPUT_MAX}
 use Rattle.text_lines.specs.HexLines.{hex_line}
 use Rattle.text_lines.specs.Lines.{Line, lines_of}
@@ -21,22 +26,25 @@ use Rattle.text_lines.specs.Readings.{AllSay}
 use Rattle.text_lines.proofs.ReadingLaws.{all_say_one, at_most-all_say, all_say-at_most}
 use Rattle.baggage_cli.specs.Checking.{ok_line}
 use Rattle.baggage_cli.specs.Commands.{Task, ReadsSource, FetchesFiles, NamesBag}
-use Rattle.baggage_cli.specs.Commands.Task.{trim, merge, check, decode}
+use Rattle.baggage_cli.specs.Commands.Task.{trim, merge, check, decode, run}
 use Rattle.baggage_cli.specs.declared.merging.TheConstants.{LINES_MAX}
 use Rattle.baggage_cli.specs.declared.refusals.InputCode.TheVariants.{TooLong, TooManyLines}
 use Rattle.baggage_cli.specs.declared.refusals.InputFault.{InputFault}
-use Rattle.baggage_cli.specs.declared.refusals.InputFault.TheVariants.{Code, Hex, Bytes, IllTyped}
+use Rattle.baggage_cli.specs.declared.refusals.InputFault.TheVariants.{Code, Hex, Graph, Bytes, IllTyped}
 use Rattle.baggage_cli.specs.declared.refusals.Notice.TheVariants.{LibraryFailed, SourceFailed, Memory}
 use Rattle.baggage_cli.specs.declared.refusals.Refusal.TheVariants.{Input}
 use Rattle.baggage_cli.specs.Decoding.{DecodesLines, DecodeGives}
+use Rattle.baggage_cli.specs.Laws.{GraphLaws, Laws}
 use Rattle.baggage_cli.specs.Merging.{merged_lines, MergesLines, MergeGives}
 use Rattle.baggage_cli.specs.Outcomes.{Outcome}
 use Rattle.baggage_cli.specs.Reading.{IsRead, Within, list_lines, context_lines, typed_lines}
 use Rattle.baggage_cli.specs.Refusals.{input_status, input_line, line_of, notice_line, blamed}
+use Rattle.baggage_cli.specs.Running.{ShowsTruth, RunsLines, RunGives}
 use Rattle.baggage_cli.specs.Scene.{Change, Scene, IsSame, IsSteady, HasFailed, Takes, HasNoFault}
-use Rattle.baggage_cli.specs.Top.{TellsFiles, InputGives, Answers, SaysList, SaysContexts, SaysTyped, Accepts, IsFailure}
+use Rattle.baggage_cli.specs.Top.{TellsFiles, InputGives, Answers, SaysList, SaysContexts, SaysTyped, SaysGraph, Accepts, IsFailure}
 use Rattle.baggage_cli.specs.Trimming.{trimmed_line, TrimsLines, TrimGives}
-use Rattle.baggage_cli.proofs.Definite.{Laws, list_lines_definite, context_lines_definite, typed_lines_definite, merged_lines_definite, only_not_refused, only_gave, ok_no_err, same_table, input_gives_one, said_not_refused}
+use Rattle.baggage_cli.proofs.GraphInputs.{ran_graph}
+use Rattle.baggage_cli.proofs.Definite.{list_lines_definite, context_lines_definite, typed_lines_definite, merged_lines_definite, only_not_refused, only_gave, ok_no_err, graph_not_refused, same_table, input_gives_one, said_not_refused}
 use Rattle.baggage_cli.proofs.Endings.{Ending, OfFiles, Gives, fetches_named, ending}
 use Rattle.baggage_cli.proofs.Endings.Ending.{read_out, table_out, bad_input, bad_definition, library_failed, source_failed, memory_wanting, sink_failed}
 
@@ -44,6 +52,7 @@ use Rattle.baggage_cli.proofs.Endings.Ending.{read_out, table_out, bad_input, ba
 input_status_some : (fault : InputFault) (n : ℕ) → n ≡ input_status fault → (n ≡ 2) ⊎ (n ≡ 3)
 input_status_some (Code code) n is = inl is
 input_status_some (Hex code) n is = inl is
+input_status_some (Graph code) n is = inl is
 input_status_some (Bytes offset code) n is = inr is
 input_status_some (IllTyped offset) n is = inr is
 
@@ -89,12 +98,16 @@ told_gives (check file bag) scene input outcome tells gave = absurd gave
 told_gives (decode file bag) scene input outcome tells (table, came, gave) =
     let held = tells tt in
     (held.0, held.1, table, (of_told scene file (λ h. IsTableOf h file bag table) held.0 held.1 came).0, gave)
+told_gives (run file bag) scene input outcome tells (table, came, gave) =
+    let held = tells tt in
+    (held.0, held.1, table, (of_told scene file (λ h. IsTableOf h file bag table) held.0 held.1 came).0, gave)
 
 given_tells : (task : Task) (files : Option Holding) (input : List ℕ) (outcome : Outcome) → InputGives task files input outcome → TellsFiles task files
 given_tells (trim budget) files input outcome gave = λ fetches. absurd fetches
 given_tells merge files input outcome gave = λ fetches. absurd fetches
 given_tells (check file bag) files input outcome gave = absurd gave
 given_tells (decode file bag) files input outcome gave = λ fetches. (gave.0, gave.1)
+given_tells (run file bag) files input outcome gave = λ fetches. (gave.0, gave.1)
 
 -- A task names one file and one bag.
 names_one : (task : Task) (file bag root name : List ℕ) → NamesBag task file bag → NamesBag task root name → (file ≡ root) × (bag ≡ name)
@@ -102,6 +115,7 @@ names_one (trim budget) file bag root name asks names = absurd asks
 names_one merge file bag root name asks names = absurd asks
 names_one (check f b) file bag root name asks names = (sym asks.0 ∙ names.0, sym asks.1 ∙ names.1)
 names_one (decode f b) file bag root name asks names = (sym asks.0 ∙ names.0, sym asks.1 ∙ names.1)
+names_one (run f b) file bag root name asks names = (sym asks.0 ∙ names.0, sym asks.1 ∙ names.1)
 
 first_at : (held : Holding) (file bag root name : List ℕ) (fault : Fault) → (file ≡ root) × (bag ≡ name) → IsFirstFaultOf held root name fault → IsFirstFaultOf held file bag fault
 first_at held file bag root name fault same first = subst (λ f. IsFirstFaultOf held f bag fault) (sym same.0) (subst (λ b. IsFirstFaultOf held root b fault) (sym same.1) first)
@@ -114,7 +128,10 @@ no_fault_given laws merge file bag held fault files input outcome names told fir
 no_fault_given laws (check root name) file bag held fault files input outcome names told first gave = gave
 no_fault_given laws (decode root name) file bag held fault files input outcome names told first (other, tells, table, is, gave) =
     let same : held ≡ other = cc (told, tells) in
-    laws.no_fault other root name table fault is (first_at other root name file bag fault names (subst (λ h. IsFirstFaultOf h file bag fault) same first))
+    laws.definitions.no_fault other root name table fault is (first_at other root name file bag fault names (subst (λ h. IsFirstFaultOf h file bag fault) same first))
+no_fault_given laws (run root name) file bag held fault files input outcome names told first (other, tells, table, is, gave) =
+    let same : held ≡ other = cc (told, tells) in
+    laws.definitions.no_fault other root name table fault is (first_at other root name file bag fault names (subst (λ h. IsFirstFaultOf h file bag fault) same first))
 
 -- ---- status 0
 
@@ -172,9 +189,29 @@ decode_appends laws file bag held table input list scene answer answers told is 
     let done = read_done (decode file bag) scene answer (ending (decode file bag) scene answer answers) tt zero in
     let same = told_input scene.source input done.input content done.read in
     let found = (of_told scene file (λ h. IsTableOf h file bag done.gave.0) held told done.gave.1).0 in
-    let one = laws.one_table held file bag done.gave.0 table found is in
+    let one = laws.definitions.one_table held file bag done.gave.0 table found is in
     let gave = subst (λ t. DecodeGives t input (Ok done.output)) one (subst (λ i. DecodeGives done.gave.0 i (Ok done.output)) (sym same) done.gave.2) in
     (done.output, only_gave (typed_lines table) (typed_lines_definite table) (IsBlock table) input list done.output says.1 gave, done.out.0)
+
+-- What is shown of a run is honest.
+shows_truth : GraphLaws → (table : Nodes) (graph : model.Graph) (lists : Lists) → IsRecorded table graph → IsRun table graph lists → ShowsTruth table graph lists
+shows_truth laws table graph lists recorded ran = λ n slot exact v among shown.
+    laws.honest table graph lists n slot exact v (record { recorded = recorded; run = ran; within = recorded.sound.shows n among }) shown
+
+-- Where the answer is 0, the report of the run of the graph that the input says was written.
+pub run_appends : Laws → (file bag : List ℕ) (held : Holding) (input : List ℕ) (scene : Scene) (answer : ℕ) → Answers (Some (run file bag)) scene answer
+    → scene.library.before ≡ Some held → scene.source.before ≡ Some input → answer ≡ 0
+    → (table : Nodes) × (graph : model.Graph) × (lists : Lists) × (text : List ℕ) × IsTableOf held file bag table × IsGraphOf table input graph
+    × IsRun table graph lists × IsReport table lists graph.shows text × ShowsTruth table graph lists × Appends scene.out.before scene.out.after text
+run_appends laws file bag held input scene answer answers told content zero =
+    let done = read_done (run file bag) scene answer (ending (run file bag) scene answer answers) tt zero in
+    let same = told_input scene.source input done.input content done.read in
+    let table = done.gave.0 in
+    let found = (of_told scene file (λ h. IsTableOf h file bag table) held told done.gave.1).0 in
+    let ran = ran_graph table input done.output (subst (λ i. RunGives table i (Ok done.output)) (sym same) done.gave.2) in
+    let lists = ran.2.0 in
+    let recorded = laws.graphs.recorded table input ran.0 (laws.definitions.is_table held file bag table found) ran.1 in
+    (table, ran.0, lists, done.output, found, ran.1, ran.2.1, ran.2.2, shows_truth laws.graphs table ran.0 lists recorded ran.2.1, done.out.0)
 
 -- ---- definitions
 
@@ -216,6 +253,7 @@ has_asked task file bag held scene answer answers asks told few = by (ending tas
     asked_given merge input outcome names gave = absurd names
     asked_given (check root name) input outcome names gave = absurd gave
     asked_given (decode root name) input outcome names (table, came, gave) = asked_all root (λ h. IsTableOf h root name table) names.0 came
+    asked_given (run root name) input outcome names (table, came, gave) = asked_all root (λ h. IsTableOf h root name table) names.0 came
 
     by : Ending task scene answer → (names : List (List ℕ)) × AsksAll held file names × Asks names scene.requests.before scene.requests.after
     by (read_out input output zero reads read gave written) = asked_given task input (Ok output) asks gave
@@ -265,12 +303,12 @@ fault_told laws task file bag held fault scene answer answers names told first =
     by (table_out root name table zero asks came unread written) =
         let same = named_check task file bag root name names asks in
         let found = (of_told scene root (λ h. IsTableOf h root name table) held told came).0 in
-        absurd (laws.no_fault held root name table fault found (first_at held root name file bag fault (sym same.0, sym same.1) first))
+        absurd (laws.definitions.no_fault held root name table fault found (first_at held root name file bag fault (sym same.0, sym same.1) first))
     by (bad_input input number other status reads read gave said) = absurd (not_given input (Err (Input number other)) gave)
     by (bad_definition root name other one asks came unread said) =
         let same = names_one task root name file bag asks names in
         let found = (of_told scene root (λ h. IsFirstFaultOf h root name other) held told came).0 in
-        let is = laws.one_fault held root name other fault found (first_at held root name file bag fault same first) in
+        let is = laws.definitions.one_fault held root name other fault found (first_at held root name file bag fault same first) in
         inl (one, subst (λ f. Appends scene.errs.before scene.errs.after (line_of (blamed f))) is said.1.0)
     by (library_failed four fetches failed said) = inr (inl four)
     by (source_failed four reads failed said) = inr (inl four)
@@ -363,6 +401,7 @@ short_given (trim budget) scene input output gave = within_short (TrimsLines bud
 short_given merge scene input output gave = within_short MergesLines input output gave
 short_given (check file bag) scene input output gave = absurd gave
 short_given (decode file bag) scene input output (table, came, gave) = within_short (DecodesLines table) input output gave
+short_given (run file bag) scene input output (table, came, gave) = within_short (RunsLines table) input output gave
 
 -- After an output nothing is left of a source that was read.
 pub ended_source : (task : Task) (scene : Scene) (answer : ℕ) → Answers (Some task) scene answer → ReadsSource task → answer ≡ 0 → IsAtEnd scene.source.after
@@ -495,19 +534,26 @@ accepted laws (decode file bag) input number fault files content (held, told, ta
     let same_input : text ≡ input = cc (holds, same) in
     let here = subst (λ i. SaysTyped table i list) same_input says in
     only_not_refused (typed_lines table) (typed_lines_definite table) (IsBlock table) input list (Input number fault) here.0 here.1
-    (subst (λ t. DecodeGives t input (Err (Input number fault))) (same_table laws file bag files held other table found told is knows known) bad)
+    (subst (λ t. DecodeGives t input (Err (Input number fault))) (same_table laws.definitions file bag files held other table found told is knows known) bad)
+accepted laws (run file bag) input number fault files content (held, told, table, is, text, holds, (graph, says)) same (other, knows, found, known, bad) =
+    let same_input : text ≡ input = cc (holds, same) in
+    let here = subst (λ i. SaysGraph table i graph) same_input says in
+    graph_not_refused laws.graphs table (laws.definitions.is_table held file bag table is) input graph (Input number fault) here
+    (subst (λ t. RunGives t input (Err (Input number fault))) (same_table laws.definitions file bag files held other table found told is knows known) bad)
 
 accepted_told : (task : Task) (files : Option Holding) (content : Option (List ℕ)) → Accepts task files content → ReadsSource task → (input : List ℕ) × (content ≡ Some input)
 accepted_told (trim budget) files content accepts reads = (accepts.0, accepts.1)
 accepted_told merge files content accepts reads = (accepts.0, accepts.1)
 accepted_told (check file bag) files content accepts reads = absurd reads
 accepted_told (decode file bag) files content accepts reads = (accepts.4, accepts.5)
+accepted_told (run file bag) files content accepts reads = (accepts.4, accepts.5)
 
 accepted_tells : (task : Task) (files : Option Holding) (content : Option (List ℕ)) → Accepts task files content → TellsFiles task files
 accepted_tells (trim budget) files content accepts = λ fetches. absurd fetches
 accepted_tells merge files content accepts = λ fetches. absurd fetches
 accepted_tells (check file bag) files content accepts = λ fetches. (accepts.0, accepts.1)
 accepted_tells (decode file bag) files content accepts = λ fetches. (accepts.0, accepts.1)
+accepted_tells (run file bag) files content accepts = λ fetches. (accepts.0, accepts.1)
 
 -- The definition that an accepted task names has no first fault.
 accepted_sound : Laws → (task : Task) (file bag : List ℕ) (fault : Fault) (held : Holding) (files : Option Holding) (content : Option (List ℕ)) → Accepts task files content → NamesBag task file bag
@@ -519,7 +565,10 @@ accepted_sound laws (check root name) file bag fault held files content accepts 
     accepts.2 fault (first_at accepts.0 root name file bag fault names (subst (λ h. IsFirstFaultOf h file bag fault) same first))
 accepted_sound laws (decode root name) file bag fault held files content accepts names told first =
     let same : held ≡ accepts.0 = cc (told, accepts.1) in
-    laws.no_fault accepts.0 root name accepts.2 fault accepts.3 (first_at accepts.0 root name file bag fault names (subst (λ h. IsFirstFaultOf h file bag fault) same first))
+    laws.definitions.no_fault accepts.0 root name accepts.2 fault accepts.3 (first_at accepts.0 root name file bag fault names (subst (λ h. IsFirstFaultOf h file bag fault) same first))
+accepted_sound laws (run root name) file bag fault held files content accepts names told first =
+    let same : held ≡ accepts.0 = cc (told, accepts.1) in
+    laws.definitions.no_fault accepts.0 root name accepts.2 fault accepts.3 (first_at accepts.0 root name file bag fault names (subst (λ h. IsFirstFaultOf h file bag fault) same first))
 
 refused_input : Laws → (task : Task) (input : List ℕ) (number : ℕ) (fault : InputFault) (scene : Scene) → Accepts task scene.library.before scene.source.before → ReadsSource task → IsRead scene.source input
     → Gives task scene input (Err (Input number fault)) → ⊥

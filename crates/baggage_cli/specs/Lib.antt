@@ -7,5 +7,7 @@ pub mod Trimming
 pub mod Merging
 pub mod Checking
 pub mod Decoding
+pub mod Running
 pub mod Delivery
+pub mod Laws
 pub mod Top

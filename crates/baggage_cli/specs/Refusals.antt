@@ -9,10 +9,13 @@ use Rattle.bdl_load.specs.declared.faults.DefCode.{DefCode}
 use Rattle.bdl_load.specs.declared.faults.DefFault.{DefFault}
 use Rattle.bdl_load.specs.declared.faults.DefFault.TheVariants as defs
 use Rattle.bdl_load.specs.declared.faults.Fault.{Fault}
+use Rattle.graph_text.specs.CodeNames.{graph_code_name}
+use Rattle.graph_text.specs.declared.faults.GraphFault.{GraphFault}
+use Rattle.graph_text.specs.declared.faults.GraphFault.TheVariants as graphs
 use Rattle.baggage_cli.specs.declared.refusals.InputCode.{InputCode}
 use Rattle.baggage_cli.specs.declared.refusals.InputCode.TheVariants.{TooLong, NoLine, Form, TooManyLines}
 use Rattle.baggage_cli.specs.declared.refusals.InputFault.{InputFault}
-use Rattle.baggage_cli.specs.declared.refusals.InputFault.TheVariants.{Code, Hex, Bytes, IllTyped}
+use Rattle.baggage_cli.specs.declared.refusals.InputFault.TheVariants.{Code, Hex, Graph, Bytes, IllTyped}
 use Rattle.baggage_cli.specs.declared.refusals.Notice.{Notice}
 use Rattle.baggage_cli.specs.declared.refusals.Notice.TheVariants.{LibraryFailed, SourceFailed, SinkFailed, Memory, WordsRefused}
 use Rattle.baggage_cli.specs.declared.refusals.Refusal.{Refusal}
@@ -29,6 +32,7 @@ input_name TooManyLines = codes "TooManyLines"
 abbrev pub input_status : InputFault → ℕ
 input_status (Code code) = 2
 input_status (Hex code) = 2
+input_status (Graph code) = 2
 input_status (Bytes offset code) = 3
 input_status (IllTyped offset) = 3
 
@@ -36,6 +40,7 @@ input_status (IllTyped offset) = 3
 abbrev pub input_line : ℕ → InputFault → List ℕ
 input_line line (Code code) = codes "input line " ++ (decimal line ++ (codes " " ++ (input_name code ++ 10 ∷ [])))
 input_line line (Hex code) = codes "input line " ++ (decimal line ++ (codes " " ++ (hex_name code ++ 10 ∷ [])))
+input_line line (Graph code) = codes "input line " ++ (decimal line ++ (codes " " ++ (graph_code_name code ++ 10 ∷ [])))
 input_line line (Bytes offset code) =
     codes "context line "
     ++ (decimal line ++ (codes " offset " ++ (decimal offset ++ (codes " " ++ (code_name (byte_code_of code) ++ 10 ∷ [])))))
@@ -85,3 +90,10 @@ abbrev pub refusal_of : DefFault → Refusal
 refusal_of (defs.At file line column code) = Definition file line column code
 refusal_of defs.Failed = Plain LibraryFailed
 refusal_of defs.Memory = Plain Memory
+
+-- The refusal of a graph that has this fault.
+abbrev pub graph_refusal : GraphFault → Refusal
+graph_refusal (graphs.At line code) = Input line (Graph code)
+graph_refusal (graphs.Bytes line offset code) = Input line (Bytes offset code)
+graph_refusal (graphs.IllTyped line offset) = Input line (IllTyped offset)
+graph_refusal graphs.Memory = Plain Memory

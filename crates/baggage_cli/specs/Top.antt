@@ -8,16 +8,19 @@ use Rattle.bag_model.specs.Shapes.{Nodes}
 use Rattle.bdl_load.specs.declared.faults.Fault.{Fault}
 use Rattle.bdl_load.specs.Loading.{Holding}
 use Rattle.bdl_check.specs.Definitions.{IsTableOf, IsFirstFaultOf}
+use Rattle.trace_model.specs.Graphs.{Graph}
+use Rattle.graph_text.specs.GraphLines.{IsGraphOf}
 use Rattle.baggage_cli.specs.declared.merging.TheConstants.{LINES_MAX}
 use Rattle.baggage_cli.specs.declared.refusals.Notice.TheVariants.{WordsRefused}
 use Rattle.baggage_cli.specs.Checking.{Checks}
 use Rattle.baggage_cli.specs.Commands.{Task, FetchesFiles}
-use Rattle.baggage_cli.specs.Commands.Task.{trim, merge, check, decode}
+use Rattle.baggage_cli.specs.Commands.Task.{trim, merge, check, decode, run}
 use Rattle.baggage_cli.specs.Decoding.{DecodeGives, Decodes}
 use Rattle.baggage_cli.specs.Delivery.{Notifies, Delivers}
 use Rattle.baggage_cli.specs.Merging.{MergeGives}
 use Rattle.baggage_cli.specs.Outcomes.{Outcome}
 use Rattle.baggage_cli.specs.Reading.{Reads, list_lines, context_lines, typed_lines}
+use Rattle.baggage_cli.specs.Running.{RunGives, Runs}
 use Rattle.baggage_cli.specs.Scene.{Change, Scene, IsSame}
 use Rattle.baggage_cli.specs.Trimming.{TrimGives}
 
@@ -34,6 +37,9 @@ InputGives (check file bag) files = λ input outcome. ⊥
 InputGives (decode file bag) files = λ input outcome.
     (held : Holding) × (files ≡ Some held) × (table : Nodes) × IsTableOf held file bag table
     × DecodeGives table input outcome
+InputGives (run file bag) files = λ input outcome.
+    (held : Holding) × (files ≡ Some held) × (table : Nodes) × IsTableOf held file bag table
+    × RunGives table input outcome
 
 -- What a task may come to, with the library and the source before and after it.
 abbrev pub Comes : Task → Change Holding → Change (List (List ℕ)) → Change (List ℕ) → Outcome → Type 0
@@ -42,6 +48,7 @@ Comes (trim budget) library requests source outcome =
 Comes merge library requests source outcome = IsSame library × IsSame requests × Reads MergeGives source outcome
 Comes (check file bag) library requests source outcome = IsSame source × Checks file bag library requests outcome
 Comes (decode file bag) library requests source outcome = Decodes file bag library requests source outcome
+Comes (run file bag) library requests source outcome = Runs file bag library requests source outcome
 
 -- The call answers: words that ask for nothing are refused and nothing else is touched; otherwise what the
 -- task comes to is delivered.
@@ -66,6 +73,10 @@ abbrev pub SaysTyped : Nodes → List ℕ → List Atom → Type 0
 SaysTyped table input list =
     (length input ≤ INPUT_MAX) × AllSay (typed_lines table) [] (lines_of input) (list ∷ [])
 
+-- An input that isn't too long says this graph under the table, line by line.
+abbrev pub SaysGraph : Nodes → List ℕ → Graph → Type 0
+SaysGraph table input graph = (length input ≤ INPUT_MAX) × IsGraphOf table input graph
+
 -- The task has nothing to refuse in what the library and the source tell.
 abbrev pub Accepts : Task → Option Holding → Option (List ℕ) → Type 0
 Accepts (trim budget) files content =
@@ -78,6 +89,9 @@ Accepts (check file bag) files content =
 Accepts (decode file bag) files content =
     (held : Holding) × (files ≡ Some held) × (table : Nodes) × IsTableOf held file bag table
     × (input : List ℕ) × (content ≡ Some input) × ((list : List Atom) × SaysTyped table input list)
+Accepts (run file bag) files content =
+    (held : Holding) × (files ≡ Some held) × (table : Nodes) × IsTableOf held file bag table
+    × (input : List ℕ) × (content ≡ Some input) × ((graph : Graph) × SaysGraph table input graph)
 
 -- The world outside failed, or memory was wanting: no other status hides what is wrong with an input or a definition.
 abbrev pub IsFailure : ℕ → Type 0

@@ -18,6 +18,8 @@ pub enum Command<'a> {
     Check { file: &'a str, bag: &'a str },
     /// Decode one line of a context under the table of such a bag.
     Decode { file: &'a str, bag: &'a str },
+    /// Run a recorded graph under the table of such a bag.
+    Run { file: &'a str, bag: &'a str },
 }
 
 /// A number from 1 to 4,294,967,295, without sign or leading zero.
@@ -63,6 +65,7 @@ fn definition_command<'a>(name: &str, file: &'a str, bag: &'a str) -> Option<Com
     match name {
         "check" => Some(Command::Check { file, bag }),
         "decode" => Some(Command::Decode { file, bag }),
+        "run" => Some(Command::Run { file, bag }),
         _ => None,
     }
 }

@@ -13,6 +13,7 @@ mod delivery;
 mod merging;
 mod reading;
 mod refusals;
+mod running;
 #[cfg(test)]
 mod tests;
 mod top;

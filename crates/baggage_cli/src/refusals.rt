@@ -4,6 +4,7 @@ ghost use Rattle.std.specs.Prelude.{◌≡◌, IfOk, string_bytes};
 ghost use Rattle.baggage_cli.specs.Refusals as spec;
 
 use bdl_check::{DefCode, DefFault};
+use graph_text::{GraphCode, GraphFault};
 use outside::{Memory, Text};
 use std::alloc::{AllocFailed, Global};
 use std::fmt;
@@ -30,9 +31,11 @@ pub enum InputFault {
     Code(InputCode),
     /// The line isn't one of hexadecimal digits.
     Hex(HexCode),
-    /// The bytes of the line aren't those of a list or a context.
+    /// The line breaks this rule of a graph.
+    Graph(GraphCode),
+    /// The bytes of the line, or those that it receives, aren't those of a list or a context.
     Bytes { offset: usize, code: ByteCode },
-    /// The atom behind so many bytes of the line is no spelling of a value of the type that a table gives it.
+    /// The atom behind so many of these bytes is no spelling of a value of the type that a table gives it.
     IllTyped { offset: u128 },
 }
 
@@ -135,6 +138,31 @@ impl From<DefFault> for Refusal {
     }
 }
 
+impl From<GraphFault> for Refusal {
+    ghost use Rattle.std.specs.Prelude.{◌≡◌};
+    ghost use Rattle.baggage_cli.specs.Refusals.{graph_refusal};
+
+    ghost from_gives = { λ fault refusal. refusal ≡ graph_refusal fault };
+
+    fn from(fault: GraphFault) -> Refusal {
+        match fault {
+            GraphFault::At { line, code } => Refusal::Input {
+                line,
+                fault: InputFault::Graph(code),
+            },
+            GraphFault::Bytes { line, offset, code } => Refusal::Input {
+                line,
+                fault: InputFault::Bytes { offset, code },
+            },
+            GraphFault::IllTyped { line, offset } => Refusal::Input {
+                line,
+                fault: InputFault::IllTyped { offset },
+            },
+            GraphFault::Memory => Refusal::Plain(Notice::Memory),
+        }
+    }
+}
+
 impl InputFault {
     /// The status that the program ends with.
     pub fn status(self) -> u8
@@ -143,6 +171,7 @@ impl InputFault {
         match self {
             InputFault::Code(_) => 2,
             InputFault::Hex(_) => 2,
+            InputFault::Graph(_) => 2,
             InputFault::Bytes { .. } => 3,
             InputFault::IllTyped { .. } => 3,
         }
@@ -155,6 +184,7 @@ impl InputFault {
         match self {
             InputFault::Code(code) => Ok(format!(in alloc; "input line {line} {code}\n")?),
             InputFault::Hex(code) => Ok(format!(in alloc; "input line {line} {code}\n")?),
+            InputFault::Graph(code) => Ok(format!(in alloc; "input line {line} {code}\n")?),
             InputFault::Bytes { offset, code } => Ok(format!(in alloc;
                 "context line {line} offset {offset} {code}\n"
             )?),

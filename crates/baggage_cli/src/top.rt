@@ -12,15 +12,21 @@ ghost use Rattle.bdl_load.specs.declared.faults.Fault.{Fault};
 ghost use Rattle.bdl_load.specs.Loading.{Holding, AsksAll};
 ghost use Rattle.bdl_check.specs.Definitions.{IsTableOf, IsFirstFaultOf};
 ghost use Rattle.report_text.specs.Blocks.{IsBlock};
+ghost use Rattle.trace_model.specs.Graphs.{Graph};
+ghost use Rattle.trace_model.specs.Runs.{Lists, IsRun};
+ghost use Rattle.graph_report.specs.Reports.{IsReport};
+ghost use Rattle.graph_text.specs.GraphLines.{IsGraphOf};
 ghost use Rattle.text_lines.specs.declared.TheConstants.{INPUT_MAX};
 ghost use Rattle.text_lines.specs.HexLines.{hex_line};
 ghost use Rattle.baggage_cli.specs.Commands.{Task, task_of, command_of, ReadsSource, FetchesFiles, NamesBag};
-ghost use Rattle.baggage_cli.specs.Commands.Task.{trim, merge, check, decode};
+ghost use Rattle.baggage_cli.specs.Commands.Task.{trim, merge, check, decode, run};
 ghost use Rattle.baggage_cli.specs.Refusals.{input_status, input_line, notice_line, line_of, blamed};
 ghost use Rattle.baggage_cli.specs.Scene.{change, scene_of, HasNoFault};
+ghost use Rattle.baggage_cli.specs.Laws.{Laws};
 ghost use Rattle.baggage_cli.specs.Outcomes.{outcome_of};
 ghost use Rattle.baggage_cli.specs.Trimming.{trimmed_line};
 ghost use Rattle.baggage_cli.specs.Checking.{ok_line};
+ghost use Rattle.baggage_cli.specs.Running.{ShowsTruth};
 ghost use Rattle.baggage_cli.specs.Top.{TellsFiles, InputGives, Comes, Answers, IsFailure};
 ghost use Rattle.baggage_cli.specs.Top.{SaysList, SaysContexts, SaysTyped, Accepts};
 
@@ -30,12 +36,33 @@ use crate::decoding::decode_bag;
 use crate::delivery::{deliver, notify, refuse};
 use crate::merging::merge_source;
 use crate::refusals::{InputFault, Notice, Refusal};
+use crate::running::run_bag;
 use crate::trimming::trim_source;
 use bdl_check::laws;
+use graph_report::laws::lists_have_one_report;
+use graph_text::laws::{lines_are_definite, texts_give_recorded_graphs};
 use outside::{Gate, Library, Sink, Source, Words};
 use report_text::laws::lists_have_one_block;
 use std::alloc::Global;
 use std::thread::Threads;
+use trace_model::laws::{graphs_have_one_run, shown_values_are_honest};
+
+/// Tells that a definition has one table or one first fault, a list one block, and a text one graph or one first fault; and
+/// that a graph has one run and one report, which shows the truth. It does nothing.
+fn tell_laws()
+    ensures { Laws }
+{
+    laws::tables_are_unique();
+    laws::tables_exclude_faults();
+    laws::faults_are_unique();
+    laws::definitions_give_tables();
+    lists_have_one_block();
+    lines_are_definite();
+    texts_give_recorded_graphs();
+    graphs_have_one_run();
+    lists_have_one_report();
+    shown_values_are_honest();
+}
 
 /// Carries a command out: its output, or why there is none.
 fn carry_out<L: Library, S: Source>(
@@ -53,6 +80,7 @@ fn carry_out<L: Library, S: Source>(
         Command::Merge => merge_source(alloc, source),
         Command::Check { file, bag } => check_bag(alloc, library, file, bag),
         Command::Decode { file, bag } => decode_bag(alloc, library, source, file, bag),
+        Command::Run { file, bag } => run_bag(alloc, library, source, file, bag),
     }
 }
 
@@ -90,8 +118,9 @@ fn answer_words<L: Library, S: Source, K: Sink, E: Sink>(
 /// `check FILE BAG` reads nothing from the source: it compiles the bag of that name in the definition whose root is that file of
 /// the library, with the files that it imports, and writes the line `ok S`, where `S` is the number of the slots of its table.
 /// `decode FILE BAG` compiles the same, then reads one line from the source, which frames a context that is typed under the
-/// table, and writes the context's block: the line of its bytes and a line for each slot. Where the definition is refused
-/// the source isn't read.
+/// table, and writes the context's block: the line of its bytes and a line for each slot. `run FILE BAG` compiles the same, then
+/// reads a recorded graph from the source, line by line, runs it under the table, and writes the report: the number and the
+/// block of each step that the graph shows. Where the definition is refused the source isn't read.
 pub fn baggage_top<R: Threads + Sync, G: Gate, L: Library, S: Source, K: Sink, E: Sink>(
     _rt: &R,
     alloc: Global,
@@ -128,6 +157,14 @@ pub fn baggage_top<R: Threads + Sync, G: Gate, L: Library, S: Source, K: Sink, E
         → IsTableOf held file bag table → S.left source.old ≡ Some input
         → SaysTyped table input list → result ≡ 0
         → (text : List ℕ) × IsBlock table list text
+        × Appends (K.written out.old) (K.written out.new) text }
+    ensures run { (file bag : List ℕ) (held : Holding) (input : List ℕ)
+        → command_of words.now ≡ Some (run file bag) → L.files library.old ≡ Some held
+        → S.left source.old ≡ Some input → result ≡ 0
+        → (table : Nodes) × (graph : Graph) × (lists : Lists) × (text : List ℕ)
+        × IsTableOf held file bag table × IsGraphOf table input graph
+        × IsRun table graph lists × IsReport table lists graph.shows text
+        × ShowsTruth table graph lists
         × Appends (K.written out.old) (K.written out.new) text }
     ensures fetched { (task : Task) (file bag : List ℕ) (held : Holding)
         → command_of words.now ≡ Some task → NamesBag task file bag
@@ -207,10 +244,7 @@ pub fn baggage_top<R: Threads + Sync, G: Gate, L: Library, S: Source, K: Sink, E
         (change E.written E.faults errs.old errs.new))
         → (result ≡ 0) ⊎ (result ≡ 6) }
 {
-    // Only the proof needs these: a definition has one table or one first fault, and a list one block.
-    laws::tables_are_unique();
-    laws::tables_exclude_faults();
-    laws::faults_are_unique();
-    lists_have_one_block();
+    // Only the proof needs it.
+    tell_laws();
     answer_words(alloc, words, library, source, out, errs)
 }

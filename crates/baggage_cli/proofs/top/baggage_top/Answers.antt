@@ -1,7 +1,6 @@
 use Rattle.baggage_cli.specs.Scene.{change, scene_of}
 use Rattle.baggage_cli.proofs.Calls.{files_kept, counts_kept, steady_call, unread_call, quiet_call, sink_call, words_call, unasked_call}
-use Rattle.baggage_cli.proofs.Definite.{Laws}
-use Rattle.baggage_cli.proofs.Facts.{trim_appends, merge_appends, decode_appends, check_appends, has_asked, ended_source, left_told, definition_told, fault_told, input_told, bad_told, failed_told, memory_told, completes}
+use Rattle.baggage_cli.proofs.Facts.{trim_appends, merge_appends, decode_appends, run_appends, check_appends, has_asked, ended_source, left_told, definition_told, fault_told, input_told, bad_told, failed_told, memory_told, completes}
 use Rattle.baggage_cli.proofs.top.baggage_top.Goals as goal
 
 pub returns-clause-trim : goal.returns-clause-trim
@@ -22,19 +21,23 @@ returns-clause-check g c =
 
 pub returns-clause-decode : goal.returns-clause-decode
 returns-clause-decode g c =
-    let laws : Laws = record {
-      one_table = c.tables_are_unique.ensures;
-      no_fault = c.tables_exclude_faults.ensures;
-      one_fault = c.faults_are_unique.ensures;
-      one_block = c.lists_have_one_block.ensures;
-    } in
     let scene = scene_of
     (change g.L.Library.files g.L.Library.faults c.args.library.now c.answer_words.new.library)
     (change g.L.Library.asked g.L.Library.faults c.args.library.now c.answer_words.new.library)
     (change g.S.Source.left g.S.Source.faults c.args.source.now c.answer_words.new.source)
     (change g.K.Sink.written g.K.Sink.faults c.args.out.now c.answer_words.new.out)
     (change g.E.Sink.written g.E.Sink.faults c.args.errs.now c.answer_words.new.errs) in
-    λ file bag held table input list is told table_is content says done. decode_appends laws file bag held table input list scene c.answer_words.result (rw is at c.answer_words.ensures) told table_is content says done
+    λ file bag held table input list is told table_is content says done. decode_appends c.tell_laws.ensures file bag held table input list scene c.answer_words.result (rw is at c.answer_words.ensures) told table_is content says done
+
+pub returns-clause-run : goal.returns-clause-run
+returns-clause-run g c =
+    let scene = scene_of
+    (change g.L.Library.files g.L.Library.faults c.args.library.now c.answer_words.new.library)
+    (change g.L.Library.asked g.L.Library.faults c.args.library.now c.answer_words.new.library)
+    (change g.S.Source.left g.S.Source.faults c.args.source.now c.answer_words.new.source)
+    (change g.K.Sink.written g.K.Sink.faults c.args.out.now c.answer_words.new.out)
+    (change g.E.Sink.written g.E.Sink.faults c.args.errs.now c.answer_words.new.errs) in
+    λ file bag held input is told content done. run_appends c.tell_laws.ensures file bag held input scene c.answer_words.result (rw is at c.answer_words.ensures) told content done
 
 pub returns-clause-fetched : goal.returns-clause-fetched
 returns-clause-fetched g c =
@@ -93,38 +96,26 @@ returns-clause-definition g c = λ task held is told one. definition_told task h
 
 pub returns-clause-fault : goal.returns-clause-fault
 returns-clause-fault g c =
-    let laws : Laws = record {
-      one_table = c.tables_are_unique.ensures;
-      no_fault = c.tables_exclude_faults.ensures;
-      one_fault = c.faults_are_unique.ensures;
-      one_block = c.lists_have_one_block.ensures;
-    } in
     let scene = scene_of
     (change g.L.Library.files g.L.Library.faults c.args.library.now c.answer_words.new.library)
     (change g.L.Library.asked g.L.Library.faults c.args.library.now c.answer_words.new.library)
     (change g.S.Source.left g.S.Source.faults c.args.source.now c.answer_words.new.source)
     (change g.K.Sink.written g.K.Sink.faults c.args.out.now c.answer_words.new.out)
     (change g.E.Sink.written g.E.Sink.faults c.args.errs.now c.answer_words.new.errs) in
-    λ task file bag held fault is names told first. fault_told laws task file bag held fault scene c.answer_words.result (rw is at c.answer_words.ensures) names told first
+    λ task file bag held fault is names told first. fault_told c.tell_laws.ensures task file bag held fault scene c.answer_words.result (rw is at c.answer_words.ensures) names told first
 
 pub returns-clause-input : goal.returns-clause-input
 returns-clause-input g c = λ task input is tells told ended. input_told task input _ c.answer_words.result (rw is at c.answer_words.ensures) tells told ended
 
 pub returns-clause-bad_line : goal.returns-clause-bad_line
 returns-clause-bad_line g c =
-    let laws : Laws = record {
-      one_table = c.tables_are_unique.ensures;
-      no_fault = c.tables_exclude_faults.ensures;
-      one_fault = c.faults_are_unique.ensures;
-      one_block = c.lists_have_one_block.ensures;
-    } in
     let scene = scene_of
     (change g.L.Library.files g.L.Library.faults c.args.library.now c.answer_words.new.library)
     (change g.L.Library.asked g.L.Library.faults c.args.library.now c.answer_words.new.library)
     (change g.S.Source.left g.S.Source.faults c.args.source.now c.answer_words.new.source)
     (change g.K.Sink.written g.K.Sink.faults c.args.out.now c.answer_words.new.out)
     (change g.E.Sink.written g.E.Sink.faults c.args.errs.now c.answer_words.new.errs) in
-    λ task input number fault is told bad. bad_told laws task input number fault scene c.answer_words.result (rw is at c.answer_words.ensures) told bad
+    λ task input number fault is told bad. bad_told c.tell_laws.ensures task input number fault scene c.answer_words.result (rw is at c.answer_words.ensures) told bad
 
 pub returns-clause-failed : goal.returns-clause-failed
 returns-clause-failed g c = λ task is four. failed_told task _ c.answer_words.result (rw is at c.answer_words.ensures) four
@@ -143,16 +134,10 @@ returns-clause-unasked g c = λ is. unasked_call _ c.answer_words.result (rw is 
 
 pub returns-clause-complete : goal.returns-clause-complete
 returns-clause-complete g c =
-    let laws : Laws = record {
-      one_table = c.tables_are_unique.ensures;
-      no_fault = c.tables_exclude_faults.ensures;
-      one_fault = c.faults_are_unique.ensures;
-      one_block = c.lists_have_one_block.ensures;
-    } in
     let scene = scene_of
     (change g.L.Library.files g.L.Library.faults c.args.library.now c.answer_words.new.library)
     (change g.L.Library.asked g.L.Library.faults c.args.library.now c.answer_words.new.library)
     (change g.S.Source.left g.S.Source.faults c.args.source.now c.answer_words.new.source)
     (change g.K.Sink.written g.K.Sink.faults c.args.out.now c.answer_words.new.out)
     (change g.E.Sink.written g.E.Sink.faults c.args.errs.now c.answer_words.new.errs) in
-    λ task is accepts sure. completes laws task scene c.answer_words.result (rw is at c.answer_words.ensures) accepts sure
+    λ task is accepts sure. completes c.tell_laws.ensures task scene c.answer_words.result (rw is at c.answer_words.ensures) accepts sure

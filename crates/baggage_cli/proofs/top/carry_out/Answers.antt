@@ -18,3 +18,10 @@ returns-in-Decode g c =
     let requests = change g.L.Library.asked g.L.Library.faults c.args.library.now c.decode_bag.new.library in
     let source = change g.S.Source.left g.S.Source.faults c.args.source.now c.decode_bag.new.source in
     subst (λ command. Comes (task_of command) library requests source (outcome_of c.decode_bag.result)) (sym c.in-Decode.is) c.decode_bag.ensures
+
+pub returns-in-Run : goal.returns-in-Run
+returns-in-Run g c =
+    let library = change g.L.Library.files g.L.Library.faults c.args.library.now c.run_bag.new.library in
+    let requests = change g.L.Library.asked g.L.Library.faults c.args.library.now c.run_bag.new.library in
+    let source = change g.S.Source.left g.S.Source.faults c.args.source.now c.run_bag.new.source in
+    subst (λ command. Comes (task_of command) library requests source (outcome_of c.run_bag.result)) (sym c.in-Run.is) c.run_bag.ensures
