@@ -26,7 +26,7 @@ fn requests(alloc: Global) -> Result<SureLibrary, Fail> {
 }
 
 /// Streams over an input, whose reads and writes fail at these calls.
-fn streams_over(
+pub fn streams_over(
     alloc: Global,
     input: &[u8],
     reads: &[u64],
@@ -38,7 +38,7 @@ fn streams_over(
             7,
             Vec::from_slice(alloc, reads)?,
         ),
-        out: MemorySink::new(alloc, 4096, 5, Vec::from_slice(alloc, writes)?)?,
+        out: MemorySink::new(alloc, 1 << 19, 5, Vec::from_slice(alloc, writes)?)?,
         errs: MemorySink::new(alloc, 256, 11, Vec::new(alloc))?,
     })
 }

@@ -11,8 +11,12 @@ mod decode_tests;
 mod decoding;
 mod delivery;
 mod merging;
+#[cfg(test)]
+mod random_tests;
 mod reading;
 mod refusals;
+#[cfg(test)]
+mod run_tests;
 mod running;
 #[cfg(test)]
 mod tests;
