@@ -20,7 +20,7 @@ use Rattle.bag_model.specs.Shapes.{Shape, Nodes, no_node, node}
 use Rattle.bag_model.specs.Values.{Value, Values, Taint, Scalar, Set, Counter, Map, Bag, no_value, value, pairs, IsOfShape, AreOfShapes}
 use Rattle.bag_model.proofs.JoinLaws.{AreProperEntries-at}
 use Rattle.bag_model.proofs.LayoutLaws.{InLayout-bottom}
-use Rattle.bag_codec.specs.Encodable.{HasRoom, FitsAtom, IsEncodable, AreEncodable, NamesKinds, EachNamesKinds}
+use Rattle.bag_codec.specs.Encodable.{HasRoom, FitsAtom, IsEncodable, AreEncodable}
 
 -- ---- atoms behind a path
 
@@ -66,7 +66,7 @@ mutual
   layout_fits (shapes.Scalar kind) q (Scalar None) e p l = absurd l
   layout_fits (shapes.Scalar kind) q (Scalar (Some v)) e p l = fits_behind q p 0 (spelling kind v) l e.1
   layout_fits (shapes.Scalar kind) q v e p l = absurd e
-  layout_fits (shapes.Set kind) q (Set own vs) e p l = fits_behind q p 0 (spelling kind l.0) l.2 (All-at (FitsAtom kind) vs l.0 e l.1).1
+  layout_fits (shapes.Set kind) q (Set own vs) e p l = fits_behind q p 0 (spelling kind l.0) l.2 (All-at (FitsAtom kind) vs l.0 e.1 l.1).1
   layout_fits (shapes.Set kind) q v e p l = absurd e
   layout_fits shapes.Counter q (Counter counts) e p l =
       elim l.3 [
@@ -99,31 +99,31 @@ mutual
 -- ---- and is of its shape
 
 mutual
-  pub of_shape : (shape : Shape) (v : Value) → Proper v → NamesKinds shape v → IsEncodable shape v → IsOfShape shape v
-  of_shape shapes.Taint (Taint on) p k e = tt
-  of_shape shapes.Taint v p k e = absurd e
-  of_shape (shapes.Scalar kind) (Scalar None) p k e = tt
-  of_shape (shapes.Scalar kind) (Scalar (Some v)) p k e = e.0
-  of_shape (shapes.Scalar kind) v p k e = absurd e
-  of_shape (shapes.Set kind) (Set own vs) p k e = (k, p.0, subst (λ (other : ScalarKind). AllByRecursion (IsScalarOf other) vs) k p.1)
-  of_shape (shapes.Set kind) v p k e = absurd e
-  of_shape shapes.Counter (Counter counts) p k e = p
-  of_shape shapes.Counter v p k e = absurd e
-  of_shape (shapes.Map kind shape) (Map es) p k e = (
+  pub of_shape : (shape : Shape) (v : Value) → Proper v → IsEncodable shape v → IsOfShape shape v
+  of_shape shapes.Taint (Taint on) p e = tt
+  of_shape shapes.Taint v p e = absurd e
+  of_shape (shapes.Scalar kind) (Scalar None) p e = tt
+  of_shape (shapes.Scalar kind) (Scalar (Some v)) p e = e.0
+  of_shape (shapes.Scalar kind) v p e = absurd e
+  of_shape (shapes.Set kind) (Set own vs) p e = (e.0, p.0, subst (λ (other : ScalarKind). AllByRecursion (IsScalarOf other) vs) e.0 p.1)
+  of_shape (shapes.Set kind) v p e = absurd e
+  of_shape shapes.Counter (Counter counts) p e = p
+  of_shape shapes.Counter v p e = absurd e
+  of_shape (shapes.Map kind shape) (Map es) p e = (
     p.0,
     EachPair-from (λ key v. IsScalarOf kind key × IsOfShape shape v) (pairs es) (λ key v at.
         let own = EachPair-at (λ key v. FitsAtom kind key × IsEncodable shape v) (pairs es) key v e at in
-        (own.0.0, of_shape shape v (AreProperEntries-at es key v p.1 at) (EachPair-at (λ key v. NamesKinds shape v) (pairs es) key v k at) own.1)),
+        (own.0.0, of_shape shape v (AreProperEntries-at es key v p.1 at) own.1)),
   )
-  of_shape (shapes.Map kind shape) v p k e = absurd e
-  of_shape (shapes.Bag nodes) (Bag vs) p k e = of_shapes nodes vs p k e
-  of_shape (shapes.Bag nodes) v p k e = absurd e
+  of_shape (shapes.Map kind shape) v p e = absurd e
+  of_shape (shapes.Bag nodes) (Bag vs) p e = of_shapes nodes vs p e
+  of_shape (shapes.Bag nodes) v p e = absurd e
 
-  pub of_shapes : (nodes : Nodes) (vs : Values) → AreProper vs → EachNamesKinds nodes vs → AreEncodable nodes vs → AreOfShapes nodes vs
-  of_shapes no_node no_value p k e = tt
-  of_shapes no_node (value v vs) p k e = absurd e
-  of_shapes (node name number shape nodes) no_value p k e = absurd e
-  of_shapes (node name number shape nodes) (value v vs) p k e = (of_shape shape v p.0 k.0 e.0, of_shapes nodes vs p.1 k.1 e.1)
+  pub of_shapes : (nodes : Nodes) (vs : Values) → AreProper vs → AreEncodable nodes vs → AreOfShapes nodes vs
+  of_shapes no_node no_value p e = tt
+  of_shapes no_node (value v vs) p e = absurd e
+  of_shapes (node name number shape nodes) no_value p e = absurd e
+  of_shapes (node name number shape nodes) (value v vs) p e = (of_shape shape v p.0 e.0, of_shapes nodes vs p.1 e.1)
 
 -- ---- what is of its shape, with a layout that fits, fits by its parts
 
@@ -134,9 +134,11 @@ mutual
   by_parts (shapes.Scalar kind) q (Scalar None) o f = tt
   by_parts (shapes.Scalar kind) q (Scalar (Some v)) o f = (o, room_behind q 0 (spelling kind v) (f (datum_path q (spelling kind v)) refl))
   by_parts (shapes.Scalar kind) q v o f = absurd o
-  by_parts (shapes.Set kind) q (Set own vs) o f =
-      All-from (FitsAtom kind) vs
-      (λ v at. (All-at (IsScalarOf kind) vs v o.2 at, room_behind q 0 (spelling kind v) (f (datum_path q (spelling kind v)) (v, at, refl))))
+  by_parts (shapes.Set kind) q (Set own vs) o f = (
+    o.0,
+    All-from (FitsAtom kind) vs
+        (λ v at. (All-at (IsScalarOf kind) vs v o.2 at, room_behind q 0 (spelling kind v) (f (datum_path q (spelling kind v)) (v, at, refl)))),
+  )
   by_parts (shapes.Set kind) q v o f = absurd o
   by_parts shapes.Counter q (Counter counts) o f =
       EachPair-from (λ writer n. HasRoom writer) counts
@@ -163,24 +165,3 @@ mutual
         by_parts shape path v o.0 (λ p l. f p (inl ((λ b. InLayout-bottom shape path v p b l), inr l))),
         each_by_parts nodes q vs o.1 (λ p l. f p (inr l)),
       )
-
--- ---- a value of a shape names the kinds of its sets
-
-mutual
-  pub names_kinds : (shape : Shape) (v : Value) → IsOfShape shape v → NamesKinds shape v
-  names_kinds shapes.Taint v o = tt
-  names_kinds (shapes.Scalar kind) v o = tt
-  names_kinds (shapes.Set kind) (Set own vs) o = o.0
-  names_kinds (shapes.Set kind) v o = absurd o
-  names_kinds shapes.Counter v o = tt
-  names_kinds (shapes.Map kind shape) (Map es) o =
-      EachPair-from (λ key v. NamesKinds shape v) (pairs es)
-      (λ key v at. names_kinds shape v (EachPair-at (λ key v. IsScalarOf kind key × IsOfShape shape v) (pairs es) key v o.1 at).1)
-  names_kinds (shapes.Map kind shape) v o = absurd o
-  names_kinds (shapes.Bag nodes) (Bag vs) o = each_names_kinds nodes vs o
-  names_kinds (shapes.Bag nodes) v o = absurd o
-
-  pub each_names_kinds : (nodes : Nodes) (vs : Values) → AreOfShapes nodes vs → EachNamesKinds nodes vs
-  each_names_kinds no_node vs o = tt
-  each_names_kinds (node name number shape nodes) no_value o = absurd o
-  each_names_kinds (node name number shape nodes) (value v vs) o = (names_kinds shape v o.0, each_names_kinds nodes vs o.1)

@@ -1,6 +1,6 @@
+pub mod KindWords
 pub mod Layouts
 pub mod Parts
 pub mod Rooms
 pub mod Said
-pub mod Named
 pub mod ThreeFields

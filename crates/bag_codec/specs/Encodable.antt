@@ -16,8 +16,8 @@ HasRoom bytes = length bytes < ATOM_MAX
 abbrev pub FitsAtom : ScalarKind → ScalarValue → Type 0
 FitsAtom kind v = IsScalarOf kind v × HasRoom (spelling kind v)
 
--- The value has the variants and the scalars that the shape asks for, and there is room in an atom for each scalar and for
--- each writer. Order, the counts' size and the kinds that sets name of themselves are left out.
+-- The value has the variants and the scalars that the shape asks for, and its sets name the kinds of their fields; there is
+-- room in an atom for each scalar and for each writer. Order and the counts' size are left out.
 abbrev mutual
   pub IsEncodable : Shape → Value → Type 0
   IsEncodable shapes.Taint (Taint on) = Unit {0}
@@ -25,7 +25,7 @@ abbrev mutual
   IsEncodable (shapes.Scalar kind) (Scalar None) = Unit {0}
   IsEncodable (shapes.Scalar kind) (Scalar (Some v)) = FitsAtom kind v
   IsEncodable (shapes.Scalar kind) other = ⊥
-  IsEncodable (shapes.Set kind) (Set own vs) = AllByRecursion (FitsAtom kind) vs
+  IsEncodable (shapes.Set kind) (Set own vs) = (own ≡ kind) × AllByRecursion (FitsAtom kind) vs
   IsEncodable (shapes.Set kind) other = ⊥
   IsEncodable shapes.Counter (Counter counts) = EachPair (λ writer n. HasRoom writer) counts
   IsEncodable shapes.Counter other = ⊥
@@ -40,16 +40,3 @@ abbrev mutual
   AreEncodable no_node (value v vs) = ⊥
   AreEncodable (node name number shape nodes) no_value = ⊥
   AreEncodable (node name number shape nodes) (value v vs) = IsEncodable shape v × AreEncodable nodes vs
-
--- Each set inside the value names the kind of its field.
-abbrev mutual
-  pub NamesKinds : Shape → Value → Type 0
-  NamesKinds (shapes.Set kind) (Set own vs) = own ≡ kind
-  NamesKinds (shapes.Map kind shape) (Map es) = EachPair (λ key v. NamesKinds shape v) (pairs es)
-  NamesKinds (shapes.Bag nodes) (Bag vs) = EachNamesKinds nodes vs
-  NamesKinds shape other = Unit {0}
-
-  -- The same of a bag's fields.
-  pub EachNamesKinds : Nodes → Values → Type 0
-  EachNamesKinds (node name number shape nodes) (value v vs) = NamesKinds shape v × EachNamesKinds nodes vs
-  EachNamesKinds nodes vs = Unit {0}

@@ -1,6 +1,6 @@
 //! Whether a value can be encoded. Nothing here takes memory.
 
-ghost use Rattle.std.specs.Prelude.{◌↔◌, length, map, IsTrue};
+ghost use Rattle.std.specs.Prelude.{◌≡◌, ◌↔◌, length, map, IsTrue};
 ghost use Rattle.std.specs.List.{AllByRecursion};
 ghost use Rattle.context_model.specs.KeyedMerge.{EachPair};
 ghost use Rattle.bag_encode.specs.BagValues.{bag_values};
@@ -12,8 +12,9 @@ ghost use Rattle.bag_value.specs.Plain.{plain};
 ghost use Rattle.field_table.specs.Plain.{nodes_of, shape_of};
 ghost use Rattle.scalar_types.specs.KindViews.{kind_of};
 ghost use Rattle.scalar_types.specs.ScalarViews.{value_of};
-ghost use Rattle.bag_codec.specs.Encodable.{AreEncodable, FitsAtom, HasRoom, IsEncodable, NamesKinds};
+ghost use Rattle.bag_codec.specs.Encodable.{AreEncodable, FitsAtom, HasRoom, IsEncodable};
 
+use crate::kinds::is_same;
 use crate::lengths::is_short;
 use bag_value::{Entries, ScalarSet, Val, Vals};
 use counter_type::{Counts, Lattice};
@@ -22,15 +23,10 @@ use outside::ATOM_MAX;
 use scalar_types::{Codec, Scalar, ScalarKind};
 
 /// Whether a value can be encoded under a table: it is a bag with a value of its shape for each field, and there is room in
-/// an atom for each key, each writer and each datum.
-///
-/// A set doesn't show the kind that it names, so that true holds for a value whose sets name the kinds of their fields. Those
-/// that `SetOf::new` makes with the field's kind do, and those of every value that was read or joined under the table.
+/// an atom for each key, each writer and each datum. A set, also an empty one, has to name the kind of its field.
 pub fn can_encode(table: &Table, value: &Val) -> bool
-    ensures encodable { IsTrue result → NamesKinds (shapes.Shape.Bag table.now) (plain value.now)
-        → IsOfShape (shapes.Shape.Bag table.now) (plain value.now) × FitsAtoms table.now (bag_values (plain value.now)) }
-    ensures refused { IsOfShape (shapes.Shape.Bag table.now) (plain value.now)
-        → FitsAtoms table.now (bag_values (plain value.now)) → IsTrue result }
+    ensures { IsTrue result
+        ↔ IsOfShape (shapes.Shape.Bag table.now) (plain value.now) × FitsAtoms table.now (bag_values (plain value.now)) }
 {
     // This tells the proof that the value and all inside it are in order.
     let _ = value.is_bottom();
@@ -59,6 +55,13 @@ fn elements_fit(kind: &ScalarKind, set: &ScalarSet) -> bool
     true
 }
 
+/// Whether a set names this kind.
+fn names_kind(set: &ScalarSet, kind: &ScalarKind) -> bool
+    ensures { IsTrue result ↔ (kind_of set.now.codec ≡ kind_of kind.now) }
+{
+    is_same(set.codec(), kind)
+}
+
 /// Whether there is room for each writer.
 fn writers_fit(counts: &Counts) -> bool
     ensures { IsTrue result ↔ EachPair (λ writer n. HasRoom writer) counts.now }
@@ -81,7 +84,7 @@ fn is_encodable(shape: &Shape, value: &Val) -> bool
         (Shape::Taint, Val::Taint(_)) => true,
         (Shape::Scalar(_), Val::Scalar(None)) => true,
         (Shape::Scalar(kind), Val::Scalar(Some(scalar))) => fits_atom(kind, scalar),
-        (Shape::Set(kind), Val::Set(set)) => elements_fit(kind, set),
+        (Shape::Set(kind), Val::Set(set)) => names_kind(set, kind) && elements_fit(kind, set),
         (Shape::Counter, Val::Counter(counts)) => writers_fit(counts),
         (Shape::Map(kind, shape), Val::Map(entries)) => entries_fit(kind, shape, entries),
         (Shape::Bag(fields), Val::Bag(values)) => fields_fit(fields, values),

@@ -13,7 +13,7 @@
 #![tactic(auto)]
 
 mod encodable;
-pub mod laws;
+mod kinds;
 mod lengths;
 mod normal_readings;
 mod readings;
