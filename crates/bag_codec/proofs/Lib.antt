@@ -1,4 +1,3 @@
-pub mod KindWords
 pub mod Layouts
 pub mod Parts
 pub mod Rooms

@@ -14,7 +14,6 @@ ghost use Rattle.scalar_types.specs.KindViews.{kind_of};
 ghost use Rattle.scalar_types.specs.ScalarViews.{value_of};
 ghost use Rattle.bag_codec.specs.Encodable.{AreEncodable, FitsAtom, HasRoom, IsEncodable};
 
-use crate::kinds::is_same;
 use crate::lengths::is_short;
 use bag_value::{Entries, ScalarSet, Val, Vals};
 use counter_type::{Counts, Lattice};
@@ -59,7 +58,7 @@ fn elements_fit(kind: &ScalarKind, set: &ScalarSet) -> bool
 fn names_kind(set: &ScalarSet, kind: &ScalarKind) -> bool
     ensures { IsTrue result ↔ (kind_of set.now.codec ≡ kind_of kind.now) }
 {
-    is_same(set.codec(), kind)
+    set.codec().is_same(kind)
 }
 
 /// Whether there is room for each writer.

@@ -13,7 +13,6 @@
 #![tactic(auto)]
 
 mod encodable;
-mod kinds;
 mod lengths;
 mod normal_readings;
 mod readings;

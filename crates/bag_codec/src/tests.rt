@@ -2,14 +2,10 @@
 
 ghost use Rattle.std.specs.Prelude.{◌≡◌};
 ghost use Rattle.bag_model.specs.Shapes.{no_node};
-ghost use Rattle.scalar_types.specs.KindViews.{IsWord};
 
-use crate::kinds::is_same;
 use crate::{Val, Vals, can_encode, encode_and_read, merge_and_read, normal_and_read};
 use atom_list::Context;
 use field_table::{Slots, Table, View};
-use outside::Memory;
-use scalar_types::{KindList, ScalarKind};
 use std::alloc::Global;
 use std::test::Fail;
 
@@ -38,28 +34,5 @@ fn readings_agree(rt: HostRuntime) -> Result<(), Fail> {
     assert!(rt; is_empty_bag(&read) && is_empty_bag(&joined));
     let (kept, read) = normal_and_read(alloc, &table, &View::All, &empty)?;
     assert!(rt; is_empty_bag(&kept) && is_empty_bag(&read));
-    Ok(())
-}
-
-/// A struct of a string and this kind.
-fn pair_kind(alloc: Global, kind: ScalarKind) -> Result<ScalarKind, Memory>
-    requires { IsWord kind }
-{
-    let mut kinds = KindList::new(alloc);
-    kinds.push(ScalarKind::Str)?;
-    kinds.push(kind)?;
-    Ok(ScalarKind::Packed(kinds))
-}
-
-#[test]
-fn kinds_are_compared(rt: HostRuntime) -> Result<(), Fail> {
-    let alloc = rt.alloc();
-    let pair = pair_kind(alloc, ScalarKind::Int32)?;
-    assert!(rt; is_same(&pair, &pair_kind(alloc, ScalarKind::Int32)?));
-    assert!(rt; !is_same(&pair, &pair_kind(alloc, ScalarKind::Int64)?));
-    assert!(rt; !is_same(&pair, &ScalarKind::Packed(KindList::new(alloc))));
-    assert!(rt; !is_same(&pair, &ScalarKind::Str) && !is_same(&ScalarKind::Str, &pair));
-    assert!(rt; is_same(&ScalarKind::Str, &ScalarKind::Str));
-    assert!(rt; !is_same(&ScalarKind::Str, &ScalarKind::Bytes));
     Ok(())
 }

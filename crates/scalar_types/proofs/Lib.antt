@@ -5,3 +5,4 @@ pub mod FormValues
 pub mod PackedSteps
 pub mod KindSpelled
 pub mod VarintFronts
+pub mod KindWords

@@ -10,6 +10,7 @@ mod kinds;
 mod laws;
 mod packed;
 mod plain_codecs;
+mod same_kinds;
 mod scalars;
 mod sharing;
 #[cfg(test)]

@@ -392,6 +392,22 @@ fn empty_fields(rt: HostRuntime) -> Result<(), Fail> {
     Ok(())
 }
 
+#[test]
+fn kinds_are_compared(rt: HostRuntime) -> Result<(), Fail> {
+    let alloc = rt.alloc();
+    let pair = pair_kind(alloc)?;
+    let mut wide = KindList::new(alloc);
+    wide.push(ScalarKind::Str)?;
+    wide.push(ScalarKind::Int64)?;
+    assert!(rt; pair.is_same(&pair_kind(alloc)?));
+    assert!(rt; !pair.is_same(&ScalarKind::Packed(wide)));
+    assert!(rt; !pair.is_same(&ScalarKind::Packed(KindList::new(alloc))));
+    assert!(rt; !pair.is_same(&ScalarKind::Str) && !ScalarKind::Str.is_same(&pair));
+    assert!(rt; ScalarKind::Str.is_same(&ScalarKind::Str));
+    assert!(rt; !ScalarKind::Str.is_same(&ScalarKind::Bytes));
+    Ok(())
+}
+
 /// The kind of structs of a text and a number with a sign.
 fn pair_kind(alloc: Global) -> Result<ScalarKind, Memory> {
     let mut kinds = KindList::new(alloc);

@@ -1,20 +1,22 @@
-//! Whether two kinds of scalars are the same. Nothing here takes memory.
+//! Whether two kinds are the same. Nothing here takes memory.
 
 ghost use Rattle.std.specs.Prelude.{◌≡◌, ◌↔◌, All, IsTrue};
 ghost use Rattle.scalar_types.specs.KindViews.{IsWord};
 
-use scalar_types::ScalarKind;
+use crate::kinds::ScalarKind;
 
-/// Whether two kinds are the same. Of a struct each field counts.
-pub(crate) fn is_same(ours: &ScalarKind, theirs: &ScalarKind) -> bool
-    ensures { IsTrue result ↔ (ours.now ≡ theirs.now) }
-{
-    match (ours, theirs) {
-        (ScalarKind::Packed(ours), ScalarKind::Packed(theirs)) => {
-            are_same_words(ours.as_slice(), theirs.as_slice())
+impl ScalarKind {
+    /// Whether two kinds are the same. Of a struct each field counts.
+    pub fn is_same(&self, other: &ScalarKind) -> bool
+        ensures { IsTrue result ↔ (self.now ≡ other.now) }
+    {
+        match (self, other) {
+            (ScalarKind::Packed(ours), ScalarKind::Packed(theirs)) => {
+                are_same_words(ours.as_slice(), theirs.as_slice())
+            }
+            (ScalarKind::Packed(_), _) => false,
+            (word, other) => is_same_word(word, other),
         }
-        (ScalarKind::Packed(_), _) => false,
-        (word, other) => is_same_word(word, other),
     }
 }
 

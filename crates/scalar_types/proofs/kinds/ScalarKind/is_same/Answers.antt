@@ -1,8 +1,8 @@
 use Rattle.std.proofs.Common.{◌≡◌, map, sym, ap, ◌∙◌}
 use Rattle.scalar_types.specs.declared.kinds.ScalarKind.TheVariants.{Packed}
 use Rattle.scalar_types.specs.KindViews.{word_of}
-use Rattle.bag_codec.proofs.KindWords.{same_kinds}
-use Rattle.bag_codec.proofs.kinds.is_same.Goals as goal
+use Rattle.scalar_types.proofs.KindWords.{same_kinds}
+use Rattle.scalar_types.proofs.kinds.ScalarKind.is_same.Goals as goal
 
 pub returns-in-Packed-Packed : goal.returns-in-Packed-Packed
 returns-in-Packed-Packed c =
