@@ -1,5 +1,5 @@
 -- A run with one list more.
-use Rattle.std.proofs.Common.{◌≡◌, ℕ, suc, ◌+◌, ◌<◌, List, [], ◌∷◌, ◌++◌, length, map, Some, sym, ap, ◌∙◌, subst, arith}
+use Rattle.std.proofs.Common.{◌≡◌, ℕ, suc, ◌+◌, ◌<◌, ◌≤◌, List, [], ◌∷◌, ◌++◌, length, map, Some, sym, ap, ◌∙◌, subst, arith}
 use Rattle.context_model.specs.Atoms.{Atom}
 use Rattle.context_model.specs.Orders.{IsIn}
 use Rattle.bag_model.specs.Shapes.{Nodes}
@@ -10,8 +10,8 @@ use Rattle.step_rules.specs.Parents.{ArePlacesOf}
 one_step : (a b : Step) → Some a ≡ Some b → a ≡ b
 one_step a b e = cc
 
--- Where the lists of all earlier steps stand by their numbers, the parents of a step are their own places.
-pub places_fit : (graph : Graph) (lists : Lists) (n : ℕ) (step : Step) (places : List ℕ) → IsGraph graph → HasStep graph n step → length lists ≡ n → places ≡ parents_of step.act
+-- Where the lists of all earlier steps stand by their numbers, whatever follows, the parents of a step are their own places.
+pub places_fit : (graph : Graph) (lists : Lists) (n : ℕ) (step : Step) (places : List ℕ) → IsGraph graph → HasStep graph n step → n ≤ length lists → places ≡ parents_of step.act
     → (own : Step) → HasStep graph n own → ArePlacesOf (parents_of own.act) lists places
 places_fit graph lists n step places sound there many same own has =
     let one : step ≡ own = one_step step own (sym there ∙ has) in

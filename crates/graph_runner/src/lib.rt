@@ -5,4 +5,4 @@ mod runs;
 #[cfg(test)]
 mod tests;
 
-pub use runs::run_all;
+pub use runs::{run_all, run_gated, tell_of_run};

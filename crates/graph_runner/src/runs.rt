@@ -8,14 +8,19 @@ ghost use Rattle.graph_runner.specs.Alike.{AlikeStepsAgree};
 
 use atom_list::Context;
 use field_table::Table;
-use outside::Memory;
+use outside::{Gate, Memory, Open};
 use recorded_graph::Graph;
 use std::alloc::Global;
-use step_rules::run_step;
+use step_rules::run_step_alone;
 use trace_model::laws::{graphs_have_one_run, runs_are_faithful, same_writes_read_alike};
 
 /// The lists of the steps, in their order.
-fn lists_of(alloc: Global, table: &Table, graph: &Graph) -> Result<Vec<Context>, Memory>
+fn lists_of<G: Gate>(
+    alloc: Global,
+    gate: &G,
+    table: &Table,
+    graph: &Graph,
+) -> Result<Vec<Context>, Memory>
     requires { IsOfTable table.now graph.now }
     ensures { IfOk result (λ lists. IsRun table.now graph.now lists.items) }
 {
@@ -27,24 +32,45 @@ fn lists_of(alloc: Global, table: &Table, graph: &Graph) -> Result<Vec<Context>,
     for number in 0..graph.steps() {
         let own = graph.step(number);
         let parents = own.act.parents();
-        let list = run_step(alloc, table, graph, number, lists.as_slice(), parents)?;
+        gate.enter(number);
+        let list = run_step_alone(alloc, table, graph, number, lists.as_slice(), parents)?;
         lists.push(list)?;
     }
     Ok(lists)
 }
 
-/// Tells what the lists of a run say of the truth. It does nothing.
-fn tell(table: &Table, graph: &Graph, lists: &[Context])
+/// Tells what the lists of a run say of the truth, and that they are typed contexts. It does nothing.
+pub fn tell_of_run(table: &Table, graph: &Graph, lists: &[Context])
     requires table { IsOfTable table.now graph.now }
     requires run { IsRun table.now graph.now lists.now }
     ensures faithful { (n : ℕ) → n < length graph.now.steps → IsFaithful table.now graph.now lists.now n }
     ensures alike { AlikeStepsAgree table.now graph.now lists.now }
+    ensures typed { (n : ℕ) → n < length lists.now → IsTypedContext table.now (list_at lists.now n) }
 {
     graph.known();
     let _ = table.nodes();
     runs_are_faithful();
     same_writes_read_alike();
     let _ = lists;
+}
+
+/// The lists of all steps of a graph of a table, as [`run_all`] gives them. Each step passes the gate, as the piece of its
+/// number, before it is run.
+pub fn run_gated<G: Gate>(
+    alloc: Global,
+    gate: &G,
+    table: &Table,
+    graph: &Graph,
+) -> Result<Vec<Context>, Memory>
+    requires { IsOfTable table.now graph.now }
+    ensures run { IfOk result (λ lists. IsRun table.now graph.now lists.items) }
+    ensures faithful { IfOk result (λ lists. (n : ℕ) → n < length graph.now.steps → IsFaithful table.now graph.now lists.items n) }
+    ensures alike { IfOk result (λ lists. AlikeStepsAgree table.now graph.now lists.items) }
+    ensures typed { IfOk result (λ lists. (n : ℕ) → n < length lists.items → IsTypedContext table.now (list_at lists.items n)) }
+{
+    let lists = lists_of(alloc, gate, table, graph)?;
+    tell_of_run(table, graph, lists.as_slice());
+    Ok(lists)
 }
 
 /// The lists of all steps of a graph of a table, in the order of the steps.
@@ -58,7 +84,5 @@ pub fn run_all(alloc: Global, table: &Table, graph: &Graph) -> Result<Vec<Contex
     ensures alike { IfOk result (λ lists. AlikeStepsAgree table.now graph.now lists.items) }
     ensures typed { IfOk result (λ lists. (n : ℕ) → n < length lists.items → IsTypedContext table.now (list_at lists.items n)) }
 {
-    let lists = lists_of(alloc, table, graph)?;
-    tell(table, graph, lists.as_slice());
-    Ok(lists)
+    run_gated(alloc, &Open, table, graph)
 }

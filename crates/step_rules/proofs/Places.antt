@@ -1,6 +1,6 @@
 -- Lists by their places.
-use Rattle.std.proofs.Common.{◌≡◌, inl, inr, ℕ, zero, suc, ◌+◌, ◌<◌, List, [], ◌∷◌, ◌++◌, length, map, get_or, take, refl, sym, ap, ◌∙◌, arith}
-use Rattle.std.proofs.lemmas.List.{take_more, map-append}
+use Rattle.std.proofs.Common.{◌≡◌, inl, inr, ℕ, zero, suc, ◌<◌, List, [], ◌∷◌, length, map, get_or, refl, subst, All, arith}
+use Rattle.std.proofs.lemmas.List.{get_or_default}
 use Rattle.context_model.specs.Atoms.{Atom}
 use Rattle.context_model.specs.Orders.{IsIn}
 use Rattle.trace_model.specs.Runs.{Lists, list_at}
@@ -20,12 +20,6 @@ pub first_list : (pool : Lists) (places : List ℕ) (list : List Atom) → 0 < l
 first_list pool [] list l e = absurd (omega (arith, l))
 first_list pool (place ∷ places) list l e = e
 
--- One copy more.
-pub one_copy : (pool : Lists) (places : List ℕ) (k : ℕ) (list : List Atom) (before after : Lists) → k < length places → before ≡ map (list_at pool) (take k places) → after ≡ before ++ list ∷ []
-    → list ≡ list_at pool (get_or places k 0) → after ≡ map (list_at pool) (take (k + 1) places)
-one_copy pool places k list before after l done added is =
-    added
-    ∙ ap (λ (ls : Lists). ls ++ list ∷ []) done
-    ∙ ap (λ (own : List Atom). map (list_at pool) (take k places) ++ own ∷ []) is
-    ∙ sym (map-append (list_at pool) (take k places) (get_or places k 0 ∷ []))
-    ∙ ap (map (list_at pool)) (sym (take_more places k 0 l))
+-- So they all are, by their places.
+pub all_within : (pool : Lists) (places : List ℕ) → AreWithin pool places → All (λ place. place < length pool) places
+all_within pool places within k d l = subst (λ (place : ℕ). place < length pool) (get_or_default places k 0 d l) (place_within pool places k within l)

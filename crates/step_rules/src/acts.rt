@@ -10,17 +10,19 @@ ghost use Rattle.trace_model.specs.Graphs.{parents_of, IsSoundAct, IsActOf, MayB
 ghost use Rattle.trace_model.specs.Runs.{list_at, Gives, IsNormalMerge, IsNormalWrite};
 ghost use Rattle.step_rules.specs.Parents.{AreWithin, ArePlacesOf};
 
-use crate::parents::{copies, first};
+use crate::parents::first;
 use atom_list::Context;
 use bag_encode::encode_slot;
 use bag_normal::normal;
 use bag_value::Val;
+use fan_in::{merge_all, merge_alone};
 use field_table::{Table, View};
-use lex_merge::{merge, merge_many};
-use outside::Memory;
+use lex_merge::merge;
+use outside::{Memory, Open};
 use overflow_trim::trim_context;
 use recorded_graph::Act;
 use std::alloc::Global;
+use std::thread::Threads;
 
 /// The normal form of a copy of a context.
 fn normal_copy(
@@ -73,8 +75,23 @@ fn joined(
     requires { AreWithin pool.now places.now }
     ensures { IfOk result (IsNormalMerge table.now (view_of view.now) (map (list_at pool.now) places.now)) }
 {
-    let lists = copies(alloc, pool, places)?;
-    let merged = merge_many(alloc, lists)?;
+    let merged = merge_alone(alloc, pool, places)?;
+    normal(alloc, table, view, merged)
+}
+
+/// The same, where the lists are merged in several threads.
+fn joined_beside<R: Threads + Sync>(
+    rt: &R,
+    alloc: Global,
+    table: &Table,
+    view: &View,
+    pool: &[Context],
+    places: &[usize],
+) -> Result<Context, Memory>
+    requires { AreWithin pool.now places.now }
+    ensures { IfOk result (IsNormalMerge table.now (view_of view.now) (map (list_at pool.now) places.now)) }
+{
+    let merged = merge_all(rt, alloc, &Open, pool, places)?;
     normal(alloc, table, view, merged)
 }
 
@@ -104,5 +121,26 @@ pub(crate) fn give(
         Act::Forward { parent: _ } => normal_copy(alloc, table, view, first(pool, places)),
         Act::Trim { parent: _, budget } => trimmed_copy(first(pool, places), *budget),
         Act::Join { parents: _ } => joined(alloc, table, view, pool, places),
+    }
+}
+
+/// The same, where the lists of a join are merged in several threads.
+pub(crate) fn give_beside<R: Threads + Sync>(
+    rt: &R,
+    alloc: Global,
+    table: &Table,
+    view: &View,
+    act: &Act,
+    pool: &[Context],
+    places: &[usize],
+) -> Result<Context, Memory>
+    requires sound { IsSoundAct (act_of act.now) }
+    requires may { IsActOf table.now (view_of view.now) (act_of act.now) }
+    requires places { ArePlacesOf (parents_of (act_of act.now)) pool.now places.now }
+    ensures { IfOk result (Gives table.now (view_of view.now) (act_of act.now) (map (list_at pool.now) places.now)) }
+{
+    match act {
+        Act::Join { parents: _ } => joined_beside(rt, alloc, table, view, pool, places),
+        alone => give(alloc, table, view, alone, pool, places),
     }
 }

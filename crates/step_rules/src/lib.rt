@@ -5,4 +5,4 @@ mod acts;
 mod parents;
 mod steps;
 
-pub use steps::run_step;
+pub use steps::{run_step, run_step_alone};

@@ -1,12 +1,10 @@
 //! The lists of a step's parents, by their places among other lists.
 
-ghost use Rattle.std.specs.Prelude.{◌≡◌, ◌<◌, length, map, IfOk};
+ghost use Rattle.std.specs.Prelude.{◌≡◌, ◌<◌, length, map};
 ghost use Rattle.trace_model.specs.Runs.{list_at};
 ghost use Rattle.step_rules.specs.Parents.{AreWithin};
 
 use atom_list::Context;
-use outside::Memory;
-use std::alloc::Global;
 
 /// The list at a place.
 fn at(pool: &[Context], place: usize) -> &Context
@@ -23,21 +21,4 @@ pub(crate) fn first<'a>(pool: &'a [Context], places: &[usize]) -> &'a Context
     ensures { result.now ≡ list_at (map (list_at pool.now) places.now) 0 }
 {
     at(pool, places[0])
-}
-
-/// Copies of the lists at the places, in order.
-pub(crate) fn copies(
-    alloc: Global,
-    pool: &[Context],
-    places: &[usize],
-) -> Result<Vec<Context>, Memory>
-    requires { AreWithin pool.now places.now }
-    ensures { IfOk result (λ copies. copies.items ≡ map (list_at pool.now) places.now) }
-{
-    let mut copies = Vec::with_capacity(alloc, places.len())?;
-    for place in places {
-        let copied = at(pool, *place).copy()?;
-        copies.push(copied)?;
-    }
-    Ok(copies)
 }

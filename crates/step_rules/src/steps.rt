@@ -6,17 +6,18 @@ ghost use Rattle.trace_model.specs.Graphs.{Step, HasStep, parents_of, view_at, I
 ghost use Rattle.trace_model.specs.Runs.{list_at, Gives};
 ghost use Rattle.step_rules.specs.Parents.{ArePlacesOf};
 
-use crate::acts::give;
+use crate::acts::{give, give_beside};
 use atom_list::Context;
 use field_table::Table;
 use outside::Memory;
 use recorded_graph::Graph;
 use std::alloc::Global;
+use std::thread::Threads;
 use trace_model::laws::steps_give_contexts;
 
 /// The list of a step, from the lists of its parents. These stand among the lists of the pool, at one place for each parent,
-/// in the order in which the step names its parents.
-pub fn run_step(
+/// in the order in which the step names its parents. All is done on one thread.
+pub fn run_step_alone(
     alloc: Global,
     table: &Table,
     graph: &Graph,
@@ -38,4 +39,30 @@ pub fn run_step(
     let own = graph.step(step);
     let view = &graph.service(own.service).view;
     give(alloc, table, view, &own.act, pool, places)
+}
+
+/// The list of a step, as [`run_step_alone`] gives it, where the lists of a join of 64 parents or more are merged in several
+/// threads.
+pub fn run_step<R: Threads + Sync>(
+    rt: &R,
+    alloc: Global,
+    table: &Table,
+    graph: &Graph,
+    step: usize,
+    pool: &[Context],
+    places: &[usize],
+) -> Result<Context, Memory>
+    requires step { step < length graph.now.steps }
+    requires table { IsOfTable table.now graph.now }
+    requires places { (own : Step) → HasStep graph.now step own → ArePlacesOf (parents_of own.act) pool.now places.now }
+    ensures gives { IfOk result (λ list. (own : Step) → HasStep graph.now step own →
+        Gives table.now (view_at graph.now own.service) own.act (map (list_at pool.now) places.now) list) }
+    ensures typed { AllByRecursion (IsTypedContext table.now) (map (list_at pool.now) places.now) → IfOk result (IsTypedContext table.now) }
+{
+    graph.known();
+    let _ = table.nodes();
+    steps_give_contexts();
+    let own = graph.step(step);
+    let view = &graph.service(own.service).view;
+    give_beside(rt, alloc, table, view, &own.act, pool, places)
 }

@@ -6,17 +6,18 @@ use Rattle.graph_runner.proofs.Growing.{places_fit, run_grows}
 use Rattle.graph_runner.proofs.runs.lists_of.Goals as goal
 
 pub loop-number-init : goal.loop-number-init
-loop-number-init c =
+loop-number-init g c =
     subst (λ (lists : Lists). RunsTo c.args.table.now c.args.graph.now lists 0) (sym c.new-lists.ensures.items)
     (c.graphs_have_one_run.ensures.grow.none c.args.table.now c.args.graph.now)
 
-pub run_step-requires-clause-places : goal.run_step-requires-clause-places
-run_step-requires-clause-places c =
+pub run_step_alone-requires-clause-places : goal.run_step_alone-requires-clause-places
+run_step_alone-requires-clause-places g c =
+    let many = ap length c.as_slice.ensures.value ∙ c.loop-number.invariant.as_many in
     places_fit c.args.graph.now c.as_slice.result.now c.loop-number.number (step_of c.step-own.result.now) c.parents-parents.result.now c.known.ensures.sound c.step-own.ensures
-    (ap length c.as_slice.ensures.value ∙ c.loop-number.invariant.as_many) c.parents-parents.ensures
+    (omega (arith, many)) c.parents-parents.ensures
 
 pub loop-number-preserved : goal.loop-number-preserved
-loop-number-preserved c =
+loop-number-preserved g c =
     let nodes = c.args.table.now in
     let graph = c.args.graph.now in
     let n = c.loop-number.number in
@@ -30,6 +31,6 @@ loop-number-preserved c =
     (run_grows c.graphs_have_one_run.ensures.grow nodes graph lists n (step_of c.step-own.result.now) places list recorded c.loop-number.invariant c.step-own.ensures c.parents-parents.ensures gives)
 
 pub returns : goal.returns
-returns c =
+returns g c =
     let all : c.loop-number.number ≡ length (c.args.graph.now).steps = omega (arith, c.loop-number-test.false, c.loop-number.auto.number-end, c.steps-number-end.ensures) in
     subst (λ (k : ℕ). RunsTo c.args.table.now c.args.graph.now c.loop-number.lists.items k) all c.loop-number.invariant

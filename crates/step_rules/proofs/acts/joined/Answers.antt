@@ -1,10 +1,13 @@
-use Rattle.std.proofs.Common.{map, subst}
+use Rattle.std.proofs.Common.{map}
 use Rattle.std.proofs.lemmas.Result.{IfOk-weaker}
-use Rattle.context_model.specs.Merged.{IsMerged}
 use Rattle.bag_model.specs.Normal.{IsNormalOf}
 use Rattle.field_table.specs.Views.{view_of}
-use Rattle.trace_model.specs.Runs.{Lists, list_at, IsNormalMerge}
+use Rattle.trace_model.specs.Runs.{list_at, IsNormalMerge}
+use Rattle.step_rules.proofs.Places.{all_within}
 use Rattle.step_rules.proofs.acts.joined.Goals as goal
+
+pub merge_alone-requires : goal.merge_alone-requires
+merge_alone-requires c = all_within c.args.pool.now c.args.places.now c.requires
 
 pub returns : goal.returns
 returns c =
@@ -13,9 +16,5 @@ returns c =
     let merged = c.in_ok-merged.merged in
     IfOk-weaker c.normal.result (IsNormalOf nodes view merged)
     (IsNormalMerge nodes view (map (list_at c.args.pool.now) c.args.places.now))
-    (λ list normal. record {
-      merged = merged;
-      merge = subst (λ (lists : Lists). IsMerged lists merged) c.in_ok-lists.ensures c.in_ok-merged.ensures.merged;
-      normal = normal;
-    })
+    (λ list normal. record { merged = merged; merge = c.in_ok-merged.ensures; normal = normal })
     c.normal.ensures

@@ -1,0 +1,20 @@
+use Rattle.std.proofs.Common.{map}
+use Rattle.std.proofs.lemmas.Result.{IfOk-weaker}
+use Rattle.bag_model.specs.Normal.{IsNormalOf}
+use Rattle.field_table.specs.Views.{view_of}
+use Rattle.trace_model.specs.Runs.{list_at, IsNormalMerge}
+use Rattle.step_rules.proofs.Places.{all_within}
+use Rattle.step_rules.proofs.acts.joined_beside.Goals as goal
+
+pub merge_all-requires-after_bounds : goal.merge_all-requires-after_bounds
+merge_all-requires-after_bounds g c κs lives = all_within c.args.pool.now c.args.places.now c.requires
+
+pub returns : goal.returns
+returns g c =
+    let nodes = c.args.table.now in
+    let view = view_of c.args.view.now in
+    let merged = c.in_ok-merged.merged in
+    IfOk-weaker c.normal.result (IsNormalOf nodes view merged)
+    (IsNormalMerge nodes view (map (list_at c.args.pool.now) c.args.places.now))
+    (λ list normal. record { merged = merged; merge = c.in_ok-merged.ensures; normal = normal })
+    c.normal.ensures
