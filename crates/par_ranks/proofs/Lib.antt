@@ -1,0 +1,6 @@
+pub mod Crossing
+pub mod Giving
+pub mod Turning
+pub mod Putting
+pub mod Running
+pub mod Gathering

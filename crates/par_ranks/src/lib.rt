@@ -1,0 +1,11 @@
+//! The run of a recorded graph in several threads: steps that don't need each other are run beside one another.
+#![tactic(auto)]
+
+mod rows;
+mod runs;
+mod steps;
+#[cfg(test)]
+mod tests;
+mod turns;
+
+pub use runs::run_ranks;
