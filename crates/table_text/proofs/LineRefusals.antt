@@ -1,0 +1,65 @@
+-- Lines that are refused, and those that are read one after another.
+use Rattle.std.proofs.Common.{◌≡◌, inl, inr, ℕ, ◌+◌, ◌^◌, ◌<◌, List, [], ◌∷◌, ◌++◌, reverse, refl, sym, ap, subst, ◌∙◌, append_assoc, append-nil, arith}
+use Rattle.field_table.specs.Plain.{IsIndexedShape}
+use Rattle.text_lines.specs.Lines.{Line, numbered}
+use Rattle.text_lines.specs.Readings.{AllSay}
+use Rattle.text_lines.proofs.ReadingLaws.{all_say_more, next_bad}
+use Rattle.table_text.specs.declared.faults.TableCode.TheVariants.{Head, Form, Depth, Order, DuplicateField, TooDeep, TooManySlots}
+use Rattle.table_text.specs.declared.faults.Refusal.{Refusal}
+use Rattle.table_text.specs.declared.faults.Refusal.TheVariants as refusals
+use Rattle.table_text.specs.declared.rows.Row.{Row as CodeRow}
+use Rattle.table_text.specs.FaultNames.{fault_at}
+use Rattle.table_text.specs.OpenBags.{IsSoundRow}
+use Rattle.table_text.specs.Rows.{Row, SaysRow}
+use Rattle.table_text.specs.Rules.{deepest, IsGood, field_lines}
+use Rattle.table_text.specs.TableFaults.{fed_lines, lines_behind, IsRefusalBehind}
+use Rattle.table_text.specs.Views.{row_of, IsUnread, IsRefused, IsAddRefused}
+
+pub sound_row : (text : List ℕ) (row : CodeRow) → SaysRow text (row_of row) → IsIndexedShape row.shape → IsSoundRow row
+sound_row text row says indexed = record { named = says.named; numbered = says.numbered; told = says.told; flat = says.flat; indexed = indexed }
+
+-- A line that isn't read is refused: a depth of more than 64 bits is one too great.
+pub unread_refused : (before : List Row) (text : List ℕ) → deepest before < 2 ^ 64 → (refusal : Refusal) → IsUnread text refusal → IsRefused before text refusal
+unread_refused before text small (refusals.Code Form) none = inl (none, refl)
+unread_refused before text small (refusals.Code Depth) (row, says, great) = inr (row, says, inl (refl, omega (arith, small, great)))
+unread_refused before text small (refusals.Code Head) none = absurd none
+unread_refused before text small (refusals.Code Order) none = absurd none
+unread_refused before text small (refusals.Code DuplicateField) none = absurd none
+unread_refused before text small (refusals.Code TooDeep) none = absurd none
+unread_refused before text small (refusals.Code TooManySlots) none = absurd none
+unread_refused before text small refusals.Memory none = tt
+
+pub add_refused : (before : List Row) (text : List ℕ) (row : Row) → SaysRow text row → (refusal : Refusal) → IsAddRefused before row refusal → IsRefused before text refusal
+add_refused before text row says (refusals.Code code) first = inr (row, says, first)
+add_refused before text row says refusals.Memory first = tt
+
+-- The lines so far said these rows, and the rest begins at this number.
+pub record HasSaid (text : List ℕ) (number : ℕ) (rest : List ℕ) (rows : List Row) : Type 0 where
+  pub before : List Line
+  pub split : lines_behind text ≡ before ++ numbered number (fed_lines rest)
+  pub all : AllSay field_lines [] before rows
+
+pub said_none : (text : List ℕ) (rows : List Row) → rows ≡ [] → HasSaid text 2 text rows
+said_none text rows none = record { before = []; split = refl; all = subst (AllSay field_lines [] []) (sym none) tt }
+
+pub said_more : (text : List ℕ) (number : ℕ) (rest line behind : List ℕ) (rows next : List Row) → HasSaid text number rest rows → fed_lines rest ≡ line ∷ fed_lines behind
+    → (row : Row) × IsGood (reverse rows) line row × (next ≡ rows ++ row ∷ []) → HasSaid text (number + 1) behind next
+said_more text number rest line behind rows next said cut (row, good, grown) = record {
+  before = said.before ++ (number, line) ∷ [];
+  split =
+      said.split ∙ ap (λ (l : List (List ℕ)). said.before ++ numbered number l) cut
+      ∙ sym (append_assoc said.before ((number, line) ∷ []) (numbered (number + 1) (fed_lines behind)));
+  all = subst (AllSay field_lines [] (said.before ++ (number, line) ∷ [])) (sym grown) (all_say_more field_lines said.before rows (number, line) row said.all good);
+}
+
+pub said_bad : (text : List ℕ) (number : ℕ) (rest line behind : List ℕ) (rows : List Row) → HasSaid text number rest rows → fed_lines rest ≡ line ∷ fed_lines behind
+    → (refusal : Refusal) → IsRefused (reverse rows) line refusal → IsRefusalBehind text (fault_at number refusal)
+said_bad text number rest line behind rows said cut (refusals.Code code) bad =
+    next_bad field_lines (lines_behind text) said.before (number, line) (numbered (number + 1) (fed_lines behind)) (numbered number (fed_lines rest)) rows code said.split
+    (ap (numbered number) cut) said.all bad
+said_bad text number rest line behind rows said cut refusals.Memory bad = tt
+
+pub said_all : (text : List ℕ) (number : ℕ) (rest : List ℕ) (rows : List Row) → HasSaid text number rest rows → rest ≡ [] → AllSay field_lines [] (lines_behind text) rows
+said_all text number rest rows said none =
+    let whole : lines_behind text ≡ said.before = said.split ∙ ap (λ (l : List ℕ). said.before ++ numbered number (fed_lines l)) none ∙ append-nil said.before in
+    subst (λ (l : List Line). AllSay field_lines [] l rows) (sym whole) said.all

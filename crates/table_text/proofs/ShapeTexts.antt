@@ -1,0 +1,319 @@
+-- Texts of shapes and kinds, by their first words.
+use Rattle.std.proofs.Common.{◌≡◌, ℕ, zero, suc, ◌+◌, ◌-◌, ◌<◌, ◌==◌, true, false, Option, Some, None, Result, Ok, Err, IfOk, List, [], ◌∷◌, ◌++◌, map, length, take, get_or, refl, sym, ◌∙◌, ap, subst, append_assoc, arith}
+use Rattle.std.specs.Prelude.{◌≢◌, codes, IfSome}
+use Rattle.std.specs.List.{AllByRecursion, join_with_byte}
+use Rattle.std.specs.Option.{option_map}
+use Rattle.std.specs.Str.{bytes_eq}
+use Rattle.std.proofs.lemmas.List.{take_more, take_all}
+use Rattle.std.proofs.lemmas.List.Splits.{length-slice_split, join_with_byte-slice_split}
+use Rattle.std.proofs.lemmas.Slice.Eq.{bytes_eq-Decides}
+use Rattle.bag_model.specs.Scalars as scalars
+use Rattle.bag_model.specs.Scalars.{Word, Boolean, Int32, Int64, Sint32, Sint64, Uint32, Uint64, Fixed32, Fixed64, Sfixed32, Sfixed64, Str, Bytes}
+use Rattle.bag_model.specs.Shapes.{Shape, Taint, Scalar, Set, Counter, Map, Bag}
+use Rattle.bag_model.specs.Words.{word_text}
+use Rattle.decimal_text.specs.Answers.{Answers}
+use Rattle.scalar_types.specs.declared.kinds.ScalarKind as code
+use Rattle.scalar_types.specs.declared.kinds.ScalarKind.TheVariants as kinds
+use Rattle.scalar_types.specs.KindViews.{IsWord, word_of, kind_of}
+use Rattle.table_text.specs.TableTexts.{kind_text, shape_text}
+use Rattle.table_text.specs.Words.{IsFree, AreWords, IsKindText, IsShapeText, word_named}
+use Rattle.table_text.specs.ShapeReads.{IsBareText, IsMapBehind}
+use Rattle.table_text.proofs.Free.{free_there, same_cut, unsnoc, pieces, pieces_joined}
+use Rattle.table_text.proofs.WordReads.{word_is, no_word}
+
+-- Texts with different bytes aren't the same.
+pub differ : (a b : List ℕ) → bytes_eq a b ≡ false → a ≡ b → ⊥
+differ a b apart same = let bad : true ≡ false = sym ((bytes_eq-Decides a b).1 same) ∙ apart in cc bad
+
+-- ---- scalar words
+
+-- A word has neither a space nor a comma, and doesn't begin with a parenthesis.
+pub word_free : (word : Word) → IsFree 32 (word_text word)
+word_free Boolean = refl
+word_free Int32 = refl
+word_free Int64 = refl
+word_free Sint32 = refl
+word_free Sint64 = refl
+word_free Uint32 = refl
+word_free Uint64 = refl
+word_free Fixed32 = refl
+word_free Fixed64 = refl
+word_free Sfixed32 = refl
+word_free Sfixed64 = refl
+word_free Str = refl
+word_free Bytes = refl
+
+comma_free : (word : Word) → IsFree 44 (word_text word)
+comma_free Boolean = refl
+comma_free Int32 = refl
+comma_free Int64 = refl
+comma_free Sint32 = refl
+comma_free Sint64 = refl
+comma_free Uint32 = refl
+comma_free Uint64 = refl
+comma_free Fixed32 = refl
+comma_free Fixed64 = refl
+comma_free Sfixed32 = refl
+comma_free Sfixed64 = refl
+comma_free Str = refl
+comma_free Bytes = refl
+
+heads : (a b : ℕ) (x y : List ℕ) → a ∷ x ≡ b ∷ y → a ≡ b
+heads a b x y e = cc e
+
+pub unopened : (word : Word) (rest : List ℕ) → word_text word ≡ 40 ∷ rest → ⊥
+unopened Boolean rest e = omega (arith, heads _ 40 _ rest e)
+unopened Int32 rest e = omega (arith, heads _ 40 _ rest e)
+unopened Int64 rest e = omega (arith, heads _ 40 _ rest e)
+unopened Sint32 rest e = omega (arith, heads _ 40 _ rest e)
+unopened Sint64 rest e = omega (arith, heads _ 40 _ rest e)
+unopened Uint32 rest e = omega (arith, heads _ 40 _ rest e)
+unopened Uint64 rest e = omega (arith, heads _ 40 _ rest e)
+unopened Fixed32 rest e = omega (arith, heads _ 40 _ rest e)
+unopened Fixed64 rest e = omega (arith, heads _ 40 _ rest e)
+unopened Sfixed32 rest e = omega (arith, heads _ 40 _ rest e)
+unopened Sfixed64 rest e = omega (arith, heads _ 40 _ rest e)
+unopened Str rest e = omega (arith, heads _ 40 _ rest e)
+unopened Bytes rest e = omega (arith, heads _ 40 _ rest e)
+
+-- A kind that is no struct is its word.
+pub kind_word : (kind : code.ScalarKind) → IsWord kind → kind_of kind ≡ scalars.ScalarKind.One (word_of kind)
+kind_word (kinds.Packed words) is = absurd is
+kind_word kinds.Bool is = refl
+kind_word kinds.Int32 is = refl
+kind_word kinds.Int64 is = refl
+kind_word kinds.Sint32 is = refl
+kind_word kinds.Sint64 is = refl
+kind_word kinds.Uint32 is = refl
+kind_word kinds.Uint64 is = refl
+kind_word kinds.Fixed32 is = refl
+kind_word kinds.Fixed64 is = refl
+kind_word kinds.Sfixed32 is = refl
+kind_word kinds.Sfixed64 is = refl
+kind_word kinds.Str is = refl
+kind_word kinds.Bytes is = refl
+
+-- What was read as a word has its text.
+pub read_text : (text : List ℕ) (kind : code.ScalarKind) → Some (word_of kind) ≡ word_named text → text ≡ word_text (word_of kind)
+read_text text kind is = sym (word_is text (word_of kind) (sym is))
+
+-- ---- structs
+
+texts_free : (words : List Word) → AllByRecursion (IsFree 44) (map word_text words)
+texts_free [] = tt
+texts_free (word ∷ words) = (comma_free word, texts_free words)
+
+some_texts : (words : List Word) → words ≢ [] → 0 < length (map word_text words)
+some_texts [] some = absurd (some refl)
+some_texts (word ∷ words) some = omega arith
+
+-- The words of a text are its pieces.
+pub pieces_are : (text : List ℕ) (words : List Word) → AreWords text words → pieces 44 text ≡ map word_text words
+pieces_are text words h = ap (pieces 44) h.1 ∙ pieces_joined 44 (map word_text words) (some_texts words h.0) (texts_free words)
+
+word_at : (words : List Word) (k : ℕ) (piece : List ℕ) → k < length (map word_text words) → piece ≡ get_or (map word_text words) k piece → (word : Word) × (piece ≡ word_text word)
+word_at [] k piece within is = absurd (omega (arith, within))
+word_at (word ∷ words) zero piece within is = (word, is)
+word_at (word ∷ words) (suc k) piece within is = word_at words k piece (omega (arith, within)) is
+
+-- A text with a piece that is no word isn't that of words.
+pub not_words : (text : List ℕ) (k : ℕ) (piece : List ℕ) → (k < length (pieces 44 text)) × (piece ≡ get_or (pieces 44 text) k piece)
+    → word_named piece ≡ None → (words : List Word) → AreWords text words → ⊥
+not_words text k piece turn none words h =
+    let same = pieces_are text words h in
+    let found = word_at words k piece (omega (arith, ap length same, turn.0)) (turn.1 ∙ ap (λ (l : List (List ℕ)). get_or l k piece) same) in
+    no_word piece none found.0 found.1
+
+pub one_more : (words every : List (List ℕ)) (k : ℕ) (word : List ℕ) → words ≡ take k every → (k < length every) × (word ≡ get_or every k word)
+    → words ++ word ∷ [] ≡ take (k + 1) every
+one_more words every k word so_far turn =
+    ap (λ (l : List (List ℕ)). l ++ word ∷ []) so_far ∙ ap (λ (w : List ℕ). take k every ++ w ∷ []) turn.1 ∙ sym (take_more every k word turn.0)
+
+-- All pieces were read as words.
+pub whole_words : (text : List ℕ) (words : List Word) (k : ℕ) → map word_text words ≡ take k (pieces 44 text) → k ≡ length (pieces 44 text) → AreWords text words
+whole_words text words k so_far all =
+    let same : map word_text words ≡ pieces 44 text = so_far ∙ take_all k (pieces 44 text) (omega (arith, all)) in
+    let some = length-slice_split (λ byte. byte == 44) text in (
+      λ (e : words ≡ []). omega (arith, some, ap length same, ap (λ (l : List Word). length (map word_text l)) e),
+      sym (join_with_byte-slice_split 44 text) ∙ ap (join_with_byte 44) (sym same),
+    )
+
+-- ---- kinds
+
+pub kind_in_default : (text : List ℕ) (read : Option code.ScalarKind) → ((inner : List ℕ) → text ≡ 40 ∷ (inner ++ 41 ∷ []) → ⊥)
+    → option_map word_of read ≡ word_named text → IfSome read IsWord → Answers (IsKindText text) (option_map kind_of read)
+kind_in_default text None bare is plain = none
+  where
+    none : (kind : scalars.ScalarKind) → IsKindText text kind → ⊥
+    none (scalars.ScalarKind.One word) h = no_word text (sym is) word h.1
+    none (scalars.ScalarKind.Packed words) h = bare (join_with_byte 44 (map word_text words)) h.1
+kind_in_default text (Some kind) bare is plain =
+    subst (IsKindText text) (sym (kind_word kind plain)) (tt, read_text text kind is)
+
+pub kind_none : (text inner : List ℕ) → text ≡ 40 ∷ (inner ++ 41 ∷ []) → ((words : List Word) → AreWords inner words → ⊥) → (kind : scalars.ScalarKind) → IsKindText text kind → ⊥
+kind_none text inner opened none (scalars.ScalarKind.One word) h = unopened word (inner ++ 41 ∷ []) (sym h.1 ∙ opened)
+kind_none text inner opened none (scalars.ScalarKind.Packed words) h =
+    let joined = join_with_byte 44 (map word_text words) in
+    let behind : inner ++ 41 ∷ [] ≡ joined ++ 41 ∷ [] = let whole : 40 ∷ (inner ++ 41 ∷ []) ≡ 40 ∷ (joined ++ 41 ∷ []) = sym opened ∙ h.1 in cc whole in
+    none words (h.0, unsnoc inner joined 41 41 behind)
+
+-- ---- shapes, by what stands behind the first word
+
+abbrev pub IsBehind : ℕ → List ℕ → List ℕ → Shape → Type 0
+IsBehind maps word rest (Scalar kind) = (word ≡ codes "scalar") × IsKindText rest kind
+IsBehind maps word rest (Set kind) = (word ≡ codes "set") × IsKindText rest kind
+IsBehind maps word rest (Map key value) = (word ≡ codes "map") × IsMapBehind maps rest (Map key value)
+IsBehind maps word rest other = ⊥
+
+pub behind : (maps : ℕ) (text word rest : List ℕ) → IsFree 32 word → text ≡ word ++ 32 ∷ rest → (shape : Shape) → IsShapeText maps text shape → IsBehind maps word rest shape
+behind maps text word rest free cut Taint h = free_there 32 (codes "taint") word rest refl (sym h.2 ∙ cut)
+behind maps text word rest free cut Counter h = free_there 32 (codes "counter") word rest refl (sym h.2 ∙ cut)
+behind maps text word rest free cut (Bag nodes) h = free_there 32 (codes "bag") word rest refl (sym h.2 ∙ cut)
+behind maps text word rest free cut (Scalar kind) h =
+    let parts = same_cut 32 word (codes "scalar") rest (kind_text kind) free refl (sym cut ∙ h.2) in (parts.0, (h.0, parts.1))
+behind maps text word rest free cut (Set kind) h =
+    let parts = same_cut 32 word (codes "set") rest (kind_text kind) free refl (sym cut ∙ h.2) in (parts.0, (h.0, parts.1))
+behind maps text word rest free cut (Map key value) h =
+    let parts = same_cut 32 word (codes "map") rest (kind_text key ++ codes " " ++ shape_text value) free refl (sym cut ∙ h.2) in (parts.0, (h.0, h.1, parts.1))
+
+-- Another first word than these begins no shape.
+pub no_shape : (maps : ℕ) (text word rest : List ℕ) → IsFree 32 word → text ≡ word ++ 32 ∷ rest
+    → bytes_eq word (codes "map") ≡ false → bytes_eq word (codes "scalar") ≡ false → bytes_eq word (codes "set") ≡ false → (shape : Shape) → IsShapeText maps text shape → ⊥
+no_shape maps text word rest free cut a b c shape h = by shape (behind maps text word rest free cut shape h)
+  where
+    by : (shape : Shape) → IsBehind maps word rest shape → ⊥
+    by (Scalar kind) p = differ word (codes "scalar") b p.0
+    by (Set kind) p = differ word (codes "set") c p.0
+    by (Map key value) p = differ word (codes "map") a p.0
+    by Taint p = p
+    by Counter p = p
+    by (Bag nodes) p = p
+
+-- The words of a scalar, of a set and of a map.
+pub scalar_none : (maps : ℕ) (text word rest : List ℕ) → IsFree 32 word → text ≡ word ++ 32 ∷ rest → bytes_eq word (codes "scalar") ≡ true
+    → ((kind : scalars.ScalarKind) → IsKindText rest kind → ⊥) → (shape : Shape) → IsShapeText maps text shape → ⊥
+scalar_none maps text word rest free cut is none shape h = by shape (behind maps text word rest free cut shape h)
+  where
+    own : word ≡ codes "scalar"
+    own = (bytes_eq-Decides word (codes "scalar")).0 is
+
+    by : (shape : Shape) → IsBehind maps word rest shape → ⊥
+    by (Scalar kind) p = none kind p.1
+    by (Set kind) p = differ (codes "scalar") (codes "set") refl (sym own ∙ p.0)
+    by (Map key value) p = differ (codes "scalar") (codes "map") refl (sym own ∙ p.0)
+    by Taint p = p
+    by Counter p = p
+    by (Bag nodes) p = p
+
+pub set_none : (maps : ℕ) (text word rest : List ℕ) → IsFree 32 word → text ≡ word ++ 32 ∷ rest → bytes_eq word (codes "set") ≡ true
+    → ((kind : scalars.ScalarKind) → IsKindText rest kind → ⊥) → (shape : Shape) → IsShapeText maps text shape → ⊥
+set_none maps text word rest free cut is none shape h = by shape (behind maps text word rest free cut shape h)
+  where
+    own : word ≡ codes "set"
+    own = (bytes_eq-Decides word (codes "set")).0 is
+
+    by : (shape : Shape) → IsBehind maps word rest shape → ⊥
+    by (Scalar kind) p = differ (codes "set") (codes "scalar") refl (sym own ∙ p.0)
+    by (Set kind) p = none kind p.1
+    by (Map key value) p = differ (codes "set") (codes "map") refl (sym own ∙ p.0)
+    by Taint p = p
+    by Counter p = p
+    by (Bag nodes) p = p
+
+pub map_answers : (maps : ℕ) (text word rest : List ℕ) → IsFree 32 word → text ≡ word ++ 32 ∷ rest → bytes_eq word (codes "map") ≡ true
+    → (read : Option Shape) → Answers (IsMapBehind maps rest) read → Answers (IsShapeText maps text) read
+map_answers maps text word rest free cut is (Some (Map key value)) h =
+    (h.0, h.1, cut ∙ ap (λ (w : List ℕ). w ++ 32 ∷ rest) ((bytes_eq-Decides word (codes "map")).0 is) ∙ ap (λ (r : List ℕ). codes "map " ++ r) h.2)
+map_answers maps text word rest free cut is (Some Taint) h = absurd h
+map_answers maps text word rest free cut is (Some Counter) h = absurd h
+map_answers maps text word rest free cut is (Some (Scalar kind)) h = absurd h
+map_answers maps text word rest free cut is (Some (Set kind)) h = absurd h
+map_answers maps text word rest free cut is (Some (Bag nodes)) h = absurd h
+map_answers maps text word rest free cut is None none = λ shape h. by shape (behind maps text word rest free cut shape h)
+  where
+    own : word ≡ codes "map"
+    own = (bytes_eq-Decides word (codes "map")).0 is
+
+    by : (shape : Shape) → IsBehind maps word rest shape → ⊥
+    by (Scalar kind) p = differ (codes "map") (codes "scalar") refl (sym own ∙ p.0)
+    by (Set kind) p = differ (codes "map") (codes "set") refl (sym own ∙ p.0)
+    by (Map key value) p = none (Map key value) p.1
+    by Taint p = p
+    by Counter p = p
+    by (Bag nodes) p = p
+
+pub bare_answers : (maps : ℕ) (text : List ℕ) → IsFree 32 text → (read : Option Shape) → Answers (IsBareText text) read → Answers (IsShapeText maps text) read
+bare_answers maps text free (Some Taint) h = (h.0, omega arith, h.1)
+bare_answers maps text free (Some Counter) h = (h.0, omega arith, h.1)
+bare_answers maps text free (Some (Bag nodes)) h = (h.0, omega arith, h.1)
+bare_answers maps text free (Some (Scalar kind)) h = absurd h
+bare_answers maps text free (Some (Set kind)) h = absurd h
+bare_answers maps text free (Some (Map key value)) h = absurd h
+bare_answers maps text free None none = by
+  where
+    by : (shape : Shape) → IsShapeText maps text shape → ⊥
+    by Taint h = none Taint (h.0, h.2)
+    by Counter h = none Counter (h.0, h.2)
+    by (Bag nodes) h = none (Bag nodes) (h.0, h.2)
+    by (Scalar kind) h = free_there 32 text (codes "scalar") (kind_text kind) free h.2
+    by (Set kind) h = free_there 32 text (codes "set") (kind_text kind) free h.2
+    by (Map key value) h = free_there 32 text (codes "map") (kind_text key ++ codes " " ++ shape_text value) free h.2
+
+-- ---- maps, behind their first word
+
+-- The key of a map is a word.
+map_cut : (maps : ℕ) (text word rest : List ℕ) → IsFree 32 word → text ≡ word ++ 32 ∷ rest → (key : Word) (value : Shape)
+    → IsMapBehind maps text (Map (scalars.ScalarKind.One key) value) → (word ≡ word_text key) × (rest ≡ shape_text value)
+map_cut maps text word rest free cut key value h =
+    same_cut 32 word (word_text key) rest (shape_text value) free (word_free key) (sym cut ∙ h.2 ∙ append_assoc (word_text key) (codes " ") (shape_text value))
+
+pub map_no_space : (maps : ℕ) (text : List ℕ) → IsFree 32 text → (shape : Shape) → IsMapBehind maps text shape → ⊥
+map_no_space maps text free (Map (scalars.ScalarKind.One key) value) h =
+    free_there 32 text (word_text key) (shape_text value) free (h.2 ∙ append_assoc (word_text key) (codes " ") (shape_text value))
+map_no_space maps text free (Map (scalars.ScalarKind.Packed words) value) h = absurd h.0.0
+map_no_space maps text free Taint h = h
+map_no_space maps text free Counter h = h
+map_no_space maps text free (Scalar kind) h = h
+map_no_space maps text free (Set kind) h = h
+map_no_space maps text free (Bag nodes) h = h
+
+pub map_no_key : (maps : ℕ) (text word rest : List ℕ) → IsFree 32 word → text ≡ word ++ 32 ∷ rest → word_named word ≡ None → (shape : Shape) → IsMapBehind maps text shape → ⊥
+map_no_key maps text word rest free cut none (Map (scalars.ScalarKind.One key) value) h = no_word word none key (map_cut maps text word rest free cut key value h).0
+map_no_key maps text word rest free cut none (Map (scalars.ScalarKind.Packed words) value) h = absurd h.0.0
+map_no_key maps text word rest free cut none Taint h = h
+map_no_key maps text word rest free cut none Counter h = h
+map_no_key maps text word rest free cut none (Scalar kind) h = h
+map_no_key maps text word rest free cut none (Set kind) h = h
+map_no_key maps text word rest free cut none (Bag nodes) h = h
+
+pub map_no_value : (maps : ℕ) (text word rest : List ℕ) → IsFree 32 word → text ≡ word ++ 32 ∷ rest → ((value : Shape) → IsShapeText (maps - 1) rest value → ⊥)
+    → (shape : Shape) → IsMapBehind maps text shape → ⊥
+map_no_value maps text word rest free cut none (Map (scalars.ScalarKind.One key) value) h =
+    let few = h.1 in
+    none value (h.0.1, omega (arith, few), (map_cut maps text word rest free cut key value h).1)
+map_no_value maps text word rest free cut none (Map (scalars.ScalarKind.Packed words) value) h = absurd h.0.0
+map_no_value maps text word rest free cut none Taint h = h
+map_no_value maps text word rest free cut none Counter h = h
+map_no_value maps text word rest free cut none (Scalar kind) h = h
+map_no_value maps text word rest free cut none (Set kind) h = h
+map_no_value maps text word rest free cut none (Bag nodes) h = h
+
+pub map_some : (maps : ℕ) (text word rest : List ℕ) → text ≡ word ++ 32 ∷ rest → (key : code.ScalarKind) (value : Shape) → 0 < maps → IsWord key → word ≡ word_text (word_of key)
+    → IsShapeText (maps - 1) rest value → IsMapBehind maps text (Map (kind_of key) value)
+map_some maps text word rest cut key value some plain is h =
+    let few = h.1 in
+    subst (λ (k : scalars.ScalarKind). IsMapBehind maps text (Map k value)) (sym (kind_word key plain)) (
+      (tt, h.0),
+      omega (arith, few, some),
+      cut ∙ ap (λ (w : List ℕ). w ++ 32 ∷ rest) is ∙ ap (λ (r : List ℕ). word_text (word_of key) ++ 32 ∷ r) h.2 ∙ sym (append_assoc (word_text (word_of key)) (codes " ") (shape_text value)),
+    )
+
+-- Where nothing was read as a word, no word is named.
+pub none_named : (text : List ℕ) (read : Option code.ScalarKind) → read ≡ None → option_map word_of read ≡ word_named text → word_named text ≡ None
+none_named text read none is = sym is ∙ ap (option_map word_of) none
+
+-- What was read behind `map` is what the text says.
+pub map_read : {S E : Type 0} (maps : ℕ) (text word rest : List ℕ) → IsFree 32 word → text ≡ word ++ 32 ∷ rest → bytes_eq word (codes "map") ≡ true → (shape_of : S → Shape)
+    → (result : Result (Option S) E) → IfOk result (λ read. Answers (IsMapBehind maps rest) (option_map shape_of read)) → IfOk result (λ read. Answers (IsShapeText maps text) (option_map shape_of read))
+map_read maps text word rest free cut is shape_of (Ok read) h = map_answers maps text word rest free cut is (option_map shape_of read) h
+map_read maps text word rest free cut is shape_of (Err e) h = tt

@@ -1,0 +1,73 @@
+-- Scalar words that are read.
+use Rattle.std.proofs.Common.{◌≡◌, ℕ, Bool, true, false, ◌||◌, if◌then◌else◌, Option, Some, None, List, [], ◌∷◌, map, refl, sym, ap, ◌∙◌}
+use Rattle.std.specs.List.{list_any}
+use Rattle.std.specs.Option.{is_some, option_map}
+use Rattle.std.specs.Str.{bytes_eq}
+use Rattle.std.proofs.lemmas.List.Folds.{list_any-append}
+use Rattle.std.proofs.lemmas.Slice.Eq.{bytes_eq-Decides}
+use Rattle.bag_model.specs.Scalars.{Word, Boolean, Int32, Int64, Sint32, Sint64, Uint32, Uint64, Fixed32, Fixed64, Sfixed32, Sfixed64, Str, Bytes}
+use Rattle.bag_model.specs.Words.{word_text, scalar_words, reserved_words}
+use Rattle.table_text.specs.Words.{keywords, word_among, word_named}
+
+-- Each word is the one with its text.
+pub word_back : (word : Word) → word_named (word_text word) ≡ Some word
+unfolding word_named
+word_back Boolean = refl
+word_back Int32 = refl
+word_back Int64 = refl
+word_back Sint32 = refl
+word_back Sint64 = refl
+word_back Uint32 = refl
+word_back Uint64 = refl
+word_back Fixed32 = refl
+word_back Fixed64 = refl
+word_back Sfixed32 = refl
+word_back Sfixed64 = refl
+word_back Str = refl
+word_back Bytes = refl
+
+found_text : (text : List ℕ) (other word : Word) (more : Option Word) (same : Bool) → bytes_eq text (word_text other) ≡ same
+    → (more ≡ Some word → word_text word ≡ text) → (if same then Some other else more) ≡ Some word → word_text word ≡ text
+found_text text other word more true is later e =
+    let one : other ≡ word = cc e in
+    ap word_text (sym one) ∙ sym ((bytes_eq-Decides text (word_text other)).0 is)
+found_text text other word more false is later e = later e
+
+text_among : (text : List ℕ) (words : List Word) (word : Word) → word_among text words ≡ Some word → word_text word ≡ text
+text_among text [] word e = absurd (cc e)
+text_among text (other ∷ words) word e =
+    found_text text other word (word_among text words) (bytes_eq text (word_text other)) refl (text_among text words word) e
+
+-- The word that is found has the text.
+pub word_is : (text : List ℕ) (word : Word) → word_named text ≡ Some word → word_text word ≡ text
+unfolding word_named
+word_is text word e = text_among text scalar_words word e
+
+-- Where none is found the text is no word's.
+pub no_word : (text : List ℕ) → word_named text ≡ None → (word : Word) → text ≡ word_text word → ⊥
+no_word text none word is = let bad : Some word ≡ None = sym (word_back word) ∙ ap word_named (sym is) ∙ none in cc bad
+
+found_or : {A : Type 0} (here : Bool) (a : A) (other : Option A) → is_some (if here then Some a else other) ≡ (here || is_some other)
+found_or true a other = refl
+found_or false a other = refl
+
+some_among : (text : List ℕ) (words : List Word) → is_some (word_among text words) ≡ list_any (bytes_eq text) (map word_text words)
+some_among text [] = refl
+some_among text (word ∷ words) =
+    found_or (bytes_eq text (word_text word)) word (word_among text words) ∙ ap (λ b. bytes_eq text (word_text word) || b) (some_among text words)
+
+-- A text is one of the words exactly where one is found.
+pub word_found : (text : List ℕ) → is_some (word_named text) ≡ list_any (bytes_eq text) (map word_text scalar_words)
+unfolding word_named
+word_found text = some_among text scalar_words
+
+-- A word that is no keyword is reserved where it is a scalar word.
+pub reserved_else : {K : Type 0} (text : List ℕ) (word_of : K → Word) (kind : Option K) (b : Bool) → b ≡ is_some kind → option_map word_of kind ≡ word_named text
+    → list_any (bytes_eq text) keywords ≡ false → b ≡ list_any (bytes_eq text) reserved_words
+reserved_else text word_of kind b is same none =
+    is ∙ some_mapped word_of kind ∙ ap is_some same ∙ word_found text ∙ ap (λ k. k || list_any (bytes_eq text) (map word_text scalar_words)) (sym none)
+    ∙ sym (list_any-append (bytes_eq text) keywords (map word_text scalar_words))
+  where
+    some_mapped : {A B : Type 0} (f : A → B) (o : Option A) → is_some o ≡ is_some (option_map f o)
+    some_mapped f None = refl
+    some_mapped f (Some a) = refl

@@ -1,0 +1,61 @@
+use Rattle.std.proofs.Common.{reverse, sym, ap, subst, ◌∙◌, arith}
+use Rattle.std.specs.List.{list_any}
+use Rattle.std.specs.Str.{bytes_eq}
+use Rattle.bag_model.specs.Shapes.{fields}
+use Rattle.field_table.specs.Plain.{nodes_of}
+use Rattle.table_text.specs.OpenBags.{rows_so_far}
+use Rattle.table_text.specs.Views.{row_of}
+use Rattle.table_text.proofs.BagRules.{IsHere, here, order_first, name_first, levels_first, count_first, none_broken}
+use Rattle.table_text.proofs.builder.Builder.check.Goals as goal
+
+pub returns-then-from-self-clause-err : goal.returns-then-from-self-clause-err
+returns-then-from-self-clause-err c =
+    let builder = c.args.self.now in
+    let before = reverse (rows_so_far builder) in
+    let row = row_of c.args.row.now in
+    let fs = fields (nodes_of builder.bag.fields) in
+    let is : IsHere before row.depth builder.bag.level fs builder.rows = subst (λ d. IsHere before d builder.bag.level fs builder.rows) (sym c.requires.depth) (here builder c.requires.sound) in
+    order_first before builder.bag.level fs builder.rows row is (omega (arith, c.if-from-self.true, c.from.ensures, c.requires.sound.bag.least))
+
+pub returns-then-contains-clause-err : goal.returns-then-contains-clause-err
+returns-then-contains-clause-err c =
+    let builder = c.args.self.now in
+    let before = reverse (rows_so_far builder) in
+    let row = row_of c.args.row.now in
+    let fs = fields (nodes_of builder.bag.fields) in
+    let is : IsHere before row.depth builder.bag.level fs builder.rows = subst (λ d. IsHere before d builder.bag.level fs builder.rows) (sym c.requires.depth) (here builder c.requires.sound) in
+    name_first before builder.bag.level fs builder.rows row is (omega (arith, c.if-from-self.false, c.from.ensures, c.requires.sound.bag.least))
+    (ap (list_any (bytes_eq row.name)) (sym c.requires.sound.bag.names) ∙ sym c.contains.ensures ∙ c.if-contains.true)
+
+pub returns-then-self-levels_under-ge-MAX_LEVELS-clause-err : goal.returns-then-self-levels_under-ge-MAX_LEVELS-clause-err
+returns-then-self-levels_under-ge-MAX_LEVELS-clause-err c =
+    let builder = c.args.self.now in
+    let before = reverse (rows_so_far builder) in
+    let row = row_of c.args.row.now in
+    let fs = fields (nodes_of builder.bag.fields) in
+    let is : IsHere before row.depth builder.bag.level fs builder.rows = subst (λ d. IsHere before d builder.bag.level fs builder.rows) (sym c.requires.depth) (here builder c.requires.sound) in
+    levels_first before builder.bag.level fs builder.rows row is (omega (arith, c.if-from-self.false, c.from.ensures, c.requires.sound.bag.least))
+    (ap (list_any (bytes_eq row.name)) (sym c.requires.sound.bag.names) ∙ sym c.contains.ensures ∙ c.if-contains.false)
+    (omega (arith, c.if-self-levels_under-ge-MAX_LEVELS.true, c.levels_under.ensures.levels))
+
+pub returns-then-self-ge-MAX_FIELDS-clause-err : goal.returns-then-self-ge-MAX_FIELDS-clause-err
+returns-then-self-ge-MAX_FIELDS-clause-err c =
+    let builder = c.args.self.now in
+    let before = reverse (rows_so_far builder) in
+    let row = row_of c.args.row.now in
+    let fs = fields (nodes_of builder.bag.fields) in
+    let is : IsHere before row.depth builder.bag.level fs builder.rows = subst (λ d. IsHere before d builder.bag.level fs builder.rows) (sym c.requires.depth) (here builder c.requires.sound) in
+    count_first before builder.bag.level fs builder.rows row is (omega (arith, c.if-from-self.false, c.from.ensures, c.requires.sound.bag.least))
+    (ap (list_any (bytes_eq row.name)) (sym c.requires.sound.bag.names) ∙ sym c.contains.ensures ∙ c.if-contains.false)
+    (omega (arith, c.if-self-levels_under-ge-MAX_LEVELS.false, c.levels_under.ensures.levels)) c.if-self-ge-MAX_FIELDS.true
+
+pub returns-clause-ok : goal.returns-clause-ok
+returns-clause-ok c =
+    let builder = c.args.self.now in
+    let before = reverse (rows_so_far builder) in
+    let row = row_of c.args.row.now in
+    let fs = fields (nodes_of builder.bag.fields) in
+    let is : IsHere before row.depth builder.bag.level fs builder.rows = subst (λ d. IsHere before d builder.bag.level fs builder.rows) (sym c.requires.depth) (here builder c.requires.sound) in
+    none_broken before builder.bag.level fs builder.rows row is (omega (arith, c.if-from-self.false, c.from.ensures, c.requires.sound.bag.least))
+    (ap (list_any (bytes_eq row.name)) (sym c.requires.sound.bag.names) ∙ sym c.contains.ensures ∙ c.if-contains.false)
+    (omega (arith, c.if-self-levels_under-ge-MAX_LEVELS.false, c.levels_under.ensures.levels)) c.if-self-ge-MAX_FIELDS.false

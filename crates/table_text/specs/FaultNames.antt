@@ -1,0 +1,22 @@
+-- The names of the rules, as they are printed, and the refusal of a text.
+use Rattle.std.specs.Prelude.{ℕ, List, codes}
+use Rattle.table_text.specs.declared.faults.TableCode.{TableCode}
+use Rattle.table_text.specs.declared.faults.TableCode.TheVariants.{Head, Form, Depth, Order, DuplicateField, TooDeep, TooManySlots}
+use Rattle.table_text.specs.declared.faults.Refusal.{Refusal}
+use Rattle.table_text.specs.declared.faults.Refusal.TheVariants as refusals
+use Rattle.table_text.specs.declared.faults.TableFault.{TableFault}
+use Rattle.table_text.specs.declared.faults.TableFault.TheVariants.{At, Memory}
+
+abbrev pub table_code_name : TableCode → List ℕ
+table_code_name Head = codes "Head"
+table_code_name Form = codes "Form"
+table_code_name Depth = codes "Depth"
+table_code_name Order = codes "Order"
+table_code_name DuplicateField = codes "DuplicateField"
+table_code_name TooDeep = codes "TooDeep"
+table_code_name TooManySlots = codes "TooManySlots"
+
+-- The refusal of a text, by that of its line with this number.
+abbrev pub fault_at : ℕ → Refusal → TableFault
+fault_at line (refusals.Code code) = At line code
+fault_at line refusals.Memory = Memory

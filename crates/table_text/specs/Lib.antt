@@ -1,0 +1,10 @@
+pub mod TableTexts
+pub mod Rows
+pub mod TableRows
+pub mod OpenBags
+pub mod Words
+pub mod ShapeReads
+pub mod Rules
+pub mod TableFaults
+pub mod FaultNames
+pub mod Views

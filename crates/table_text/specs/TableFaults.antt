@@ -1,0 +1,49 @@
+-- The first fault of a text that is no table's.
+use Rattle.std.specs.Prelude.{◌≡◌, ◌≢◌, ◌⊎◌, ℕ, ◌==◌, List, [], ◌∷◌, ◌++◌, codes, if◌then◌else◌}
+use Rattle.text_lines.specs.Lines.{Line, numbered}
+use Rattle.text_lines.specs.Readings.{IsFirstBad}
+use Rattle.table_text.specs.declared.faults.TableCode.{TableCode}
+use Rattle.table_text.specs.declared.faults.TableCode.TheVariants.{Head, Form}
+use Rattle.table_text.specs.declared.faults.TableFault.{TableFault}
+use Rattle.table_text.specs.declared.faults.TableFault.TheVariants.{At, Memory}
+use Rattle.table_text.specs.Rules.{field_lines}
+
+-- A byte before the first of some lines.
+abbrev pub onto_first : ℕ → List (List ℕ) → List (List ℕ)
+onto_first byte [] = (byte ∷ []) ∷ []
+onto_first byte (line ∷ lines) = (byte ∷ line) ∷ lines
+
+-- The lines of a text, each with the line feed at its end; the last may be without one.
+abbrev pub fed_lines : List ℕ → List (List ℕ)
+fed_lines [] = []
+fed_lines (byte ∷ bytes) = if byte == 10 then (byte ∷ []) ∷ fed_lines bytes else onto_first byte (fed_lines bytes)
+
+-- The lines behind the first, with their numbers.
+abbrev pub lines_behind : List ℕ → List Line
+lines_behind rest = numbered 2 (fed_lines rest)
+
+-- The first line of each table's text, without its line feed.
+abbrev pub head : List ℕ
+head = codes "baggage table 1"
+
+-- The first line is bad: it is another one, or all of the text and without its line feed.
+abbrev pub IsHeadFault : List ℕ → TableCode → Type 0
+IsHeadFault text code =
+    ((text ≢ head) × ((rest : List ℕ) → text ≢ head ++ 10 ∷ rest) × (code ≡ Head))
+    ⊎ ((text ≡ head) × (code ≡ Form))
+
+-- The first bad line of the text has this number and this fault.
+abbrev pub IsTableFault : List ℕ → ℕ → TableCode → Type 0
+IsTableFault text line code =
+    ((line ≡ 1) × IsHeadFault text code)
+    ⊎ ((rest : List ℕ) × (text ≡ head ++ 10 ∷ rest) × IsFirstBad field_lines (lines_behind rest) line code)
+
+-- The answer names the first fault; want of memory claims nothing.
+abbrev pub IsRefusalOf : List ℕ → TableFault → Type 0
+IsRefusalOf text (At line code) = IsTableFault text line code
+IsRefusalOf text Memory = Unit {0}
+
+-- The answer names the first bad line behind the first; want of memory claims nothing.
+abbrev pub IsRefusalBehind : List ℕ → TableFault → Type 0
+IsRefusalBehind rest (At line code) = IsFirstBad field_lines (lines_behind rest) line code
+IsRefusalBehind rest Memory = Unit {0}

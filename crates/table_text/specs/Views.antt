@@ -1,0 +1,31 @@
+-- What the code has read of a line as what it says.
+use Rattle.std.specs.Prelude.{◌^◌, ◌≤◌, ℕ, List}
+use Rattle.field_table.specs.Plain.{shape_of}
+use Rattle.table_text.specs.declared.rows.Row.{Row as CodeRow}
+use Rattle.table_text.specs.declared.faults.TableCode.TheVariants.{Form, Depth}
+use Rattle.table_text.specs.declared.faults.Refusal.{Refusal}
+use Rattle.table_text.specs.declared.faults.Refusal.TheVariants.{Code, Memory}
+use Rattle.table_text.specs.Rows.{Row, SaysRow}
+use Rattle.table_text.specs.Rules.{Breaks, rules, IsBad}
+use Rattle.text_lines.specs.Readings.{IsFirstOf}
+
+-- What the line says.
+abbrev pub row_of : CodeRow → Row
+row_of row = record { depth = row.depth; name = row.name.now; number = row.number; shape = shape_of row.shape }
+
+-- The line has no form, or a depth of more than 64 bits, or memory is wanting for it.
+abbrev pub IsUnread : List ℕ → Refusal → Type 0
+IsUnread text (Code Form) = (row : Row) → SaysRow text row → ⊥
+IsUnread text (Code Depth) = (row : Row) × SaysRow text row × (2 ^ 64 ≤ row.depth)
+IsUnread text (Code other) = ⊥
+IsUnread text Memory = Unit {0}
+
+-- The line is refused behind these lines: it is bad, or memory is wanting for it.
+abbrev pub IsRefused : List Row → List ℕ → Refusal → Type 0
+IsRefused before text (Code code) = IsBad before text code
+IsRefused before text Memory = Unit {0}
+
+-- A line that has the form is refused behind these lines: it breaks this rule first, or memory is wanting for it.
+abbrev pub IsAddRefused : List Row → Row → Refusal → Type 0
+IsAddRefused before row (Code code) = IsFirstOf (Breaks before row) rules code
+IsAddRefused before row Memory = Unit {0}

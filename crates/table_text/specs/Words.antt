@@ -1,0 +1,64 @@
+-- What the words of a line are read as.
+use Rattle.std.specs.Prelude.{◌≡◌, ◌≢◌, ℕ, ◌^◌, ◌<◌, ◌≤◌, ◌==◌, false, if◌then◌else◌, Option, None, Some, List, [], ◌∷◌, ◌++◌, map, codes}
+use Rattle.std.specs.Fmt.{decimal}
+use Rattle.std.specs.List.{list_any, join_with_byte}
+use Rattle.std.specs.Str.{bytes_eq}
+use Rattle.bag_model.specs.Scalars as scalars
+use Rattle.bag_model.specs.Scalars.{Word}
+use Rattle.bag_model.specs.Shapes.{Shape}
+use Rattle.bag_model.specs.Tables.{IsScalarKind}
+use Rattle.bag_model.specs.Words.{scalar_words, word_text}
+use Rattle.table_text.specs.declared.faults.TableCode.{TableCode}
+use Rattle.table_text.specs.declared.faults.TableCode.TheVariants.{Form, Depth}
+use Rattle.table_text.specs.Rows.{IsToldShape, map_count, IsDepth}
+use Rattle.table_text.specs.TableTexts.{kind_text, shape_text}
+
+-- No byte is this one.
+abbrev pub IsFree : ℕ → List ℕ → Type 0
+IsFree sep text = list_any (λ byte. byte == sep) text ≡ false
+
+-- The words of the definition language that are reserved and no scalar words.
+abbrev pub keywords : List (List ℕ)
+keywords =
+    codes "import" ∷ codes "bag" ∷ codes "struct" ∷ codes "set" ∷ codes "map" ∷ codes "counter" ∷ codes "taint" ∷ codes "float"
+    ∷ codes "double" ∷ []
+
+-- The first of these words that has the text.
+abbrev pub word_among : List ℕ → List Word → Option Word
+word_among text [] = None
+word_among text (word ∷ words) = if bytes_eq text (word_text word) then Some word else word_among text words
+
+-- The scalar word with this text.
+unfoldable pub word_named : List ℕ → Option Word
+word_named text = word_among text scalar_words
+
+-- The text is that of this number, which has 16 bits.
+abbrev pub IsNumberText : List ℕ → ℕ → Type 0
+IsNumberText text number = (number < 2 ^ 16) × (text ≡ decimal number)
+
+-- The text is no depth, or that of one of more than 64 bits.
+abbrev pub IsNoDepth : List ℕ → TableCode → Type 0
+IsNoDepth text Form = (depth : ℕ) → IsDepth text depth → ⊥
+IsNoDepth text Depth = (depth : ℕ) × IsDepth text depth × (2 ^ 64 ≤ depth)
+IsNoDepth text other = ⊥
+
+-- The text is scalar words with commas, at least one.
+abbrev pub AreWords : List ℕ → List Word → Type 0
+AreWords text words = (words ≢ []) × (text ≡ join_with_byte 44 (map word_text words))
+
+-- The text is that of this kind.
+abbrev pub IsKindText : List ℕ → scalars.ScalarKind → Type 0
+IsKindText text kind = IsScalarKind kind × (text ≡ kind_text kind)
+
+-- The text is that of this shape, which has at most so many maps in one another.
+abbrev pub IsShapeText : ℕ → List ℕ → Shape → Type 0
+IsShapeText maps text shape = IsToldShape shape × (map_count shape ≤ maps) × (text ≡ shape_text shape)
+
+-- Four parts with a space between two of them, and a line feed at the end.
+abbrev pub parts_line : List ℕ → List ℕ → List ℕ → List ℕ → List ℕ
+parts_line depth number name shape = join_with_byte 32 (depth ∷ number ∷ name ∷ shape ∷ []) ++ 10 ∷ []
+
+-- The line isn't made of four parts so, the first three of them without a space.
+abbrev pub HasNoParts : List ℕ → Type 0
+HasNoParts line = (depth number name shape : List ℕ) → IsFree 32 depth → IsFree 32 number → IsFree 32 name
+    → line ≢ parts_line depth number name shape

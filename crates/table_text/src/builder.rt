@@ -1,0 +1,283 @@
+//! The bags of a table, while lines say their fields one after another.
+
+ghost use Rattle.std.specs.Prelude.{◌≡◌, ◌≢◌, ◌+◌, ◌<◌, ◌≤◌, ◌++◌, [], ◌∷◌, true, false, length, reverse, IfOk, IfErr, OnOk};
+ghost use Rattle.std.specs.List.{list_any};
+ghost use Rattle.std.specs.Str.{bytes_eq};
+ghost use Rattle.bag_model.specs.declared.TheConstants.{MAX_LEVELS, MAX_FIELDS};
+ghost use Rattle.bag_model.specs.Shapes.{fields, no_node};
+ghost use Rattle.bag_model.specs.Tables.{levels_under};
+ghost use Rattle.field_table.specs.Plain.{shape_of, nodes_of, IsIndexed, IsIndexedShape};
+ghost use Rattle.text_lines.specs.Readings.{NoneOf, IsFirstOf};
+ghost use Rattle.table_text.specs.declared.TheConstants.{MAPS_MAX};
+ghost use Rattle.table_text.specs.Rows.{IsToldShape, map_count};
+ghost use Rattle.table_text.specs.Rules.{ends_in_bag, rules, rules_of_bag, Breaks};
+ghost use Rattle.table_text.specs.TableRows.{filled, rows_of};
+ghost use Rattle.table_text.specs.Views.{row_of, IsAddRefused};
+ghost use Rattle.table_text.specs.OpenBags.{IsSoundRow, IsSound, IsFresh, depth_of, rows_so_far};
+
+use crate::MAPS_MAX;
+use crate::faults::{Refusal, TableCode};
+use crate::names::FieldNames;
+use crate::rows::Row;
+use bag_model::{MAX_FIELDS, MAX_LEVELS};
+use field_table::{Shape, Slot, Slots, Table};
+use outside::{Memory, Text};
+use std::alloc::Global;
+
+/// Whether a shape ends in a bag, whose fields the next lines say.
+fn ends_in_bag(shape: &Shape) -> bool
+    ensures { result ≡ ends_in_bag (shape_of shape.now) }
+{
+    match shape {
+        Shape::Map(_, value) => ends_in_bag(value),
+        Shape::Bag(_) => true,
+        Shape::Taint | Shape::Scalar(_) | Shape::Set(_) | Shape::Counter => false,
+    }
+}
+
+/// The levels of headers under a field's own, those of the bag aside that its shape ends in.
+fn levels_under(shape: &Shape) -> usize
+    requires told { IsToldShape (shape_of shape.now) }
+    requires flat { map_count (shape_of shape.now) ≤ MAPS_MAX }
+    ensures levels { result ≡ levels_under (shape_of shape.now) }
+    ensures bound { result ≤ map_count (shape_of shape.now) + 1 }
+{
+    match shape {
+        Shape::Map(_, value) => 1 + levels_under(value),
+        Shape::Counter => 1,
+        Shape::Taint | Shape::Scalar(_) | Shape::Set(_) | Shape::Bag(_) => 0,
+    }
+}
+
+/// Puts the fields into the bag that a shape ends in.
+fn fill(shape: &mut Shape, fields: Slots)
+    ensures filled { shape_of shape.new ≡ filled (nodes_of fields) (shape_of shape.old) }
+    ensures indexed { IsIndexed fields → IsIndexedShape shape.old → IsIndexedShape shape.new }
+{
+    match shape {
+        Shape::Map(_, value) => fill(value, fields),
+        Shape::Bag(inner) => *inner = fields,
+        Shape::Taint | Shape::Scalar(_) | Shape::Set(_) | Shape::Counter => {}
+    }
+}
+
+/// A bag whose fields are being read.
+#[derive(Drop)]
+struct OpenBag<'a> {
+    /// The fields that are whole.
+    fields: Slots,
+    /// The names of all fields whose lines were read.
+    names: FieldNames<'a>,
+    /// The least number that the next field may have.
+    least: u32,
+    /// The level of the fields' headers.
+    level: usize,
+}
+
+impl<'a> OpenBag<'a> {
+    /// No field was read yet.
+    fn new(alloc: Global, level: usize) -> OpenBag<'a>
+        ensures fields { nodes_of result.fields ≡ no_node }
+        ensures indexed { IsIndexed result.fields }
+        ensures names { result.names ≡ [] }
+        ensures least { result.least ≡ 0 }
+        ensures level { result.level ≡ level }
+    {
+        OpenBag {
+            fields: Slots::new(alloc),
+            names: FieldNames::new(alloc),
+            least: 0,
+            level,
+        }
+    }
+
+    /// Keeps the name and the number of a field whose line was read.
+    fn note(&mut self, name: &'a str, number: u16) -> Result<(), Memory>
+        requires { list_any (bytes_eq name.now) self.old.names ≡ false }
+        ensures fields { OnOk result (self.new.fields ≡ self.old.fields) }
+        ensures names { OnOk result (self.new.names ≡ self.old.names ++ name.now ∷ []) }
+        ensures least { OnOk result (self.new.least ≡ number + 1) }
+        ensures level { OnOk result (self.new.level ≡ self.old.level) }
+    {
+        self.names.add(name)?;
+        self.least = u32::from(number) + 1;
+        Ok(())
+    }
+
+    /// Adds a field that is whole, and whose line was noted.
+    fn push(&mut self, alloc: Global, name: &str, number: u16, shape: Shape) -> Result<(), Memory>
+        ensures fields { OnOk result (fields (nodes_of self.new.fields)
+            ≡ fields (nodes_of self.old.fields) ++ record { name = name.now; number = number; shape = shape_of shape } ∷ []) }
+        ensures indexed { IsIndexed self.old.fields → IsIndexedShape shape → IsIndexed self.new.fields }
+        ensures names { OnOk result (self.new.names ≡ self.old.names) }
+        ensures least { OnOk result (self.new.least ≡ self.old.least) }
+        ensures level { OnOk result (self.new.level ≡ self.old.level) }
+    {
+        let name = Text::of(alloc, name)?;
+        self.fields.push(Slot {
+            name,
+            number,
+            shape,
+        })
+    }
+}
+
+/// A field whose line was read, and whose bag is being read.
+#[derive(Drop)]
+struct OpenField<'a> {
+    /// The bag that the field stands in.
+    bag: OpenBag<'a>,
+    row: Row<'a>,
+}
+
+/// The fields that lines have said so far. There are at most [`MAX_LEVELS`] open bags.
+#[derive(Drop)]
+pub(crate) struct Builder<'a> {
+    /// The fields that are open, each in the bag of the one before it.
+    outer: Vec<OpenField<'a>>,
+    /// The innermost bag.
+    bag: OpenBag<'a>,
+    /// How many lines said a field.
+    rows: usize,
+}
+
+impl<'a> Builder<'a> {
+    /// No line said a field yet.
+    pub(crate) fn new(alloc: Global) -> Builder<'a>
+        ensures rows { rows_so_far result ≡ [] }
+        ensures sound { IsSound result }
+        ensures fresh { IsFresh result }
+    {
+        Builder {
+            outer: Vec::new(alloc),
+            bag: OpenBag::new(alloc, 0),
+            rows: 0,
+        }
+    }
+
+    /// The same with the innermost bag closed.
+    fn closed(self, alloc: Global) -> Result<Builder<'a>, Memory>
+        requires sound { IsSound self }
+        requires inner { 0 < depth_of self }
+        ensures rows { IfOk result (λ closed. rows_so_far closed ≡ rows_so_far self.entry) }
+        ensures sound { IfOk result IsSound }
+        ensures depth { IfOk result (λ closed. depth_of closed + 1 ≡ depth_of self.entry) }
+    {
+        let Builder {
+            mut outer,
+            bag: inner,
+            rows,
+        } = self;
+        let OpenField { mut bag, row } = outer.pop().unwrap();
+        let Row {
+            name,
+            number,
+            mut shape,
+            ..
+        } = row;
+        fill(&mut shape, inner.fields);
+        bag.push(alloc, name, number, shape)?;
+        Ok(Builder { outer, bag, rows })
+    }
+
+    /// The same with all bags closed whose fields are deeper.
+    fn closed_to(self, alloc: Global, depth: usize) -> Result<Builder<'a>, Memory>
+        requires sound { IsSound self }
+        requires depth { depth ≤ depth_of self }
+        ensures rows { IfOk result (λ closed. rows_so_far closed ≡ rows_so_far self.entry) }
+        ensures sound { IfOk result IsSound }
+        ensures depth { IfOk result (λ closed. depth_of closed ≡ depth) }
+    {
+        let mut builder = self;
+        while builder.outer.len() > depth {
+            builder = builder.closed(alloc)?;
+        }
+        Ok(builder)
+    }
+
+    /// Whether the innermost bag may have a field more as a line says it.
+    fn check(&self, row: &Row<'_>) -> Result<(), TableCode>
+        requires sound { IsSound self.now }
+        requires row { IsSoundRow row.now }
+        requires depth { row.now.depth ≡ depth_of self.now }
+        ensures ok { OnOk result (NoneOf (Breaks (reverse (rows_so_far self.now)) (row_of row.now)) rules_of_bag) }
+        ensures err { IfErr result (IsFirstOf (Breaks (reverse (rows_so_far self.now)) (row_of row.now)) rules_of_bag) }
+    {
+        if u32::from(row.number) < self.bag.least {
+            return Err(TableCode::Order);
+        }
+        if self.bag.names.contains(row.name) {
+            return Err(TableCode::DuplicateField);
+        }
+        if self.bag.level + levels_under(&row.shape) >= MAX_LEVELS {
+            return Err(TableCode::TooDeep);
+        }
+        if self.rows >= MAX_FIELDS {
+            return Err(TableCode::TooManySlots);
+        }
+        Ok(())
+    }
+
+    /// The same with a field that the innermost bag may have.
+    fn with_row(self, alloc: Global, row: Row<'a>) -> Result<Builder<'a>, Memory>
+        requires sound { IsSound self }
+        requires row { IsSoundRow row }
+        requires depth { row.depth ≡ depth_of self }
+        requires good { NoneOf (Breaks (reverse (rows_so_far self)) (row_of row)) rules_of_bag }
+        ensures rows { IfOk result (λ next. rows_so_far next ≡ rows_so_far self.entry ++ row_of row.entry ∷ []) }
+        ensures sound { IfOk result IsSound }
+        ensures fresh { IfOk result IsFresh }
+    {
+        let Builder {
+            mut outer,
+            mut bag,
+            rows,
+        } = self;
+        bag.note(row.name, row.number)?;
+        if ends_in_bag(&row.shape) {
+            let level = bag.level + levels_under(&row.shape) + 1;
+            outer.push(OpenField { bag, row })?;
+            Ok(Builder {
+                outer,
+                bag: OpenBag::new(alloc, level),
+                rows: rows + 1,
+            })
+        } else {
+            bag.push(alloc, row.name, row.number, row.shape)?;
+            Ok(Builder {
+                outer,
+                bag,
+                rows: rows + 1,
+            })
+        }
+    }
+
+    /// The same with the field that the next line says.
+    pub(crate) fn add(self, alloc: Global, row: Row<'a>) -> Result<Builder<'a>, Refusal>
+        requires sound { IsSound self }
+        requires fresh { IsFresh self }
+        requires row { IsSoundRow row }
+        ensures good { OnOk result (NoneOf (Breaks (reverse (rows_so_far self.entry)) (row_of row.entry)) rules) }
+        ensures rows { IfOk result (λ next. rows_so_far next ≡ rows_so_far self.entry ++ row_of row.entry ∷ []) }
+        ensures sound { IfOk result IsSound }
+        ensures fresh { IfOk result IsFresh }
+        ensures err { IfErr result (IsAddRefused (reverse (rows_so_far self.entry)) (row_of row.entry)) }
+    {
+        if row.depth > self.outer.len() as u64 {
+            return Err(Refusal::Code(TableCode::Depth));
+        }
+        let builder = self.closed_to(alloc, row.depth as usize)?;
+        builder.check(&row)?;
+        let next = builder.with_row(alloc, row)?;
+        Ok(next)
+    }
+
+    /// The table of the fields that all lines said.
+    pub(crate) fn into_table(self, alloc: Global) -> Result<Table, Memory>
+        requires sound { IsSound self }
+        ensures { IfOk result (λ table. rows_of 0 table ≡ rows_so_far self.entry) }
+    {
+        let Builder { bag, .. } = self.closed_to(alloc, 0)?;
+        Ok(Table::of(bag.fields))
+    }
+}

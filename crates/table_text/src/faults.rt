@@ -1,0 +1,110 @@
+//! Why a text is no table's.
+
+ghost use Rattle.std.specs.Prelude.{◌≡◌};
+ghost use Rattle.table_text.specs.FaultNames.{fault_at};
+
+use outside::Memory;
+use std::fmt;
+
+/// The rule that a line breaks. At one line the first of these counts.
+#[derive(Clone, Copy, Debug, PartialEq, Eq)]
+pub enum TableCode {
+    /// The first line isn't `baggage table 1`.
+    Head,
+    /// The line hasn't the form of a field's, or its line feed is missing.
+    Form,
+    /// The depth is greater than that of the line before it, and not one greater behind a line that ends in `bag`; or the
+    /// first depth isn't 0.
+    Depth,
+    /// The number isn't greater than that of the field before it in the same bag.
+    Order,
+    /// An earlier field of the same bag has the name.
+    DuplicateField,
+    /// The field's own header, or one that its shape puts under it, would be at a level that [`bag_model::MAX_LEVELS`]
+    /// levels don't reach.
+    TooDeep,
+    /// The line stands behind as many fields as [`bag_model::MAX_FIELDS`].
+    TooManySlots,
+}
+
+/// Why a text is no table's: its first bad line, by its number from 1, and what is wrong with that.
+#[derive(Clone, Copy, Debug, PartialEq, Eq)]
+pub enum TableFault {
+    /// The line breaks this rule.
+    At { line: u64, code: TableCode },
+    /// There is no memory for the table.
+    Memory,
+}
+
+/// Why a line says no field.
+#[derive(Clone, Copy, Debug)]
+pub(crate) enum Refusal {
+    /// The line breaks this rule.
+    Code(TableCode),
+    /// There is no memory for what it says.
+    Memory,
+}
+
+impl Refusal {
+    /// The refusal of a text whose line with this number is refused.
+    pub(crate) fn at(self, line: u64) -> TableFault
+        ensures { result ≡ fault_at line self }
+    {
+        match self {
+            Refusal::Code(code) => TableFault::At { line, code },
+            Refusal::Memory => TableFault::Memory,
+        }
+    }
+}
+
+impl From<TableCode> for Refusal {
+    ghost use Rattle.std.specs.Prelude.{◌≡◌};
+    ghost use Rattle.table_text.specs.declared.faults.Refusal.TheVariants as refusals;
+
+    ghost from_gives = { λ code refusal. refusal ≡ refusals.Code code };
+
+    fn from(code: TableCode) -> Refusal {
+        Refusal::Code(code)
+    }
+}
+
+impl From<Memory> for Refusal {
+    ghost use Rattle.std.specs.Prelude.{◌≡◌};
+    ghost use Rattle.table_text.specs.declared.faults.Refusal.TheVariants as refusals;
+
+    ghost from_gives = { λ _ refusal. refusal ≡ refusals.Memory };
+
+    fn from(_want: Memory) -> Refusal {
+        Refusal::Memory
+    }
+}
+
+impl From<Memory> for TableFault {
+    ghost use Rattle.std.specs.Prelude.{◌≡◌};
+    ghost use Rattle.table_text.specs.declared.faults.TableFault.TheVariants as table_faults;
+
+    ghost from_gives = { λ _ fault. fault ≡ table_faults.Memory };
+
+    fn from(_want: Memory) -> TableFault {
+        TableFault::Memory
+    }
+}
+
+impl fmt::Display for TableCode {
+    ghost use Rattle.std.specs.Prelude.{Some};
+    ghost use Rattle.table_text.specs.FaultNames.{table_code_name};
+
+    ghost output = { λ code. Some (table_code_name code) };
+
+    fn fmt<W: fmt::Write>(&self, f: &mut fmt::Formatter<W>) -> fmt::Result {
+        match self {
+            TableCode::Head => write!(f, "Head"),
+            TableCode::Form => write!(f, "Form"),
+            TableCode::Depth => write!(f, "Depth"),
+            TableCode::Order => write!(f, "Order"),
+            TableCode::DuplicateField => write!(f, "DuplicateField"),
+            TableCode::TooDeep => write!(f, "TooDeep"),
+            TableCode::TooManySlots => write!(f, "TooManySlots"),
+        }
+    }
+}

@@ -1,0 +1,21 @@
+//! A table as a text: printed, and read back exactly or with the first fault of its lines.
+#![tactic(auto)]
+
+mod builder;
+mod faults;
+pub mod laws;
+mod names;
+mod printing;
+mod reading;
+mod rows;
+mod shapes;
+#[cfg(test)]
+mod tests;
+mod words;
+
+pub use faults::{TableCode, TableFault};
+pub use printing::print_table;
+pub use reading::read_table;
+
+/// The most maps that stand in one another in a shape that is read.
+pub const MAPS_MAX: usize = 32;

@@ -1,0 +1,98 @@
+//! Tables read.
+
+ghost use Rattle.std.specs.Prelude.{◌≡◌, ◌≢◌, ◌<◌, ◌++◌, [], ◌∷◌, ℕ, List, length, reverse, IfOk, IfErr, IfSome, MatchOption};
+ghost use Rattle.text_lines.specs.Readings.{AllSay};
+ghost use Rattle.table_text.specs.Rows.{Row as SaidRow};
+ghost use Rattle.table_text.specs.Rules.{IsGood, field_lines};
+ghost use Rattle.table_text.specs.OpenBags.{IsSound, IsFresh, rows_so_far};
+ghost use Rattle.table_text.specs.TableFaults.{fed_lines, head, lines_behind, IsHeadFault, IsRefusalOf, IsRefusalBehind};
+ghost use Rattle.table_text.specs.TableTexts.{table_text};
+ghost use Rattle.table_text.specs.Views.{IsRefused};
+
+use crate::builder::Builder;
+use crate::faults::{Refusal, TableCode, TableFault};
+use crate::rows::read_row;
+use crate::words::place_of;
+use field_table::Table;
+use std::alloc::Global;
+
+/// The first line of some bytes with its line feed, and the bytes behind it; none where there are no bytes. The last line
+/// may be without a line feed.
+fn cut_line(bytes: &[u8]) -> Option<(&[u8], &[u8])>
+    ensures lines { MatchOption result (bytes.now ≡ [])
+        (λ cut. fed_lines bytes.now ≡ cut.0.now ∷ fed_lines cut.1.now) }
+    ensures shorter { IfSome result (λ cut. length cut.1.now < length bytes.now) }
+{
+    match place_of(b'\n', bytes) {
+        Some(at) => Some(bytes.split_at(at + 1)),
+        None if bytes.is_empty() => None,
+        None => Some((bytes, &[])),
+    }
+}
+
+/// What is wrong with the first line of a text that doesn't begin with that of a table.
+fn head_code(text: &[u8]) -> TableCode
+    requires { (rest : List ℕ) → text.now ≢ head ++ 10 ∷ rest }
+    ensures { IsHeadFault text.now result }
+{
+    if text == b"baggage table 1".as_slice() {
+        TableCode::Form
+    } else {
+        TableCode::Head
+    }
+}
+
+impl<'a> Builder<'a> {
+    /// The fields so far, with that which the next line says.
+    fn read_line(self, alloc: Global, line: &'a [u8]) -> Result<Builder<'a>, Refusal>
+        requires sound { IsSound self }
+        requires fresh { IsFresh self }
+        ensures rows { IfOk result (λ next. (row : SaidRow) × IsGood (reverse (rows_so_far self.entry)) line.now row
+            × (rows_so_far next ≡ rows_so_far self.entry ++ row ∷ [])) }
+        ensures sound { IfOk result IsSound }
+        ensures fresh { IfOk result IsFresh }
+        ensures err { IfErr result (IsRefused (reverse (rows_so_far self.entry)) line.now) }
+    {
+        let row = read_row(alloc, line)?;
+        self.add(alloc, row)
+    }
+}
+
+/// What the lines behind the first say.
+fn read_lines(alloc: Global, text: &[u8]) -> Result<Builder<'_>, TableFault>
+    ensures rows { IfOk result (λ read. AllSay field_lines [] (lines_behind text.now) (rows_so_far read)) }
+    ensures sound { IfOk result IsSound }
+    ensures err { IfErr result (IsRefusalBehind text.now) }
+{
+    let mut builder = Builder::new(alloc);
+    let mut rest = text;
+    let mut number = 2;
+    while let Some((line, behind)) = cut_line(rest) {
+        builder = match builder.read_line(alloc, line) {
+            Ok(next) => next,
+            Err(refusal) => return Err(refusal.at(number)),
+        };
+        rest = behind;
+        number += 1;
+    }
+    Ok(builder)
+}
+
+/// The table that a text is that of, or what is wrong with its first bad line.
+///
+/// Exactly the texts that [`crate::print_table`] writes are read: each line ends with a line feed, no line is skipped, and
+/// no carriage return is dropped. See `docs/FORMATS.md` for the form of a line and the rules in their order.
+pub fn read_table(alloc: Global, text: &[u8]) -> Result<Table, TableFault>
+    ensures ok { IfOk result (λ table. text.now ≡ table_text table) }
+    ensures err { IfErr result (IsRefusalOf text.now) }
+{
+    let Some(rest) = text.strip_prefix(b"baggage table 1\n") else {
+        return Err(TableFault::At {
+            line: 1,
+            code: head_code(text),
+        });
+    };
+    let builder = read_lines(alloc, rest)?;
+    let table = builder.into_table(alloc)?;
+    Ok(table)
+}

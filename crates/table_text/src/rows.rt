@@ -1,0 +1,88 @@
+//! What a line says of a field.
+
+ghost use Rattle.std.specs.Prelude.{◌≡◌, ◌≢◌, ◌++◌, ◌∷◌, [], ℕ, List, IfOk, IfErr, MatchOption};
+ghost use Rattle.field_table.specs.Plain.{IsIndexedShape};
+ghost use Rattle.table_text.specs.Rows.{SaysRow};
+ghost use Rattle.table_text.specs.Words.{IsFree, HasNoParts, parts_line};
+ghost use Rattle.table_text.specs.Views.{row_of, IsUnread};
+
+use crate::MAPS_MAX;
+use crate::faults::{Refusal, TableCode};
+use crate::shapes::read_shape;
+use crate::words::{cut_word, read_depth, read_name, read_number};
+use field_table::Shape;
+use std::alloc::Global;
+
+/// A field at a depth, as a line says it. A bag that its shape ends in is without its fields.
+#[derive(Drop)]
+pub(crate) struct Row<'a> {
+    pub depth: u64,
+    pub name: &'a str,
+    pub number: u16,
+    pub shape: Shape,
+}
+
+/// The parts of a line.
+#[derive(Clone, Copy)]
+struct Parts<'a> {
+    depth: &'a [u8],
+    number: &'a [u8],
+    name: &'a [u8],
+    shape: &'a [u8],
+}
+
+/// A line without the line feed at its end; none where it has none.
+fn without_feed(line: &[u8]) -> Option<&[u8]>
+    ensures { MatchOption result ((text : List ℕ) → line.now ≢ text ++ 10 ∷ [])
+        (λ text. line.now ≡ text.now ++ 10 ∷ []) }
+{
+    match line {
+        [text @ .., b'\n'] => Some(text),
+        _ => None,
+    }
+}
+
+/// The parts of a line, which ends with a line feed.
+fn cut_parts(line: &[u8]) -> Option<Parts<'_>>
+    ensures { MatchOption result (HasNoParts line.now)
+        (λ parts. IsFree 32 parts.depth.now × IsFree 32 parts.number.now × IsFree 32 parts.name.now
+        × (line.now ≡ parts_line parts.depth.now parts.number.now parts.name.now parts.shape.now)) }
+{
+    let text = without_feed(line)?;
+    let (depth, rest) = cut_word(text)?;
+    let (number, rest) = cut_word(rest)?;
+    let (name, shape) = cut_word(rest)?;
+    Some(Parts {
+        depth,
+        number,
+        name,
+        shape,
+    })
+}
+
+/// What a line says, with its line feed.
+pub(crate) fn read_row(alloc: Global, line: &[u8]) -> Result<Row<'_>, Refusal>
+    ensures ok { IfOk result (λ row. SaysRow line.now (row_of row)) }
+    ensures indexed { IfOk result (λ row. IsIndexedShape row.shape) }
+    ensures err { IfErr result (IsUnread line.now) }
+{
+    let Some(parts) = cut_parts(line) else {
+        return Err(Refusal::Code(TableCode::Form));
+    };
+    let Some(number) = read_number(parts.number) else {
+        return Err(Refusal::Code(TableCode::Form));
+    };
+    let Some(name) = read_name(parts.name) else {
+        return Err(Refusal::Code(TableCode::Form));
+    };
+    let Some(shape) = read_shape(alloc, parts.shape, MAPS_MAX)? else {
+        return Err(Refusal::Code(TableCode::Form));
+    };
+    let depth = read_depth(parts.depth)?;
+    Ok(Row {
+        depth,
+        name,
+        number,
+        shape,
+    })
+}

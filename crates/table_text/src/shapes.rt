@@ -1,0 +1,119 @@
+//! Shapes, from the words that say them.
+
+ghost use Rattle.std.specs.Prelude.{◌≡◌, ◌≢◌, ◌++◌, ◌∷◌, [], ℕ, List, IfOk, IfSome, MatchOption};
+ghost use Rattle.std.specs.Option.{option_map};
+ghost use Rattle.decimal_text.specs.Answers.{Answers};
+ghost use Rattle.field_table.specs.Plain.{shape_of, IsIndexedShape};
+ghost use Rattle.scalar_types.specs.KindViews.{kind_of};
+ghost use Rattle.table_text.specs.Words.{AreWords, IsKindText, IsShapeText};
+ghost use Rattle.table_text.specs.ShapeReads.{IsBareText, IsMapBehind};
+
+use crate::words::{cut_word, is, read_word};
+use field_table::{Shape, Slots};
+use outside::Memory;
+use scalar_types::{KindList, ScalarKind};
+use std::alloc::Global;
+
+/// The kinds that scalar words with commas between them say.
+fn read_words(alloc: Global, text: &[u8]) -> Result<Option<KindList>, Memory>
+    ensures { IfOk result (λ read. Answers (AreWords text.now) read) }
+{
+    let mut kinds = KindList::new(alloc);
+    for word in text.split(|byte| *byte == b',') {
+        let Some(kind) = read_word(word) else {
+            return Ok(None);
+        };
+        kinds.push(kind)?;
+    }
+    Ok(Some(kinds))
+}
+
+/// What stands between parentheses, which are the first byte and the last.
+fn in_parentheses(text: &[u8]) -> Option<&[u8]>
+    ensures { MatchOption result ((inner : List ℕ) → text.now ≢ 40 ∷ (inner ++ 41 ∷ []))
+        (λ inner. text.now ≡ 40 ∷ (inner.now ++ 41 ∷ [])) }
+{
+    match text {
+        [b'(', inner @ .., b')'] => Some(inner),
+        _ => None,
+    }
+}
+
+/// The kind that a text says: a scalar word, or those of a struct between parentheses.
+fn read_kind(alloc: Global, text: &[u8]) -> Result<Option<ScalarKind>, Memory>
+    ensures { IfOk result (λ read. Answers (IsKindText text.now) (option_map kind_of read)) }
+{
+    let Some(words) = in_parentheses(text) else {
+        return Ok(read_word(text));
+    };
+    match read_words(alloc, words)? {
+        Some(kinds) => Ok(Some(ScalarKind::Packed(kinds))),
+        None => Ok(None),
+    }
+}
+
+/// The shape that one word says.
+fn read_bare(alloc: Global, text: &[u8]) -> Option<Shape>
+    ensures shape { Answers (IsBareText text.now) (option_map shape_of result) }
+    ensures indexed { IfSome result IsIndexedShape }
+{
+    if is(text, "taint") {
+        Some(Shape::Taint)
+    } else if is(text, "counter") {
+        Some(Shape::Counter)
+    } else if is(text, "bag") {
+        Some(Shape::Bag(Slots::new(alloc)))
+    } else {
+        None
+    }
+}
+
+/// The shape that a text says, with at most so many maps in one another. A bag is without its fields.
+#[cycle(shape)]
+pub(crate) fn read_shape(alloc: Global, text: &[u8], maps: usize) -> Result<Option<Shape>, Memory>
+    ensures shape { IfOk result (λ read.
+        Answers (IsShapeText maps text.now) (option_map shape_of read)) }
+    ensures indexed { IfOk result (λ read. IfSome read IsIndexedShape) }
+{
+    let Some((word, rest)) = cut_word(text) else {
+        return Ok(read_bare(alloc, text));
+    };
+    if is(word, "map") {
+        return read_map(alloc, rest, maps);
+    }
+    if is(word, "scalar") {
+        return match read_kind(alloc, rest)? {
+            Some(kind) => Ok(Some(Shape::Scalar(kind))),
+            None => Ok(None),
+        };
+    }
+    if is(word, "set") {
+        return match read_kind(alloc, rest)? {
+            Some(kind) => Ok(Some(Shape::Set(kind))),
+            None => Ok(None),
+        };
+    }
+    Ok(None)
+}
+
+/// The map that its key's word and its value's words say, with at most so many maps in one another.
+#[cycle(shape)]
+fn read_map(alloc: Global, text: &[u8], maps: usize) -> Result<Option<Shape>, Memory>
+    ensures shape { IfOk result (λ read.
+        Answers (IsMapBehind maps text.now) (option_map shape_of read)) }
+    ensures indexed { IfOk result (λ read. IfSome read IsIndexedShape) }
+{
+    if maps == 0 {
+        return Ok(None);
+    }
+    let Some((word, rest)) = cut_word(text) else {
+        return Ok(None);
+    };
+    let Some(key) = read_word(word) else {
+        return Ok(None);
+    };
+    match read_shape(alloc, rest, maps - 1)? {
+        Some(value) => Ok(Some(Shape::Map(key, Box::new(alloc, value)?))),
+        None => Ok(None),
+    }
+}

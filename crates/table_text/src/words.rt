@@ -1,0 +1,193 @@
+//! The words of a line: names, numbers, scalar words, and what stands before a space.
+
+ghost use Rattle.std.specs.Prelude.{◌≡◌, ◌≢◌, ◌↔◌, ◌<◌, ◌||◌, ◌++◌, ◌∷◌, ℕ, length, slice_index, IsTrue, None, IfSome, IfOk, IfErr, MatchOption, true, false};
+ghost use Rattle.std.specs.Char.{is_ascii_digit};
+ghost use Rattle.std.specs.List.{list_all, list_any};
+ghost use Rattle.std.specs.Option.{option_map};
+ghost use Rattle.std.specs.Str.{bytes_eq};
+ghost use Rattle.bag_model.specs.Words.{is_letter, is_word, is_name, reserved_words};
+ghost use Rattle.decimal_text.specs.Answers.{Answers};
+ghost use Rattle.scalar_types.specs.KindViews.{IsWord, word_of};
+ghost use Rattle.table_text.specs.Rows.{IsDepth};
+ghost use Rattle.table_text.specs.Words.{IsFree, IsNumberText, IsNoDepth, keywords, word_named};
+
+use crate::faults::TableCode;
+use decimal_text::read_decimal;
+use memchr::memchr;
+use scalar_types::ScalarKind;
+use std::str;
+
+/// Where a byte stands first.
+pub(crate) fn place_of(byte: u8, bytes: &[u8]) -> Option<usize>
+    ensures none { result ≡ None → (k : ℕ) → k < length bytes.now → slice_index bytes.now k ≢ byte }
+    ensures within { IfSome result (λ at. at < length bytes.now) }
+    ensures first { IfSome result (λ at. (k : ℕ) → k < at → slice_index bytes.now k ≢ byte) }
+    ensures there { IfSome result (λ at. slice_index bytes.now at ≡ byte) }
+{
+    memchr(byte, bytes)
+}
+
+/// The first word of a text, and what stands behind the space after it; none where there is no space.
+pub(crate) fn cut_word(text: &[u8]) -> Option<(&[u8], &[u8])>
+    ensures { MatchOption result (IsFree 32 text.now)
+        (λ cut. IsFree 32 cut.0.now × (text.now ≡ cut.0.now ++ 32 ∷ cut.1.now)) }
+{
+    let at = place_of(b' ', text)?;
+    Some((&text[..at], &text[at + 1..]))
+}
+
+/// Whether the bytes are this word.
+pub(crate) fn is(text: &[u8], word: &str) -> bool
+    ensures { result ≡ bytes_eq text.now word.now }
+{
+    text == word.as_bytes()
+}
+
+/// The kind that a scalar word is.
+#[tactic(auto, unfolding(crate::specs::Words::word_named))]
+pub(crate) fn read_word(text: &[u8]) -> Option<ScalarKind>
+    ensures word { option_map word_of result ≡ word_named text.now }
+    ensures plain { IfSome result IsWord }
+{
+    if is(text, "bool") {
+        Some(ScalarKind::Bool)
+    } else if is(text, "int32") {
+        Some(ScalarKind::Int32)
+    } else if is(text, "int64") {
+        Some(ScalarKind::Int64)
+    } else if is(text, "sint32") {
+        Some(ScalarKind::Sint32)
+    } else if is(text, "sint64") {
+        Some(ScalarKind::Sint64)
+    } else if is(text, "uint32") {
+        Some(ScalarKind::Uint32)
+    } else if is(text, "uint64") {
+        Some(ScalarKind::Uint64)
+    } else if is(text, "fixed32") {
+        Some(ScalarKind::Fixed32)
+    } else if is(text, "fixed64") {
+        Some(ScalarKind::Fixed64)
+    } else if is(text, "sfixed32") {
+        Some(ScalarKind::Sfixed32)
+    } else if is(text, "sfixed64") {
+        Some(ScalarKind::Sfixed64)
+    } else if is(text, "string") {
+        Some(ScalarKind::Str)
+    } else if is(text, "bytes") {
+        Some(ScalarKind::Bytes)
+    } else {
+        None
+    }
+}
+
+/// Whether the word is one of the definition language's own that is no scalar word.
+fn is_keyword(text: &[u8]) -> bool
+    ensures { result ≡ list_any (bytes_eq text.now) keywords }
+{
+    is(text, "import")
+        || is(text, "bag")
+        || is(text, "struct")
+        || is(text, "set")
+        || is(text, "map")
+        || is(text, "counter")
+        || is(text, "taint")
+        || is(text, "float")
+        || is(text, "double")
+}
+
+/// Whether the word is one of the definition language's own.
+fn is_reserved(text: &[u8]) -> bool
+    ensures { result ≡ list_any (bytes_eq text.now) reserved_words }
+{
+    is_keyword(text) || read_word(text).is_some()
+}
+
+/// Whether the byte is a letter or `_`.
+fn is_letter(byte: u8) -> bool
+    ensures { result ≡ is_letter byte }
+{
+    byte.is_ascii_alphabetic() || byte == b'_'
+}
+
+/// Whether all bytes are letters, `_` or digits.
+fn are_of_words(bytes: &[u8]) -> bool
+    ensures { result ≡ list_all (λ other. is_letter other || is_ascii_digit other) bytes.now }
+{
+    bytes
+        .iter()
+        .all(|byte| is_letter(*byte) || byte.is_ascii_digit())
+}
+
+/// Whether the text is a word.
+fn is_word(text: &[u8]) -> bool
+    ensures { result ≡ is_word text.now }
+{
+    match text {
+        [first, more @ ..] => is_letter(*first) && are_of_words(more),
+        [] => false,
+    }
+}
+
+/// Whether the text is a name: a word that isn't reserved.
+fn is_name(text: &[u8]) -> bool
+    ensures { result ≡ is_name text.now }
+{
+    is_word(text) && !is_reserved(text)
+}
+
+/// The name that a text is.
+#[tactic(auto, using(crate::proofs::NameBytes::name_utf8))]
+pub(crate) fn read_name(text: &[u8]) -> Option<&str>
+    ensures { MatchOption result (is_name text.now ≡ false)
+        (λ name. (is_name text.now ≡ true) × (name.now ≡ text.now)) }
+{
+    if !is_name(text) {
+        return None;
+    }
+    match str::from_utf8(text) {
+        Ok(name) => Some(name),
+        Err(_) => None,
+    }
+}
+
+/// The number of 16 bits that a text is.
+pub(crate) fn read_number(text: &[u8]) -> Option<u16>
+    ensures { Answers (IsNumberText text.now) result }
+{
+    let number = read_decimal(text)?;
+    if number > u64::from(u16::MAX) {
+        return None;
+    }
+    Some(number as u16)
+}
+
+/// Whether all bytes are digits.
+fn are_digits(bytes: &[u8]) -> bool
+    ensures { result ≡ list_all is_ascii_digit bytes.now }
+{
+    bytes.iter().all(|byte| byte.is_ascii_digit())
+}
+
+/// Whether there is a byte, and no zero before others.
+fn has_no_leading_zero(text: &[u8]) -> bool
+    ensures { IsTrue result ↔ ((0 < length text.now) × (slice_index text.now 0 ≡ 48 → length text.now ≡ 1)) }
+{
+    !matches!(text, [] | [b'0', _, ..])
+}
+
+/// The depth that a text is. One of more than 64 bits is that of no bag.
+pub(crate) fn read_depth(text: &[u8]) -> Result<u64, TableCode>
+    ensures ok { IfOk result (IsDepth text.now) }
+    ensures err { IfErr result (IsNoDepth text.now) }
+{
+    if !has_no_leading_zero(text) {
+        return Err(TableCode::Form);
+    }
+    if !are_digits(text) {
+        return Err(TableCode::Form);
+    }
+    match read_decimal(text) {
+        Some(depth) => Ok(depth),
+        None => Err(TableCode::Depth),
+    }
+}
