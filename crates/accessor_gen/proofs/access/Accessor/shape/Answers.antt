@@ -1,0 +1,5 @@
+use Rattle.accessor_gen.proofs.SlotShapes.{slot_has_shape}
+use Rattle.accessor_gen.proofs.access.Accessor.shape.Goals as goal
+
+pub returns-clause-is : goal.returns-clause-is
+returns-clause-is c = slot_has_shape c.args.table.now c.args.self.now.slot _ c.nodes.ensures.table c.shape.ensures

@@ -1,0 +1,3 @@
+pub mod Accessors
+pub mod Readings
+pub mod Writes

@@ -1,0 +1,12 @@
+//! Accessors for the slots of a table: by the name path of its slot, an accessor reads what a context says of the slot, with
+//! whether that is whole, and makes the context that says one value of the slot and nothing else.
+#![tactic(auto)]
+
+mod access;
+mod finding;
+pub mod laws;
+#[cfg(test)]
+mod tests;
+
+pub use access::{Accessor, Reading};
+pub use finding::{accessor, accessors};
