@@ -1,0 +1,100 @@
+//! An example of the libraries, to start from: a client that writes fields of a bag by their names, and reads them behind
+//! services that merge and cut what was written and know no definition. `tests.rt` goes the whole way, from a definition on.
+#![tactic(auto)]
+
+ghost use Rattle.std.specs.Prelude.{IfOk, IfErr};
+ghost use Rattle.std.specs.Option.{option_map};
+ghost use Rattle.decimal_text.specs.Answers.{Answers};
+ghost use Rattle.checkout_client.specs.Written.{SaysWrite};
+ghost use Rattle.checkout_client.specs.Read.{IsRead, IsUnreadFor};
+
+use accessor_gen::laws::values_fit_at_slots;
+use accessor_gen::{Reading, accessor};
+use bag_codec::check_typed;
+use field_table::Table;
+use outside::Memory;
+use std::alloc::Global;
+use wire_bytes::{ByteCode, ContextFault, read_context, write};
+use write_text::laws::writes_are_of_their_shape;
+use write_text::read_write;
+
+/// Why a field wasn't read.
+#[derive(Clone, Copy, Debug, PartialEq, Eq)]
+pub enum FieldFault {
+    /// No slot of the table has the name.
+    NoField,
+    /// The bytes cease here to be those of a context.
+    NoContext { offset: usize, code: ByteCode },
+    /// The atom at this place isn't spelled as the type of its field says.
+    IllTyped { place: usize },
+    /// There is no memory for the reading.
+    Memory,
+}
+
+impl From<Memory> for FieldFault {
+    ghost use Rattle.std.specs.Prelude.{◌≡◌};
+    ghost use Rattle.checkout_client.specs.declared.FieldFault.TheVariants.{Memory};
+
+    ghost from_gives = { λ _ fault. fault ≡ Memory };
+
+    fn from(_want: Memory) -> FieldFault {
+        FieldFault::Memory
+    }
+}
+
+impl From<ContextFault> for FieldFault {
+    ghost use Rattle.checkout_client.specs.Read.{Tells};
+
+    ghost from_gives = { Tells };
+
+    fn from(fault: ContextFault) -> FieldFault {
+        match fault {
+            ContextFault::At { offset, code } => FieldFault::NoContext { offset, code },
+            ContextFault::Memory => FieldFault::Memory,
+        }
+    }
+}
+
+/// The bytes of a context that says of the field with this name what the text writes to it, and nothing else. There are none
+/// where no slot has the name, or the text is no write to it.
+pub fn write_field(
+    alloc: Global,
+    table: &Table,
+    name: &str,
+    text: &str,
+) -> Result<Option<Vec<u8>>, Memory>
+    ensures { IfOk result (λ sent. Answers (SaysWrite table.now name.now text.now) (option_map (λ bytes. bytes.items) sent)) }
+{
+    // The proof rests on these laws.
+    writes_are_of_their_shape();
+    values_fit_at_slots();
+    let Some(field) = accessor(alloc, table, name)? else {
+        return Ok(None);
+    };
+    // The text is read as the type of the field says: `7` for a number, `"spring"` for a set of strings.
+    let Some(value) = read_write(alloc, field.shape(table), text.as_bytes())? else {
+        return Ok(None);
+    };
+    let context = field.write(alloc, table, &value)?;
+    Ok(Some(write(alloc, context.list())?))
+}
+
+/// What the bytes of a context say of the field with this name, and whether that is whole.
+pub fn read_field(
+    alloc: Global,
+    table: &Table,
+    bytes: &[u8],
+    name: &str,
+) -> Result<Reading, FieldFault>
+    ensures read { IfOk result (IsRead table.now bytes.now name.now) }
+    ensures refused { IfErr result (IsUnreadFor table.now bytes.now name.now) }
+{
+    let field = accessor(alloc, table, name)?.ok_or(FieldFault::NoField)?;
+    let context = read_context(alloc, bytes)?;
+    // Nobody on the way knows the types, so the reader looks whether each atom is spelled as its table says.
+    check_typed(table, &context).map_err(|place| FieldFault::IllTyped { place })?;
+    Ok(field.get(alloc, table, &context)?)
+}
+
+#[cfg(test)]
+mod tests;
