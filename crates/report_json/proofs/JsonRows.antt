@@ -1,0 +1,36 @@
+-- Known objects and their texts, computed from the definitions.
+use Rattle.std.proofs.Common.{◌≡◌, [], ◌∷◌, ◌++◌, Some, codes, refl}
+use Rattle.std.specs.Fmt.{digits}
+use Rattle.hex.specs.Hex.{encode_with}
+use Rattle.serde_json.proofs.OnLiterals.{serde_json_on_literals}
+use Rattle.context_model.specs.Framing.{length_code}
+use Rattle.bag_model.specs.Scalars as scalars
+use Rattle.bag_model.specs.Scalars.{ScalarValue, Str, Text}
+use Rattle.bag_model.specs.Shapes.{Shape}
+use Rattle.bag_model.specs.Slots.{SlotAt}
+use Rattle.bag_model.specs.Values.{Scalar}
+use Rattle.bag_scan.specs.declared.states.State.TheVariants.{Exact, Partial}
+use Rattle.text_lines.specs.HexLines.{hex_text}
+use Rattle.serde_json.specs.Data.{Data, array}
+use Rattle.serde_json.specs.View.{items_of}
+use Rattle.serde_json.specs.Written.{compact_text}
+use Rattle.report_json.specs.JsonReports.{slot_object, step_object, object_line}
+
+-- A slot of a string in a bag.
+abbrev note : SlotAt
+note = record { names = codes "sub" ∷ codes "note" ∷ []; numbers = 1 ∷ 2 ∷ []; shape = Shape.Scalar (scalars.ScalarKind.One Str) }
+
+abbrev marked : Data
+marked = slot_object note Partial (Scalar (Some (ScalarValue.One (Text (codes "a\"\\")))))
+
+slot_row : compact_text marked ≡ codes "{\"path\":\"sub.note\",\"state\":\"partial\",\"text\":\"\\\"a\\\\\\\"\\\\\\\\\\\"\"}"
+unfolding serde_json_on_literals
+slot_row = refl
+
+line_row : object_line marked ≡ codes "sub.note partial \"a\\\"\\\\\"" ++ 10 ∷ []
+line_row = refl
+
+step_row : compact_text (array (items_of (step_object [] [] 7 ∷ step_object ((248 ∷ 1 ∷ []) ∷ []) (slot_object note Exact (Scalar (Some (ScalarValue.One (Text [])))) ∷ []) 10 ∷ [])))
+    ≡ codes "[{\"bytes\":\"-\",\"fields\":[],\"step\":7},{\"bytes\":\"02f801\",\"fields\":[{\"path\":\"sub.note\",\"state\":\"exact\",\"text\":\"\\\"\\\"\"}],\"step\":10}]"
+unfolding serde_json_on_literals hex_text encode_with length_code digits
+step_row = refl

@@ -1,0 +1,10 @@
+mod AsciiTexts
+mod ValueBytes
+mod SlotShapes
+mod SlotObjects
+mod Placed
+mod StepObjects
+mod OneJson
+mod FieldNames
+mod SameData
+mod JsonRows

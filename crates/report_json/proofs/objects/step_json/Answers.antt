@@ -1,0 +1,24 @@
+use Rattle.std.proofs.Common.{◌≡◌, List, ℕ, [], map, codes, string_bytes, ap, ◌∙◌, subst, rules}
+use Rattle.std.proofs.lemmas.List.{get_or_read}
+use Rattle.context_model.specs.Atoms.{Atom}
+use Rattle.context_model.specs.Framing.{bytes_of}
+use Rattle.trace_model.specs.Runs.{list_at}
+use Rattle.text_lines.specs.HexLines.{hex_text}
+use Rattle.serde_json.specs.Data.{string, number, array, object, unsigned, member, no_members}
+use Rattle.serde_json.specs.View.{view, items_of}
+use Rattle.serde_json.specs.declared.value.Value.{the_lemmas}
+use Rattle.report_json.specs.JsonReports.{step_object, AreSlotObjects}
+use Rattle.report_json.proofs.objects.step_json.Goals as goal
+
+pub returns : goal.returns
+returns c =
+    let lists = c.args.lists.now in
+    let list = c.index-lists-number.result in
+    let fields = map view c.in_ok-fields.fields.items in
+    let same : list ≡ list_at lists c.args.number = get_or_read lists c.args.number list c.requires.within c.index-lists-number.is [] in
+    let built : view c.in_ok-json.field-0 ≡ object (member (codes "bytes") (string (string_bytes c.in_ok-bytes.bytes)) (member (codes "fields") (array (items_of fields)) (member (codes "step") (number (unsigned c.args.number)) no_members))) =
+    search (rules, the_lemmas) in
+    let digits : string_bytes c.in_ok-bytes.bytes ≡ hex_text (bytes_of list) = c.in_ok-bytes.ensures in
+    let is : view c.in_ok-json.field-0 ≡ step_object list fields c.args.number =
+    built ∙ ap (λ (b : List ℕ). object (member (codes "bytes") (string b) (member (codes "fields") (array (items_of fields)) (member (codes "step") (number (unsigned c.args.number)) no_members)))) digits in
+    (fields, subst (λ (l : List Atom). AreSlotObjects c.args.table.now l fields) same c.in_ok-fields.ensures, is ∙ ap (λ (l : List Atom). step_object l fields c.args.number) same)

@@ -1,0 +1,94 @@
+-- The report of some steps as JSON: for each of them an object with the data of its number and its block.
+use Rattle.std.specs.Prelude.{◌≡◌, ℕ, List, [], ◌∷◌, ◌++◌, length, slice_index, codes, Some}
+use Rattle.std.specs.List.{slice_get, flat_map}
+use Rattle.context_model.specs.Atoms.{Atom}
+use Rattle.context_model.specs.Framing.{bytes_of}
+use Rattle.bag_model.specs.Shapes.{Nodes}
+use Rattle.bag_model.specs.Slots.{SlotAt, slots_of, name_path}
+use Rattle.bag_model.specs.Values.{Value}
+use Rattle.trace_model.specs.Runs.{Lists, list_at}
+use Rattle.trace_model.specs.Shown.{IsShown}
+use Rattle.text_lines.specs.HexLines.{hex_text}
+use Rattle.bag_scan.specs.declared.states.State.{State}
+use Rattle.bag_scan.specs.declared.states.State.TheVariants.{Exact, Partial}
+use Rattle.report_text.specs.Blocks.{is_exact, bytes_line, IsBlock}
+use Rattle.report_text.specs.ValueTexts.{value_text}
+use Rattle.serde_json.specs.Data.{Data, string, number, array, object, unsigned, member, no_members}
+use Rattle.serde_json.specs.View.{items_of}
+use Rattle.serde_json.specs.Written.{compact_text}
+
+-- The word of a state.
+abbrev pub state_word : State → List ℕ
+state_word Exact = codes "exact"
+state_word Partial = codes "partial"
+
+-- A slot's name path, a state and the text of a value.
+abbrev pub slot_object : SlotAt → State → Value → Data
+slot_object at state v = object
+    (member (codes "path") (string (name_path at))
+    (member (codes "state") (string (state_word state))
+    (member (codes "text") (string (value_text at.shape v)) no_members)))
+
+-- The digits of the bytes of a list, what it says of each slot, and the number of its step.
+abbrev pub step_object : List Atom → List Data → ℕ → Data
+step_object list fields n = object
+    (member (codes "bytes") (string (hex_text (bytes_of list)))
+    (member (codes "fields") (array (items_of fields))
+    (member (codes "step") (number (unsigned n)) no_members)))
+
+-- There are so many objects, and each is the right one for its place.
+abbrev pub AreInPlace : ℕ → (ℕ → Data → Type 0) → List Data → Type 0
+AreInPlace count IsRight objects =
+    (length objects ≡ count)
+    × ((place : ℕ) (d : Data) → slice_get objects place ≡ Some d → IsRight place d)
+
+-- The object shows what the list says of the slot with this number.
+pub record IsSlotObject (nodes : Nodes) (list : List Atom) (slot : ℕ) (d : Data) : Type 0 where
+  pub state : State
+  pub value : Value
+  pub shown : IsShown nodes list slot (is_exact state) value
+  pub object_is : d ≡ slot_object shown.at state value
+
+-- There is an object for each slot, in the order of the table.
+abbrev pub AreSlotObjects : Nodes → List Atom → List Data → Type 0
+AreSlotObjects nodes list objects =
+    AreInPlace (length (slots_of nodes)) (IsSlotObject nodes list) objects
+
+-- The object is that of the step with this number, where all steps have these lists.
+abbrev pub IsStepObject : Nodes → Lists → ℕ → Data → Type 0
+IsStepObject nodes lists n d =
+    (fields : List Data) × AreSlotObjects nodes (list_at lists n) fields
+    × (d ≡ step_object (list_at lists n) fields n)
+
+-- There is an object for each of these steps, in their order.
+abbrev pub AreStepObjects : Nodes → Lists → List ℕ → List Data → Type 0
+AreStepObjects nodes lists shows objects =
+    AreInPlace (length shows) (λ place d. IsStepObject nodes lists (slice_index shows place) d) objects
+
+-- The text is the compact text of the array of the objects of these steps.
+abbrev pub IsJsonReport : Nodes → Lists → List ℕ → List ℕ → Type 0
+IsJsonReport nodes lists shows text =
+    (objects : List Data) × AreStepObjects nodes lists shows objects
+    × (text ≡ compact_text (array (items_of objects)))
+
+-- Lists and steps have one report as JSON.
+abbrev pub HasOneJsonReport : Type 0
+HasOneJsonReport = (nodes : Nodes) (lists : Lists) (shows : List ℕ) (a b : List ℕ)
+    → IsJsonReport nodes lists shows a → IsJsonReport nodes lists shows b → a ≡ b
+
+-- The line of a block with the data of a slot's object: its path, its state and its text, with blanks between them.
+abbrev pub object_line : Data → List ℕ
+object_line (object (member _ (string path) (member _ (string state) (member _ (string text) no_members)))) =
+    path ++ codes " " ++ state ++ codes " " ++ text ++ 10 ∷ []
+object_line _ = []
+
+-- The block of a list has the data of the objects of its slots, one after another, and no other.
+abbrev pub BlocksHaveSameData : Type 0
+BlocksHaveSameData = (nodes : Nodes) (list : List Atom) (objects : List Data) (block : List ℕ)
+    → AreSlotObjects nodes list objects → IsBlock nodes list block
+    → block ≡ bytes_line list ++ flat_map object_line objects
+
+-- Behind a text stands the compact text of the object of a step.
+abbrev pub AddsStepObject : Nodes → Lists → ℕ → List ℕ → List ℕ → Type 0
+AddsStepObject nodes lists n before after =
+    (d : Data) × IsStepObject nodes lists n d × (after ≡ before ++ compact_text d)

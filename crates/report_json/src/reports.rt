@@ -1,0 +1,66 @@
+//! Reports of shown steps.
+
+ghost use Rattle.std.specs.Prelude.{◌≡◌, ℕ, ◌<◌, ◌++◌, length, IfOk, OnOk};
+ghost use Rattle.trace_model.specs.Graphs.{IsTypedContext};
+ghost use Rattle.trace_model.specs.Runs.{list_at};
+ghost use Rattle.report_text.specs.Commas.{comma_before};
+ghost use Rattle.report_json.specs.JsonReports.{AddsStepObject, IsJsonReport};
+
+use crate::objects::step_json;
+use atom_list::Context;
+use field_table::Table;
+use outside::Memory;
+use recorded_graph::Graph;
+use std::alloc::Global;
+
+/// Appends the comma before the object that has `at` objects before it: none before the first.
+fn put_comma(at: usize, into: &mut Vec<u8>) -> Result<(), Memory>
+    ensures { OnOk result (into.new.items ≡ into.old.items ++ comma_before at) }
+{
+    if at > 0 {
+        into.push(b',')?;
+    }
+    Ok(())
+}
+
+/// Appends the object of the step with this number.
+fn put_step(
+    alloc: Global,
+    table: &Table,
+    lists: &[Context],
+    number: usize,
+    into: &mut Vec<u8>,
+) -> Result<(), Memory>
+    requires within { number < length lists.now }
+    requires typed { IsTypedContext table.now (list_at lists.now number) }
+    ensures { OnOk result (AddsStepObject table.now lists.now number into.old.items into.new.items) }
+{
+    let object = step_json(alloc, table, lists, number)?;
+    into.extend_from_slice(object.to_vec(alloc)?.as_slice())?;
+    Ok(())
+}
+
+/// The report of a graph's shown steps as JSON: an array with an object for each of them in order, as `serde_json` writes it
+/// without blanks. An object has the digits of the bytes of the step's list, for each slot its name path, whether it is exact
+/// or partial and the text of its value, and the number of the step.
+pub fn report_json(
+    alloc: Global,
+    table: &Table,
+    graph: &Graph,
+    lists: &[Context],
+) -> Result<Vec<u8>, Memory>
+    requires as_many { length lists.now ≡ length graph.now.steps }
+    requires typed { (n : ℕ) → n < length lists.now → IsTypedContext table.now (list_at lists.now n) }
+    ensures { IfOk result (λ text. IsJsonReport table.now lists.now graph.now.shows text.items) }
+{
+    // The proof learns here that only steps of the graph are shown.
+    graph.known();
+    let mut text = Vec::new(alloc);
+    text.push(b'[')?;
+    for (at, number) in graph.shows().iter().enumerate() {
+        put_comma(at, &mut text)?;
+        put_step(alloc, table, lists, *number, &mut text)?;
+    }
+    text.push(b']')?;
+    Ok(text)
+}
