@@ -1,0 +1,10 @@
+pub mod LoadTable
+pub mod TextParts
+pub mod CleanLines
+pub mod LoadSlots
+pub mod LoadWrites
+pub mod Stages
+pub mod GoodLines
+pub mod Lanes
+pub mod Rounds
+pub mod Accepted

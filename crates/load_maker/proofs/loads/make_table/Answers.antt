@@ -1,0 +1,20 @@
+use Rattle.std.proofs.Common.{sym, ◌∙◌, subst}
+use Rattle.bag_model.specs.Tables.{IsTable}
+use Rattle.scalar_types.specs.declared.kinds.ScalarKind.TheVariants.{Fixed32, Uint32}
+use Rattle.field_table.proofs.Shown.{scalar_shown, set_shown, counter_shown}
+use Rattle.load_maker.proofs.LoadTable.{load_is_table, three_added}
+use Rattle.load_maker.proofs.loads.make_table.Goals as goal
+
+pub of-requires-clause-table : goal.of-requires-clause-table
+of-requires-clause-table c =
+    subst IsTable
+    (sym
+    (three_added _ _ _ _ _ _ _ c.new-fields.ensures.empty c.in_ok-add_field.ensures.fields (scalar_shown Fixed32).0
+    c.in_ok-add_field-2.ensures.fields counter_shown.0 c.in_ok-add_field-3.ensures.fields (set_shown Uint32).0))
+    load_is_table
+
+pub returns : goal.returns
+returns c =
+    c.of.ensures
+    ∙ three_added _ _ _ _ _ _ _ c.new-fields.ensures.empty c.in_ok-add_field.ensures.fields (scalar_shown Fixed32).0
+    c.in_ok-add_field-2.ensures.fields counter_shown.0 c.in_ok-add_field-3.ensures.fields (set_shown Uint32).0

@@ -1,0 +1,155 @@
+//! The load: its table, and its text.
+//!
+//! A round has 42 steps: five in each of its eight lanes, one that joins the lanes, and one that brings what they say back to
+//! the service at which the round began.
+
+ghost use Rattle.std.specs.Prelude.{◌≡◌, ◌++◌, ◌<◌, ◌≤◌, [], ◌∷◌, IfOk, OnOk, string_bytes};
+ghost use Rattle.bag_model.specs.Shapes.{fields};
+ghost use Rattle.field_table.specs.Plain.{nodes_of, shape_of, IsIndexed, IsIndexedShape};
+ghost use Rattle.load_maker.specs.Loads.{load_table, lane_of, join_of, end_of, round_of, load_text, line_of, text_of};
+
+use field_table::{Shape, Slot, Slots, Table};
+use outside::{Memory, Text};
+use scalar_types::ScalarKind;
+use std::alloc::Global;
+use std::fmt::Write;
+
+/// Adds a field at the end.
+fn add_field(
+    alloc: Global,
+    slots: &mut Slots,
+    name: &str,
+    number: u16,
+    shape: Shape,
+) -> Result<(), Memory>
+    requires indexed { IsIndexed slots.old }
+    requires shape { IsIndexedShape shape }
+    ensures fields { OnOk result (fields (nodes_of slots.new)
+        ≡ fields (nodes_of slots.old) ++ record { name = name.now; number = number; shape = shape_of shape } ∷ []) }
+    ensures indexed { IsIndexed slots.new }
+{
+    let name = Text::of(alloc, name)?;
+    slots.push(Slot {
+        name,
+        number,
+        shape,
+    })
+}
+
+/// The table of the load.
+fn make_table(alloc: Global) -> Result<Table, Memory>
+    ensures { IfOk result (λ table. table ≡ load_table) }
+{
+    let mut fields = Slots::new(alloc);
+    add_field(
+        alloc,
+        &mut fields,
+        "least",
+        0,
+        Shape::Scalar(ScalarKind::Fixed32),
+    )?;
+    add_field(alloc, &mut fields, "hits", 1, Shape::Counter)?;
+    add_field(
+        alloc,
+        &mut fields,
+        "seen",
+        2,
+        Shape::Set(ScalarKind::Uint32),
+    )?;
+    Ok(Table::of(fields))
+}
+
+/// Appends the lines of a lane of a round: a branch, a write to each field, and a step to the second service.
+#[tactic(auto, unfolding(crate::specs::Loads::text_of))]
+fn put_lane(text: &mut String, round: u32, lane: u32) -> Result<(), Memory>
+    requires round { round < 1000 }
+    requires lane { lane < 8 }
+    ensures { OnOk result (string_bytes text.new ≡ string_bytes text.old ++ text_of (lane_of round lane)) }
+{
+    let start = 42 * round;
+    let step = start + 5 * lane;
+    let least = 1_000_000 - 8 * round - lane;
+    let count = round + 1;
+    let seen = (8 * round + lane) % 256;
+    writeln!(text, "branch {} {start}", step + 1)?;
+    writeln!(text, "set {} {} least {least}", step + 2, step + 1)?;
+    writeln!(
+        text,
+        "set {} {} hits \"w{lane}\":{count}",
+        step + 3,
+        step + 2
+    )?;
+    writeln!(text, "set {} {} seen {seen}", step + 4, step + 3)?;
+    writeln!(text, "forward {} {} b", step + 5, step + 4)?;
+    Ok(())
+}
+
+/// Appends the line that joins the lanes of a round, which begins at this step.
+fn put_join(text: &mut String, start: u32) -> Result<(), Memory>
+    requires { start < 42000 }
+    ensures { OnOk result (string_bytes text.new ≡ string_bytes text.old ++ line_of (join_of start)) }
+{
+    writeln!(
+        text,
+        "join {} {} {} {} {} {} {} {} {}",
+        start + 41,
+        start + 5,
+        start + 10,
+        start + 15,
+        start + 20,
+        start + 25,
+        start + 30,
+        start + 35,
+        start + 40
+    )?;
+    Ok(())
+}
+
+/// Appends the lines that end a round: its lanes are joined, and what they say goes back to the first service.
+#[tactic(auto, unfolding(crate::specs::Loads::text_of))]
+fn put_end(text: &mut String, round: u32) -> Result<(), Memory>
+    requires { round < 1000 }
+    ensures { OnOk result (string_bytes text.new ≡ string_bytes text.old ++ text_of (end_of round)) }
+{
+    let start = 42 * round;
+    put_join(text, start)?;
+    writeln!(text, "forward {} {} a", start + 42, start + 41)?;
+    Ok(())
+}
+
+/// Appends the lines of a round.
+fn put_round(text: &mut String, round: u32) -> Result<(), Memory>
+    requires { round < 1000 }
+    ensures { OnOk result (string_bytes text.new ≡ string_bytes text.old ++ text_of (round_of round)) }
+{
+    for lane in 0..8 {
+        put_lane(text, round, lane)?;
+    }
+    put_end(text, round)
+}
+
+/// The text of the load.
+fn make_text(alloc: Global, rounds: u32) -> Result<String, Memory>
+    requires { rounds ≤ 1000 }
+    ensures { IfOk result (λ text. string_bytes text ≡ load_text rounds) }
+{
+    let mut text = String::from_str(alloc, "service a all\nservice b none\nstart 0 a\n")?;
+    for round in 0..rounds {
+        put_round(&mut text, round)?;
+    }
+    writeln!(&mut text, "show {}", 42 * rounds)?;
+    Ok(text)
+}
+
+/// The load of `n` rounds: its table, and the text of its graph, which has 42 steps for each round and one before them. The
+/// greatest load has 42,001 steps in about a million bytes. See `docs/FORMATS.md` for the lines of a round.
+pub fn make_load(alloc: Global, n: u32) -> Result<(Table, Vec<u8>), Memory>
+    requires some { 1 ≤ n }
+    requires few { n ≤ 1000 }
+    ensures table { IfOk result (λ load. load.0 ≡ load_table) }
+    ensures text { IfOk result (λ load. load.1.items ≡ load_text n) }
+{
+    let table = make_table(alloc)?;
+    let text = make_text(alloc, n)?;
+    Ok((table, text.into_bytes()))
+}
