@@ -1,8 +1,7 @@
 -- What holds of every call.
 use Rattle.std.proofs.Common.{◌≡◌, ◌≢◌, ◌⊎◌, inl, inr, ℕ, List, Option, Some, None, Ok, Err, refl, arith}
 use Rattle.std.specs.Io.KnownBytes.{Appends}
-use Rattle.baggage_cli.specs.Commands.{Task}
-use Rattle.baggage_cli.specs.Commands.Task.{trim, merge, check, decode, run}
+use Rattle.baggage_cli.specs.Commands.{Task, trim, merge, load, build, under}
 use Rattle.baggage_cli.specs.declared.refusals.Notice.TheVariants.{WordsRefused}
 use Rattle.baggage_cli.specs.Delivery.{Tells, Delivers}
 use Rattle.baggage_cli.specs.Outcomes.{Outcome}
@@ -28,12 +27,11 @@ came_kept : (task : Task) (scene : Scene) (outcome : Outcome) → Comes task sce
     → (scene.library.after ≡ scene.library.before) × NeverFell scene.library × NeverFell scene.source
 came_kept (trim budget) scene outcome (same, unasked, (counts, why)) = (same.0, same_never_fell scene.library same, counts)
 came_kept merge scene outcome (same, unasked, (counts, why)) = (same.0, same_never_fell scene.library same, counts)
-came_kept (check file bag) scene outcome (unread, inl (refusal, (same, counts, why), begun, is)) = (same, counts, same_never_fell scene.source unread)
-came_kept (check file bag) scene outcome (unread, inr (table, (same, counts, why), built)) = (same, counts, same_never_fell scene.source unread)
-came_kept (decode file bag) scene outcome (inl (refusal, (same, counts, why), unread, is)) = (same, counts, same_never_fell scene.source unread)
-came_kept (decode file bag) scene outcome (inr (table, (same, counts, why), (read, rest))) = (same, counts, read)
-came_kept (run file bag) scene outcome (inl (refusal, (same, counts, why), unread, is)) = (same, counts, same_never_fell scene.source unread)
-came_kept (run file bag) scene outcome (inr (table, (same, counts, why), (read, rest))) = (same, counts, read)
+came_kept (load rounds) scene outcome (same, unasked, unread, gives) = (same.0, same_never_fell scene.library same, same_never_fell scene.source unread)
+came_kept (build product origin) scene outcome (unread, inl (refusal, (same, counts, why), begun, is)) = (same, counts, same_never_fell scene.source unread)
+came_kept (build product origin) scene outcome (unread, inr (table, (same, counts, why), built)) = (same, counts, same_never_fell scene.source unread)
+came_kept (under purpose origin) scene outcome (inl (refusal, (same, counts, why), unread, is)) = (same, counts, same_never_fell scene.source unread)
+came_kept (under purpose origin) scene outcome (inr (table, (same, counts, why), (kept, rest))) = (same, counts, kept)
 
 delivered_kept : (outcome : Outcome) (out errs : Change (List ℕ)) (answer : ℕ) → Delivers outcome out errs answer → NeverFell out × NeverFell errs
 delivered_kept (Ok output) out errs answer (inl done) = (takes_never_fell out output done.1, same_never_fell errs done.2)

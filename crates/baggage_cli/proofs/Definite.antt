@@ -1,5 +1,5 @@
 -- Lines and inputs come to one thing.
-use Rattle.std.proofs.Common.{◌≡◌, inl, inr, ℕ, ◌≤◌, List, [], ◌∷◌, length, Option, Some, Ok, Err, refl, sym, ◌∙◌, ap, subst, arith}
+use Rattle.std.proofs.Common.{◌≡◌, inl, inr, ℕ, ◌≤◌, List, [], ◌∷◌, ◌++◌, length, Option, Some, Result, Ok, Err, refl, sym, ◌∙◌, ap, subst, arith}
 use Rattle.std.proofs.lemmas.Bool.{cases_lt}
 use Rattle.context_model.specs.Atoms.{Atom}
 use Rattle.context_model.specs.ByteCodes.{ByteCode as PlainCode}
@@ -17,32 +17,32 @@ use Rattle.bag_model.specs.Tables.{IsTable}
 use Rattle.bag_model.specs.Typed.{AreTyped, IsFirstIllTyped}
 use Rattle.bag_model.proofs.IllTyped.{first_ill_typed}
 use Rattle.bdl_load.specs.Loading.{Holding}
-use Rattle.bdl_check.specs.Definitions.{IsTableOf}
 use Rattle.report_text.specs.Blocks.{IsBlock}
-use Rattle.graph_report.specs.Reports.{IsReport}
 use Rattle.graph_text.specs.Additions.{graph_of}
 use Rattle.graph_text.specs.GraphLines.{LinesAreDefinite}
 use Rattle.trace_model.specs.Graphs.{Graph}
+use Rattle.trace_model.specs.Runs.{Lists}
 use Rattle.text_lines.specs.declared.TheConstants.{INPUT_MAX}
 use Rattle.text_lines.specs.Lines.{Line, lines_of}
 use Rattle.text_lines.specs.Readings.{Reading, IsDefinite, AllSay, IsFirstBad}
 use Rattle.text_lines.proofs.HexLaws.{hex_lines_definite}
 use Rattle.text_lines.proofs.ReadingLaws.{all_say_one, first_bad_one, good_not_bad, none_bad, at_most_definite, all_say-at_most}
-use Rattle.baggage_cli.specs.Commands.{Task}
-use Rattle.baggage_cli.specs.Commands.Task.{trim, merge, check, decode, run}
+use Rattle.baggage_cli.specs.Commands.{Origin, Form, as_lines, as_json, Purpose, decoding, running, Task, trim, merge, load, build, under}
 use Rattle.baggage_cli.specs.declared.merging.TheConstants.{LINES_MAX}
-use Rattle.baggage_cli.specs.declared.refusals.InputCode.TheVariants.{Form, TooManyLines}
+use Rattle.baggage_cli.specs.declared.refusals.InputCode.TheVariants.{Form as Excess, TooManyLines}
 use Rattle.baggage_cli.specs.declared.refusals.InputFault.{InputFault}
 use Rattle.baggage_cli.specs.declared.refusals.InputFault.TheVariants.{Code, Hex, Bytes}
 use Rattle.baggage_cli.specs.declared.refusals.Refusal.{Refusal}
-use Rattle.baggage_cli.specs.Decoding.{DecodesLines, DecodeGives}
-use Rattle.baggage_cli.specs.Laws.{DefinitionLaws, GraphLaws, Laws}
+use Rattle.baggage_cli.specs.Decoding.{DecodesLines}
+use Rattle.baggage_cli.specs.Laws.{TableLaws, GraphLaws, Laws}
 use Rattle.baggage_cli.specs.Merging.{merged_lines, IsMergeOf, MergesLines}
 use Rattle.baggage_cli.specs.Outcomes.{Outcome, GivesOne}
 use Rattle.baggage_cli.specs.Reading.{Within, RefusesLines, ReadsLines, only_one, ReadsOne, list_bytes, context_bytes, typed_bytes, list_lines, context_lines, typed_lines}
-use Rattle.baggage_cli.specs.Running.{input_fault, IsRunReport, graph_inputs, RunsLines, RunGives}
-use Rattle.baggage_cli.specs.Top.{InputGives, SaysGraph}
+use Rattle.baggage_cli.specs.Running.{input_fault, IsReportAs, IsRunReport, graph_inputs, RunsLines}
+use Rattle.baggage_cli.specs.Tables.{TableGives}
+use Rattle.baggage_cli.specs.Top.{InputGives}
 use Rattle.baggage_cli.specs.Trimming.{trimmed_line, TrimsLines}
+use Rattle.baggage_cli.specs.Under.{InputUnder, SaysGraph, AcceptsUnder}
 use Rattle.baggage_cli.proofs.GraphInputs.{inputs_say, lines_say}
 
 -- ---- one code for what it says
@@ -140,7 +140,7 @@ pub typed_lines_definite : (table : Nodes) → IsDefinite (typed_lines table)
 typed_lines_definite table = hex_lines_definite Hex (typed_bytes table) (typed_bytes_definite table)
 
 only_one_definite : {A : Type 0} (reading : Reading A InputFault) → IsDefinite reading → IsDefinite (only_one reading)
-only_one_definite reading definite = at_most_definite 1 (Code Form) reading definite
+only_one_definite reading definite = at_most_definite 1 (Code Excess) reading definite
 
 pub merged_lines_definite : IsDefinite merged_lines
 merged_lines_definite = at_most_definite LINES_MAX (Code TooManyLines) context_lines context_lines_definite
@@ -207,7 +207,7 @@ trims_one : (budget : ℕ) (list : List Atom) (x y : List ℕ) → x ≡ trimmed
 trims_one budget list x y x_is y_is = x_is ∙ sym y_is
 
 only_says : {A : Type 0} (reading : Reading A InputFault) (lines : List Line) (a : A) → AllSay reading [] lines (a ∷ []) → AllSay (only_one reading) [] lines (a ∷ [])
-only_says reading lines a says = all_say-at_most 1 (Code Form) reading lines (a ∷ []) says (omega arith)
+only_says reading lines a says = all_say-at_most 1 (Code Excess) reading lines (a ∷ []) says (omega arith)
 
 -- One line that says something isn't refused.
 pub only_not_refused : {A : Type 0} (reading : Reading A InputFault) → IsDefinite reading → (gives : A → List ℕ → Type 0) (input : List ℕ) (a : A) (refusal : Refusal) → length input ≤ INPUT_MAX
@@ -247,51 +247,72 @@ graph_inputs_definite definite table is_table = record {
 }
 
 module _ (laws : GraphLaws) (table : Nodes) (is_table : IsTable table) where
+  -- A run has one report of each form.
+  reports_one : (form : Form) (lists : Lists) (shows x y : List ℕ) → IsReportAs form table lists shows x → IsReportAs form table lists shows y → x ≡ y
+  reports_one as_lines lists shows x y report other = laws.one_report table lists shows x y report other
+  reports_one as_json lists shows x y (a, report, x_is) (b, other, y_is) = x_is ∙ ap (λ text. text ++ 10 ∷ []) (laws.one_json_report table lists shows a b report other) ∙ sym y_is
+
   -- The lines of a text come to one outcome.
-  runs_one : (text : List ℕ) (a b : Outcome) → RunsLines table (lines_of text) a → RunsLines table (lines_of text) b → a ≡ b
-  runs_one text (Ok x) (Ok y) (every, all, (lists, ran, report)) (others, say, reported) =
+  runs_one : (form : Form) (text : List ℕ) (a b : Outcome) → RunsLines form table (lines_of text) a → RunsLines form table (lines_of text) b → a ≡ b
+  runs_one form text (Ok x) (Ok y) (every, all, (lists, ran, report)) (others, say, reported) =
       let same = all_say_one (graph_inputs table) (graph_inputs_definite laws.definite table is_table) (lines_of text) others every say all in
-      let there : IsRunReport table (graph_of every) y = subst (λ said. IsRunReport table (graph_of said) y) same reported in
+      let there : IsRunReport form table (graph_of every) y = subst (λ said. IsRunReport form table (graph_of said) y) same reported in
       let recorded = laws.recorded table text (graph_of every) is_table (every, lines_say table [] (lines_of text) every all, refl) in
       let one = laws.one_run table (graph_of every) there.0 lists recorded there.1 ran in
-      ap Ok (laws.one_report table lists (graph_of every).shows x y report (subst (λ ls. IsReport table ls (graph_of every).shows y) one there.2))
-  runs_one text (Ok x) (Err s) (every, all, report) refused =
+      ap Ok (reports_one form lists (graph_of every).shows x y report (subst (λ ls. IsReportAs form table ls (graph_of every).shows y) one there.2))
+  runs_one form text (Ok x) (Err s) (every, all, report) refused =
       absurd (said_not_refused (graph_inputs table) (graph_inputs_definite laws.definite table is_table) (lines_of text) every s all refused)
-  runs_one text (Err r) (Ok y) refused (every, all, report) =
+  runs_one form text (Err r) (Ok y) refused (every, all, report) =
       absurd (said_not_refused (graph_inputs table) (graph_inputs_definite laws.definite table is_table) (lines_of text) every r all refused)
-  runs_one text (Err r) (Err s) f g = ap Err (refuses_lines_one (graph_inputs table) (graph_inputs_definite laws.definite table is_table) (lines_of text) r s f g)
+  runs_one form text (Err r) (Err s) f g = ap Err (refuses_lines_one (graph_inputs table) (graph_inputs_definite laws.definite table is_table) (lines_of text) r s f g)
 
-  run_gives_one : GivesOne (RunGives table)
-  run_gives_one input a b (inl f) (inl g) = f.1 ∙ sym g.1
-  run_gives_one input a b (inl f) (inr g) = absurd (let long = f.0 in let short = g.0 in omega arith)
-  run_gives_one input a b (inr f) (inl g) = absurd (let long = g.0 in let short = f.0 in omega arith)
-  run_gives_one input a b (inr f) (inr g) = runs_one input a b f.1 g.1
+  run_gives_one : (form : Form) → GivesOne (InputUnder (running form) table)
+  run_gives_one form input a b (inl f) (inl g) = f.1 ∙ sym g.1
+  run_gives_one form input a b (inl f) (inr g) = absurd (let long = f.0 in let short = g.0 in omega arith)
+  run_gives_one form input a b (inr f) (inl g) = absurd (let long = g.0 in let short = f.0 in omega arith)
+  run_gives_one form input a b (inr f) (inr g) = runs_one form input a b f.1 g.1
 
   -- An input that says a graph isn't refused.
-  pub graph_not_refused : (input : List ℕ) (graph : Graph) (refusal : Refusal) → SaysGraph table input graph → RunGives table input (Err refusal) → ⊥
-  graph_not_refused input graph refusal (few, says) (inl long) = let above = long.0 in omega arith
-  graph_not_refused input graph refusal (few, (every, all, is)) (inr (short, refused)) =
+  graph_not_refused : (form : Form) (input : List ℕ) (graph : Graph) (refusal : Refusal) → SaysGraph table input graph → InputUnder (running form) table input (Err refusal) → ⊥
+  graph_not_refused form input graph refusal (few, says) (inl long) = let above = long.0 in omega arith
+  graph_not_refused form input graph refusal (few, (every, all, is)) (inr (short, refused)) =
       said_not_refused (graph_inputs table) (graph_inputs_definite laws.definite table is_table) (lines_of input) every refusal (inputs_say table [] (lines_of input) every all) refused
+
+-- ---- inputs under a table
+
+module _ (laws : Laws) (table : Nodes) (is_table : IsTable table) where
+  -- An input gives one outcome under a table.
+  input_under_one : (purpose : Purpose) → GivesOne (InputUnder purpose table)
+  input_under_one decoding =
+      within_one (DecodesLines table) (reads_one_one (typed_lines table) (typed_lines_definite table) (IsBlock table) (laws.one_block table))
+  input_under_one (running form) = run_gives_one laws.graphs table is_table form
+
+  -- An input that has nothing to refuse isn't refused.
+  pub accepted_under : (purpose : Purpose) (input : List ℕ) (refusal : Refusal) → AcceptsUnder purpose table input → InputUnder purpose table input (Err refusal) → ⊥
+  accepted_under decoding input refusal accepts bad =
+      only_not_refused (typed_lines table) (typed_lines_definite table) (IsBlock table) input accepts.0 refusal accepts.1.0 accepts.1.1 bad
+  accepted_under (running form) input refusal accepts bad = graph_not_refused laws.graphs table is_table form input accepts.0 refusal accepts.1 bad
 
 -- ---- tasks
 
--- The files that were told have one table.
-pub same_table : DefinitionLaws → (file bag : List ℕ) (files : Option Holding) (held other : Holding) (table found : Nodes) → files ≡ Some held → IsTableOf held file bag table
-    → files ≡ Some other → IsTableOf other file bag found → found ≡ table
-same_table laws file bag files held other table found told is same known =
+pub ok_table : (a b : Nodes) → ◌≡◌ {A = Result Nodes Refusal} (Ok a) (Ok b) → a ≡ b
+ok_table a b e = cc e
+
+-- The files that were told give one table.
+pub same_table : TableLaws → (origin : Origin) (files : Option Holding) (held other : Holding) (table found : Nodes) → files ≡ Some held → TableGives origin held (Ok table)
+    → files ≡ Some other → TableGives origin other (Ok found) → found ≡ table
+same_table laws origin files held other table found told is same known =
     let whole : ◌≡◌ {A = Option Holding} (Some other) (Some held) = sym same ∙ told in
     let one : other ≡ held = cc whole in
-    laws.one_table held file bag found table (subst (λ h. IsTableOf h file bag found) one known) is
+    ok_table found table (laws.gives_one origin held (Ok found) (Ok table) (subst (λ h. TableGives origin h (Ok found)) one known) is)
 
 -- An input gives one outcome.
 pub input_gives_one : Laws → (task : Task) (files : Option Holding) → GivesOne (InputGives task files)
 input_gives_one laws (trim budget) files =
     within_one (TrimsLines budget) (reads_one_one list_lines list_lines_definite (λ list output. output ≡ trimmed_line budget list) (trims_one budget))
 input_gives_one laws merge files = within_one MergesLines (reads_lines_one merged_lines merged_lines_definite IsMergeOf merged_one)
-input_gives_one laws (check file bag) files = λ input a b f g. absurd f
-input_gives_one laws (decode file bag) files = λ input a b (held, told, table, is, gave) (other, same, found, known, given).
-    within_one (DecodesLines table) (reads_one_one (typed_lines table) (typed_lines_definite table) (IsBlock table) (laws.one_block table)) input a b gave
-    (subst (λ t. DecodeGives t input b) (same_table laws.definitions file bag files held other table found told is same known) given)
-input_gives_one laws (run file bag) files = λ input a b (held, told, table, is, gave) (other, same, found, known, given).
-    run_gives_one laws.graphs table (laws.definitions.is_table held file bag table is) input a b gave
-    (subst (λ t. RunGives t input b) (same_table laws.definitions file bag files held other table found told is same known) given)
+input_gives_one laws (load rounds) files = λ input a b f g. absurd f
+input_gives_one laws (build product origin) files = λ input a b f g. absurd f
+input_gives_one laws (under purpose origin) files = λ input a b (held, told, table, is, gave) (other, same, found, known, given).
+    input_under_one laws table (laws.tables.is_table origin held table is) purpose input a b gave
+    (subst (λ t. InputUnder purpose t input b) (same_table laws.tables origin files held other table found told is same known) given)

@@ -1,5 +1,5 @@
 -- What follows from how a call ends.
-use Rattle.std.proofs.Common.{◌≡◌, ◌≢◌, ◌⊎◌, inl, inr, ℕ, ◌+◌, ◌≤◌, List, [], ◌++◌, length, take, drop, Option, Some, None, Ok, Err, IfSome, refl, sym, ◌∙◌, ap, subst, arith}
+use Rattle.std.proofs.Common.{◌≡◌, ◌≢◌, ◌⊎◌, inl, inr, ℕ, ◌+◌, ◌≤◌, List, [], ◌∷◌, ◌++◌, length, take, drop, Option, Some, None, Result, Ok, Err, IfSome, refl, sym, ◌∙◌, ap, subst, arith}
 use Rattle.std.proofs.lemmas.List.{take-append-drop}
 use Rattle.std.proofs.Math.Seq.{drop-append_seam}
 use Rattle.std.specs.Io.KnownBytes.{Appends, Consumes, IsAtEnd}
@@ -9,44 +9,48 @@ use Rattle.context_model.specs.Framing.{bytes_of}
 use Rattle.context_model.specs.Merged.{IsMerged}
 use Rattle.context_model.proofs.MergedLaws.{has_one_merge}
 use Rattle.bag_model.specs.Shapes.{Nodes}
-use Rattle.bag_model.specs.Slots.{slots_of}
-use Rattle.bdl_load.specs.declared.faults.Fault.{Fault}
-use Rattle.bdl_load.specs.Loading.{Holding, AsksAll}
-use Rattle.bdl_check.specs.Definitions.{IsTableOf, IsFirstFaultOf}
+use Rattle.bdl_load.specs.Loading.{Holding}
+use Rattle.bdl_check.specs.Definitions.{IsTableOf}
 use Rattle.report_text.specs.Blocks.{IsBlock}
 use Rattle.trace_model.specs.Graphs as model
 use Rattle.trace_model.specs.Graphs.{IsRecorded}
 use Rattle.trace_model.specs.Runs.{Lists, IsRun}
 use Rattle.graph_report.specs.Reports.{IsReport}
+use Rattle.report_json.specs.JsonReports.{IsJsonReport}
+use Rattle.load_maker.specs.Loads.{load_table, load_text}
+use Rattle.load_maker.proofs.LoadTable.{load_is_table}
 use Rattle.graph_text.specs.GraphLines.{IsGraphOf}
 use Rattle.text_lines.specs.declared.TheConstants.{INPUT_MAX}
 use Rattle.text_lines.specs.HexLines.{hex_line}
 use Rattle.text_lines.specs.Lines.{Line, lines_of}
 use Rattle.text_lines.specs.Readings.{AllSay}
 use Rattle.text_lines.proofs.ReadingLaws.{all_say_one, at_most-all_say, all_say-at_most}
-use Rattle.baggage_cli.specs.Checking.{ok_line}
-use Rattle.baggage_cli.specs.Commands.{Task, ReadsSource, FetchesFiles, NamesBag}
-use Rattle.baggage_cli.specs.Commands.Task.{trim, merge, check, decode, run}
+use Rattle.baggage_cli.specs.Building.{product_text}
+use Rattle.baggage_cli.specs.Commands.{Origin, compiled, Product, Form, as_json, Purpose, decoding, running, Task, trim, merge, load, build, under, decode, run_json, ReadsSource, FetchesFiles, TakesTable}
 use Rattle.baggage_cli.specs.declared.merging.TheConstants.{LINES_MAX}
 use Rattle.baggage_cli.specs.declared.refusals.InputCode.TheVariants.{TooLong, TooManyLines}
 use Rattle.baggage_cli.specs.declared.refusals.InputFault.{InputFault}
 use Rattle.baggage_cli.specs.declared.refusals.InputFault.TheVariants.{Code, Hex, Graph, Bytes, IllTyped}
 use Rattle.baggage_cli.specs.declared.refusals.Notice.TheVariants.{LibraryFailed, SourceFailed, Memory}
+use Rattle.baggage_cli.specs.declared.refusals.Refusal.{Refusal}
 use Rattle.baggage_cli.specs.declared.refusals.Refusal.TheVariants.{Input}
-use Rattle.baggage_cli.specs.Decoding.{DecodesLines, DecodeGives}
 use Rattle.baggage_cli.specs.Laws.{GraphLaws, Laws}
 use Rattle.baggage_cli.specs.Merging.{merged_lines, MergesLines, MergeGives}
 use Rattle.baggage_cli.specs.Outcomes.{Outcome}
 use Rattle.baggage_cli.specs.Reading.{IsRead, Within, list_lines, context_lines, typed_lines}
-use Rattle.baggage_cli.specs.Refusals.{input_status, input_line, line_of, notice_line, blamed}
-use Rattle.baggage_cli.specs.Running.{ShowsTruth, RunsLines, RunGives}
+use Rattle.baggage_cli.specs.Refusals.{input_status, input_line, line_of, notice_line}
+use Rattle.baggage_cli.specs.Loading.{load_heading, IsLoadOutput}
+use Rattle.baggage_cli.specs.Running.{IsReportAs, ShowsTruth}
 use Rattle.baggage_cli.specs.Scene.{Change, Scene, IsSame, IsSteady, HasFailed, Takes, HasNoFault}
-use Rattle.baggage_cli.specs.Top.{TellsFiles, InputGives, Answers, SaysList, SaysContexts, SaysTyped, SaysGraph, Accepts, IsFailure}
+use Rattle.baggage_cli.specs.Tables.{TableGives, AsksNames}
+use Rattle.baggage_cli.specs.Top.{TellsFiles, InputGives, Answers, SaysList, SaysContexts, Accepts, IsFailure}
 use Rattle.baggage_cli.specs.Trimming.{trimmed_line, TrimsLines, TrimGives}
+use Rattle.baggage_cli.specs.Under.{LinesGive, InputUnder, SaysTyped, AcceptsUnder}
 use Rattle.baggage_cli.proofs.GraphInputs.{ran_graph}
-use Rattle.baggage_cli.proofs.Definite.{list_lines_definite, context_lines_definite, typed_lines_definite, merged_lines_definite, only_not_refused, only_gave, ok_no_err, graph_not_refused, same_table, input_gives_one, said_not_refused}
-use Rattle.baggage_cli.proofs.Endings.{Ending, OfFiles, Gives, fetches_named, ending}
-use Rattle.baggage_cli.proofs.Endings.Ending.{read_out, table_out, bad_input, bad_definition, library_failed, source_failed, memory_wanting, sink_failed}
+use Rattle.baggage_cli.proofs.Definite.{list_lines_definite, context_lines_definite, typed_lines_definite, merged_lines_definite, only_not_refused, only_gave, ok_no_err, ok_table, accepted_under, same_table, input_gives_one, said_not_refused}
+use Rattle.baggage_cli.proofs.Endings.{Ending, OfFiles, Gives, err_same, fetches_table, ending}
+use Rattle.baggage_cli.proofs.Endings.Ending.{read_out, table_out, load_out, bad_input, bad_table, library_failed, source_failed, memory_wanting, sink_failed}
+use Rattle.baggage_cli.proofs.Obtained.{no_ok}
 
 -- No status of an input is another's.
 input_status_some : (fault : InputFault) (n : ℕ) → n ≡ input_status fault → (n ≡ 2) ⊎ (n ≡ 3)
@@ -83,55 +87,57 @@ read_left source told input is read =
 
 -- ---- what the library told
 
--- What is so of the files of the library is so of those that it told, and it was asked for all that the definition names.
-pub of_told : (scene : Scene) (root : List ℕ) (Holds : Holding → Type 0) (held : Holding) → scene.library.before ≡ Some held → OfFiles scene root Holds
-    → Holds held × ((names : List (List ℕ)) × AsksAll held root names × Asks names scene.requests.before scene.requests.after)
-of_told scene root Holds held told (files, names, tells, asked, (found, all)) =
+-- What is so of the files of the library is so of those that it told, and it was asked for all that the table needs.
+of_told : (scene : Scene) (origin : Origin) (Holds : Holding → Type 0) (held : Holding) → scene.library.before ≡ Some held → OfFiles scene origin Holds
+    → Holds held × ((names : List (List ℕ)) × AsksNames held origin names × Asks names scene.requests.before scene.requests.after)
+of_told scene origin Holds held told (files, names, tells, asked, (found, all)) =
     let files_are : held ≡ files = subst (λ before. IfSome before (λ t. t ≡ files)) told tells in
-    (subst Holds (sym files_are) found, (names, subst (λ h. AsksAll h root names) (sym files_are) all, asked))
+    (subst Holds (sym files_are) found, (names, subst (λ h. AsksNames h origin names) (sym files_are) all, asked))
+
+-- What files give where a table comes from, those that were told give.
+told_result : (scene : Scene) (origin : Origin) (held : Holding) (outcome : Result Nodes Refusal) → scene.library.before ≡ Some held
+    → OfFiles scene origin (λ h. TableGives origin h outcome) → TableGives origin held outcome
+told_result scene origin held outcome told came = (of_told scene origin (λ h. TableGives origin h outcome) held told came).0
 
 -- What an input gives for a task, it gives with the files that the library told.
 told_gives : (task : Task) (scene : Scene) (input : List ℕ) (outcome : Outcome) → TellsFiles task scene.library.before → Gives task scene input outcome → InputGives task scene.library.before input outcome
 told_gives (trim budget) scene input outcome tells gave = gave
 told_gives merge scene input outcome tells gave = gave
-told_gives (check file bag) scene input outcome tells gave = absurd gave
-told_gives (decode file bag) scene input outcome tells (table, came, gave) =
+told_gives (load rounds) scene input outcome tells gave = absurd gave
+told_gives (build product origin) scene input outcome tells gave = absurd gave
+told_gives (under purpose origin) scene input outcome tells (table, came, gave) =
     let held = tells tt in
-    (held.0, held.1, table, (of_told scene file (λ h. IsTableOf h file bag table) held.0 held.1 came).0, gave)
-told_gives (run file bag) scene input outcome tells (table, came, gave) =
-    let held = tells tt in
-    (held.0, held.1, table, (of_told scene file (λ h. IsTableOf h file bag table) held.0 held.1 came).0, gave)
+    (held.0, held.1, table, told_result scene origin held.0 (Ok table) held.1 came, gave)
 
 given_tells : (task : Task) (files : Option Holding) (input : List ℕ) (outcome : Outcome) → InputGives task files input outcome → TellsFiles task files
 given_tells (trim budget) files input outcome gave = λ fetches. absurd fetches
 given_tells merge files input outcome gave = λ fetches. absurd fetches
-given_tells (check file bag) files input outcome gave = absurd gave
-given_tells (decode file bag) files input outcome gave = λ fetches. (gave.0, gave.1)
-given_tells (run file bag) files input outcome gave = λ fetches. (gave.0, gave.1)
+given_tells (load rounds) files input outcome gave = absurd gave
+given_tells (build product origin) files input outcome gave = absurd gave
+given_tells (under purpose origin) files input outcome gave = λ fetches. (gave.0, gave.1)
 
--- A task names one file and one bag.
-names_one : (task : Task) (file bag root name : List ℕ) → NamesBag task file bag → NamesBag task root name → (file ≡ root) × (bag ≡ name)
-names_one (trim budget) file bag root name asks names = absurd asks
-names_one merge file bag root name asks names = absurd asks
-names_one (check f b) file bag root name asks names = (sym asks.0 ∙ names.0, sym asks.1 ∙ names.1)
-names_one (decode f b) file bag root name asks names = (sym asks.0 ∙ names.0, sym asks.1 ∙ names.1)
-names_one (run f b) file bag root name asks names = (sym asks.0 ∙ names.0, sym asks.1 ∙ names.1)
+-- A task takes its table from one place.
+takes_one : (task : Task) (a b : Origin) → TakesTable task a → TakesTable task b → a ≡ b
+takes_one (trim budget) a b takes also = absurd takes
+takes_one merge a b takes also = absurd takes
+takes_one (load rounds) a b takes also = absurd takes
+takes_one (build product own) a b takes also = sym takes ∙ also
+takes_one (under purpose own) a b takes also = sym takes ∙ also
 
-first_at : (held : Holding) (file bag root name : List ℕ) (fault : Fault) → (file ≡ root) × (bag ≡ name) → IsFirstFaultOf held root name fault → IsFirstFaultOf held file bag fault
-first_at held file bag root name fault same first = subst (λ f. IsFirstFaultOf held f bag fault) (sym same.0) (subst (λ b. IsFirstFaultOf held root b fault) (sym same.1) first)
+-- Where files give a table they give no refusal.
+not_both : Laws → (origin : Origin) (held : Holding) (table : Nodes) (refusal : Refusal) → TableGives origin held (Ok table) → TableGives origin held (Err refusal) → ⊥
+not_both laws origin held table refusal gave bad = no_ok table refusal (laws.tables.gives_one origin held (Ok table) (Err refusal) gave bad)
 
--- A definition has no first fault where an input gives something under its table.
-no_fault_given : Laws → (task : Task) (file bag : List ℕ) (held : Holding) (fault : Fault) (files : Option Holding) (input : List ℕ) (outcome : Outcome) → NamesBag task file bag
-    → files ≡ Some held → IsFirstFaultOf held file bag fault → InputGives task files input outcome → ⊥
-no_fault_given laws (trim budget) file bag held fault files input outcome names told first gave = names
-no_fault_given laws merge file bag held fault files input outcome names told first gave = names
-no_fault_given laws (check root name) file bag held fault files input outcome names told first gave = gave
-no_fault_given laws (decode root name) file bag held fault files input outcome names told first (other, tells, table, is, gave) =
+-- An input gives nothing under a table that is refused.
+no_table_given : Laws → (task : Task) (origin : Origin) (held : Holding) (refusal : Refusal) (files : Option Holding) (input : List ℕ) (outcome : Outcome) → TakesTable task origin
+    → files ≡ Some held → TableGives origin held (Err refusal) → InputGives task files input outcome → ⊥
+no_table_given laws (trim budget) origin held refusal files input outcome takes told bad gave = takes
+no_table_given laws merge origin held refusal files input outcome takes told bad gave = takes
+no_table_given laws (load rounds) origin held refusal files input outcome takes told bad gave = takes
+no_table_given laws (build product own) origin held refusal files input outcome takes told bad gave = gave
+no_table_given laws (under purpose own) origin held refusal files input outcome takes told bad (other, tells, table, is, gave) =
     let same : held ≡ other = cc (told, tells) in
-    laws.definitions.no_fault other root name table fault is (first_at other root name file bag fault names (subst (λ h. IsFirstFaultOf h file bag fault) same first))
-no_fault_given laws (run root name) file bag held fault files input outcome names told first (other, tells, table, is, gave) =
-    let same : held ≡ other = cc (told, tells) in
-    laws.definitions.no_fault other root name table fault is (first_at other root name file bag fault names (subst (λ h. IsFirstFaultOf h file bag fault) same first))
+    not_both laws own other table refusal is (subst (λ o. TableGives o other (Err refusal)) (sym takes) (subst (λ h. TableGives origin h (Err refusal)) same bad))
 
 -- ---- status 0
 
@@ -146,9 +152,10 @@ pub record ReadOut (task : Task) (scene : Scene) : Type 0 where
 pub read_done : (task : Task) (scene : Scene) (answer : ℕ) → Ending task scene answer → ReadsSource task → answer ≡ 0 → ReadOut task scene
 read_done task scene answer (read_out input output zero reads read gave written) some is =
     record { input = input; output = output; read = read; gave = gave; out = written.0 }
-read_done task scene answer (table_out file bag table zero asks came unread written) some is = absurd (subst ReadsSource asks some)
+read_done task scene answer (table_out product origin table zero asks came unread written) some is = absurd (subst ReadsSource asks some)
+read_done task scene answer (load_out rounds output zero asks unread made written) some is = absurd (subst ReadsSource asks some)
 read_done task scene answer (bad_input input number fault status reads read gave said) some is = absurd (not_input fault answer status (λ two. omega arith) (λ three. omega arith))
-read_done task scene answer (bad_definition file bag fault one asks came unread said) some is = absurd (omega arith)
+read_done task scene answer (bad_table origin refusal one takes came unread said) some is = absurd (omega arith)
 read_done task scene answer (library_failed four fetches failed said) some is = absurd (omega arith)
 read_done task scene answer (source_failed four reads failed said) some is = absurd (omega arith)
 read_done task scene answer (memory_wanting six said) some is = absurd (omega arith)
@@ -181,17 +188,34 @@ merge_appends input lists merged scene answer answers told says is zero =
     let same = told_input scene.source input done.input told done.read in
     subst (Appends scene.out.before scene.out.after) (merges_given input lists merged done.output says is (subst (λ i. MergeGives i (Ok done.output)) (sym same) done.gave)) done.out.0
 
+-- Where the answer is 0, the input gave what was written, under a table that the told files give.
+record GaveUnder (purpose : Purpose) (origin : Origin) (held : Holding) (input : List ℕ) (scene : Scene) : Type 0 where
+  table : Nodes
+  output : List ℕ
+  is : TableGives origin held (Ok table)
+  gave : InputUnder purpose table input (Ok output)
+  written : Appends scene.out.before scene.out.after output
+
+gave_under : (purpose : Purpose) (origin : Origin) (held : Holding) (input : List ℕ) (scene : Scene) (answer : ℕ) → Answers (Some (under purpose origin)) scene answer
+    → scene.library.before ≡ Some held → scene.source.before ≡ Some input → answer ≡ 0 → GaveUnder purpose origin held input scene
+gave_under purpose origin held input scene answer answers told content zero =
+    let done = read_done (under purpose origin) scene answer (ending (under purpose origin) scene answer answers) tt zero in
+    record {
+      table = done.gave.0;
+      output = done.output;
+      is = told_result scene origin held (Ok done.gave.0) told done.gave.1;
+      gave = subst (λ i. InputUnder purpose done.gave.0 i (Ok done.output)) (sym (told_input scene.source input done.input content done.read)) done.gave.2;
+      written = done.out.0;
+    }
+
 -- Where the one line of an input says a context that is typed under the table, and the answer is 0, the block of the context was written.
 pub decode_appends : Laws → (file bag : List ℕ) (held : Holding) (table : Nodes) (input : List ℕ) (list : List Atom) (scene : Scene) (answer : ℕ) → Answers (Some (decode file bag)) scene answer
     → scene.library.before ≡ Some held → IsTableOf held file bag table → scene.source.before ≡ Some input → SaysTyped table input list → answer ≡ 0
     → (text : List ℕ) × IsBlock table list text × Appends scene.out.before scene.out.after text
 decode_appends laws file bag held table input list scene answer answers told is content says zero =
-    let done = read_done (decode file bag) scene answer (ending (decode file bag) scene answer answers) tt zero in
-    let same = told_input scene.source input done.input content done.read in
-    let found = (of_told scene file (λ h. IsTableOf h file bag done.gave.0) held told done.gave.1).0 in
-    let one = laws.definitions.one_table held file bag done.gave.0 table found is in
-    let gave = subst (λ t. DecodeGives t input (Ok done.output)) one (subst (λ i. DecodeGives done.gave.0 i (Ok done.output)) (sym same) done.gave.2) in
-    (done.output, only_gave (typed_lines table) (typed_lines_definite table) (IsBlock table) input list done.output says.1 gave, done.out.0)
+    let done = gave_under decoding (compiled file bag) held input scene answer answers told content zero in
+    let one = ok_table done.table table (laws.tables.gives_one (compiled file bag) held (Ok done.table) (Ok table) done.is is) in
+    (done.output, only_gave (typed_lines table) (typed_lines_definite table) (IsBlock table) input list done.output says.1 (subst (λ t. InputUnder decoding t input (Ok done.output)) one done.gave), done.written)
 
 -- What is shown of a run is honest.
 shows_truth : GraphLaws → (table : Nodes) (graph : model.Graph) (lists : Lists) → IsRecorded table graph → IsRun table graph lists → ShowsTruth table graph lists
@@ -199,117 +223,163 @@ shows_truth laws table graph lists recorded ran = λ n slot exact v among shown.
     laws.honest table graph lists n slot exact v (record { recorded = recorded; run = ran; within = recorded.sound.shows n among }) shown
 
 -- Where the answer is 0, the report of the run of the graph that the input says was written.
-pub run_appends : Laws → (file bag : List ℕ) (held : Holding) (input : List ℕ) (scene : Scene) (answer : ℕ) → Answers (Some (run file bag)) scene answer
+abbrev pub RanUnder : Form → Origin → Holding → List ℕ → Scene → Type 0
+RanUnder form origin held input scene =
+    (table : Nodes) × (graph : model.Graph) × (lists : Lists) × (output : List ℕ) × TableGives origin held (Ok table) × IsGraphOf table input graph
+    × IsRun table graph lists × IsReportAs form table lists graph.shows output × ShowsTruth table graph lists × Appends scene.out.before scene.out.after output
+
+pub run_appends : Laws → (form : Form) (origin : Origin) (held : Holding) (input : List ℕ) (scene : Scene) (answer : ℕ) → Answers (Some (under (running form) origin)) scene answer
+    → scene.library.before ≡ Some held → scene.source.before ≡ Some input → answer ≡ 0 → RanUnder form origin held input scene
+run_appends laws form origin held input scene answer answers told content zero =
+    let done = gave_under (running form) origin held input scene answer answers told content zero in
+    let table = done.table in
+    let ran = ran_graph form table input done.output done.gave in
+    let lists = ran.2.0 in
+    let recorded = laws.graphs.recorded table input ran.0 (laws.tables.is_table origin held table done.is) ran.1 in
+    (table, ran.0, lists, done.output, done.is, ran.1, ran.2.1, ran.2.2, shows_truth laws.graphs table ran.0 lists recorded ran.2.1, done.written)
+
+-- The same as JSON: the line feed is the last byte.
+pub run_json_appends : Laws → (file bag : List ℕ) (held : Holding) (input : List ℕ) (scene : Scene) (answer : ℕ) → Answers (Some (run_json file bag)) scene answer
     → scene.library.before ≡ Some held → scene.source.before ≡ Some input → answer ≡ 0
     → (table : Nodes) × (graph : model.Graph) × (lists : Lists) × (text : List ℕ) × IsTableOf held file bag table × IsGraphOf table input graph
-    × IsRun table graph lists × IsReport table lists graph.shows text × ShowsTruth table graph lists × Appends scene.out.before scene.out.after text
-run_appends laws file bag held input scene answer answers told content zero =
-    let done = read_done (run file bag) scene answer (ending (run file bag) scene answer answers) tt zero in
-    let same = told_input scene.source input done.input content done.read in
-    let table = done.gave.0 in
-    let found = (of_told scene file (λ h. IsTableOf h file bag table) held told done.gave.1).0 in
-    let ran = ran_graph table input done.output (subst (λ i. RunGives table i (Ok done.output)) (sym same) done.gave.2) in
-    let lists = ran.2.0 in
-    let recorded = laws.graphs.recorded table input ran.0 (laws.definitions.is_table held file bag table found) ran.1 in
-    (table, ran.0, lists, done.output, found, ran.1, ran.2.1, ran.2.2, shows_truth laws.graphs table ran.0 lists recorded ran.2.1, done.out.0)
+    × IsRun table graph lists × IsJsonReport table lists graph.shows text × ShowsTruth table graph lists × Appends scene.out.before scene.out.after (text ++ 10 ∷ [])
+run_json_appends laws file bag held input scene answer answers told content zero =
+    let (table, graph, lists, output, is, says, ran, (text, report, output_is), truth, written) = run_appends laws as_json (compiled file bag) held input scene answer answers told content zero in
+    (table, graph, lists, text, is, says, ran, report, truth, subst (Appends scene.out.before scene.out.after) output_is written)
 
--- ---- definitions
+-- ---- loads
 
--- A task that is a check names its file and its bag.
-named_check : (task : Task) (file bag root name : List ℕ) → NamesBag task file bag → task ≡ check root name → (file ≡ root) × (bag ≡ name)
-named_check task file bag root name names asks = let same = subst (λ t. NamesBag t file bag) asks names in (sym same.0, sym same.1)
+no_load : (product : Product) (origin : Origin) (rounds : ℕ) → ◌≡◌ {A = Task} (build product origin) (load rounds) → ⊥
+no_load product origin rounds e = cc e
 
--- Where a definition is checked and the answer is 0, the line of its table's slots was written.
-pub check_appends : (file bag : List ℕ) (held : Holding) (scene : Scene) (answer : ℕ) → Answers (Some (check file bag)) scene answer → scene.library.before ≡ Some held → answer ≡ 0
-    → (table : Nodes) × IsTableOf held file bag table × Appends scene.out.before scene.out.after (ok_line (length (slots_of table)))
-check_appends file bag held scene answer answers told is = by (ending (check file bag) scene answer answers)
+same_rounds : (a b : ℕ) → ◌≡◌ {A = Task} (load a) (load b) → a ≡ b
+same_rounds a b e = cc e
+
+load_written : (rounds : ℕ) (scene : Scene) (answer : ℕ) → Ending (load rounds) scene answer → answer ≡ 0
+    → (output : List ℕ) × IsLoadOutput rounds output × Appends scene.out.before scene.out.after output
+load_written rounds scene answer (read_out input output zero reads read gave written) is = absurd reads
+load_written rounds scene answer (table_out product origin table zero asks came unread written) is = absurd (no_load product origin rounds (sym asks))
+load_written rounds scene answer (load_out other output zero asks unread made written) is = (output, subst (λ n. IsLoadOutput n output) (sym (same_rounds rounds other asks)) made, written.0.0)
+load_written rounds scene answer (bad_input input number fault status reads read gave said) is = absurd reads
+load_written rounds scene answer (bad_table origin refusal one takes came unread said) is = absurd (omega arith)
+load_written rounds scene answer (library_failed four fetches failed said) is = absurd (omega arith)
+load_written rounds scene answer (source_failed four reads failed said) is = absurd (omega arith)
+load_written rounds scene answer (memory_wanting six said) is = absurd (omega arith)
+load_written rounds scene answer (sink_failed five failed) is = absurd (omega arith)
+
+-- Where the answer is 0, the heading of the load and the report of its graph's run were written.
+pub load_appends : Laws → (rounds : ℕ) (scene : Scene) (answer : ℕ) → Answers (Some (load rounds)) scene answer → answer ≡ 0
+    → (graph : model.Graph) × (lists : Lists) × (text : List ℕ) × IsGraphOf load_table (load_text rounds) graph
+    × IsRun load_table graph lists × IsReport load_table lists graph.shows text × ShowsTruth load_table graph lists
+    × Appends scene.out.before scene.out.after (load_heading rounds ++ text)
+load_appends laws rounds scene answer answers zero =
+    let (output, (graph, text, says, (lists, ran, report), is), written) = load_written rounds scene answer (ending (load rounds) scene answer answers) zero in
+    let recorded = laws.graphs.recorded load_table (load_text rounds) graph load_is_table says in
+    (graph, lists, text, says, ran, report, shows_truth laws.graphs load_table graph lists recorded ran, subst (Appends scene.out.before scene.out.after) is written)
+
+-- ---- tables
+
+-- A task that makes something of a table makes one thing, of a table from one place.
+same_product : (a b : Product) (own origin : Origin) → ◌≡◌ {A = Task} (build a own) (build b origin) → a ≡ b
+same_product a b own origin e = cc e
+
+same_origin : (a b : Product) (own origin : Origin) → ◌≡◌ {A = Task} (build a own) (build b origin) → own ≡ origin
+same_origin a b own origin e = cc e
+
+-- Where the answer is 0, what is made of the table was written.
+pub build_appends : (product : Product) (origin : Origin) (held : Holding) (scene : Scene) (answer : ℕ) → Answers (Some (build product origin)) scene answer → scene.library.before ≡ Some held → answer ≡ 0
+    → (table : Nodes) × TableGives origin held (Ok table) × Appends scene.out.before scene.out.after (product_text product table)
+build_appends product origin held scene answer answers told is = by (ending (build product origin) scene answer answers)
   where
-    by : Ending (check file bag) scene answer → (table : Nodes) × IsTableOf held file bag table × Appends scene.out.before scene.out.after (ok_line (length (slots_of table)))
+    by : Ending (build product origin) scene answer → (table : Nodes) × TableGives origin held (Ok table) × Appends scene.out.before scene.out.after (product_text product table)
     by (read_out input output zero reads read gave written) = absurd reads
-    by (table_out root name table zero asks came unread written) =
-        let same = named_check (check file bag) file bag root name (refl, refl) asks in
-        let found = (of_told scene root (λ h. IsTableOf h root name table) held told came).0 in
-        (table, subst (λ f. IsTableOf held f bag table) (sym same.0) (subst (λ b. IsTableOf held root b table) (sym same.1) found), written.0.0)
+    by (table_out other own table zero builds came unread written) =
+        let here = subst (λ o. TableGives o held (Ok table)) (sym (same_origin product other origin own builds)) (told_result scene own held (Ok table) told came) in
+        (table, here, subst (λ p. Appends scene.out.before scene.out.after (product_text p table)) (sym (same_product product other origin own builds)) written.0.0)
+    by (load_out rounds output zero asks unread made written) = absurd (no_load product origin rounds asks)
     by (bad_input input number fault status reads read gave said) = absurd reads
-    by (bad_definition root name fault one asks came unread said) = absurd (omega arith)
+    by (bad_table own refusal one takes came unread said) = absurd (omega arith)
     by (library_failed four fetches failed said) = absurd (omega arith)
     by (source_failed four reads failed said) = absurd (omega arith)
     by (memory_wanting six said) = absurd (omega arith)
     by (sink_failed five failed) = absurd (omega arith)
 
--- The library was asked for all files of a definition, in order, and for no others.
-pub has_asked : (task : Task) (file bag : List ℕ) (held : Holding) (scene : Scene) (answer : ℕ) → Answers (Some task) scene answer → NamesBag task file bag → scene.library.before ≡ Some held → answer ≤ 3
-    → (names : List (List ℕ)) × AsksAll held file names × Asks names scene.requests.before scene.requests.after
-has_asked task file bag held scene answer answers asks told few = by (ending task scene answer answers)
+-- The library was asked for all files that a table needs, in order, and for no others.
+abbrev pub AskedAll : Holding → Origin → Scene → Type 0
+AskedAll held origin scene = (names : List (List ℕ)) × AsksNames held origin names × Asks names scene.requests.before scene.requests.after
+
+pub has_asked : (task : Task) (origin : Origin) (held : Holding) (scene : Scene) (answer : ℕ) → Answers (Some task) scene answer → TakesTable task origin → scene.library.before ≡ Some held → answer ≤ 3
+    → AskedAll held origin scene
+has_asked task origin held scene answer answers takes told few = by (ending task scene answer answers)
   where
-    asked_all : (root : List ℕ) (Holds : Holding → Type 0) → root ≡ file → OfFiles scene root Holds → (names : List (List ℕ)) × AsksAll held file names × Asks names scene.requests.before scene.requests.after
-    asked_all root Holds same came =
-        let all = (of_told scene root Holds held told came).1 in
-        (all.0, subst (λ f. AsksAll held f all.0) same all.1, all.2)
+    asked_all : (own : Origin) (Holds : Holding → Type 0) → own ≡ origin → OfFiles scene own Holds → AskedAll held origin scene
+    asked_all own Holds same came = subst (λ o. AskedAll held o scene) same (of_told scene own Holds held told came).1
 
-    asked_given : (t : Task) (input : List ℕ) (outcome : Outcome) → NamesBag t file bag → Gives t scene input outcome
-        → (names : List (List ℕ)) × AsksAll held file names × Asks names scene.requests.before scene.requests.after
-    asked_given (trim budget) input outcome names gave = absurd names
-    asked_given merge input outcome names gave = absurd names
-    asked_given (check root name) input outcome names gave = absurd gave
-    asked_given (decode root name) input outcome names (table, came, gave) = asked_all root (λ h. IsTableOf h root name table) names.0 came
-    asked_given (run root name) input outcome names (table, came, gave) = asked_all root (λ h. IsTableOf h root name table) names.0 came
+    asked_given : (t : Task) (input : List ℕ) (outcome : Outcome) → TakesTable t origin → Gives t scene input outcome → AskedAll held origin scene
+    asked_given (trim budget) input outcome own gave = absurd own
+    asked_given merge input outcome own gave = absurd own
+    asked_given (load rounds) input outcome own gave = absurd own
+    asked_given (build product o) input outcome own gave = absurd gave
+    asked_given (under purpose o) input outcome own (table, came, gave) = asked_all o (λ h. TableGives o h (Ok table)) own came
 
-    by : Ending task scene answer → (names : List (List ℕ)) × AsksAll held file names × Asks names scene.requests.before scene.requests.after
-    by (read_out input output zero reads read gave written) = asked_given task input (Ok output) asks gave
-    by (table_out root name table zero checks came unread written) =
-        asked_all root (λ h. IsTableOf h root name table) (sym ((named_check task file bag root name asks checks).0)) came
-    by (bad_input input number fault status reads read gave said) = asked_given task input (Err (Input number fault)) asks gave
-    by (bad_definition root name fault one names came unread said) =
-        asked_all root (λ h. IsFirstFaultOf h root name fault) ((names_one task root name file bag names asks).0) came
+    by : Ending task scene answer → AskedAll held origin scene
+    by (read_out input output zero reads read gave written) = asked_given task input (Ok output) takes gave
+    by (table_out product own table zero builds came unread written) =
+        asked_all own (λ h. TableGives own h (Ok table)) (takes_one task own origin (subst (λ t. TakesTable t own) (sym builds) refl) takes) came
+    by (load_out rounds output zero asks unread made written) = absurd (subst (λ t. TakesTable t origin) asks takes)
+    by (bad_input input number fault status reads read gave said) = asked_given task input (Err (Input number fault)) takes gave
+    by (bad_table own refusal one also came unread said) = asked_all own (λ h. TableGives own h (Err refusal)) (takes_one task own origin also takes) came
     by (library_failed four fetches failed said) = absurd (omega arith)
     by (source_failed four reads failed said) = absurd (omega arith)
     by (memory_wanting six said) = absurd (omega arith)
     by (sink_failed five failed) = absurd (omega arith)
 
--- The first fault of a definition that was told to the errors.
-abbrev pub TellsFault : Holding → Task → Scene → Type 0
-TellsFault held task scene =
-    (file : List ℕ) × (bag : List ℕ) × (fault : Fault) × NamesBag task file bag × IsFirstFaultOf held file bag fault
-    × Appends scene.errs.before scene.errs.after (line_of (blamed fault))
+-- What is wrong with where a table comes from was told to the errors.
+abbrev pub TellsTable : Holding → Task → Scene → Type 0
+TellsTable held task scene =
+    (origin : Origin) × (refusal : Refusal) × TakesTable task origin × TableGives origin held (Err refusal)
+    × Appends scene.errs.before scene.errs.after (line_of refusal)
 
--- The answer 1 comes only for the first fault of the definition.
-pub definition_told : (task : Task) (held : Holding) (scene : Scene) (answer : ℕ) → Answers (Some task) scene answer → scene.library.before ≡ Some held → answer ≡ 1 → TellsFault held task scene
-definition_told task held scene answer answers told is = by (ending task scene answer answers)
+-- The answer 1 comes only for that.
+pub table_told : (task : Task) (held : Holding) (scene : Scene) (answer : ℕ) → Answers (Some task) scene answer → scene.library.before ≡ Some held → answer ≡ 1 → TellsTable held task scene
+table_told task held scene answer answers told is = by (ending task scene answer answers)
   where
-    by : Ending task scene answer → TellsFault held task scene
+    by : Ending task scene answer → TellsTable held task scene
     by (read_out input output zero reads read gave written) = absurd (omega arith)
-    by (table_out root name table zero asks came unread written) = absurd (omega arith)
+    by (table_out product own table zero builds came unread written) = absurd (omega arith)
+    by (load_out rounds output zero asks unread made written) = absurd (omega arith)
     by (bad_input input number fault status reads read gave said) = absurd (not_input fault answer status (λ two. omega arith) (λ three. omega arith))
-    by (bad_definition file bag fault one asks came unread said) = (file, bag, fault, asks, (of_told scene file (λ h. IsFirstFaultOf h file bag fault) held told came).0, said.1.0)
+    by (bad_table origin refusal one takes came unread said) = (origin, refusal, takes, told_result scene origin held (Err refusal) told came, said.1.0)
     by (library_failed four fetches failed said) = absurd (omega arith)
     by (source_failed four reads failed said) = absurd (omega arith)
     by (memory_wanting six said) = absurd (omega arith)
     by (sink_failed five failed) = absurd (omega arith)
 
--- A definition with a first fault is refused for it, unless the world outside or memory failed.
-pub fault_told : Laws → (task : Task) (file bag : List ℕ) (held : Holding) (fault : Fault) (scene : Scene) (answer : ℕ) → Answers (Some task) scene answer → NamesBag task file bag
-    → scene.library.before ≡ Some held → IsFirstFaultOf held file bag fault
-    → ((answer ≡ 1) × Appends scene.errs.before scene.errs.after (line_of (blamed fault))) ⊎ IsFailure answer
-fault_told laws task file bag held fault scene answer answers names told first = by (ending task scene answer answers)
+-- A table that is refused is what the call is refused for, unless the world outside or memory failed.
+pub refusal_told : Laws → (task : Task) (origin : Origin) (held : Holding) (refusal : Refusal) (scene : Scene) (answer : ℕ) → Answers (Some task) scene answer → TakesTable task origin
+    → scene.library.before ≡ Some held → TableGives origin held (Err refusal)
+    → ((answer ≡ 1) × Appends scene.errs.before scene.errs.after (line_of refusal)) ⊎ IsFailure answer
+refusal_told laws task origin held refusal scene answer answers takes told bad = by (ending task scene answer answers)
   where
     -- The task gave nothing of an input.
     not_given : (input : List ℕ) (outcome : Outcome) → Gives task scene input outcome → ⊥
     not_given input outcome gave =
-        no_fault_given laws task file bag held fault scene.library.before input outcome names told first (told_gives task scene input outcome (λ fetches. (held, told)) gave)
+        no_table_given laws task origin held refusal scene.library.before input outcome takes told bad (told_gives task scene input outcome (λ fetches. (held, told)) gave)
 
-    by : Ending task scene answer → ((answer ≡ 1) × Appends scene.errs.before scene.errs.after (line_of (blamed fault))) ⊎ IsFailure answer
+    -- Whatever its files gave is that.
+    gave_same : (own : Origin) (outcome : Result Nodes Refusal) → own ≡ origin → OfFiles scene own (λ h. TableGives own h outcome) → outcome ≡ Err refusal
+    gave_same own outcome same came =
+        laws.tables.gives_one origin held outcome (Err refusal) (subst (λ o. TableGives o held outcome) same (told_result scene own held outcome told came)) bad
+
+    by : Ending task scene answer → ((answer ≡ 1) × Appends scene.errs.before scene.errs.after (line_of refusal)) ⊎ IsFailure answer
     by (read_out input output zero reads read gave written) = absurd (not_given input (Ok output) gave)
-    by (table_out root name table zero asks came unread written) =
-        let same = named_check task file bag root name names asks in
-        let found = (of_told scene root (λ h. IsTableOf h root name table) held told came).0 in
-        absurd (laws.definitions.no_fault held root name table fault found (first_at held root name file bag fault (sym same.0, sym same.1) first))
+    by (table_out product own table zero builds came unread written) =
+        absurd (no_ok table refusal (gave_same own (Ok table) (takes_one task own origin (subst (λ t. TakesTable t own) (sym builds) refl) takes) came))
+    by (load_out rounds output zero asks unread made written) = absurd (subst (λ t. TakesTable t origin) asks takes)
     by (bad_input input number other status reads read gave said) = absurd (not_given input (Err (Input number other)) gave)
-    by (bad_definition root name other one asks came unread said) =
-        let same = names_one task root name file bag asks names in
-        let found = (of_told scene root (λ h. IsFirstFaultOf h root name other) held told came).0 in
-        let is = laws.definitions.one_fault held root name other fault found (first_at held root name file bag fault same first) in
-        inl (one, subst (λ f. Appends scene.errs.before scene.errs.after (line_of (blamed f))) is said.1.0)
+    by (bad_table own other one also came unread said) =
+        let same = err_same other refusal (gave_same own (Err other) (takes_one task own origin also takes) came) in
+        inl (one, subst (λ r. Appends scene.errs.before scene.errs.after (line_of r)) same said.1.0)
     by (library_failed four fetches failed said) = inr (inl four)
     by (source_failed four reads failed said) = inr (inl four)
     by (memory_wanting six said) = inr (inr (inr six))
@@ -333,11 +403,12 @@ input_told task input scene answer answers tells told ended = by (ending task sc
 
     by : Ending task scene answer → TellsInput task input scene answer
     by (read_out bytes output zero reads read gave written) = absurd (neither (λ two. omega arith) (λ three. omega arith))
-    by (table_out root name table zero asks came unread written) = absurd (neither (λ two. omega arith) (λ three. omega arith))
+    by (table_out product own table zero asks came unread written) = absurd (neither (λ two. omega arith) (λ three. omega arith))
+    by (load_out rounds output zero asks unread made written) = absurd (neither (λ two. omega arith) (λ three. omega arith))
     by (bad_input bytes number fault status reads read gave said) =
         let given = told_gives task scene bytes (Err (Input number fault)) tells gave in
         (number, fault, status, subst (λ i. InputGives task scene.library.before i (Err (Input number fault))) (sym (told_input scene.source input bytes told read)) given, said.1.0)
-    by (bad_definition file bag fault one asks came unread said) = absurd (neither (λ two. omega arith) (λ three. omega arith))
+    by (bad_table origin refusal one takes came unread said) = absurd (neither (λ two. omega arith) (λ three. omega arith))
     by (library_failed four fetches failed said) = absurd (neither (λ two. omega arith) (λ three. omega arith))
     by (source_failed four reads failed said) = absurd (neither (λ two. omega arith) (λ three. omega arith))
     by (memory_wanting six said) = absurd (neither (λ two. omega arith) (λ three. omega arith))
@@ -361,14 +432,15 @@ bad_told laws task input number fault scene answer answers told bad = by (ending
 
     by : Ending task scene answer → ((answer ≡ input_status fault) × Appends scene.errs.before scene.errs.after (input_line number fault)) ⊎ IsFailure answer
     by (read_out bytes output zero reads read gave written) = absurd (ok_no_err output (Input number fault) (gave_same bytes (Ok output) read gave))
-    by (table_out file bag table zero asks came unread written) = absurd (subst (λ t. InputGives t scene.library.before input (Err (Input number fault))) asks bad)
+    by (table_out product origin table zero asks came unread written) = absurd (subst (λ t. InputGives t scene.library.before input (Err (Input number fault))) asks bad)
+    by (load_out rounds output zero asks unread made written) = absurd (subst (λ t. InputGives t scene.library.before input (Err (Input number fault))) asks bad)
     by (bad_input bytes line other status reads read gave said) =
         let same = input_same line number other fault (gave_same bytes (Err (Input line other)) read gave) in
         inl (status ∙ ap input_status same.1, subst (λ n. Appends scene.errs.before scene.errs.after (input_line n fault)) same.0 (subst (λ f. Appends scene.errs.before scene.errs.after (input_line line f)) same.1 said.1.0))
-    by (bad_definition file bag other one asks came unread said) =
-        let held = given_tells task scene.library.before input (Err (Input number fault)) bad (fetches_named task file bag asks) in
-        let first = (of_told scene file (λ h. IsFirstFaultOf h file bag other) held.0 held.1 came).0 in
-        absurd (no_fault_given laws task file bag held.0 other scene.library.before input (Err (Input number fault)) asks held.1 first bad)
+    by (bad_table own refusal one takes came unread said) =
+        let held = given_tells task scene.library.before input (Err (Input number fault)) bad (fetches_table task own takes) in
+        let is = told_result scene own held.0 (Err refusal) held.1 came in
+        absurd (no_table_given laws task own held.0 refusal scene.library.before input (Err (Input number fault)) takes held.1 is bad)
     by (library_failed four fetches failed said) = inr (inl four)
     by (source_failed four reads failed said) = inr (inl four)
     by (memory_wanting six said) = inr (inr (inr six))
@@ -384,9 +456,10 @@ left_told task input scene answer answers reading told ended = by (ending task s
 
     by : Ending task scene answer → scene.source.after ≡ Some (drop (INPUT_MAX + 1) input)
     by (read_out bytes output zero reads read gave written) = read_left scene.source input bytes told read
-    by (table_out file bag table zero asks came unread written) = absurd (subst ReadsSource asks reading)
+    by (table_out product origin table zero asks came unread written) = absurd (subst ReadsSource asks reading)
+    by (load_out rounds output zero asks unread made written) = absurd (subst ReadsSource asks reading)
     by (bad_input bytes number fault status reads read gave said) = read_left scene.source input bytes told read
-    by (bad_definition file bag fault one asks came unread said) = absurd (none (λ zero. omega arith) (λ two. omega arith) (λ three. omega arith))
+    by (bad_table origin refusal one takes came unread said) = absurd (none (λ zero. omega arith) (λ two. omega arith) (λ three. omega arith))
     by (library_failed four fetches failed said) = absurd (none (λ zero. omega arith) (λ two. omega arith) (λ three. omega arith))
     by (source_failed four reads failed said) = absurd (none (λ zero. omega arith) (λ two. omega arith) (λ three. omega arith))
     by (memory_wanting six said) = absurd (none (λ zero. omega arith) (λ two. omega arith) (λ three. omega arith))
@@ -399,9 +472,9 @@ within_short gives input output (inr (short, gave)) = short
 short_given : (task : Task) (scene : Scene) (input output : List ℕ) → Gives task scene input (Ok output) → length input ≤ INPUT_MAX
 short_given (trim budget) scene input output gave = within_short (TrimsLines budget) input output gave
 short_given merge scene input output gave = within_short MergesLines input output gave
-short_given (check file bag) scene input output gave = absurd gave
-short_given (decode file bag) scene input output (table, came, gave) = within_short (DecodesLines table) input output gave
-short_given (run file bag) scene input output (table, came, gave) = within_short (RunsLines table) input output gave
+short_given (load rounds) scene input output gave = absurd gave
+short_given (build product origin) scene input output gave = absurd gave
+short_given (under purpose origin) scene input output (table, came, gave) = within_short (LinesGive purpose table) input output gave
 
 -- After an output nothing is left of a source that was read.
 pub ended_source : (task : Task) (scene : Scene) (answer : ℕ) → Answers (Some task) scene answer → ReadsSource task → answer ≡ 0 → IsAtEnd scene.source.after
@@ -417,9 +490,10 @@ steady_done task scene answer answers is = by (ending task scene answer answers)
   where
     by : Ending task scene answer → IsSteady scene.source × IsSteady scene.out × IsSame scene.errs
     by (read_out input output zero reads read gave written) = (read.steady (short_given task scene input output gave), written.0.1, written.1)
-    by (table_out file bag table zero asks came unread written) = (unread.1, written.0.1, written.1)
+    by (table_out product origin table zero asks came unread written) = (unread.1, written.0.1, written.1)
+    by (load_out rounds output zero asks unread made written) = (unread.1, written.0.1, written.1)
     by (bad_input input number fault status reads read gave said) = absurd (not_input fault answer status (λ two. omega arith) (λ three. omega arith))
-    by (bad_definition file bag fault one asks came unread said) = absurd (omega arith)
+    by (bad_table origin refusal one takes came unread said) = absurd (omega arith)
     by (library_failed four fetches failed said) = absurd (omega arith)
     by (source_failed four reads failed said) = absurd (omega arith)
     by (memory_wanting six said) = absurd (omega arith)
@@ -431,9 +505,10 @@ unread_task task scene answer answers is = by (ending task scene answer answers)
   where
     by : Ending task scene answer → IsSame scene.source
     by (read_out input output zero reads read gave written) = absurd (omega arith)
-    by (table_out file bag table zero asks came unread written) = unread
+    by (table_out product origin table zero asks came unread written) = unread
+    by (load_out rounds output zero asks unread made written) = unread
     by (bad_input input number fault status reads read gave said) = absurd (not_input fault answer status (λ two. omega arith) (λ three. omega arith))
-    by (bad_definition file bag fault one asks came unread said) = unread
+    by (bad_table origin refusal one takes came unread said) = unread
     by (library_failed four fetches failed said) = absurd (omega arith)
     by (source_failed four reads failed said) = absurd (omega arith)
     by (memory_wanting six said) = absurd (omega arith)
@@ -448,9 +523,10 @@ failed_told task scene answer answers is = by (ending task scene answer answers)
     by : Ending task scene answer → (FetchesFiles task × HasFailed scene.library × Appends scene.errs.before scene.errs.after (notice_line LibraryFailed))
         ⊎ (ReadsSource task × HasFailed scene.source × Appends scene.errs.before scene.errs.after (notice_line SourceFailed))
     by (read_out input output zero reads read gave written) = absurd (omega arith)
-    by (table_out file bag table zero asks came unread written) = absurd (omega arith)
+    by (table_out product origin table zero asks came unread written) = absurd (omega arith)
+    by (load_out rounds output zero asks unread made written) = absurd (omega arith)
     by (bad_input input number fault status reads read gave said) = absurd (not_input fault answer status (λ two. omega arith) (λ three. omega arith))
-    by (bad_definition file bag fault one asks came unread said) = absurd (omega arith)
+    by (bad_table origin refusal one takes came unread said) = absurd (omega arith)
     by (library_failed four fetches failed said) = inl (fetches, failed, said.1.0)
     by (source_failed four reads failed said) = inr (reads, failed, said.1.0)
     by (memory_wanting six said) = absurd (omega arith)
@@ -462,9 +538,10 @@ memory_told task scene answer answers is = by (ending task scene answer answers)
   where
     by : Ending task scene answer → Appends scene.errs.before scene.errs.after (notice_line Memory)
     by (read_out input output zero reads read gave written) = absurd (omega arith)
-    by (table_out file bag table zero asks came unread written) = absurd (omega arith)
+    by (table_out product origin table zero asks came unread written) = absurd (omega arith)
+    by (load_out rounds output zero asks unread made written) = absurd (omega arith)
     by (bad_input input number fault status reads read gave said) = absurd (not_input fault answer status (λ two. omega arith) (λ three. omega arith))
-    by (bad_definition file bag fault one asks came unread said) = absurd (omega arith)
+    by (bad_table origin refusal one takes came unread said) = absurd (omega arith)
     by (library_failed four fetches failed said) = absurd (omega arith)
     by (source_failed four reads failed said) = absurd (omega arith)
     by (memory_wanting six said) = said.1.0
@@ -476,9 +553,10 @@ never_seven task scene answer answers is = by (ending task scene answer answers)
   where
     by : Ending task scene answer → ⊥
     by (read_out input output zero reads read gave written) = omega arith
-    by (table_out file bag table zero asks came unread written) = omega arith
+    by (table_out product origin table zero asks came unread written) = omega arith
+    by (load_out rounds output zero asks unread made written) = omega arith
     by (bad_input input number fault status reads read gave said) = not_input fault answer status (λ two. omega arith) (λ three. omega arith)
-    by (bad_definition file bag fault one asks came unread said) = omega arith
+    by (bad_table origin refusal one takes came unread said) = omega arith
     by (library_failed four fetches failed said) = omega arith
     by (source_failed four reads failed said) = omega arith
     by (memory_wanting six said) = omega arith
@@ -490,9 +568,10 @@ quiet_task task scene answer answers not_zero not_five = by (ending task scene a
   where
     by : Ending task scene answer → scene.out.after ≡ scene.out.before
     by (read_out input output zero reads read gave written) = absurd (not_zero zero)
-    by (table_out file bag table zero asks came unread written) = absurd (not_zero zero)
+    by (table_out product origin table zero asks came unread written) = absurd (not_zero zero)
+    by (load_out rounds output zero asks unread made written) = absurd (not_zero zero)
     by (bad_input input number fault status reads read gave said) = said.0.0
-    by (bad_definition file bag fault one asks came unread said) = said.0.0
+    by (bad_table origin refusal one takes came unread said) = said.0.0
     by (library_failed four fetches failed said) = said.0.0
     by (source_failed four reads failed said) = said.0.0
     by (memory_wanting six said) = said.0.0
@@ -503,9 +582,10 @@ sink_told task scene answer answers is = by (ending task scene answer answers)
   where
     by : Ending task scene answer → HasFailed scene.out ⊎ HasFailed scene.errs
     by (read_out input output zero reads read gave written) = absurd (omega arith)
-    by (table_out file bag table zero asks came unread written) = absurd (omega arith)
+    by (table_out product origin table zero asks came unread written) = absurd (omega arith)
+    by (load_out rounds output zero asks unread made written) = absurd (omega arith)
     by (bad_input input number fault status reads read gave said) = absurd (not_input fault answer status (λ two. omega arith) (λ three. omega arith))
-    by (bad_definition file bag fault one asks came unread said) = absurd (omega arith)
+    by (bad_table origin refusal one takes came unread said) = absurd (omega arith)
     by (library_failed four fetches failed said) = absurd (omega arith)
     by (source_failed four reads failed said) = absurd (omega arith)
     by (memory_wanting six said) = absurd (omega arith)
@@ -529,46 +609,39 @@ accepted laws merge input number fault files content (told, is, (lists, says, fe
     let same_input : told ≡ input = cc (is, same) in
     said_not_refused merged_lines merged_lines_definite (lines_of input) lists (Input number fault)
     (subst (λ i. AllSay merged_lines [] (lines_of i) lists) same_input (all_say-at_most LINES_MAX (Code TooManyLines) context_lines (lines_of told) lists says.1 few)) refused
-accepted laws (check file bag) input number fault files content accepts same bad = absurd bad
-accepted laws (decode file bag) input number fault files content (held, told, table, is, text, holds, (list, says)) same (other, knows, found, known, bad) =
+accepted laws (load rounds) input number fault files content accepts same bad = absurd bad
+accepted laws (build product origin) input number fault files content accepts same bad = absurd bad
+accepted laws (under purpose origin) input number fault files content (held, told, table, is, text, holds, accepts) same (other, knows, found, known, bad) =
     let same_input : text ≡ input = cc (holds, same) in
-    let here = subst (λ i. SaysTyped table i list) same_input says in
-    only_not_refused (typed_lines table) (typed_lines_definite table) (IsBlock table) input list (Input number fault) here.0 here.1
-    (subst (λ t. DecodeGives t input (Err (Input number fault))) (same_table laws.definitions file bag files held other table found told is knows known) bad)
-accepted laws (run file bag) input number fault files content (held, told, table, is, text, holds, (graph, says)) same (other, knows, found, known, bad) =
-    let same_input : text ≡ input = cc (holds, same) in
-    let here = subst (λ i. SaysGraph table i graph) same_input says in
-    graph_not_refused laws.graphs table (laws.definitions.is_table held file bag table is) input graph (Input number fault) here
-    (subst (λ t. RunGives t input (Err (Input number fault))) (same_table laws.definitions file bag files held other table found told is knows known) bad)
+    accepted_under laws table (laws.tables.is_table origin held table is) purpose input (Input number fault) (subst (AcceptsUnder purpose table) same_input accepts)
+    (subst (λ t. InputUnder purpose t input (Err (Input number fault))) (same_table laws.tables origin files held other table found told is knows known) bad)
 
 accepted_told : (task : Task) (files : Option Holding) (content : Option (List ℕ)) → Accepts task files content → ReadsSource task → (input : List ℕ) × (content ≡ Some input)
 accepted_told (trim budget) files content accepts reads = (accepts.0, accepts.1)
 accepted_told merge files content accepts reads = (accepts.0, accepts.1)
-accepted_told (check file bag) files content accepts reads = absurd reads
-accepted_told (decode file bag) files content accepts reads = (accepts.4, accepts.5)
-accepted_told (run file bag) files content accepts reads = (accepts.4, accepts.5)
+accepted_told (load rounds) files content accepts reads = absurd reads
+accepted_told (build product origin) files content accepts reads = absurd reads
+accepted_told (under purpose origin) files content accepts reads = (accepts.4, accepts.5)
 
 accepted_tells : (task : Task) (files : Option Holding) (content : Option (List ℕ)) → Accepts task files content → TellsFiles task files
 accepted_tells (trim budget) files content accepts = λ fetches. absurd fetches
 accepted_tells merge files content accepts = λ fetches. absurd fetches
-accepted_tells (check file bag) files content accepts = λ fetches. (accepts.0, accepts.1)
-accepted_tells (decode file bag) files content accepts = λ fetches. (accepts.0, accepts.1)
-accepted_tells (run file bag) files content accepts = λ fetches. (accepts.0, accepts.1)
+accepted_tells (load rounds) files content accepts = λ fetches. absurd fetches
+accepted_tells (build product origin) files content accepts = λ fetches. (accepts.0, accepts.1)
+accepted_tells (under purpose origin) files content accepts = λ fetches. (accepts.0, accepts.1)
 
--- The definition that an accepted task names has no first fault.
-accepted_sound : Laws → (task : Task) (file bag : List ℕ) (fault : Fault) (held : Holding) (files : Option Holding) (content : Option (List ℕ)) → Accepts task files content → NamesBag task file bag
-    → files ≡ Some held → IsFirstFaultOf held file bag fault → ⊥
-accepted_sound laws (trim budget) file bag fault held files content accepts names told first = names
-accepted_sound laws merge file bag fault held files content accepts names told first = names
-accepted_sound laws (check root name) file bag fault held files content accepts names told first =
+-- The table of an accepted task isn't refused.
+accepted_sound : Laws → (task : Task) (origin : Origin) (refusal : Refusal) (held : Holding) (files : Option Holding) (content : Option (List ℕ)) → Accepts task files content → TakesTable task origin
+    → files ≡ Some held → TableGives origin held (Err refusal) → ⊥
+accepted_sound laws (trim budget) origin refusal held files content accepts takes told bad = takes
+accepted_sound laws merge origin refusal held files content accepts takes told bad = takes
+accepted_sound laws (load rounds) origin refusal held files content accepts takes told bad = takes
+accepted_sound laws (build product own) origin refusal held files content accepts takes told bad =
     let same : held ≡ accepts.0 = cc (told, accepts.1) in
-    accepts.2 fault (first_at accepts.0 root name file bag fault names (subst (λ h. IsFirstFaultOf h file bag fault) same first))
-accepted_sound laws (decode root name) file bag fault held files content accepts names told first =
+    accepts.2 refusal (subst (λ o. TableGives o accepts.0 (Err refusal)) (sym takes) (subst (λ h. TableGives origin h (Err refusal)) same bad))
+accepted_sound laws (under purpose own) origin refusal held files content accepts takes told bad =
     let same : held ≡ accepts.0 = cc (told, accepts.1) in
-    laws.definitions.no_fault accepts.0 root name accepts.2 fault accepts.3 (first_at accepts.0 root name file bag fault names (subst (λ h. IsFirstFaultOf h file bag fault) same first))
-accepted_sound laws (run root name) file bag fault held files content accepts names told first =
-    let same : held ≡ accepts.0 = cc (told, accepts.1) in
-    laws.definitions.no_fault accepts.0 root name accepts.2 fault accepts.3 (first_at accepts.0 root name file bag fault names (subst (λ h. IsFirstFaultOf h file bag fault) same first))
+    not_both laws own accepts.0 accepts.2 refusal accepts.3 (subst (λ o. TableGives o accepts.0 (Err refusal)) (sym takes) (subst (λ h. TableGives origin h (Err refusal)) same bad))
 
 refused_input : Laws → (task : Task) (input : List ℕ) (number : ℕ) (fault : InputFault) (scene : Scene) → Accepts task scene.library.before scene.source.before → ReadsSource task → IsRead scene.source input
     → Gives task scene input (Err (Input number fault)) → ⊥
@@ -578,12 +651,11 @@ refused_input laws task input number fault scene accepts reads read bad =
     let given = told_gives task scene input (Err (Input number fault)) (accepted_tells task scene.library.before scene.source.before accepts) bad in
     accepted laws task input number fault scene.library.before scene.source.before accepts (told.1 ∙ ap Some same) given
 
-refused_definition : Laws → (task : Task) (file bag : List ℕ) (fault : Fault) (scene : Scene) → Accepts task scene.library.before scene.source.before → NamesBag task file bag
-    → OfFiles scene file (λ held. IsFirstFaultOf held file bag fault) → ⊥
-refused_definition laws task file bag fault scene accepts names came =
-    let held = accepted_tells task scene.library.before scene.source.before accepts (fetches_named task file bag names) in
-    accepted_sound laws task file bag fault held.0 scene.library.before scene.source.before accepts names held.1
-    (of_told scene file (λ h. IsFirstFaultOf h file bag fault) held.0 held.1 came).0
+refused_table : Laws → (task : Task) (origin : Origin) (refusal : Refusal) (scene : Scene) → Accepts task scene.library.before scene.source.before → TakesTable task origin
+    → OfFiles scene origin (λ held. TableGives origin held (Err refusal)) → ⊥
+refused_table laws task origin refusal scene accepts takes came =
+    let held = accepted_tells task scene.library.before scene.source.before accepts (fetches_table task origin takes) in
+    accepted_sound laws task origin refusal held.0 scene.library.before scene.source.before accepts takes held.1 (told_result scene origin held.0 (Err refusal) held.1 came)
 
 -- Such a call answers 0 or 6.
 pub completes : Laws → (task : Task) (scene : Scene) (answer : ℕ) → Answers (Some task) scene answer → Accepts task scene.library.before scene.source.before → HasNoFault scene → (answer ≡ 0) ⊎ (answer ≡ 6)
@@ -591,9 +663,10 @@ completes laws task scene answer answers accepts sure = by (ending task scene an
   where
     by : Ending task scene answer → (answer ≡ 0) ⊎ (answer ≡ 6)
     by (read_out input output zero reads read gave written) = inl zero
-    by (table_out file bag table zero asks came unread written) = inl zero
+    by (table_out product origin table zero asks came unread written) = inl zero
+    by (load_out rounds output zero asks unread made written) = inl zero
     by (bad_input input number fault status reads read gave said) = absurd (refused_input laws task input number fault scene accepts reads read gave)
-    by (bad_definition file bag fault one asks came unread said) = absurd (refused_definition laws task file bag fault scene accepts asks came)
+    by (bad_table origin refusal one takes came unread said) = absurd (refused_table laws task origin refusal scene accepts takes came)
     by (library_failed four fetches failed said) = absurd (sure.library failed)
     by (source_failed four reads failed said) = absurd (sure.source failed)
     by (memory_wanting six said) = inr six

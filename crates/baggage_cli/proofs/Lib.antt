@@ -4,7 +4,10 @@ pub mod OnlyLines
 pub mod ContextLines
 pub mod TypedLines
 pub mod GraphInputs
-pub mod Checks
+pub mod Loads
+pub mod Obtained
+pub mod TableLaws
+pub mod Printed
 pub mod Interrupted
 pub mod CommandLine
 pub mod Fronts

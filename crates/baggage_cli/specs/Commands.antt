@@ -1,28 +1,98 @@
 -- What the words of a command line ask for.
-use Rattle.std.specs.Prelude.{◌≡◌, ℕ, ◌^◌, ◌==◌, ◌&&◌, not, List, [], ◌∷◌, length, nat_lt, slice_index, if◌then◌else◌, codes, bytes_eq, Option, Some, None}
+use Rattle.std.specs.Prelude.{◌≡◌, ℕ, ◌^◌, ◌==◌, ◌&&◌, not, List, [], ◌∷◌, length, nat_lt, slice_index, if◌then◌else◌, codes, bytes_eq, Option, Some, None, option_and_then, ◌≤◌}
 use Rattle.std.specs.Option.{option_map}
 use Rattle.std.specs.Int.NonZero.{non_zero_u32_get}
 use Rattle.std.specs.Str.{all_ascii_digits}
 use Rattle.std.specs.Str.Parse.{digits_value}
-use Rattle.baggage_cli.specs.declared.commands.Command.{Command}
-use Rattle.baggage_cli.specs.declared.commands.Command.TheVariants.{Trim, Merge, Check, Decode, Run}
+use Rattle.baggage_cli.specs.declared.commands.Command as code_commands
+use Rattle.baggage_cli.specs.declared.commands.Command.TheVariants as code
+use Rattle.baggage_cli.specs.declared.commands.Origin as code_origins
+use Rattle.baggage_cli.specs.declared.commands.Origin.TheVariants.{Bag, Printed}
+use Rattle.baggage_cli.specs.declared.commands.Product.{Product as CodeProduct}
+use Rattle.baggage_cli.specs.declared.commands.Product.TheVariants.{SlotLine, WholeText}
+use Rattle.baggage_cli.specs.declared.commands.Form.{Form as CodeForm}
+use Rattle.baggage_cli.specs.declared.commands.Form.TheVariants.{Text, Json}
+use Rattle.baggage_cli.specs.declared.commands.Purpose.{Purpose as CodePurpose}
+use Rattle.baggage_cli.specs.declared.commands.Purpose.TheVariants.{Decode, Run}
+use Rattle.baggage_cli.specs.declared.commands.TheConstants.{ROUNDS_MAX}
 
--- What is to be done: a list cut to a budget, contexts merged, the slots of a bag counted, whose
--- definition has its root in a file, a context decoded under the table of such a bag, or a graph run under it.
+-- Where a table comes from: it is that of the bag of this name, in the definition whose root is this file, or the one whose
+-- text this file holds.
+pub data Origin : Type 0 where
+  compiled : List ℕ → List ℕ → Origin
+  printed : List ℕ → Origin
+
+-- What is made of a table by itself: the line that says how many slots it has, or its text.
+pub data Product : Type 0 where
+  slot_line : Product
+  whole_text : Product
+
+-- How a report is printed: as lines, or as JSON.
+pub data Form : Type 0 where
+  as_lines : Form
+  as_json : Form
+
+-- What is made of an input under a table: the block of a context, or the report of a graph.
+pub data Purpose : Type 0 where
+  decoding : Purpose
+  running : Form → Purpose
+
+-- What is to be done: a list is cut to a budget, contexts are merged, the load of so many rounds is run, and something is made
+-- of a table, or of an input under one.
 pub data Task : Type 0 where
   trim : ℕ → Task
   merge : Task
-  check : List ℕ → List ℕ → Task
-  decode : List ℕ → List ℕ → Task
-  run : List ℕ → List ℕ → Task
+  load : ℕ → Task
+  build : Product → Origin → Task
+  under : Purpose → Origin → Task
+
+-- The slots of a bag are counted, its table is printed, a context is decoded under the table, or a graph is run under it and
+-- its report printed as lines or as JSON; or a graph is run under a printed table.
+abbrev pub check : List ℕ → List ℕ → Task
+check file bag = build slot_line (compiled file bag)
+
+abbrev pub print : List ℕ → List ℕ → Task
+print file bag = build whole_text (compiled file bag)
+
+abbrev pub decode : List ℕ → List ℕ → Task
+decode file bag = under decoding (compiled file bag)
+
+abbrev pub run : List ℕ → List ℕ → Task
+run file bag = under (running as_lines) (compiled file bag)
+
+abbrev pub run_json : List ℕ → List ℕ → Task
+run_json file bag = under (running as_json) (compiled file bag)
+
+abbrev pub run_table : List ℕ → Task
+run_table file = under (running as_lines) (printed file)
+
+-- ---- the commands of the code
+
+abbrev pub origin_of : code_origins.Origin → Origin
+origin_of (Bag file bag) = compiled file.now bag.now
+origin_of (Printed file) = printed file.now
+
+abbrev pub product_of : CodeProduct → Product
+product_of SlotLine = slot_line
+product_of WholeText = whole_text
+
+abbrev pub form_of : CodeForm → Form
+form_of Text = as_lines
+form_of Json = as_json
+
+abbrev pub purpose_of : CodePurpose → Purpose
+purpose_of Decode = decoding
+purpose_of (Run form) = running (form_of form)
 
 -- What the code's command asks for.
-abbrev pub task_of : Command → Task
-task_of (Trim budget) = trim (non_zero_u32_get budget)
-task_of Merge = merge
-task_of (Check file bag) = check file.now bag.now
-task_of (Decode file bag) = decode file.now bag.now
-task_of (Run file bag) = run file.now bag.now
+abbrev pub task_of : code_commands.Command → Task
+task_of (code.Trim budget) = trim (non_zero_u32_get budget)
+task_of code.Merge = merge
+task_of (code.Load rounds) = load rounds
+task_of (code.Build product origin) = build (product_of product) (origin_of origin)
+task_of (code.Read purpose origin) = under (purpose_of purpose) (origin_of origin)
+
+-- ---- words
 
 -- A number from 1 to 4,294,967,295 in decimal digits, without sign or leading zero.
 unfoldable pub number_of : List ℕ → Option ℕ
@@ -32,37 +102,57 @@ number_of word =
     then Some (digits_value 10 word)
     else None
 
+-- Such a number, but for those above `ROUNDS_MAX`.
+abbrev pub rounds_of : List ℕ → Option ℕ
+rounds_of word = option_and_then (λ rounds. if nat_lt ROUNDS_MAX rounds then None else Some rounds) (number_of word)
+
 -- What the words ask for, by their first one and their number; `None` where they have no form.
 unfoldable pub command_of : List (List ℕ) → Option Task
 command_of (name ∷ file ∷ bag ∷ []) =
     if bytes_eq name (codes "check") then Some (check file bag)
+    else if bytes_eq name (codes "table") then Some (print file bag)
     else if bytes_eq name (codes "decode") then Some (decode file bag)
     else if bytes_eq name (codes "run") then Some (run file bag)
+    else if bytes_eq name (codes "runjson") then Some (run_json file bag)
     else None
-command_of (name ∷ word ∷ []) = if bytes_eq name (codes "trim") then option_map trim (number_of word) else None
+command_of (name ∷ word ∷ []) =
+    if bytes_eq name (codes "trim") then option_map trim (number_of word)
+    else if bytes_eq name (codes "load") then option_map load (rounds_of word)
+    else if bytes_eq name (codes "runtable") then Some (run_table word)
+    else None
 command_of (name ∷ []) = if bytes_eq name (codes "merge") then Some merge else None
 command_of words = None
+
+-- ---- what a task needs
 
 -- The task reads the source.
 abbrev pub ReadsSource : Task → Type 0
 ReadsSource (trim budget) = Unit {0}
 ReadsSource merge = Unit {0}
-ReadsSource (check file bag) = ⊥
-ReadsSource (decode file bag) = Unit {0}
-ReadsSource (run file bag) = Unit {0}
+ReadsSource (load rounds) = ⊥
+ReadsSource (build product origin) = ⊥
+ReadsSource (under purpose origin) = Unit {0}
 
 -- The task fetches files of the library.
 abbrev pub FetchesFiles : Task → Type 0
 FetchesFiles (trim budget) = ⊥
 FetchesFiles merge = ⊥
-FetchesFiles (check file bag) = Unit {0}
-FetchesFiles (decode file bag) = Unit {0}
-FetchesFiles (run file bag) = Unit {0}
+FetchesFiles (load rounds) = ⊥
+FetchesFiles (build product origin) = Unit {0}
+FetchesFiles (under purpose origin) = Unit {0}
 
--- The task compiles the bag of this name in the definition whose root is this file.
-abbrev pub NamesBag : Task → List ℕ → List ℕ → Type 0
-NamesBag (trim budget) root name = ⊥
-NamesBag merge root name = ⊥
-NamesBag (check file bag) root name = (file ≡ root) × (bag ≡ name)
-NamesBag (decode file bag) root name = (file ≡ root) × (bag ≡ name)
-NamesBag (run file bag) root name = (file ≡ root) × (bag ≡ name)
+-- The task takes its table from there.
+abbrev pub TakesTable : Task → Origin → Type 0
+TakesTable (trim budget) origin = ⊥
+TakesTable merge origin = ⊥
+TakesTable (load rounds) origin = ⊥
+TakesTable (build product own) origin = own ≡ origin
+TakesTable (under purpose own) origin = own ≡ origin
+
+-- A load has at least one round, and not too many.
+abbrev pub IsInRange : Task → Type 0
+IsInRange (trim budget) = Unit {0}
+IsInRange merge = Unit {0}
+IsInRange (load rounds) = (1 ≤ rounds) × (rounds ≤ ROUNDS_MAX)
+IsInRange (build product origin) = Unit {0}
+IsInRange (under purpose origin) = Unit {0}

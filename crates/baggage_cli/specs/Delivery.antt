@@ -3,7 +3,7 @@ use Rattle.std.specs.Prelude.{◌≡◌, ◌⊎◌, ℕ, List, Ok, Err}
 use Rattle.baggage_cli.specs.declared.refusals.Notice.{Notice}
 use Rattle.baggage_cli.specs.declared.refusals.Notice.TheVariants.{SinkFailed, Memory}
 use Rattle.baggage_cli.specs.declared.refusals.Refusal.{Refusal}
-use Rattle.baggage_cli.specs.declared.refusals.Refusal.TheVariants.{Input, Definition, Plain}
+use Rattle.baggage_cli.specs.declared.refusals.Refusal.TheVariants.{Input, Definition, Table, Plain}
 use Rattle.baggage_cli.specs.Outcomes.{Outcome}
 use Rattle.baggage_cli.specs.Refusals.{status_of, line_of, notice_status, notice_line}
 use Rattle.baggage_cli.specs.Scene.{Change, IsSame, Takes, TakesPart}
@@ -25,6 +25,8 @@ Refuses (Input line fault) errs answer =
 Refuses (Definition file line column code) errs answer =
     Tells (status_of (Definition file line column code)) (line_of (Definition file line column code)) errs answer
     ⊎ Notifies Memory errs answer
+Refuses (Table file line code) errs answer =
+    Tells (status_of (Table file line code)) (line_of (Table file line code)) errs answer ⊎ Notifies Memory errs answer
 
 -- An output is written whole and nothing is said, or a part of it is written and the sink's failure is said;
 -- after a refusal nothing is written and the refusal is said.

@@ -5,9 +5,12 @@ pub mod Outcomes
 pub mod Reading
 pub mod Trimming
 pub mod Merging
-pub mod Checking
+pub mod Tables
+pub mod Building
 pub mod Decoding
 pub mod Running
+pub mod Under
+pub mod Loading
 pub mod Delivery
 pub mod Laws
 pub mod Top

@@ -9,6 +9,8 @@ use Rattle.bdl_load.specs.declared.faults.DefCode.{DefCode}
 use Rattle.bdl_load.specs.declared.faults.DefFault.{DefFault}
 use Rattle.bdl_load.specs.declared.faults.DefFault.TheVariants as defs
 use Rattle.bdl_load.specs.declared.faults.Fault.{Fault}
+use Rattle.table_text.specs.declared.faults.TableCode.{TableCode}
+use Rattle.table_text.specs.FaultNames.{table_code_name}
 use Rattle.graph_text.specs.CodeNames.{graph_code_name}
 use Rattle.graph_text.specs.declared.faults.GraphFault.{GraphFault}
 use Rattle.graph_text.specs.declared.faults.GraphFault.TheVariants as graphs
@@ -19,7 +21,7 @@ use Rattle.baggage_cli.specs.declared.refusals.InputFault.TheVariants.{Code, Hex
 use Rattle.baggage_cli.specs.declared.refusals.Notice.{Notice}
 use Rattle.baggage_cli.specs.declared.refusals.Notice.TheVariants.{LibraryFailed, SourceFailed, SinkFailed, Memory, WordsRefused}
 use Rattle.baggage_cli.specs.declared.refusals.Refusal.{Refusal}
-use Rattle.baggage_cli.specs.declared.refusals.Refusal.TheVariants.{Input, Definition, Plain}
+use Rattle.baggage_cli.specs.declared.refusals.Refusal.TheVariants.{Input, Definition, Table, Plain}
 
 -- The name of a code, as it is printed.
 abbrev pub input_name : InputCode → List ℕ
@@ -53,6 +55,11 @@ definition_line file line column code =
     codes "definition "
     ++ (file ++ (codes " " ++ (decimal line ++ (codes ":" ++ (decimal column ++ (codes " " ++ (def_name code ++ 10 ∷ [])))))))
 
+-- The line that says what is wrong with a printed table.
+abbrev pub table_line : List ℕ → ℕ → TableCode → List ℕ
+table_line file line code =
+    codes "definition " ++ (file ++ (codes " " ++ (decimal line ++ (codes ":1 " ++ (table_code_name code ++ 10 ∷ [])))))
+
 -- The status of a notice.
 abbrev pub notice_status : Notice → ℕ
 notice_status LibraryFailed = 4
@@ -73,12 +80,14 @@ notice_line WordsRefused = codes "words refused" ++ 10 ∷ []
 abbrev pub status_of : Refusal → ℕ
 status_of (Input line fault) = input_status fault
 status_of (Definition file line column code) = 1
+status_of (Table file line code) = 1
 status_of (Plain notice) = notice_status notice
 
 -- The line that is written to the sink of errors.
 abbrev pub line_of : Refusal → List ℕ
 line_of (Input line fault) = input_line line fault
 line_of (Definition file line column code) = definition_line file line column code
+line_of (Table file line code) = table_line file line code
 line_of (Plain notice) = notice_line notice
 
 -- The refusal of a definition that has this first fault.

@@ -1,25 +1,24 @@
--- What the lines of a graph come to, run under the table of a bag.
-use Rattle.std.specs.Prelude.{◌≡◌, ℕ, Bool, List}
+-- What the lines of a graph come to, run under a table.
+use Rattle.std.specs.Prelude.{◌≡◌, ℕ, Bool, List, [], ◌∷◌, ◌++◌}
 use Rattle.context_model.specs.Orders.{IsIn}
 use Rattle.bag_model.specs.Shapes.{Nodes}
 use Rattle.bag_model.specs.Values.{Value}
-use Rattle.bdl_load.specs.Loading.{Holding}
 use Rattle.text_lines.specs.Lines.{Line}
 use Rattle.text_lines.specs.Readings.{Reading}
 use Rattle.trace_model.specs.Graphs.{Graph}
 use Rattle.trace_model.specs.Runs.{Lists, list_at, IsRun}
 use Rattle.trace_model.specs.Shown.{IsShown, IsHonest}
 use Rattle.graph_report.specs.Reports.{IsReport}
+use Rattle.report_json.specs.JsonReports.{IsJsonReport}
 use Rattle.graph_text.specs.Additions.{Addition, graph_of}
 use Rattle.graph_text.specs.GraphLines.{graph_lines}
 use Rattle.graph_text.specs.declared.faults.LineFault.{LineFault}
 use Rattle.graph_text.specs.declared.faults.LineFault.TheVariants as lines
 use Rattle.baggage_cli.specs.declared.refusals.InputFault.{InputFault}
 use Rattle.baggage_cli.specs.declared.refusals.InputFault.TheVariants as inputs
-use Rattle.baggage_cli.specs.Checking.{TableGives, Compiles}
-use Rattle.baggage_cli.specs.Outcomes.{Outcome, Then}
-use Rattle.baggage_cli.specs.Reading.{Reads, ReadsLines, Within}
-use Rattle.baggage_cli.specs.Scene.{Change, IsSame}
+use Rattle.baggage_cli.specs.Commands.{Form, as_lines, as_json}
+use Rattle.baggage_cli.specs.Outcomes.{Outcome}
+use Rattle.baggage_cli.specs.Reading.{ReadsLines}
 
 -- What is wrong with a line of a graph, as what is wrong with a line of an input.
 abbrev pub input_fault : LineFault → InputFault
@@ -27,10 +26,16 @@ input_fault (lines.Code code) = inputs.Graph code
 input_fault (lines.Bytes offset code) = inputs.Bytes offset code
 input_fault (lines.IllTyped offset) = inputs.IllTyped offset
 
+-- The output is the report of these steps, as lines, or as JSON with a line feed behind it.
+abbrev pub IsReportAs : Form → Nodes → Lists → List ℕ → List ℕ → Type 0
+IsReportAs as_lines table lists shows output = IsReport table lists shows output
+IsReportAs as_json table lists shows output =
+    (report : List ℕ) × IsJsonReport table lists shows report × (output ≡ report ++ 10 ∷ [])
+
 -- The output is the report of the lists that the graph's run gives its steps.
-abbrev pub IsRunReport : Nodes → Graph → List ℕ → Type 0
-IsRunReport table graph output =
-    (lists : Lists) × IsRun table graph lists × IsReport table lists graph.shows output
+abbrev pub IsRunReport : Form → Nodes → Graph → List ℕ → Type 0
+IsRunReport form table graph output =
+    (lists : Lists) × IsRun table graph lists × IsReportAs form table lists graph.shows output
 
 -- What is shown of the slots of shown steps is honest: a value that is called exact is the truth, none says more than the
 -- truth, and where nothing was cut off on the way each is called exact.
@@ -48,15 +53,5 @@ graph_inputs table = record {
 }
 
 -- What lines come to, run under a table: the report of the graph that they say.
-abbrev pub RunsLines : Nodes → List Line → Outcome → Type 0
-RunsLines table = ReadsLines (graph_inputs table) (λ every output. IsRunReport table (graph_of every) output)
-
--- What an input gives, run under a table.
-abbrev pub RunGives : Nodes → List ℕ → Outcome → Type 0
-RunGives table = Within (RunsLines table)
-
--- A definition is compiled, and then the source is read and the graph of its input run under the table. Where the
--- definition is refused nothing is done to the source.
-abbrev pub Runs : List ℕ → List ℕ → Change Holding → Change (List (List ℕ)) → Change (List ℕ) → Outcome → Type 0
-Runs root bag library requests source =
-    Then (Compiles (TableGives root bag) root library requests) (IsSame source) (λ table. Reads (RunGives table) source)
+abbrev pub RunsLines : Form → Nodes → List Line → Outcome → Type 0
+RunsLines form table = ReadsLines (graph_inputs table) (λ every output. IsRunReport form table (graph_of every) output)

@@ -1,25 +1,74 @@
 //! What the words of a command line ask for.
 
-ghost use Rattle.std.specs.Prelude.{◌≡◌, [], ◌∷◌};
+ghost use Rattle.std.specs.Prelude.{◌≡◌, [], ◌∷◌, IfSome};
 ghost use Rattle.std.specs.Option.{option_map};
 ghost use Rattle.baggage_cli.specs.Commands as spec;
 
 use outside::Words;
 use std::num::NonZeroU32;
 
+/// The most rounds of a load.
+pub const ROUNDS_MAX: u32 = 1_000;
+
+/// Where a table comes from.
+#[derive(Clone, Copy, Debug)]
+pub enum Origin<'a> {
+    /// It is that of a bag of the definition whose root is this file.
+    Bag { file: &'a str, bag: &'a str },
+    /// It is the one whose text this file holds.
+    Printed { file: &'a str },
+}
+
+/// What is made of a table by itself.
+#[derive(Clone, Copy, Debug)]
+pub enum Product {
+    /// The line that says how many slots it has.
+    SlotLine,
+    /// Its text.
+    WholeText,
+}
+
+/// How a report is printed.
+#[derive(Clone, Copy, Debug)]
+pub enum Form {
+    /// As lines of text.
+    Text,
+    /// As JSON.
+    Json,
+}
+
+/// What is made of an input under a table.
+#[derive(Clone, Copy, Debug)]
+pub enum Purpose {
+    /// The block of the one line's context.
+    Decode,
+    /// The report of the graph that the lines say.
+    Run(Form),
+}
+
 /// A command with what it is asked for. The names stay in the words, so it takes no memory.
 #[derive(Clone, Copy, Debug)]
 pub enum Command<'a> {
     /// Cut one line of atoms to a budget of bytes.
-    Trim { budget: NonZeroU32 },
+    Trim {
+        budget: NonZeroU32,
+    },
     /// Merge the contexts of all lines.
     Merge,
-    /// Count the slots of a bag of the definition whose root is a file.
-    Check { file: &'a str, bag: &'a str },
-    /// Decode one line of a context under the table of such a bag.
-    Decode { file: &'a str, bag: &'a str },
-    /// Run a recorded graph under the table of such a bag.
-    Run { file: &'a str, bag: &'a str },
+    /// Run the load of so many rounds, at most [`ROUNDS_MAX`].
+    Load {
+        rounds: u32,
+    },
+    /// Make something of a table.
+    Build {
+        product: Product,
+        origin: Origin<'a>,
+    },
+    /// Make something of the input under a table.
+    Read {
+        purpose: Purpose,
+        origin: Origin<'a>,
+    },
 }
 
 /// A number from 1 to 4,294,967,295, without sign or leading zero.
@@ -37,7 +86,8 @@ fn read_number(word: &str) -> Option<u32>
 /// The command that one word asks for.
 #[tactic(auto, unfolding(crate::specs::Commands::command_of))]
 fn bare_command(name: &str) -> Option<Command<'static>>
-    ensures { option_map spec.task_of result ≡ spec.command_of (name.now ∷ []) }
+    ensures task { option_map spec.task_of result ≡ spec.command_of (name.now ∷ []) }
+    ensures range { IfSome result (λ command. spec.IsInRange (spec.task_of command)) }
 {
     match name {
         "merge" => Some(Command::Merge),
@@ -45,27 +95,74 @@ fn bare_command(name: &str) -> Option<Command<'static>>
     }
 }
 
-/// The command that a word asks for with a number.
-#[tactic(auto, unfolding(crate::specs::Commands::command_of))]
-fn numbered_command(name: &str, word: &str) -> Option<Command<'static>>
-    ensures { option_map spec.task_of result ≡ spec.command_of (name.now ∷ word.now ∷ []) }
+/// The command that cuts to the budget of this word.
+fn trim_command(word: &str) -> Option<Command<'static>>
+    ensures task { option_map spec.task_of result ≡ option_map spec.trim (spec.number_of word.now) }
+    ensures range { IfSome result (λ command. spec.IsInRange (spec.task_of command)) }
 {
-    if name != "trim" {
-        return None;
-    }
     let budget = NonZeroU32::new(read_number(word)?)?;
     Some(Command::Trim { budget })
+}
+
+/// The command that runs the load of so many rounds as this word says.
+fn load_command(word: &str) -> Option<Command<'static>>
+    ensures task { option_map spec.task_of result ≡ option_map spec.load (spec.rounds_of word.now) }
+    ensures range { IfSome result (λ command. spec.IsInRange (spec.task_of command)) }
+{
+    let rounds = read_number(word)?;
+    if ROUNDS_MAX < rounds {
+        return None;
+    }
+    Some(Command::Load { rounds })
+}
+
+/// The command that a word asks for with another.
+#[tactic(auto, unfolding(crate::specs::Commands::command_of))]
+fn numbered_command<'a>(name: &str, word: &'a str) -> Option<Command<'a>>
+    ensures task { option_map spec.task_of result ≡ spec.command_of (name.now ∷ word.now ∷ []) }
+    ensures range { IfSome result (λ command. spec.IsInRange (spec.task_of command)) }
+{
+    match name {
+        "trim" => trim_command(word),
+        "load" => load_command(word),
+        "runtable" => Some(Command::Read {
+            purpose: Purpose::Run(Form::Text),
+            origin: Origin::Printed { file: word },
+        }),
+        _ => None,
+    }
 }
 
 /// The command that a word asks for with a file and a bag.
 #[tactic(auto, unfolding(crate::specs::Commands::command_of))]
 fn definition_command<'a>(name: &str, file: &'a str, bag: &'a str) -> Option<Command<'a>>
-    ensures { option_map spec.task_of result ≡ spec.command_of (name.now ∷ file.now ∷ bag.now ∷ []) }
+    ensures task { option_map spec.task_of result ≡ spec.command_of (name.now ∷ file.now ∷ bag.now ∷ []) }
+    ensures range { IfSome result (λ command. spec.IsInRange (spec.task_of command)) }
 {
+    let origin = Origin::Bag { file, bag };
+    let (slots, text) = (Product::SlotLine, Product::WholeText);
+    let (lines, json) = (Purpose::Run(Form::Text), Purpose::Run(Form::Json));
     match name {
-        "check" => Some(Command::Check { file, bag }),
-        "decode" => Some(Command::Decode { file, bag }),
-        "run" => Some(Command::Run { file, bag }),
+        "check" => Some(Command::Build {
+            product: slots,
+            origin,
+        }),
+        "table" => Some(Command::Build {
+            product: text,
+            origin,
+        }),
+        "decode" => Some(Command::Read {
+            purpose: Purpose::Decode,
+            origin,
+        }),
+        "run" => Some(Command::Read {
+            purpose: lines,
+            origin,
+        }),
+        "runjson" => Some(Command::Read {
+            purpose: json,
+            origin,
+        }),
         _ => None,
     }
 }
@@ -73,7 +170,8 @@ fn definition_command<'a>(name: &str, file: &'a str, bag: &'a str) -> Option<Com
 /// The command that the words ask for; `None` where they have no form.
 #[tactic(auto, unfolding(crate::specs::Commands::command_of))]
 pub fn command_of(words: &Words) -> Option<Command<'_>>
-    ensures { option_map spec.task_of result ≡ spec.command_of words.now }
+    ensures task { option_map spec.task_of result ≡ spec.command_of words.now }
+    ensures range { IfSome result (λ command. spec.IsInRange (spec.task_of command)) }
 {
     let name = words.get(0)?.as_str();
     match words.len() {

@@ -1,20 +1,17 @@
-//! The command that decodes one line of a context under the table of a bag.
+//! The block of one line of a context, decoded under a table.
 
 ghost use Rattle.std.specs.Prelude.{◌≡◌, ◌⊎◌, [], ◌∷◌, IfOk, IfErr};
 ghost use Rattle.text_lines.specs.Lines.{lines_of};
 ghost use Rattle.text_lines.specs.Readings.{AllSay};
-ghost use Rattle.baggage_cli.specs.Scene.{change};
 ghost use Rattle.baggage_cli.specs.Outcomes.{outcome_of, OrMemory};
-ghost use Rattle.baggage_cli.specs.Reading.{Reads, only_one, RefusesOne, RefusesLine, typed_lines};
-ghost use Rattle.baggage_cli.specs.Decoding.{DecodesLines, DecodeGives, Decodes};
+ghost use Rattle.baggage_cli.specs.Reading.{only_one, RefusesOne, RefusesLine, typed_lines};
+ghost use Rattle.baggage_cli.specs.Decoding.{DecodesLines};
 
-use crate::reading::{end_lines, first_line, line_context, read_input};
+use crate::reading::{end_lines, first_line, line_context};
 use crate::refusals::{InputFault, Notice, Refusal};
 use atom_list::Context;
 use bag_typed::check_typed;
-use bdl_check::compile;
 use field_table::Table;
-use outside::{Library, Source};
 use report_text::block;
 use std::alloc::Global;
 use text_lines::{Line, lines_of};
@@ -54,39 +51,9 @@ fn only_context(alloc: Global, table: &Table, input: &[u8]) -> Result<Context, R
 }
 
 /// The block of the context of an input's one line.
-fn decoded_block(alloc: Global, table: &Table, input: &[u8]) -> Result<Vec<u8>, Refusal>
+pub fn decoded_block(alloc: Global, table: &Table, input: &[u8]) -> Result<Vec<u8>, Refusal>
     ensures { OrMemory (DecodesLines table.now (lines_of input.now)) (outcome_of result) }
 {
     let context = only_context(alloc, table, input)?;
     Ok(block(alloc, table, &context)?)
-}
-
-/// Reads the source to its end and answers the block of its context.
-fn decode_source<S: Source>(
-    alloc: Global,
-    table: &Table,
-    source: &mut S,
-) -> Result<Vec<u8>, Refusal>
-    ensures { Reads (DecodeGives table.now)
-        (change S.left S.faults source.old source.new) (outcome_of result) }
-{
-    let input = read_input(alloc, source)?;
-    decoded_block(alloc, table, input.as_slice())
-}
-
-/// Compiles a bag of the definition whose root is this file of the library, and answers the block of the source's context
-/// under its table. Where the definition is refused the source isn't read.
-pub fn decode_bag<L: Library, S: Source>(
-    alloc: Global,
-    library: &mut L,
-    source: &mut S,
-    file: &str,
-    bag: &str,
-) -> Result<Vec<u8>, Refusal>
-    ensures { Decodes file.now bag.now (change L.files L.faults library.old library.new)
-        (change L.asked L.faults library.old library.new)
-        (change S.left S.faults source.old source.new) (outcome_of result) }
-{
-    let table = compile(alloc, library, file, bag)?;
-    decode_source(alloc, &table, source)
 }

@@ -4,11 +4,11 @@ ghost use Rattle.std.specs.Prelude.{◌≡◌, Ok, string_bytes, MatchResult};
 ghost use Rattle.baggage_cli.specs.Scene.{change};
 ghost use Rattle.baggage_cli.specs.Delivery.{Tells, Notifies, Refuses, Delivers};
 
-use crate::refusals::{Notice, Refusal, definition_line};
+use crate::refusals::{Notice, Refusal, definition_line, table_line};
 use outside::{Failed, Memory, Sink, write_all};
 use std::alloc::Global;
 
-/// The status of a definition with a fault.
+/// The status of a definition, or of a printed table, with a fault.
 const DEFINITION_REFUSED: u8 = 1;
 
 /// Writes a line to the sink of errors. The answer is the line's status, or that of a sink that failed.
@@ -56,6 +56,10 @@ pub fn refuse<E: Sink>(alloc: Global, errs: &mut E, refusal: &Refusal) -> u8
             code,
         } => {
             let line = definition_line(alloc, file.as_str(), *line, *column, *code);
+            tell_in_full(errs, line, DEFINITION_REFUSED)
+        }
+        Refusal::Table { file, line, code } => {
+            let line = table_line(alloc, file.as_str(), *line, *code);
             tell_in_full(errs, line, DEFINITION_REFUSED)
         }
     }

@@ -2,26 +2,35 @@
 #![tactic(auto)]
 
 mod adapters;
+mod building;
 #[cfg(test)]
 mod check_tests;
-mod checking;
 mod commands;
 #[cfg(test)]
 mod decode_tests;
 mod decoding;
 mod delivery;
+#[cfg(test)]
+mod load_tests;
+mod loading;
 mod merging;
 #[cfg(test)]
 mod random_tests;
+#[cfg(test)]
+mod ranks_tests;
 mod reading;
 mod refusals;
 #[cfg(test)]
 mod run_tests;
 mod running;
 #[cfg(test)]
+mod table_tests;
+mod tables;
+#[cfg(test)]
 mod tests;
 mod top;
 mod trimming;
+mod under;
 
 use adapters::{FileLibrary, StreamSink, StreamSource, words_of};
 use outside::{Memory, Open, Words};

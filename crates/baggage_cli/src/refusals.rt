@@ -8,6 +8,7 @@ use graph_text::{GraphCode, GraphFault};
 use outside::{Memory, Text};
 use std::alloc::{AllocFailed, Global};
 use std::fmt;
+use table_text::TableCode;
 use text_lines::HexCode;
 use wire_bytes::ByteCode;
 
@@ -68,6 +69,12 @@ pub enum Refusal {
         line: u32,
         column: u32,
         code: DefCode,
+    },
+    /// A line of the text of a table is the first bad one.
+    Table {
+        file: Text,
+        line: u64,
+        code: TableCode,
     },
     /// Nothing that the input or the definition is to blame for.
     Plain(Notice),
@@ -206,6 +213,13 @@ pub fn definition_line(
     ensures { IfOk result (λ said. string_bytes said ≡ spec.definition_line file.now line column code) }
 {
     Ok(format!(in alloc; "definition {file} {line}:{column} {code}\n")?)
+}
+
+/// The line that says what is wrong with a printed table.
+pub fn table_line(alloc: Global, file: &str, line: u64, code: TableCode) -> Result<String, Memory>
+    ensures { IfOk result (λ said. string_bytes said ≡ spec.table_line file.now line code) }
+{
+    Ok(format!(in alloc; "definition {file} {line}:1 {code}\n")?)
 }
 
 impl Notice {

@@ -15,13 +15,13 @@ use std::test::Fail;
 use std::thread::Threads;
 
 mod refusals;
-mod reports;
+pub mod reports;
 
 /// The words that run a graph under the bag of a request.
 const RUN: &str = "run q.bdl Req";
 
 /// A library with all definitions.
-fn definitions(alloc: Global) -> Result<SureLibrary, Fail> {
+pub fn definitions(alloc: Global) -> Result<SureLibrary, Fail> {
     let mut library = SureLibrary::new(alloc);
     library.add("q.bdl", request())?;
     for line in FILES.lines() {
@@ -33,7 +33,7 @@ fn definitions(alloc: Global) -> Result<SureLibrary, Fail> {
 }
 
 /// The text of a graph whose lines are joined by ` / `.
-fn graph(alloc: Global, joined: &str) -> Result<String, Fail> {
+pub fn graph(alloc: Global, joined: &str) -> Result<String, Fail> {
     let mut text = String::new(alloc);
     for line in joined.split(" / ") {
         text.push_str(line)?;
@@ -44,13 +44,13 @@ fn graph(alloc: Global, joined: &str) -> Result<String, Fail> {
 
 /// What the program must answer: its output with status 0, and the line of the refusal otherwise.
 #[derive(Clone, Copy)]
-struct Wanted<'a> {
-    status: u8,
-    text: &'a str,
+pub struct Wanted<'a> {
+    pub status: u8,
+    pub text: &'a str,
 }
 
 /// Calls the program over a graph and compares its answer. It reads the source to its end.
-fn answers<R: Abort + Threads + Sync, L: Library>(
+pub fn answers<R: Abort + Threads + Sync, L: Library>(
     rt: &R,
     alloc: Global,
     library: &mut L,
@@ -258,7 +258,7 @@ fn lines_may_end_in_carriage_returns(rt: HostRuntime) -> Result<(), Fail> {
 }
 
 /// Answers what the program writes with status 0.
-fn output_of<R: Abort + Threads + Sync>(
+pub fn output_of<R: Abort + Threads + Sync>(
     rt: &R,
     alloc: Global,
     words: &str,

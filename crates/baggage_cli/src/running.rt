@@ -1,52 +1,60 @@
-//! The command that runs a recorded graph under the table of a bag.
+//! The report of a recorded graph, run under a table.
 
+ghost use Rattle.std.specs.Prelude.{◌≡◌, ◌<◌, ℕ, length, IfOk};
 ghost use Rattle.text_lines.specs.Lines.{lines_of};
-ghost use Rattle.baggage_cli.specs.Scene.{change};
+ghost use Rattle.trace_model.specs.Graphs.{IsTypedContext};
+ghost use Rattle.trace_model.specs.Runs.{list_at};
+ghost use Rattle.baggage_cli.specs.Commands.{form_of};
 ghost use Rattle.baggage_cli.specs.Outcomes.{outcome_of, OrMemory};
-ghost use Rattle.baggage_cli.specs.Reading.{Reads};
-ghost use Rattle.baggage_cli.specs.Running.{RunsLines, RunGives, Runs};
+ghost use Rattle.baggage_cli.specs.Running.{IsReportAs, RunsLines};
 
-use crate::reading::read_input;
+use crate::commands::Form;
 use crate::refusals::Refusal;
-use bdl_check::compile;
+use atom_list::Context;
 use field_table::Table;
 use graph_report::report;
-use graph_runner::run_all;
 use graph_text::read_graph;
-use outside::{Library, Source};
+use outside::{Gate, Memory};
+use par_ranks::run_ranks;
+use recorded_graph::Graph;
+use report_json::report_json;
 use std::alloc::Global;
+use std::thread::Threads;
 
-/// The report of the graph that an input says under the table.
-fn run_report(alloc: Global, table: &Table, input: &[u8]) -> Result<Vec<u8>, Refusal>
-    ensures { OrMemory (RunsLines table.now (lines_of input.now)) (outcome_of result) }
+/// The report of the shown steps of a graph whose steps have these lists.
+fn report_as(
+    alloc: Global,
+    form: Form,
+    table: &Table,
+    graph: &Graph,
+    lists: &[Context],
+) -> Result<Vec<u8>, Memory>
+    requires as_many { length lists.now ≡ length graph.now.steps }
+    requires typed { (n : ℕ) → n < length lists.now → IsTypedContext table.now (list_at lists.now n) }
+    ensures { IfOk result (λ text. IsReportAs (form_of form) table.now lists.now graph.now.shows text.items) }
+{
+    match form {
+        Form::Text => report(alloc, table, graph, lists),
+        Form::Json => {
+            let mut text = report_json(alloc, table, graph, lists)?;
+            text.push(b'\n')?;
+            Ok(text)
+        }
+    }
+}
+
+/// The report of the graph that an input says under the table. Its steps pass the gate before they are run.
+pub fn run_report<R: Threads + Sync, G: Gate>(
+    rt: &R,
+    alloc: Global,
+    gate: &G,
+    form: Form,
+    table: &Table,
+    input: &[u8],
+) -> Result<Vec<u8>, Refusal>
+    ensures { OrMemory (RunsLines (form_of form) table.now (lines_of input.now)) (outcome_of result) }
 {
     let graph = read_graph(alloc, table, input)?;
-    let lists = run_all(alloc, table, &graph)?;
-    Ok(report(alloc, table, &graph, lists.as_slice())?)
-}
-
-/// Reads the source to its end and answers the report of its graph.
-fn run_source<S: Source>(alloc: Global, table: &Table, source: &mut S) -> Result<Vec<u8>, Refusal>
-    ensures { Reads (RunGives table.now)
-        (change S.left S.faults source.old source.new) (outcome_of result) }
-{
-    let input = read_input(alloc, source)?;
-    run_report(alloc, table, input.as_slice())
-}
-
-/// Compiles a bag of the definition whose root is this file of the library, and answers the report of the source's graph, run
-/// under its table. Where the definition is refused the source isn't read.
-pub fn run_bag<L: Library, S: Source>(
-    alloc: Global,
-    library: &mut L,
-    source: &mut S,
-    file: &str,
-    bag: &str,
-) -> Result<Vec<u8>, Refusal>
-    ensures { Runs file.now bag.now (change L.files L.faults library.old library.new)
-        (change L.asked L.faults library.old library.new)
-        (change S.left S.faults source.old source.new) (outcome_of result) }
-{
-    let table = compile(alloc, library, file, bag)?;
-    run_source(alloc, &table, source)
+    let lists = run_ranks(rt, alloc, gate, table, &graph)?;
+    Ok(report_as(alloc, form, table, &graph, lists.as_slice())?)
 }

@@ -2,7 +2,7 @@
 
 use crate::top::baggage_top;
 use outside::{
-    Library, MemorySink, MemorySource, Open, SureLibrary, SureSink, SureSource, Text, Words,
+    Gate, Library, MemorySink, MemorySource, Open, SureLibrary, SureSink, SureSource, Text, Words,
     read_all,
 };
 use std::alloc::Global;
@@ -45,6 +45,18 @@ pub fn call<R: Abort + Threads + Sync, L: Library>(
     library: &mut L,
     streams: Streams,
 ) -> Result<Came, Fail> {
+    call_through(rt, alloc, &Open, line, library, streams)
+}
+
+/// Calls the program, whose steps pass this gate.
+pub fn call_through<R: Abort + Threads + Sync, G: Gate, L: Library>(
+    rt: &R,
+    alloc: Global,
+    gate: &G,
+    line: &str,
+    library: &mut L,
+    streams: Streams,
+) -> Result<Came, Fail> {
     let words = words_of(alloc, line)?;
     let Streams {
         mut source,
@@ -54,7 +66,7 @@ pub fn call<R: Abort + Threads + Sync, L: Library>(
     let status = baggage_top(
         rt,
         alloc,
-        &Open,
+        gate,
         &words,
         library,
         &mut source,
@@ -347,7 +359,15 @@ fn refuses_words_without_a_form(rt: HostRuntime) -> Result<(), Fail> {
         "trim ten",
         "Trim 10",
         "--help",
+        "load",
+        "load 0",
+        "load 01",
         "load 1001",
+        "load 1 1",
+        "table q.bdl",
+        "runjson q.bdl",
+        "runtable",
+        "runtable t q.bdl",
         "run q.bdl",
         "check",
         "check f.bdl",

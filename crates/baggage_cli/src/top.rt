@@ -1,6 +1,6 @@
 //! The one call that does all that the program does.
 
-ghost use Rattle.std.specs.Prelude.{◌≡◌, ◌≢◌, ◌⊎◌, ℕ, ◌+◌, ◌≤◌, List, Some, None, Err, length, drop};
+ghost use Rattle.std.specs.Prelude.{◌≡◌, ◌≢◌, ◌⊎◌, ℕ, ◌+◌, ◌≤◌, List, [], ◌∷◌, ◌++◌, Some, None, Err, length, drop};
 ghost use Rattle.std.specs.Io.KnownBytes.{Appends, IsAtEnd};
 ghost use Rattle.outside.specs.Causes.{Rose};
 ghost use Rattle.outside.specs.Told.{Asks};
@@ -8,43 +8,48 @@ ghost use Rattle.context_model.specs.Framing.{bytes_of};
 ghost use Rattle.context_model.specs.Merged.{IsMerged};
 ghost use Rattle.bag_model.specs.Shapes.{Nodes};
 ghost use Rattle.bag_model.specs.Slots.{slots_of};
-ghost use Rattle.bdl_load.specs.declared.faults.Fault.{Fault};
-ghost use Rattle.bdl_load.specs.Loading.{Holding, AsksAll};
-ghost use Rattle.bdl_check.specs.Definitions.{IsTableOf, IsFirstFaultOf};
+ghost use Rattle.bdl_load.specs.Loading.{Holding};
+ghost use Rattle.bdl_check.specs.Definitions.{IsTableOf};
 ghost use Rattle.report_text.specs.Blocks.{IsBlock};
 ghost use Rattle.trace_model.specs.Graphs.{Graph};
 ghost use Rattle.trace_model.specs.Runs.{Lists, IsRun};
 ghost use Rattle.graph_report.specs.Reports.{IsReport};
+ghost use Rattle.report_json.specs.JsonReports.{IsJsonReport};
+ghost use Rattle.load_maker.specs.Loads.{load_table, load_text};
+ghost use Rattle.table_text.specs.TableTexts.{table_text};
 ghost use Rattle.graph_text.specs.GraphLines.{IsGraphOf};
 ghost use Rattle.text_lines.specs.declared.TheConstants.{INPUT_MAX};
 ghost use Rattle.text_lines.specs.HexLines.{hex_line};
-ghost use Rattle.baggage_cli.specs.Commands.{Task, task_of, command_of, ReadsSource, FetchesFiles, NamesBag};
-ghost use Rattle.baggage_cli.specs.Commands.Task.{trim, merge, check, decode, run};
-ghost use Rattle.baggage_cli.specs.Refusals.{input_status, input_line, notice_line, line_of, blamed};
+ghost use Rattle.baggage_cli.specs.Commands.{Task, Origin, task_of, command_of, trim, merge, load, check, print, decode, run, run_json, run_table, ReadsSource, FetchesFiles, TakesTable, IsInRange};
+ghost use Rattle.baggage_cli.specs.Refusals.{input_status, input_line, notice_line, line_of};
 ghost use Rattle.baggage_cli.specs.Scene.{change, scene_of, HasNoFault};
 ghost use Rattle.baggage_cli.specs.Laws.{Laws};
 ghost use Rattle.baggage_cli.specs.Outcomes.{outcome_of};
 ghost use Rattle.baggage_cli.specs.Trimming.{trimmed_line};
-ghost use Rattle.baggage_cli.specs.Checking.{ok_line};
+ghost use Rattle.baggage_cli.specs.Building.{ok_line};
+ghost use Rattle.baggage_cli.specs.Loading.{load_heading};
 ghost use Rattle.baggage_cli.specs.Running.{ShowsTruth};
-ghost use Rattle.baggage_cli.specs.Top.{TellsFiles, InputGives, Comes, Answers, IsFailure};
-ghost use Rattle.baggage_cli.specs.Top.{SaysList, SaysContexts, SaysTyped, Accepts};
+ghost use Rattle.baggage_cli.specs.Tables.{IsPrinted, TableGives, AsksNames};
+ghost use Rattle.baggage_cli.specs.Top.{TellsFiles, InputGives, Comes, Answers, SaysList, SaysContexts, Accepts, IsFailure};
+ghost use Rattle.baggage_cli.specs.Under.{SaysTyped};
 
-use crate::checking::check_bag;
+use crate::building::build;
 use crate::commands::{Command, command_of};
-use crate::decoding::decode_bag;
 use crate::delivery::{deliver, notify, refuse};
+use crate::loading::run_load;
 use crate::merging::merge_source;
 use crate::refusals::{InputFault, Notice, Refusal};
-use crate::running::run_bag;
 use crate::trimming::trim_source;
+use crate::under::read_under;
 use bdl_check::laws;
 use graph_report::laws::lists_have_one_report;
 use graph_text::laws::{lines_are_definite, texts_give_recorded_graphs};
 use outside::{Gate, Library, Sink, Source, Words};
+use report_json::laws::lists_have_one_json_report;
 use report_text::laws::lists_have_one_block;
 use std::alloc::Global;
 use std::thread::Threads;
+use table_text::laws::{printed_texts_have_no_fault, texts_have_one_fault, texts_have_one_table};
 use trace_model::laws::{graphs_have_one_run, shown_values_are_honest};
 
 /// Tells that a definition has one table or one first fault, a list one block, and a text one graph or one first fault; and
@@ -56,21 +61,28 @@ fn tell_laws()
     laws::tables_exclude_faults();
     laws::faults_are_unique();
     laws::definitions_give_tables();
+    texts_have_one_table();
+    printed_texts_have_no_fault();
+    texts_have_one_fault();
     lists_have_one_block();
     lines_are_definite();
     texts_give_recorded_graphs();
     graphs_have_one_run();
     lists_have_one_report();
+    lists_have_one_json_report();
     shown_values_are_honest();
 }
 
 /// Carries a command out: its output, or why there is none.
-fn carry_out<L: Library, S: Source>(
+fn carry_out<R: Threads + Sync, G: Gate, L: Library, S: Source>(
+    rt: &R,
     alloc: Global,
+    gate: &G,
     command: Command<'_>,
     library: &mut L,
     source: &mut S,
 ) -> Result<Vec<u8>, Refusal>
+    requires { IsInRange (task_of command) }
     ensures { Comes (task_of command.entry) (change L.files L.faults library.old library.new)
         (change L.asked L.faults library.old library.new)
         (change S.left S.faults source.old source.new) (outcome_of result) }
@@ -78,15 +90,19 @@ fn carry_out<L: Library, S: Source>(
     match command {
         Command::Trim { budget } => trim_source(alloc, source, budget),
         Command::Merge => merge_source(alloc, source),
-        Command::Check { file, bag } => check_bag(alloc, library, file, bag),
-        Command::Decode { file, bag } => decode_bag(alloc, library, source, file, bag),
-        Command::Run { file, bag } => run_bag(alloc, library, source, file, bag),
+        Command::Load { rounds } => run_load(rt, alloc, gate, rounds),
+        Command::Build { product, origin } => build(alloc, library, product, origin),
+        Command::Read { purpose, origin } => {
+            read_under(rt, alloc, gate, library, source, purpose, origin)
+        }
     }
 }
 
 /// Decides the words, carries their command out and delivers what it comes to.
-fn answer_words<L: Library, S: Source, K: Sink, E: Sink>(
+fn answer_words<R: Threads + Sync, G: Gate, L: Library, S: Source, K: Sink, E: Sink>(
+    rt: &R,
     alloc: Global,
+    gate: &G,
     words: &Words,
     library: &mut L,
     source: &mut S,
@@ -103,7 +119,7 @@ fn answer_words<L: Library, S: Source, K: Sink, E: Sink>(
     let Some(command) = command_of(words) else {
         return notify(errs, Notice::WordsRefused);
     };
-    match carry_out(alloc, command, library, source) {
+    match carry_out(rt, alloc, gate, command, library, source) {
         Ok(output) => deliver(out, errs, output.as_slice()),
         Err(refusal) => refuse(alloc, errs, &refusal),
     }
@@ -122,9 +138,9 @@ fn answer_words<L: Library, S: Source, K: Sink, E: Sink>(
 /// reads a recorded graph from the source, line by line, runs it under the table, and writes the report: the number and the
 /// block of each step that the graph shows. Where the definition is refused the source isn't read.
 pub fn baggage_top<R: Threads + Sync, G: Gate, L: Library, S: Source, K: Sink, E: Sink>(
-    _rt: &R,
+    rt: &R,
     alloc: Global,
-    _gate: &G,
+    gate: &G,
     words: &Words,
     library: &mut L,
     source: &mut S,
@@ -152,6 +168,10 @@ pub fn baggage_top<R: Threads + Sync, G: Gate, L: Library, S: Source, K: Sink, E
         → command_of words.now ≡ Some (check file bag) → L.files library.old ≡ Some held → result ≡ 0
         → (table : Nodes) × IsTableOf held file bag table
         × Appends (K.written out.old) (K.written out.new) (ok_line (length (slots_of table))) }
+    ensures table { (file bag : List ℕ) (held : Holding)
+        → command_of words.now ≡ Some (print file bag) → L.files library.old ≡ Some held → result ≡ 0
+        → (table : Nodes) × IsTableOf held file bag table
+        × Appends (K.written out.old) (K.written out.new) (table_text table) }
     ensures decode { (file bag : List ℕ) (held : Holding) (table : Nodes) (input : List ℕ) (list : List (List ℕ))
         → command_of words.now ≡ Some (decode file bag) → L.files library.old ≡ Some held
         → IsTableOf held file bag table → S.left source.old ≡ Some input
@@ -166,10 +186,32 @@ pub fn baggage_top<R: Threads + Sync, G: Gate, L: Library, S: Source, K: Sink, E
         × IsRun table graph lists × IsReport table lists graph.shows text
         × ShowsTruth table graph lists
         × Appends (K.written out.old) (K.written out.new) text }
-    ensures fetched { (task : Task) (file bag : List ℕ) (held : Holding)
-        → command_of words.now ≡ Some task → NamesBag task file bag
+    ensures runtable { (file : List ℕ) (held : Holding) (input : List ℕ)
+        → command_of words.now ≡ Some (run_table file) → L.files library.old ≡ Some held
+        → S.left source.old ≡ Some input → result ≡ 0
+        → (table : Nodes) × (graph : Graph) × (lists : Lists) × (text : List ℕ)
+        × IsPrinted (held file) table × IsGraphOf table input graph
+        × IsRun table graph lists × IsReport table lists graph.shows text
+        × ShowsTruth table graph lists
+        × Appends (K.written out.old) (K.written out.new) text }
+    ensures runjson { (file bag : List ℕ) (held : Holding) (input : List ℕ)
+        → command_of words.now ≡ Some (run_json file bag) → L.files library.old ≡ Some held
+        → S.left source.old ≡ Some input → result ≡ 0
+        → (table : Nodes) × (graph : Graph) × (lists : Lists) × (text : List ℕ)
+        × IsTableOf held file bag table × IsGraphOf table input graph
+        × IsRun table graph lists × IsJsonReport table lists graph.shows text
+        × ShowsTruth table graph lists
+        × Appends (K.written out.old) (K.written out.new) (text ++ 10 ∷ []) }
+    ensures load { (rounds : ℕ) → command_of words.now ≡ Some (load rounds) → result ≡ 0
+        → (graph : Graph) × (lists : Lists) × (text : List ℕ)
+        × IsGraphOf load_table (load_text rounds) graph
+        × IsRun load_table graph lists × IsReport load_table lists graph.shows text
+        × ShowsTruth load_table graph lists
+        × Appends (K.written out.old) (K.written out.new) (load_heading rounds ++ text) }
+    ensures fetched { (task : Task) (origin : Origin) (held : Holding)
+        → command_of words.now ≡ Some task → TakesTable task origin
         → L.files library.old ≡ Some held → result ≤ 3
-        → (names : List (List ℕ)) × AsksAll held file names
+        → (names : List (List ℕ)) × AsksNames held origin names
         × Asks names (L.asked library.old) (L.asked library.new) }
 
     // What holds of the objects.
@@ -194,16 +236,16 @@ pub fn baggage_top<R: Threads + Sync, G: Gate, L: Library, S: Source, K: Sink, E
     ensures errs_steady { result ≡ 0 → E.faults errs.new ≡ E.faults errs.old }
     ensures errs { result ≡ 0 → E.written errs.new ≡ E.written errs.old }
 
-    // A definition's first fault is status 1 with its line, unless the world outside or memory failed.
+    // What is first wrong with where the table comes from is status 1 with its line, unless the world outside or memory failed.
     ensures definition { (task : Task) (held : Holding) → command_of words.now ≡ Some task
         → L.files library.old ≡ Some held → result ≡ 1
-        → (file : List ℕ) × (bag : List ℕ) × (fault : Fault)
-        × NamesBag task file bag × IsFirstFaultOf held file bag fault
-        × Appends (E.written errs.old) (E.written errs.new) (line_of (blamed fault)) }
-    ensures fault { (task : Task) (file bag : List ℕ) (held : Holding) (fault : Fault)
-        → command_of words.now ≡ Some task → NamesBag task file bag
-        → L.files library.old ≡ Some held → IsFirstFaultOf held file bag fault
-        → ((result ≡ 1) × Appends (E.written errs.old) (E.written errs.new) (line_of (blamed fault)))
+        → (origin : Origin) × (refusal : Refusal)
+        × TakesTable task origin × TableGives origin held (Err refusal)
+        × Appends (E.written errs.old) (E.written errs.new) (line_of refusal) }
+    ensures fault { (task : Task) (origin : Origin) (held : Holding) (refusal : Refusal)
+        → command_of words.now ≡ Some task → TakesTable task origin
+        → L.files library.old ≡ Some held → TableGives origin held (Err refusal)
+        → ((result ≡ 1) × Appends (E.written errs.old) (E.written errs.new) (line_of refusal))
         ⊎ IsFailure result }
 
     // What is wrong with an input is status 2 or 3 with its line, unless the same failed.
@@ -246,5 +288,5 @@ pub fn baggage_top<R: Threads + Sync, G: Gate, L: Library, S: Source, K: Sink, E
 {
     // Only the proof needs it.
     tell_laws();
-    answer_words(alloc, words, library, source, out, errs)
+    answer_words(rt, alloc, gate, words, library, source, out, errs)
 }

@@ -13,5 +13,5 @@ returns-in-Err g c =
     (change g.S.Source.left g.S.Source.faults c.args.source.now c.carry_out.new.source)
     (change g.K.Sink.written g.K.Sink.faults c.args.out.now c.args.out.now)
     (change g.E.Sink.written g.E.Sink.faults c.args.errs.now c.refuse.new.errs) in
-    subst (λ asked. Answers asked scene c.refuse.result) c.in-Some.ensures
+    subst (λ asked. Answers asked scene c.refuse.result) c.in-Some.ensures.task
     (refused (task_of c.in-Some.command) scene c.in-Err.refusal c.refuse.result c.in-Err.ensures (refl, refl) c.refuse.ensures)

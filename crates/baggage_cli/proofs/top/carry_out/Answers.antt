@@ -5,23 +5,16 @@ use Rattle.baggage_cli.specs.Scene.{change}
 use Rattle.baggage_cli.specs.Top.{Comes}
 use Rattle.baggage_cli.proofs.top.carry_out.Goals as goal
 
-pub returns-in-Check : goal.returns-in-Check
-returns-in-Check g c =
-    let library = change g.L.Library.files g.L.Library.faults c.args.library.now c.check_bag.new.library in
-    let requests = change g.L.Library.asked g.L.Library.faults c.args.library.now c.check_bag.new.library in
+pub returns-in-Build : goal.returns-in-Build
+returns-in-Build g c =
+    let library = change g.L.Library.files g.L.Library.faults c.args.library.now c.build.new.library in
+    let requests = change g.L.Library.asked g.L.Library.faults c.args.library.now c.build.new.library in
     let source = change g.S.Source.left g.S.Source.faults c.args.source.now c.args.source.now in
-    subst (λ command. Comes (task_of command) library requests source (outcome_of c.check_bag.result)) (sym c.in-Check.is) ((refl, refl), c.check_bag.ensures)
+    subst (λ command. Comes (task_of command) library requests source (outcome_of c.build.result)) (sym c.in-Build.is) ((refl, refl), c.build.ensures)
 
-pub returns-in-Decode : goal.returns-in-Decode
-returns-in-Decode g c =
-    let library = change g.L.Library.files g.L.Library.faults c.args.library.now c.decode_bag.new.library in
-    let requests = change g.L.Library.asked g.L.Library.faults c.args.library.now c.decode_bag.new.library in
-    let source = change g.S.Source.left g.S.Source.faults c.args.source.now c.decode_bag.new.source in
-    subst (λ command. Comes (task_of command) library requests source (outcome_of c.decode_bag.result)) (sym c.in-Decode.is) c.decode_bag.ensures
-
-pub returns-in-Run : goal.returns-in-Run
-returns-in-Run g c =
-    let library = change g.L.Library.files g.L.Library.faults c.args.library.now c.run_bag.new.library in
-    let requests = change g.L.Library.asked g.L.Library.faults c.args.library.now c.run_bag.new.library in
-    let source = change g.S.Source.left g.S.Source.faults c.args.source.now c.run_bag.new.source in
-    subst (λ command. Comes (task_of command) library requests source (outcome_of c.run_bag.result)) (sym c.in-Run.is) c.run_bag.ensures
+pub returns-in-Read : goal.returns-in-Read
+returns-in-Read g c =
+    let library = change g.L.Library.files g.L.Library.faults c.args.library.now c.read_under.new.library in
+    let requests = change g.L.Library.asked g.L.Library.faults c.args.library.now c.read_under.new.library in
+    let source = change g.S.Source.left g.S.Source.faults c.args.source.now c.read_under.new.source in
+    subst (λ command. Comes (task_of command) library requests source (outcome_of c.read_under.result)) (sym c.in-Read.is) c.read_under.ensures

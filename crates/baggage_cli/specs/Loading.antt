@@ -1,0 +1,23 @@
+-- What a load comes to.
+use Rattle.std.specs.Prelude.{◌≡◌, ℕ, ◌+◌, ◌*◌, List, ◌++◌, codes, Ok}
+use Rattle.std.specs.Fmt.{decimal}
+use Rattle.trace_model.specs.Graphs.{Graph}
+use Rattle.graph_text.specs.GraphLines.{IsGraphOf}
+use Rattle.load_maker.specs.Loads.{load_table, load_text}
+use Rattle.baggage_cli.specs.Commands.{as_lines}
+use Rattle.baggage_cli.specs.Outcomes.{Outcome, OrMemory}
+use Rattle.baggage_cli.specs.Running.{IsRunReport}
+
+-- The lines before the report: how many rounds there are, and how many steps.
+abbrev pub load_heading : ℕ → List ℕ
+load_heading rounds = codes "load " ++ decimal rounds ++ codes "\nsteps " ++ decimal (42 * rounds + 1) ++ codes "\n"
+
+-- The output is these lines, and the report of the graph that the load's text says, run under the load's table.
+abbrev pub IsLoadOutput : ℕ → List ℕ → Type 0
+IsLoadOutput rounds output =
+    (graph : Graph) × (report : List ℕ) × IsGraphOf load_table (load_text rounds) graph
+    × IsRunReport as_lines load_table graph report × (output ≡ load_heading rounds ++ report)
+
+-- The load is run, or memory is wanting for it.
+abbrev pub LoadGives : ℕ → Outcome → Type 0
+LoadGives rounds = OrMemory (λ outcome. (output : List ℕ) × IsLoadOutput rounds output × (outcome ≡ Ok output))

@@ -1,0 +1,76 @@
+-- What the files of a library come to as a table.
+use Rattle.std.specs.Prelude.{◌≡◌, ◌⊎◌, ℕ, ◌<◌, ◌≤◌, List, [], ◌∷◌, length, Option, Some, None, Result, Ok, Err}
+use Rattle.bag_model.specs.Shapes.{Nodes}
+use Rattle.bag_model.specs.Tables.{IsTable}
+use Rattle.bdl_lexer.specs.declared.TheConstants.{MAX_SOURCE}
+use Rattle.bdl_load.specs.declared.faults.DefCode.TheVariants.{NoFile, DefTooLong}
+use Rattle.bdl_load.specs.declared.faults.Fault.{Fault}
+use Rattle.bdl_load.specs.Loading.{Holding, OfLibrary, AsksAll, AsksFirst}
+use Rattle.bdl_check.specs.Definitions.{IsTableOf, IsFirstFaultOf}
+use Rattle.table_text.specs.declared.faults.TableCode.{TableCode}
+use Rattle.table_text.specs.TableFaults.{IsTableFault}
+use Rattle.table_text.specs.TableTexts.{table_text}
+use Rattle.baggage_cli.specs.declared.refusals.Notice.TheVariants.{LibraryFailed, Memory}
+use Rattle.baggage_cli.specs.declared.refusals.Refusal.{Refusal}
+use Rattle.baggage_cli.specs.declared.refusals.Refusal.TheVariants.{Definition, Table, Plain}
+use Rattle.baggage_cli.specs.Commands.{Origin, compiled, printed}
+use Rattle.baggage_cli.specs.Refusals.{blamed}
+use Rattle.baggage_cli.specs.Scene.{Change, NeverFell, HasFailed}
+
+-- What a file holds is the text of this table, and not too long.
+abbrev pub IsPrinted : Option (List ℕ) → Nodes → Type 0
+IsPrinted None table = ⊥
+IsPrinted (Some text) table = (length text ≤ MAX_SOURCE) × IsTable table × (text ≡ table_text table)
+
+-- Why the file of this name, which holds this, has no table: there is none, it is too long, or a line of it is the first bad one.
+abbrev pub IsUnprinted : List ℕ → Option (List ℕ) → Refusal → Type 0
+IsUnprinted file None refusal = refusal ≡ Definition file 1 1 NoFile
+IsUnprinted file (Some text) refusal =
+    ((MAX_SOURCE < length text) × (refusal ≡ Definition file 1 1 DefTooLong))
+    ⊎ ((length text ≤ MAX_SOURCE)
+    × ((line : ℕ) × (code : TableCode) × IsTableFault text line code × (refusal ≡ Table file line code)))
+
+-- What a file gives as a table.
+abbrev pub PrintedGives : List ℕ → Option (List ℕ) → Result Nodes Refusal → Type 0
+PrintedGives file content (Ok table) = IsPrinted content table
+PrintedGives file content (Err refusal) = IsUnprinted file content refusal
+
+-- What files give where a table comes from there: the table, or what is first wrong with its definition or its text.
+abbrev pub TableGives : Origin → Holding → Result Nodes Refusal → Type 0
+TableGives (compiled file bag) held (Ok table) = IsTableOf held file bag table
+TableGives (compiled file bag) held (Err refusal) =
+    (fault : Fault) × IsFirstFaultOf held file bag fault × (refusal ≡ blamed fault)
+TableGives (printed file) held (Ok table) = IsPrinted (held file) table
+TableGives (printed file) held (Err refusal) = IsUnprinted file (held file) refusal
+
+-- All names that are asked for, in order.
+abbrev pub AsksNames : Holding → Origin → List (List ℕ) → Type 0
+AsksNames held (compiled file bag) names = AsksAll held file names
+AsksNames held (printed file) names = names ≡ file ∷ []
+
+-- The first of them.
+abbrev pub AsksFront : Holding → Origin → List (List ℕ) → Type 0
+AsksFront held (compiled file bag) names = AsksFirst held file names
+AsksFront held (printed file) names = names ≡ file ∷ []
+
+-- It is so of the files of the library, which was asked for all names that the table needs, and for no others.
+abbrev pub CameFrom : Origin → Change Holding → Change (List (List ℕ)) → (Holding → Type 0) → Type 0
+CameFrom origin library requests Holds =
+    OfLibrary library.before requests.before requests.after (λ held names. Holds held × AsksNames held origin names)
+
+-- The library was asked for the first names that the table needs.
+abbrev pub AsksSome : Origin → Change Holding → Change (List (List ℕ)) → Type 0
+AsksSome origin library requests =
+    OfLibrary library.before requests.before requests.after (λ held names. AsksFront held origin names)
+
+-- A table is taken from there, and the files stay. Memory may be wanting, and a library that failed has its cause; then the
+-- library was asked for the first names that the table needs. Otherwise it is what is given for the files of the library,
+-- which was asked for all of them and for no others. A library that doesn't tell held some files, and was asked for some
+-- names, for which it is so.
+abbrev pub Obtains : Origin → Change Holding → Change (List (List ℕ)) → Result Nodes Refusal → Type 0
+Obtains origin library requests outcome =
+    (library.after ≡ library.before)
+    × NeverFell library
+    × (((outcome ≡ Err (Plain Memory)) × AsksSome origin library requests)
+    ⊎ ((outcome ≡ Err (Plain LibraryFailed)) × HasFailed library × AsksSome origin library requests)
+    ⊎ CameFrom origin library requests (λ held. TableGives origin held outcome))

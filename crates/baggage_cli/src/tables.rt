@@ -1,0 +1,77 @@
+//! Tables, taken from where they come.
+
+ghost use Rattle.std.specs.Prelude.{◌≡◌, ◌⊎◌, ℕ, Some, Err, IfOk};
+ghost use Rattle.baggage_cli.specs.Commands.{origin_of, printed};
+ghost use Rattle.baggage_cli.specs.Scene.{change};
+ghost use Rattle.baggage_cli.specs.Tables.{PrintedGives, Obtains};
+
+use crate::commands::Origin;
+use crate::refusals::{Notice, Refusal};
+use bdl_check::{DefCode, compile};
+use bdl_lexer::MAX_SOURCE;
+use field_table::Table;
+use outside::{Library, LibraryFault, Memory, Text};
+use std::alloc::Global;
+use table_text::{TableFault, read_table};
+
+/// The refusal of a file as a whole.
+fn refused_file(alloc: Global, file: &str, code: DefCode) -> Result<Refusal, Memory>
+    ensures { IfOk result (λ refusal. refusal ≡ Refusal.Definition file.now 1 1 code) }
+{
+    let file = Text::of(alloc, file)?;
+    Ok(Refusal::Definition {
+        file,
+        line: 1,
+        column: 1,
+        code,
+    })
+}
+
+/// The table whose text the file of this name holds.
+fn table_in(alloc: Global, file: &str, text: &[u8]) -> Result<Table, Refusal>
+    ensures { (result ≡ Err (Refusal.Plain Notice.Memory)) ⊎ PrintedGives file.now (Some text.now) result }
+{
+    if MAX_SOURCE < text.len() {
+        return Err(refused_file(alloc, file, DefCode::DefTooLong)?);
+    }
+    match read_table(alloc, text) {
+        Ok(table) => {
+            // The proof learns here that it is a table.
+            let _ = table.nodes();
+            Ok(table)
+        }
+        Err(TableFault::At { line, code }) => {
+            let file = Text::of(alloc, file)?;
+            Err(Refusal::Table { file, line, code })
+        }
+        Err(TableFault::Memory) => Err(Refusal::Plain(Notice::Memory)),
+    }
+}
+
+/// The table whose text this file of the library holds.
+fn read_printed<L: Library>(alloc: Global, library: &mut L, file: &str) -> Result<Table, Refusal>
+    ensures { Obtains (printed file.now) (change L.files L.faults library.old library.new)
+        (change L.asked L.faults library.old library.new) result }
+{
+    match library.fetch(alloc, file) {
+        Ok(Some(text)) => table_in(alloc, file, text.as_slice()),
+        Ok(None) => Err(refused_file(alloc, file, DefCode::NoFile)?),
+        Err(LibraryFault::Failed) => Err(Refusal::Plain(Notice::LibraryFailed)),
+        Err(LibraryFault::Memory) => Err(Refusal::Plain(Notice::Memory)),
+    }
+}
+
+/// The table that comes from there, with files of the library.
+pub fn obtain<L: Library>(
+    alloc: Global,
+    library: &mut L,
+    origin: Origin<'_>,
+) -> Result<Table, Refusal>
+    ensures { Obtains (origin_of origin.entry) (change L.files L.faults library.old library.new)
+        (change L.asked L.faults library.old library.new) result }
+{
+    match origin {
+        Origin::Bag { file, bag } => Ok(compile(alloc, library, file, bag)?),
+        Origin::Printed { file } => read_printed(alloc, library, file),
+    }
+}
