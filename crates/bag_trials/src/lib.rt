@@ -1,0 +1,9 @@
+//! Random trials of the codec of bags, over random definitions. Nothing but tests stands here.
+#![tactic(auto)]
+
+#[cfg(test)]
+mod codec_tests;
+#[cfg(test)]
+mod dice;
+#[cfg(test)]
+mod random_values;
