@@ -1,4 +1,4 @@
--- What a builder's buffer and spans hold.
+-- What a builder's buffer and starts hold.
 use Rattle.std.proofs.Common.{◌≡◌, ℕ, ◌+◌, ◌-◌, ◌≤◌, List, [], ◌∷◌, ◌++◌, length, map, take, refl, sym, ◌∙◌, ap, subst, append_assoc, length-append, arith, drop, slice_range}
 use Rattle.std.proofs.lemmas.List.{append-nil, length-drop, length-take, length-take-le, take_all}
 use Rattle.std.proofs.lemmas.List.{length-map}
@@ -7,127 +7,118 @@ use Rattle.context_model.specs.Atoms.{Atom, AreAtoms}
 use Rattle.context_model.specs.Framing.{length_code, frame, bytes_of, size_of}
 use Rattle.context_model.proofs.FramingLaws.{bytes_of-append}
 use Rattle.atom_list.specs.declared.builder.TheConstants.{BUFFER_MAX}
-use Rattle.atom_list.specs.declared.spans.Span.{Span}
-use Rattle.atom_list.specs.Spans.{span_atom, atoms_at, AreSpans, spans_from, IsFlat, IsPieceOf, moved, AreMovable}
+use Rattle.atom_list.specs.Starts.{atom_at, atoms_at, AreStarts, starts_from, IsFlat, IsPieceOf, moved, AreMovable}
 use Rattle.atom_list.specs.Builder.{IsBuilt}
 use Rattle.atom_list.specs.Scan.{IsScan}
-use Rattle.atom_list.proofs.Flat.{AreSpans-from, spans_from-append, atoms_at-from, take_split}
+use Rattle.atom_list.proofs.Flat.{AreStarts-from, starts_from-append, atoms_at-from, take_split}
 
--- The buffer and the spans are those of a list.
-pub record AreOf (bytes : List ℕ) (spans : List Span) (list : List Atom) : Type 0 where
+-- The buffer and the starts are those of a list.
+pub record AreOf (bytes : List ℕ) (starts : List ℕ) (list : List Atom) : Type 0 where
   pub short : AreAtoms list
-  pub there : spans ≡ spans_from 0 list
+  pub there : starts ≡ starts_from 0 list
   pub framed : bytes ≡ bytes_of list
   pub few : length bytes ≤ BUFFER_MAX
 
-pub list_is : (bytes : List ℕ) (spans : List Span) (list : List Atom) → AreOf bytes spans list → atoms_at bytes spans ≡ list
-list_is bytes spans list of =
-    ap (atoms_at bytes) of.there ∙ ap (λ v. atoms_at v (spans_from 0 list)) (of.framed ∙ sym (append-nil (bytes_of list))) ∙ atoms_at-from [] [] 0 list refl
+pub list_is : (bytes : List ℕ) (starts : List ℕ) (list : List Atom) → AreOf bytes starts list → atoms_at bytes starts ≡ list
+list_is bytes starts list of =
+    ap (atoms_at bytes) of.there ∙ ap (λ v. atoms_at v (starts_from 0 list)) (of.framed ∙ sym (append-nil (bytes_of list))) ∙ atoms_at-from [] [] 0 list refl of.short
 
-pub built_of : (bytes : List ℕ) (spans : List Span) (list : List Atom) → AreOf bytes spans list → IsBuilt bytes spans
-built_of bytes spans list of =
-    let is = sym (list_is bytes spans list of) in
+pub built_of : (bytes : List ℕ) (starts : List ℕ) (list : List Atom) → AreOf bytes starts list → IsBuilt bytes starts
+built_of bytes starts list of =
+    let is = sym (list_is bytes starts list of) in
     record {
       short = subst AreAtoms is of.short;
-      there = of.there ∙ ap (spans_from 0) is;
+      there = of.there ∙ ap (starts_from 0) is;
       framed = of.framed ∙ ap bytes_of is;
       few = of.few;
     }
 
-pub of_built : (bytes : List ℕ) (spans : List Span) → IsBuilt bytes spans → AreOf bytes spans (atoms_at bytes spans)
-of_built bytes spans built = record { short = built.short; there = built.there; framed = built.framed; few = built.few }
+pub of_built : (bytes : List ℕ) (starts : List ℕ) → IsBuilt bytes starts → AreOf bytes starts (atoms_at bytes starts)
+of_built bytes starts built = record { short = built.short; there = built.there; framed = built.framed; few = built.few }
 
 pub AreAtoms-append : (xs ys : List Atom) → AreAtoms xs → AreAtoms ys → AreAtoms (xs ++ ys)
 AreAtoms-append [] ys short short' = short'
 AreAtoms-append (x ∷ xs) ys short short' = (short.0, AreAtoms-append xs ys short.1 short')
 
 -- More frames behind the others.
-pub of_more : (bytes bytes' : List ℕ) (spans spans' : List Span) (list more : List Atom) → AreOf bytes spans list → AreAtoms more → length bytes' ≤ BUFFER_MAX
-    → bytes' ≡ bytes ++ bytes_of more → spans' ≡ spans ++ spans_from (length bytes) more → AreOf bytes' spans' (list ++ more)
-of_more bytes bytes' spans spans' list more of short few e f =
+pub of_more : (bytes bytes' : List ℕ) (starts starts' : List ℕ) (list more : List Atom) → AreOf bytes starts list → AreAtoms more → length bytes' ≤ BUFFER_MAX
+    → bytes' ≡ bytes ++ bytes_of more → starts' ≡ starts ++ starts_from (length bytes) more → AreOf bytes' starts' (list ++ more)
+of_more bytes bytes' starts starts' list more of short few e f =
     let long : length bytes ≡ 0 + size_of list = omega (arith, ap length of.framed) in
     record {
       short = AreAtoms-append list more of.short short;
-      there = f ∙ ap (λ v. v ++ spans_from (length bytes) more) of.there ∙ ap (λ n. spans_from 0 list ++ spans_from n more) long ∙ sym (spans_from-append 0 list more);
+      there = f ∙ ap (λ v. v ++ starts_from (length bytes) more) of.there ∙ ap (λ n. starts_from 0 list ++ starts_from n more) long ∙ sym (starts_from-append 0 list more);
       framed = e ∙ ap (λ v. v ++ bytes_of more) of.framed ∙ sym (bytes_of-append list more);
       few = few;
     }
 
 -- One frame behind the others.
-pub of_one : (bytes coded bytes' : List ℕ) (spans spans' : List Span) (list : List Atom) (atom : Atom) (start end : ℕ) → AreOf bytes spans list → length atom ≤ ATOM_MAX → length bytes' ≤ BUFFER_MAX
-    → coded ≡ bytes ++ length_code (length atom) → bytes' ≡ coded ++ atom → start ≡ length coded → end ≡ length bytes'
-    → spans' ≡ spans ++ record { start = start; end = end } ∷ [] → AreOf bytes' spans' (list ++ atom ∷ [])
-of_one bytes coded bytes' spans spans' list atom start end of short few e f s t g =
+pub of_one : (bytes coded bytes' : List ℕ) (starts starts' : List ℕ) (list : List Atom) (atom : Atom) (start : ℕ) → AreOf bytes starts list → length atom ≤ ATOM_MAX → length bytes' ≤ BUFFER_MAX
+    → coded ≡ bytes ++ length_code (length atom) → bytes' ≡ coded ++ atom → start ≡ length bytes → starts' ≡ starts ++ start ∷ [] → AreOf bytes' starts' (list ++ atom ∷ [])
+of_one bytes coded bytes' starts starts' list atom start of short few e f s g =
     let code = length_code (length atom) in
     let first : bytes' ≡ bytes ++ bytes_of (atom ∷ []) = f ∙ ap (λ v. v ++ atom) e ∙ append_assoc bytes code atom ∙ ap (λ v. bytes ++ v) (sym (append-nil (frame atom))) in
-    let from : start ≡ length bytes + length code = s ∙ ap length e ∙ length-append bytes code in
-    let upto : end ≡ length bytes + length code + length atom = t ∙ ap length f ∙ length-append coded atom ∙ ap (λ n. n + length atom) (sym s ∙ from) in
-    of_more bytes bytes' spans spans' list (atom ∷ []) of (short, tt) few first
-    (g ∙ (λ i. spans ++ record { start = from i; end = upto i } ∷ []))
+    of_more bytes bytes' starts starts' list (atom ∷ []) of (short, tt) few first (g ∙ ap (λ n. starts ++ n ∷ []) s)
 
 -- A built list is flat, and all of it is laid.
-pub flat_built : (bytes : List ℕ) (spans : List Span) (laid : ℕ) → IsBuilt bytes spans → laid ≡ length spans → IsFlat bytes spans laid
-flat_built bytes spans laid built e =
-    let list = atoms_at bytes spans in
+pub flat_built : (bytes : List ℕ) (starts : List ℕ) (laid : ℕ) → IsBuilt bytes starts → laid ≡ length starts → IsFlat bytes starts laid
+flat_built bytes starts laid built e =
+    let list = atoms_at bytes starts in
     let long : size_of list ≡ length bytes = ap length (sym built.framed) in
-    let fit : AreSpans (length bytes) spans = subst (AreSpans (length bytes)) (sym built.there) (AreSpans-from 0 (length bytes) list built.short (omega arith)) in
-    let spans_all : take laid spans ≡ spans = take_all laid spans (omega arith) in
-    let list_all : take laid list ≡ list = take_all laid list (omega (arith, length-map spans (span_atom bytes))) in
+    let whole : [] ++ (bytes_of list ++ []) ≡ bytes = append-nil (bytes_of list) ∙ sym built.framed in
+    let fit : AreStarts bytes starts = subst (AreStarts bytes) (sym built.there) (subst (λ v. AreStarts v (starts_from 0 list)) whole (AreStarts-from [] [] 0 list refl built.short)) in
+    let starts_all : take laid starts ≡ starts = take_all laid starts (omega arith) in
+    let list_all : take laid list ≡ list = take_all laid list (omega (arith, length-map starts (atom_at bytes))) in
     record {
       fit = fit;
+      few = built.few;
       within = omega arith;
       front = record {
-        there = spans_all ∙ built.there ∙ ap (spans_from 0) (sym list_all);
+        there = starts_all ∙ built.there ∙ ap (starts_from 0) (sym list_all);
         framed = ap (λ v. take (size_of v) bytes) list_all ∙ take_all (size_of list) bytes (omega arith) ∙ built.framed ∙ ap bytes_of (sym list_all);
       };
     }
 
 -- ---- frames that are moved from another buffer
 
-pub moved-from : (from to at : ℕ) (list : List Atom) → from ≤ at → map (moved from to) (spans_from at list) ≡ spans_from (at - from + to) list
+pub moved-from : (from to at : ℕ) (list : List Atom) → from ≤ at → map (moved from to) (starts_from at list) ≡ starts_from (at - from + to) list
 moved-from from to at [] behind = refl
 moved-from from to at (x ∷ list) behind =
-    let code = length (length_code (length x)) in
-    let start : at + code - from + to ≡ at - from + to + code = omega arith in
-    let end : at + code + length x - from + to ≡ at - from + to + code + length x = omega arith in
-    let rest = moved-from from to (at + code + length x) list (omega arith) ∙ ap (λ n. spans_from n list) end in
-    λ i. record { start = start i; end = end i } ∷ rest i
+    let next : at + length (frame x) - from + to ≡ at - from + to + length (frame x) = omega arith in
+    ap (λ v. (at - from + to) ∷ v) (moved-from from to (at + length (frame x)) list (omega arith) ∙ ap (λ n. starts_from n list) next)
 
-pub movable-from : (from to at : ℕ) (list : List Atom) → from ≤ at → at - from + to + size_of list ≤ BUFFER_MAX → AreMovable from to (spans_from at list)
+pub movable-from : (from to at : ℕ) (list : List Atom) → from ≤ at → at - from + to + size_of list ≤ BUFFER_MAX → AreMovable from to (starts_from at list)
 movable-from from to at [] behind few = tt
 movable-from from to at (x ∷ list) behind few =
-    let code = length (length_code (length x)) in
-    let long : length (frame x) ≡ code + length x = length-append (length_code (length x)) x in
     let size : size_of (x ∷ list) ≡ length (frame x) + size_of list = length-append (frame x) (bytes_of list) in
-    (record { behind = omega arith; ordered = omega arith; within = omega arith }, movable-from from to (at + code + length x) list (omega arith) (omega arith))
+    (record { behind = omega arith; within = omega arith }, movable-from from to (at + length (frame x)) list (omega arith) (omega arith))
 
 -- A piece behind the others.
-pub of_piece : (bytes bytes' piece : List ℕ) (spans spans' seen : List Span) (list more : List Atom) (at to : ℕ) → AreOf bytes spans list → IsPieceOf piece at seen more → length bytes' ≤ BUFFER_MAX
-    → bytes' ≡ bytes ++ piece → to ≡ length bytes → spans' ≡ spans ++ map (moved at to) seen → AreOf bytes' spans' (list ++ more)
-of_piece bytes bytes' piece spans spans' seen list more at to of is few e s f =
+pub of_piece : (bytes bytes' piece : List ℕ) (starts starts' seen : List ℕ) (list more : List Atom) (at to : ℕ) → AreOf bytes starts list → IsPieceOf piece at seen more → length bytes' ≤ BUFFER_MAX
+    → bytes' ≡ bytes ++ piece → to ≡ length bytes → starts' ≡ starts ++ map (moved at to) seen → AreOf bytes' starts' (list ++ more)
+of_piece bytes bytes' piece starts starts' seen list more at to of is few e s f =
     let place : at - at + to ≡ length bytes = omega arith in
-    of_more bytes bytes' spans spans' list more of is.short few (e ∙ ap (λ v. bytes ++ v) is.framed)
-    (f ∙ ap (λ v. spans ++ map (moved at to) v) is.there ∙ ap (λ v. spans ++ v) (moved-from at to at more (omega arith)) ∙ ap (λ n. spans ++ spans_from n more) place)
+    of_more bytes bytes' starts starts' list more of is.short few (e ∙ ap (λ v. bytes ++ v) is.framed)
+    (f ∙ ap (λ v. starts ++ map (moved at to) v) is.there ∙ ap (λ v. starts ++ v) (moved-from at to at more (omega arith)) ∙ ap (λ n. starts ++ starts_from n more) place)
 
 -- ---- frames that are found where they stand
 
-pub of_noted : (bytes : List ℕ) (at skip len : ℕ) (spans spans' : List Span) (rest : List ℕ) → IsScan bytes at spans → drop at bytes ≡ rest → skip + len ≤ length rest → len ≤ ATOM_MAX → take skip rest ≡ length_code len
-    → spans' ≡ spans ++ record { start = at + skip; end = at + skip + len } ∷ [] → AreOf (take (at + skip + len) bytes) spans' (atoms_at (take at bytes) spans ++ slice_range rest skip (skip + len) ∷ [])
-of_noted bytes at skip len spans spans' rest scan e within short code f =
+pub of_noted : (bytes : List ℕ) (at skip len end : ℕ) (starts starts' : List ℕ) (rest : List ℕ) → end ≡ at + skip + len → IsScan bytes at starts → drop at bytes ≡ rest → skip + len ≤ length rest → len ≤ ATOM_MAX → take skip rest ≡ length_code len
+    → starts' ≡ starts ++ at ∷ [] → AreOf (take end bytes) starts' (atoms_at (take at bytes) starts ++ slice_range rest skip (skip + len) ∷ [])
+of_noted bytes at skip len end starts starts' rest all scan e within short code f =
     let atom = slice_range rest skip (skip + len) in
     let coded = take at bytes ++ take skip rest in
     let longer : length rest ≡ length bytes - at = ap length (sym e) ∙ length-drop at bytes in
     let here : length (take at bytes) ≡ at = length-take-le at bytes scan.within in
-    let skipped : length (take skip rest) ≡ skip = length-take-le skip rest (omega arith) in
     let long : length atom ≡ len = length-take-le (skip + len - skip) (drop skip rest) (omega (arith, length-drop skip rest)) ∙ (omega arith) in
-    let more : skip + len ≡ at + skip + len - at = omega arith in
-    let split : take (at + skip + len) bytes ≡ coded ++ atom =
-    take_split at (at + skip + len) bytes (omega arith)
-    ∙ ap (λ v. take at bytes ++ v) (ap (take (at + skip + len - at)) e ∙ ap (λ n. take n rest) (sym more) ∙ take_split skip (skip + len) rest (omega arith))
+    let more : skip + len ≡ end - at = omega arith in
+    let split : take end bytes ≡ coded ++ atom =
+    take_split at end bytes (omega arith)
+    ∙ ap (λ v. take at bytes ++ v) (ap (take (end - at)) e ∙ ap (λ n. take n rest) (sym more) ∙ take_split skip (skip + len) rest (omega arith))
     ∙ sym (append_assoc (take at bytes) (take skip rest) atom) in
-    of_one (take at bytes) coded (take (at + skip + len) bytes) spans spans' (atoms_at (take at bytes) spans) atom (at + skip) (at + skip + len) (of_built (take at bytes) spans scan.front) (omega arith)
-    (omega (arith, length-take (at + skip + len) bytes, scan.few)) (ap (λ v. take at bytes ++ v) (code ∙ ap length_code (sym long))) split
-    (omega (arith, length-append (take at bytes) (take skip rest))) (omega (arith, length-take-le (at + skip + len) bytes (omega arith))) f
+    of_one (take at bytes) coded (take end bytes) starts starts' (atoms_at (take at bytes) starts) atom at (of_built (take at bytes) starts scan.front) (omega arith)
+    (omega (arith, length-take end bytes, scan.few)) (ap (λ v. take at bytes ++ v) (code ∙ ap length_code (sym long))) split
+    (sym here) f
 
-pub scan_noted : (bytes : List ℕ) (at' : ℕ) (spans : List Span) (list : List Atom) → at' ≤ length bytes → length bytes ≤ BUFFER_MAX → AreOf (take at' bytes) spans list → IsScan bytes at' spans
-scan_noted bytes at' spans list within few of = record { within = within; few = few; front = built_of (take at' bytes) spans list of }
+pub scan_noted : (bytes : List ℕ) (at' : ℕ) (starts : List ℕ) (list : List Atom) → at' ≤ length bytes → length bytes ≤ BUFFER_MAX → AreOf (take at' bytes) starts list → IsScan bytes at' starts
+scan_noted bytes at' starts list within few of = record { within = within; few = few; front = built_of (take at' bytes) starts list of }

@@ -1,6 +1,7 @@
 pub mod Building
 pub mod Ending
 pub mod Flat
+pub mod Frames
 pub mod Opening
 pub mod Rooms
 pub mod TakingOut

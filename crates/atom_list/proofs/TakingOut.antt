@@ -8,8 +8,7 @@ use Rattle.std.proofs.lemmas.List.{take_more, take_more_set, drop-set-lt, append
 use Rattle.std.proofs.lemmas.Option.{slice_get_within}
 use Rattle.context_model.specs.Atoms.{Atom}
 use Rattle.context_model.specs.Orders.{Rises}
-use Rattle.atom_list.specs.declared.spans.Span.{Span}
-use Rattle.atom_list.specs.Spans.{span_atom, atoms_at, IsSpan, AreSpans}
+use Rattle.atom_list.specs.Starts.{atom_at, atoms_at}
 use Rattle.context_model.specs.WithoutData.{without_from, without, AreDataPlaces}
 
 -- ---- numbers that rise
@@ -186,30 +185,25 @@ done_first gone start rises some within =
     first_least k below (inl same) = omega (arith, ap (λ n. get_or gone n 0) same)
     first_least k below (inr apart) = omega (arith, rises_by_places gone rises 0 k (omega arith) below)
 
--- ---- the same of spans
+-- ---- the same of starts
 
-pub spans_at : (len : ℕ) (spans : List Span) (k : ℕ) (d : Span) → AreSpans len spans → k < length spans → IsSpan len (get_or spans k d)
-spans_at len [] k d fit below = absurd (omega arith)
-spans_at len (span ∷ spans) zero d fit below = fit.0
-spans_at len (span ∷ spans) (suc k) d fit below = spans_at len spans k d fit.1 (omega arith)
+-- A start is written to an earlier place.
+pub atoms_at-set : (bytes : List ℕ) (now : List ℕ) (kept at : ℕ) (start : ℕ) → at < length now → start ≡ get_or now at start
+    → atoms_at bytes (set now kept start) ≡ set (atoms_at bytes now) kept (get_or (atoms_at bytes now) at [])
+atoms_at-set bytes now kept at start within read =
+    map-set (atom_at bytes) now kept start
+    ∙ ap (λ v. set (atoms_at bytes now) kept v) (ap (atom_at bytes) read ∙ sym (get_or-map (atom_at bytes) now at start [] within))
 
--- A span is written to an earlier place.
-pub atoms_at-set : (bytes : List ℕ) (now : List Span) (kept at : ℕ) (span : Span) → at < length now → span ≡ get_or now at span
-    → atoms_at bytes (set now kept span) ≡ set (atoms_at bytes now) kept (get_or (atoms_at bytes now) at [])
-atoms_at-set bytes now kept at span within read =
-    map-set (span_atom bytes) now kept span
-    ∙ ap (λ v. set (atoms_at bytes now) kept v) (ap (span_atom bytes) read ∙ sym (get_or-map (span_atom bytes) now at span [] within))
-
--- As many spans as atoms are left.
-pub as_many : (gone : List ℕ) (start now : List Span) (at kept taken : ℕ) → ((bytes : List ℕ) → Done gone (atoms_at bytes start) (atoms_at bytes now) at kept taken) → (length now ≡ length start) × (kept ≤ at)
+-- As many starts as atoms are left.
+pub as_many : (gone : List ℕ) (start now : List ℕ) (at kept taken : ℕ) → ((bytes : List ℕ) → Done gone (atoms_at bytes start) (atoms_at bytes now) at kept taken) → (length now ≡ length start) × (kept ≤ at)
 as_many gone start now at kept taken done =
     let whole = (done []).whole in
-    (omega (arith, length-map now (span_atom []), length-map start (span_atom [])), (done []).upto)
+    (omega (arith, length-map now (atom_at []), length-map start (atom_at [])), (done []).upto)
 
 -- The loop's end.
-pub left_out : (gone : List ℕ) (start now : List Span) (at kept taken : ℕ) (bytes : List ℕ) → Done gone (atoms_at bytes start) (atoms_at bytes now) at kept taken → length start ≤ at → atoms_at bytes (take kept now) ≡ without gone (atoms_at bytes start)
+pub left_out : (gone : List ℕ) (start now : List ℕ) (at kept taken : ℕ) (bytes : List ℕ) → Done gone (atoms_at bytes start) (atoms_at bytes now) at kept taken → length start ≤ at → atoms_at bytes (take kept now) ≡ without gone (atoms_at bytes start)
 left_out gone start now at kept taken bytes done all =
-    sym (take-map (span_atom bytes) kept now) ∙ done.front ∙ ap (without gone) (take_all at (atoms_at bytes start) (omega (arith, length-map start (span_atom bytes))))
+    sym (take-map (atom_at bytes) kept now) ∙ done.front ∙ ap (without gone) (take_all at (atoms_at bytes start) (omega (arith, length-map start (atom_at bytes))))
 
 -- Where nothing goes, all is left.
 pub without-none : (i : ℕ) (list : List Atom) → without_from i [] list ≡ list

@@ -2,9 +2,8 @@
 use Rattle.std.specs.Prelude.{◌≡◌, ℕ, ◌+◌, ◌≤◌, ◌++◌, List, [], ◌∷◌, length, slice_range}
 use Rattle.context_model.specs.Atoms.{Atom, AreAtoms}
 use Rattle.context_model.specs.Framing.{bytes_of}
-use Rattle.atom_list.specs.Spans.{atoms_at, spans_from, IsPieceOf}
+use Rattle.atom_list.specs.Starts.{atoms_at, starts_from, IsPieceOf}
 use Rattle.atom_list.specs.declared.builder.TheConstants.{BUFFER_MAX}
-use Rattle.atom_list.specs.declared.spans.Span.{Span}
 
 -- A list in the making, and the room that is left for bytes and for atoms.
 pub record Built : Type 0 where
@@ -22,13 +21,13 @@ abbrev pub run_room : List Atom → ℕ → ℕ → ℕ
 run_room list from to = room_of (slice_range list from to)
 
 -- Whatever list these frames are, it was added.
-abbrev pub AddsPiece : List ℕ → ℕ → List Span → List Atom → List Atom → Type 0
-AddsPiece piece at spans old new =
-    (list : List Atom) → IsPieceOf piece at spans list → new ≡ old ++ list
+abbrev pub AddsPiece : List ℕ → ℕ → List ℕ → List Atom → List Atom → Type 0
+AddsPiece piece at starts old new =
+    (list : List Atom) → IsPieceOf piece at starts list → new ≡ old ++ list
 
 -- The buffer is the bytes of its atoms, and no longer than a buffer may be.
-pub record IsBuilt (bytes : List ℕ) (spans : List Span) : Type 0 where
-  pub short : AreAtoms (atoms_at bytes spans)
-  pub there : spans ≡ spans_from 0 (atoms_at bytes spans)
-  pub framed : bytes ≡ bytes_of (atoms_at bytes spans)
+pub record IsBuilt (bytes : List ℕ) (starts : List ℕ) : Type 0 where
+  pub short : AreAtoms (atoms_at bytes starts)
+  pub there : starts ≡ starts_from 0 (atoms_at bytes starts)
+  pub framed : bytes ≡ bytes_of (atoms_at bytes starts)
   pub few : length bytes ≤ BUFFER_MAX

@@ -2,7 +2,7 @@ pub mod Builder
 pub mod Codes
 pub mod Open
 pub mod Scan
-pub mod Spans
+pub mod Starts
 pub mod Walk
 pub use Rattle.context_model.specs.Atoms
 pub use Rattle.context_model.specs.WellFormed

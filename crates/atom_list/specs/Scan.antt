@@ -3,7 +3,6 @@ use Rattle.std.specs.Prelude.{ℕ, ◌+◌, ◌≤◌, List, [], ◌∷◌, ◌+
 use Rattle.context_model.specs.Atoms.{Atom}
 use Rattle.atom_list.specs.Builder.{IsBuilt}
 use Rattle.atom_list.specs.declared.builder.TheConstants.{BUFFER_MAX}
-use Rattle.atom_list.specs.declared.spans.Span.{Span}
 
 -- The list that was found at the front of bytes, and the bytes behind it.
 pub record Scanned : Type 0 where
@@ -11,10 +10,10 @@ pub record Scanned : Type 0 where
   pub rest : List ℕ
 
 -- The bytes before this place are those of the list.
-pub record IsScan (bytes : List ℕ) (at : ℕ) (spans : List Span) : Type 0 where
+pub record IsScan (bytes : List ℕ) (at : ℕ) (starts : List ℕ) : Type 0 where
   pub within : at ≤ length bytes
   pub few : length bytes ≤ BUFFER_MAX
-  pub front : IsBuilt (take at bytes) spans
+  pub front : IsBuilt (take at bytes) starts
 
 -- The list with one atom more: that of `len` bytes behind `skip` bytes of the rest.
 abbrev pub with_part : Scanned → ℕ → ℕ → List Atom

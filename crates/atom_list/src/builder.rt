@@ -3,11 +3,11 @@
 ghost use Rattle.std.specs.Prelude.{◌≡◌, ℕ, List, ◌+◌, ◌≤◌, [], ◌∷◌, ◌++◌, length, drop, slice_range, IfOk, OnOk};
 ghost use Rattle.context_model.specs.Framing.{bytes_of};
 ghost use Rattle.atom_list.specs.Builder.{room_of, run_room, AddsPiece};
-ghost use Rattle.atom_list.specs.Spans.{IsPieceOf};
+ghost use Rattle.atom_list.specs.Starts.{IsPieceOf};
 
 use crate::lengths::{put_bytes, put_length};
 use crate::lists::AtomList;
-use crate::spans::{Span, put_moved};
+use crate::starts::put_moved;
 use bytes::Bytes;
 use outside::{ATOM_MAX, Memory};
 use std::alloc::Global;
@@ -22,24 +22,24 @@ pub(crate) const BUFFER_MAX: usize = 0xffff_ffff;
 pub struct Builder {
     alloc: Global,
     bytes: Vec<u8>,
-    spans: Vec<Span>,
+    starts: Vec<u32>,
 }
 
 impl Model for Builder {
     ghost use Rattle.std.specs.Prelude.{◌-◌, length, vec_capacity, min};
-    ghost use Rattle.atom_list.specs.Spans.{atoms_at};
+    ghost use Rattle.atom_list.specs.Starts.{atoms_at};
     ghost use Rattle.atom_list.specs.Builder.{Built, IsBuilt};
     ghost use Rattle.atom_list.specs.declared.builder.TheConstants.{BUFFER_MAX};
 
     ghost Value = { Built };
 
     ghost view = { λ b. record {
-      atoms = atoms_at b.bytes.items b.spans.items;
+      atoms = atoms_at b.bytes.items b.starts.items;
       byte_room = min (vec_capacity b.bytes) BUFFER_MAX - length b.bytes.items;
-      atom_room = vec_capacity b.spans - length b.spans.items;
+      atom_room = vec_capacity b.starts - length b.starts.items;
     } };
 
-    ghost invariant = { λ b. IsBuilt b.bytes.items b.spans.items };
+    ghost invariant = { λ b. IsBuilt b.bytes.items b.starts.items };
 }
 
 impl Builder {
@@ -56,7 +56,7 @@ impl Builder {
         Ok(Builder {
             alloc,
             bytes: Vec::with_capacity(alloc, bytes)?,
-            spans: Vec::with_capacity(alloc, atoms)?,
+            starts: Vec::with_capacity(alloc, atoms)?,
         })
     }
 
@@ -71,7 +71,7 @@ impl Builder {
             return Err(Memory);
         }
         self.bytes.reserve(bytes)?;
-        self.spans.reserve(atoms)?;
+        self.starts.reserve(atoms)?;
         Ok(())
     }
 
@@ -84,25 +84,23 @@ impl Builder {
         ensures byte_room { self.old.byte_room ≤ self.new.byte_room + (length atom.now + 3) }
         ensures atom_room { self.new.atom_room + 1 ≡ self.old.atom_room }
     {
+        self.starts.push_reserved(self.bytes.len() as u32);
         put_length(&mut self.bytes, atom.len());
-        let start = self.bytes.len() as u32;
         put_bytes(&mut self.bytes, atom);
-        let end = self.bytes.len() as u32;
-        self.spans.push_reserved(Span { start, end });
     }
 
-    /// Adds frames that follow one another, with their spans in a buffer where they begin at `at`. It takes no memory.
-    fn push_piece(&mut self, piece: &[u8], at: u32, spans: &[Span])
-        requires piece { (list : List (List ℕ)) × IsPieceOf piece.now at spans.now list }
+    /// Adds frames that follow one another, with their starts in a buffer where they begin at `at`. It takes no memory.
+    fn push_piece(&mut self, piece: &[u8], at: u32, starts: &[u32])
+        requires piece { (list : List (List ℕ)) × IsPieceOf piece.now at starts.now list }
         requires byte_room { length piece.now ≤ self.old.byte_room }
-        requires atom_room { length spans.now ≤ self.old.atom_room }
-        ensures atoms { AddsPiece piece.now at spans.now self.old.atoms self.new.atoms }
+        requires atom_room { length starts.now ≤ self.old.atom_room }
+        ensures atoms { AddsPiece piece.now at starts.now self.old.atoms self.new.atoms }
         ensures byte_room { self.old.byte_room ≤ self.new.byte_room + length piece.now }
-        ensures atom_room { self.new.atom_room + length spans.now ≡ self.old.atom_room }
+        ensures atom_room { self.new.atom_room + length starts.now ≡ self.old.atom_room }
     {
         let to = self.bytes.len() as u32;
         put_bytes(&mut self.bytes, piece);
-        put_moved(&mut self.spans, spans, at, to);
+        put_moved(&mut self.starts, starts, at, to);
     }
 
     /// Adds the atoms of a list from one place to another, those of its untouched front as one piece. It takes no memory.
@@ -116,8 +114,8 @@ impl Builder {
         ensures atom_room { self.new.atom_room + to ≡ self.old.atom_room + from }
     {
         let piece = list.piece(from, to);
-        let count = piece.spans.len();
-        self.push_piece(piece.bytes, piece.at, piece.spans);
+        let count = piece.starts.len();
+        self.push_piece(piece.bytes, piece.at, piece.starts);
         for at in from + count..to {
             self.push(list.get(at).unwrap());
         }
@@ -142,7 +140,7 @@ impl Builder {
         let Builder {
             alloc: _,
             bytes,
-            spans: _spans,
+            starts: _starts,
         } = self;
         bytes
     }
@@ -154,15 +152,15 @@ impl Builder {
         let Builder {
             alloc,
             mut bytes,
-            mut spans,
+            mut starts,
         } = self;
         bytes.shrink_to_fit();
-        spans.shrink_to_fit();
-        let laid = spans.len();
+        starts.shrink_to_fit();
+        let laid = starts.len();
         Ok(AtomList {
             alloc,
             bytes: Bytes::from_vec(bytes)?,
-            spans,
+            starts,
             laid,
         })
     }

@@ -3,7 +3,7 @@
 ghost use Rattle.std.specs.Prelude.{◌≡◌};
 
 use crate::lists::AtomList;
-use crate::spans::Span;
+use crate::starts::atom_at;
 use std::marker::Model;
 use std::slice::Iter;
 
@@ -11,19 +11,19 @@ use std::slice::Iter;
 #[derive(Drop)]
 pub struct Atoms<'a> {
     bytes: &'a [u8],
-    spans: Iter<'a, Span>,
+    starts: Iter<'a, u32>,
 }
 
 impl<'a> Model for Atoms<'a> {
-    ghost use Rattle.std.specs.Prelude.{List, ℕ, length};
+    ghost use Rattle.std.specs.Prelude.{List, ℕ};
     ghost use Rattle.std.specs.Slice.Iter.{iter_rest};
-    ghost use Rattle.atom_list.specs.Spans.{atoms_at, AreSpans};
+    ghost use Rattle.atom_list.specs.Starts.{atoms_at, AreStarts};
 
     ghost Value = { List (List ℕ) };
 
-    ghost view = { λ atoms. atoms_at atoms.bytes.now (iter_rest atoms.spans) };
+    ghost view = { λ atoms. atoms_at atoms.bytes.now (iter_rest atoms.starts) };
 
-    ghost invariant = { λ atoms. AreSpans (length atoms.bytes.now) (iter_rest atoms.spans) };
+    ghost invariant = { λ atoms. AreStarts atoms.bytes.now (iter_rest atoms.starts) };
 }
 
 impl AtomList {
@@ -33,7 +33,7 @@ impl AtomList {
     {
         Atoms {
             bytes: self.bytes.as_slice(),
-            spans: self.spans.iter(),
+            starts: self.starts.iter(),
         }
     }
 }
@@ -48,7 +48,7 @@ impl<'a> Iterator for Atoms<'a> {
     ghost remaining = { item_count (λ atoms. atoms) };
 
     fn next(&mut self) -> Option<&'a [u8]> {
-        let span = self.spans.next()?;
-        Some(&self.bytes[span.start as usize..span.end as usize])
+        let start = self.starts.next()?;
+        Some(atom_at(self.bytes, *start))
     }
 }

@@ -15,7 +15,7 @@ mod pieces;
 mod places;
 mod scan;
 mod sharing;
-mod spans;
+mod starts;
 #[cfg(test)]
 mod tests;
 

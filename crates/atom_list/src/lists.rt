@@ -10,7 +10,7 @@ ghost use Rattle.context_model.specs.WithoutData.{without};
 ghost use Rattle.atom_list.specs.Builder.{room_of};
 
 use crate::builder::Builder;
-use crate::spans::{Span, keep_others};
+use crate::starts::{atom_at, keep_others};
 use bytes::Bytes;
 use outside::{ATOM_MAX, Memory};
 use std::alloc::Global;
@@ -23,20 +23,21 @@ use std::marker::Model;
 pub struct AtomList {
     pub(crate) alloc: Global,
     pub(crate) bytes: Bytes,
-    pub(crate) spans: Vec<Span>,
+    /// Where the frame of each atom begins. A marker that a cut left has none, and begins behind every buffer.
+    pub(crate) starts: Vec<u32>,
     /// The buffer begins with the frames of so many first atoms, one behind the other.
     pub(crate) laid: usize,
 }
 
 impl Model for AtomList {
     ghost use Rattle.std.specs.Prelude.{List, ℕ};
-    ghost use Rattle.atom_list.specs.Spans.{atoms_at, IsFlat};
+    ghost use Rattle.atom_list.specs.Starts.{atoms_at, IsFlat};
 
     ghost Value = { List (List ℕ) };
 
-    ghost view = { λ list. atoms_at list.bytes list.spans.items };
+    ghost view = { λ list. atoms_at list.bytes list.starts.items };
 
-    ghost invariant = { λ list. IsFlat list.bytes list.spans.items list.laid };
+    ghost invariant = { λ list. IsFlat list.bytes list.starts.items list.laid };
 }
 
 impl AtomList {
@@ -47,7 +48,7 @@ impl AtomList {
         AtomList {
             alloc,
             bytes: Bytes::new(),
-            spans: Vec::new(alloc),
+            starts: Vec::new(alloc),
             laid: 0,
         }
     }
@@ -57,14 +58,14 @@ impl AtomList {
         ensures len { result ≡ length self.now }
         ensures atoms { AreAtoms self.now }
     {
-        self.spans.len()
+        self.starts.len()
     }
 
     /// Whether there is no atom.
     pub fn is_empty(&self) -> bool
         ensures { IsTrue result ↔ (self.now ≡ []) }
     {
-        self.spans.is_empty()
+        self.starts.is_empty()
     }
 
     /// The atom at a place, `None` where there are not so many.
@@ -73,8 +74,8 @@ impl AtomList {
         ensures value { option_copied result ≡ slice_get self.now at }
         ensures short { IfSome result (λ atom. length atom.now ≤ ATOM_MAX) }
     {
-        let span = self.spans.get(at)?;
-        Some(&self.bytes.as_slice()[span.start as usize..span.end as usize])
+        let start = self.starts.get(at)?;
+        Some(atom_at(self.bytes.as_slice(), *start))
     }
 
     /// Adds an atom at the end, in a new buffer. Want of memory leaves the list as it was.
@@ -107,8 +108,8 @@ impl AtomList {
         requires { keep < length self.old }
         ensures { self.new ≡ take keep self.old ++ [] ∷ [] }
     {
-        self.spans.truncate(keep + 1);
-        self.spans[keep] = Span { start: 0, end: 0 };
+        self.starts.truncate(keep + 1);
+        self.starts[keep] = u32::MAX;
         self.laid = self.laid.min(keep);
     }
 
@@ -116,10 +117,12 @@ impl AtomList {
     pub fn copy(&self) -> Result<AtomList, Memory>
         ensures { IfOk result (λ made. made ≡ self.now) }
     {
+        let mut starts = Vec::with_capacity(self.alloc, self.starts.len())?;
+        starts.extend_from_slice(&self.starts)?;
         Ok(AtomList {
             alloc: self.alloc,
             bytes: self.bytes.clone()?,
-            spans: self.spans.clone()?,
+            starts,
             laid: self.laid,
         })
     }
@@ -134,7 +137,7 @@ impl AtomList {
         let Some(first) = gone.first() else {
             return;
         };
-        keep_others(&mut self.spans, gone);
+        keep_others(&mut self.starts, gone);
         self.laid = self.laid.min(*first);
     }
 }

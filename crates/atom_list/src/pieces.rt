@@ -3,17 +3,17 @@
 ghost use Rattle.std.specs.Prelude.{◌≡◌, ◌+◌, ◌*◌, ◌≤◌, length, IfSome};
 ghost use Rattle.context_model.specs.Framing.{bytes_of};
 ghost use Rattle.atom_list.specs.Builder.{room_of};
-ghost use Rattle.atom_list.specs.Spans.{IsPieceFrom};
+ghost use Rattle.atom_list.specs.Starts.{IsPieceFrom};
 
 use crate::lists::AtomList;
-use crate::spans::{Span, front_end};
+use crate::starts::frame_end;
 
-/// Frames that follow one another, which begin at `at` in the buffer of their list, and the spans of their atoms there.
+/// Frames that follow one another, which begin at `at` in the buffer of their list, and where each begins there.
 #[derive(Clone, Copy)]
 pub struct Piece<'a> {
     pub bytes: &'a [u8],
     pub at: u32,
-    pub spans: &'a [Span],
+    pub starts: &'a [u32],
 }
 
 impl AtomList {
@@ -21,23 +21,23 @@ impl AtomList {
     pub(crate) fn piece(&self, from: usize, to: usize) -> Piece<'_>
         requires order { from ≤ to }
         requires within { to ≤ length self.now }
-        ensures short { from + length result.spans.now ≤ to }
-        ensures piece { IsPieceFrom self.now from result.bytes.now result.at result.spans.now }
+        ensures short { from + length result.starts.now ≤ to }
+        ensures piece { IsPieceFrom self.now from result.bytes.now result.at result.starts.now }
     {
         let to = to.min(self.laid);
         if to <= from {
             return Piece {
                 bytes: &[],
                 at: 0,
-                spans: &[],
+                starts: &[],
             };
         }
-        let start = front_end(&self.spans, from);
-        let end = front_end(&self.spans, to);
+        let start = self.starts[from];
+        let end = frame_end(self.bytes.as_slice(), self.starts[to - 1]);
         Piece {
-            bytes: &self.bytes.as_slice()[start as usize..end as usize],
+            bytes: &self.bytes.as_slice()[start as usize..end],
             at: start,
-            spans: &self.spans.as_slice()[from..to],
+            starts: &self.starts.as_slice()[from..to],
         }
     }
 
@@ -46,7 +46,7 @@ impl AtomList {
         ensures { IfSome result (λ bytes. bytes.now ≡ bytes_of self.now) }
     {
         let piece = self.piece(0, self.len());
-        if piece.spans.len() == self.len() {
+        if piece.starts.len() == self.len() {
             Some(piece.bytes)
         } else {
             None
@@ -60,7 +60,7 @@ impl AtomList {
         ensures bound { IfSome result (λ room. room ≤ room_of self.now + 2 * length self.now) }
     {
         let piece = self.piece(0, self.len());
-        let count = piece.spans.len();
+        let count = piece.starts.len();
         let mut room = count.checked_mul(2)?.checked_add(piece.bytes.len())?;
         for at in count..self.len() {
             room = room.checked_add(self.get(at).unwrap().len() + 3)?;

@@ -7,7 +7,6 @@ ghost use Rattle.atom_list.specs.Scan.{with_part};
 
 use crate::builder::BUFFER_MAX;
 use crate::lists::AtomList;
-use crate::spans::Span;
 use bytes::Bytes;
 use outside::{ATOM_MAX, Memory};
 use std::alloc::Global;
@@ -20,22 +19,22 @@ pub struct Scan {
     alloc: Global,
     bytes: Vec<u8>,
     at: usize,
-    spans: Vec<Span>,
+    starts: Vec<u32>,
 }
 
 impl Model for Scan {
     ghost use Rattle.std.specs.Prelude.{take, drop};
     ghost use Rattle.atom_list.specs.Scan.{Scanned, IsScan};
-    ghost use Rattle.atom_list.specs.Spans.{atoms_at};
+    ghost use Rattle.atom_list.specs.Starts.{atoms_at};
 
     ghost Value = { Scanned };
 
     ghost view = { λ s. record {
-      atoms = atoms_at (take s.at s.bytes.items) s.spans.items;
+      atoms = atoms_at (take s.at s.bytes.items) s.starts.items;
       rest = drop s.at s.bytes.items;
     } };
 
-    ghost invariant = { λ s. IsScan s.bytes.items s.at s.spans.items };
+    ghost invariant = { λ s. IsScan s.bytes.items s.at s.starts.items };
 }
 
 impl Scan {
@@ -51,7 +50,7 @@ impl Scan {
             alloc,
             bytes,
             at: 0,
-            spans: Vec::new(alloc),
+            starts: Vec::new(alloc),
         })
     }
 
@@ -79,13 +78,8 @@ impl Scan {
         ensures rest { OnOk result (self.new.rest ≡ drop (skip + len) self.old.rest) }
         ensures err { OnErr result (self.new ≡ self.old) }
     {
-        let start = self.at + skip;
-        let end = start + len;
-        self.spans.push(Span {
-            start: start as u32,
-            end: end as u32,
-        })?;
-        self.at = end;
+        self.starts.push(self.at as u32)?;
+        self.at += skip + len;
         Ok(())
     }
 
@@ -98,15 +92,15 @@ impl Scan {
             alloc,
             mut bytes,
             at,
-            mut spans,
+            mut starts,
         } = self;
         bytes.truncate(at);
-        spans.shrink_to_fit();
-        let laid = spans.len();
+        starts.shrink_to_fit();
+        let laid = starts.len();
         Ok(AtomList {
             alloc,
             bytes: Bytes::from_vec(bytes)?,
-            spans,
+            starts,
             laid,
         })
     }

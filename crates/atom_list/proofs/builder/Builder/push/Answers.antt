@@ -3,7 +3,7 @@ use Rattle.std.specs.Vec.{vec_capacity}
 use Rattle.context_model.specs.Framing.{length_code}
 use Rattle.context_model.proofs.FramingLaws.{length-length_code}
 use Rattle.atom_list.specs.declared.builder.TheConstants.{BUFFER_MAX}
-use Rattle.atom_list.specs.Spans.{atoms_at}
+use Rattle.atom_list.specs.Starts.{atoms_at}
 use Rattle.atom_list.proofs.Building.{AreOf, of_built, of_one, list_is, built_of}
 use Rattle.atom_list.proofs.builder.Builder.push.Goals as goal
 
@@ -14,13 +14,8 @@ with_length before code after len capacity limit room e few is fits =
     let long : length after ≡ length before + length code = ap length e ∙ length-append before code in
     (omega arith, omega arith)
 
-pub overflow_cast-start : goal.overflow_cast-start
-overflow_cast-start c =
-    let is = ap (λ v. v.byte_room) c.self.view_is in
-    let len = length c.args.atom.now in
-    let room = with_length c.self.inside.bytes.items (length_code len) c.put_length.new.bytes.items len (vec_capacity c.self.inside.bytes) BUFFER_MAX c.args.self.now.byte_room
-    c.put_length.ensures.items (length-length_code len).1 is c.requires.byte_room in
-    omega (arith, room.1, c.put_length.new.bytes.ok.0)
+pub overflow_cast-len : goal.overflow_cast-len
+overflow_cast-len c = omega (arith, c.len.ensures, c.self.inside.bytes.ok.0, ap (λ v. v.byte_room) c.self.view_is, c.requires.byte_room)
 
 pub put_bytes-requires : goal.put_bytes-requires
 put_bytes-requires c =
@@ -30,26 +25,17 @@ put_bytes-requires c =
     c.put_length.ensures.items (length-length_code len).1 is c.requires.byte_room in
     omega (arith, room.0, c.put_length.new.bytes.ok.0, c.put_length.ensures.capacity)
 
-pub overflow_cast-end : goal.overflow_cast-end
-overflow_cast-end c =
-    let is = ap (λ v. v.byte_room) c.self.view_is in
-    let len = length c.args.atom.now in
-    let room = with_length c.self.inside.bytes.items (length_code len) c.put_length.new.bytes.items len (vec_capacity c.self.inside.bytes) BUFFER_MAX c.args.self.now.byte_room
-    c.put_length.ensures.items (length-length_code len).1 is c.requires.byte_room in
-    let long : length c.put_bytes.new.bytes.items ≡ length c.put_length.new.bytes.items + len = ap length c.put_bytes.ensures.items ∙ length-append c.put_length.new.bytes.items c.args.atom.now in
-    omega (arith, room.1, c.put_bytes.new.bytes.ok.0)
-
 -- The list with the atom.
-pushed : (c : goal.After-push_reserved) → AreOf c.put_bytes.new.bytes.items c.push_reserved.new.self.items (atoms_at c.self.inside.bytes.items c.self.inside.spans.items ++ c.args.atom.now ∷ [])
+pushed : (c : goal.After-put_bytes) → AreOf c.put_bytes.new.bytes.items c.push_reserved.new.self.items (atoms_at c.self.inside.bytes.items c.self.inside.starts.items ++ c.args.atom.now ∷ [])
 pushed c =
     let is = ap (λ v. v.byte_room) c.self.view_is in
     let len = length c.args.atom.now in
     let room = with_length c.self.inside.bytes.items (length_code len) c.put_length.new.bytes.items len (vec_capacity c.self.inside.bytes) BUFFER_MAX c.args.self.now.byte_room
     c.put_length.ensures.items (length-length_code len).1 is c.requires.byte_room in
     let long : length c.put_bytes.new.bytes.items ≡ length c.put_length.new.bytes.items + len = ap length c.put_bytes.ensures.items ∙ length-append c.put_length.new.bytes.items c.args.atom.now in
-    of_one c.self.inside.bytes.items c.put_length.new.bytes.items c.put_bytes.new.bytes.items c.self.inside.spans.items c.push_reserved.new.self.items _ c.args.atom.now
-    c.len-start.result c.len-end.result (of_built _ _ c.self.invariant) c.requires.short (omega (arith, room.1)) c.put_length.ensures.items c.put_bytes.ensures.items
-    (c.len-start.ensures ∙ c.put_length.new.bytes.ok.0) (c.len-end.ensures ∙ c.put_bytes.new.bytes.ok.0) c.push_reserved.ensures.items
+    of_one c.self.inside.bytes.items c.put_length.new.bytes.items c.put_bytes.new.bytes.items c.self.inside.starts.items c.push_reserved.new.self.items _ c.args.atom.now
+    c.len.result (of_built _ _ c.self.invariant) c.requires.short (omega (arith, room.1)) c.put_length.ensures.items c.put_bytes.ensures.items
+    (c.len.ensures ∙ c.self.inside.bytes.ok.0) c.push_reserved.ensures.items
 
 pub invariant_of-self : goal.invariant_of-self
 invariant_of-self c = built_of _ _ _ (pushed c)

@@ -9,7 +9,7 @@ pub push_piece-requires-clause-byte_room : goal.push_piece-requires-clause-byte_
 push_piece-requires-clause-byte_room c =
     let list = c.args.list.now in
     let from = c.args.from in
-    let count = length c.piece-piece.result.spans.now in
+    let count = length c.piece-piece.result.starts.now in
     let size = (room_of-size (slice_range list from (from + count))).0 in
     let less = room_of-longer list from (from + count) c.args.to c.piece-piece.ensures.short in
     let long = ap length c.piece-piece.ensures.piece.framed in
@@ -19,7 +19,7 @@ pub loop-at-init : goal.loop-at-init
 loop-at-init c =
     let list = c.args.list.now in
     let from = c.args.from in
-    let count = length c.piece-piece.result.spans.now in
+    let count = length c.piece-piece.result.starts.now in
     let size = (room_of-size (slice_range list from (from + count))).0 in
     let long = ap length c.piece-piece.ensures.piece.framed in
     record {

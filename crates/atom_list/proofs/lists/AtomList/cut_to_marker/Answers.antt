@@ -1,29 +1,30 @@
-use Rattle.std.proofs.Common.{◌<◌, ◌++◌, [], ◌∷◌, length, take, set, refl, sym, ◌∙◌, ap, subst, arith}
+use Rattle.std.proofs.Common.{◌<◌, ◌++◌, ℕ, [], ◌∷◌, length, take, set, inl, sym, ◌∙◌, ap, subst, arith}
 use Rattle.std.proofs.lemmas.List.{length-map}
-use Rattle.atom_list.specs.Spans.{span_atom, atoms_at, IsSpan, IsFlat}
-use Rattle.atom_list.specs.declared.spans.Span.{Span}
+use Rattle.atom_list.specs.Starts.{atom_at, atoms_at, IsStart, IsFlat}
+use Rattle.atom_list.proofs.Frames.{atom_at-behind}
 use Rattle.atom_list.proofs.Flat.{flat_marked, atoms_at-marked}
 use Rattle.atom_list.proofs.lists.AtomList.cut_to_marker.Goals as goal
 
-marker : Span
-marker = record { start = 0; end = 0 }
+-- Where no buffer reaches.
+marker : ℕ
+marker = 0xffffffff
 
 pub invariant_of-self : goal.invariant_of-self
 unfolding marker
 invariant_of-self c =
     let bytes = c.self.inside.bytes in
-    let spans = c.self.inside.spans.items in
+    let starts = c.self.inside.starts.items in
     let keep = c.args.keep in
-    let within : keep < length spans = omega (arith, ap length c.self.view_is, length-map spans (span_atom bytes), c.requires) in
-    let one : IsSpan (length bytes) marker = record { ordered = omega arith; within = omega arith; short = omega arith } in
+    let within : keep < length starts = omega (arith, ap length c.self.view_is, length-map starts (atom_at bytes), c.requires) in
+    let one : IsStart bytes marker = inl (omega (arith, c.self.invariant.few)) in
     subst (λ v. IsFlat bytes (set v keep marker) c.min-self-inside.result) (sym c.truncate.ensures.items)
-    (flat_marked bytes spans c.self.inside.laid keep c.min-self-inside.result marker c.self.invariant within (omega arith) (omega arith) one)
+    (flat_marked bytes starts c.self.inside.laid keep c.min-self-inside.result marker c.self.invariant within (omega arith) (omega arith) one)
 
 pub returns : goal.returns
 unfolding marker
 returns c =
     let bytes = c.self.inside.bytes in
-    let spans = c.self.inside.spans.items in
+    let starts = c.self.inside.starts.items in
     let keep = c.args.keep in
-    let within : keep < length spans = omega (arith, ap length c.self.view_is, length-map spans (span_atom bytes), c.requires) in
-    ap (λ v. atoms_at bytes (set v keep marker)) c.truncate.ensures.items ∙ atoms_at-marked bytes spans keep marker within refl ∙ ap (λ v. take keep v ++ [] ∷ []) c.self.view_is
+    let within : keep < length starts = omega (arith, ap length c.self.view_is, length-map starts (atom_at bytes), c.requires) in
+    ap (λ v. atoms_at bytes (set v keep marker)) c.truncate.ensures.items ∙ atoms_at-marked bytes starts keep marker within (atom_at-behind bytes marker (omega (arith, c.self.invariant.few))) ∙ ap (λ v. take keep v ++ [] ∷ []) c.self.view_is

@@ -8,7 +8,7 @@ use Rattle.atom_list.proofs.lists.AtomList.room.Goals as goal
 pub loop-at-init : goal.loop-at-init
 loop-at-init c =
     let list = c.args.self.now in
-    let count = length c.piece-piece.result.spans.now in
+    let count = length c.piece-piece.result.starts.now in
     let size = room_of-size (take count list) in
     let whole : 0 + count - 0 ≡ count = omega arith in
     let long : length c.piece-piece.result.bytes.now ≡ size_of (take count list) = ap length c.piece-piece.ensures.piece.framed ∙ ap (λ n. size_of (take n list)) whole in
