@@ -1,8 +1,8 @@
 -- What is read where nothing stands.
-use Rattle.std.proofs.Common.{◌≡◌, List, [], ◌∷◌, ◌++◌, refl, subst, append_assoc}
+use Rattle.std.proofs.Common.{[], ◌∷◌, ◌++◌, refl, subst, append_assoc}
 use Rattle.context_model.specs.Atoms.{Atom}
 use Rattle.context_model.specs.Kinds.{atom_of}
-use Rattle.context_model.specs.Kinds.Kind.{Datum, Indexed, Keyed}
+use Rattle.context_model.specs.Kinds.Kind.{Datum}
 use Rattle.context_model.specs.Orders.{Path}
 use Rattle.bag_model.specs.Readings.{node_path, Reads, ReadsEach}
 use Rattle.bag_model.specs.Shapes.{Shape, Nodes, Taint, Scalar, Set, Counter, Map, Bag, no_node, node}

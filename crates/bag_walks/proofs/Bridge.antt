@@ -1,20 +1,19 @@
 -- Between the paths of a list and the places where their atoms stand.
-use Rattle.std.proofs.Common.{◌≡◌, ℕ, zero, suc, ◌+◌, ◌-◌, ◌<◌, ◌≤◌, ◌⊎◌, ◌↔◌, Bool, true, false, cond, List, [], ◌∷◌, ◌++◌, length, take, slice_get, Some, None, Option, Ordering, Less, Greater, Equal, sym, refl, ap, ◌∙◌, subst, arith, inl, inr, add-one, le_refl, append_assoc}
+use Rattle.std.proofs.Common.{◌≡◌, ℕ, zero, suc, ◌+◌, ◌<◌, ◌≤◌, ◌↔◌, true, List, [], ◌∷◌, ◌++◌, length, take, slice_get, Some, Less, Equal, sym, refl, ap, ◌∙◌, subst, arith, inl, inr, le_refl, append_assoc}
 use Rattle.std.specs.Ordering.{ordering_then, ordering_reverse}
 use Rattle.std.proofs.lemmas.Bool.{cases_order}
 use Rattle.std.proofs.lemmas.Cmp.{tied_itself}
 use Rattle.std.proofs.lemmas.List.{take-take, take-append-le}
 use Rattle.context_model.specs.Atoms.{Atom}
 use Rattle.context_model.specs.Orders.{Path, atom_cmp, path_cmp, IsIn}
-use Rattle.context_model.specs.Paths.{is_header, level, header_count, path_after, atom_at, path_before, path_at, paths}
+use Rattle.context_model.specs.Paths.{is_header, level, header_count, atom_at, path_before, path_at, paths}
 use Rattle.context_model.specs.WellFormed.{IsWellFormed}
 use Rattle.context_model.proofs.OrderLaws.{atoms_total, paths_total}
-use Rattle.context_model.proofs.Following.{header_count-length}
 use Rattle.context_model.proofs.PathPlaces.{header_path, later_place}
 use Rattle.context_model.proofs.PlacesOf.{path_at-next, path_there, paths_rise, place_of_path, IsAtPlace, last_is, front_is_path}
 use Rattle.context_model.proofs.Beyond.{header_greater}
 use Rattle.bag_model.specs.Readings.{PathsOf, datum_path}
-use Rattle.bag_walks.specs.Parts.{IsBehind, HasNoHeader, IsDataPart, StaysBelow, IsSegment, IsInside, Stands}
+use Rattle.bag_walks.specs.Parts.{IsBehind, IsDataPart, StaysBelow, IsSegment, IsInside, Stands}
 use Rattle.bag_walks.proofs.Inside.{fits_there, inside_along, no_header_stays, data_count, datum_there, header_there}
 
 -- ---- orders of paths

@@ -1,7 +1,6 @@
 -- What is found of each slot of a table, field by field.
-use Rattle.std.proofs.Common.{◌≡◌, ℕ, zero, suc, ◌+◌, ◌<◌, ◌≤◌, List, [], ◌∷◌, ◌++◌, map, length, slice_get, Option, Some, None, sym, refl, ap, ◌∙◌, subst, arith, append_assoc}
+use Rattle.std.proofs.Common.{◌≡◌, ℕ, zero, suc, List, [], ◌∷◌, ◌++◌, map, length, slice_get, Some, sym, refl, ap, ◌∙◌, subst, arith, append_assoc}
 use Rattle.std.proofs.lemmas.List.{append-nil, length-append}
-use Rattle.context_model.specs.Atoms.{Atom}
 use Rattle.context_model.specs.Ended.{field_path_from}
 use Rattle.context_model.specs.Kinds.{atom_of}
 use Rattle.context_model.specs.Kinds.Kind.{Indexed}

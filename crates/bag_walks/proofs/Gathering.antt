@@ -1,33 +1,29 @@
 -- What a walk gathers is what is read.
-use Rattle.std.proofs.Common.{◌≡◌, ◌≢◌, ℕ, zero, suc, ◌+◌, ◌-◌, ◌*◌, ◌^◌, ◌<◌, ◌≤◌, ◌⊎◌, ◌↔◌, Bool, true, false, IsTrue, cond, List, [], ◌∷◌, ◌++◌, map, length, Option, Some, None, Ordering, Less, Greater, Equal, sym, refl, ap, ◌∙◌, subst, arith, inl, inr, le_refl}
+use Rattle.std.proofs.Common.{◌≡◌, ℕ, ◌^◌, ◌<◌, ◌≤◌, ◌⊎◌, ◌↔◌, Bool, true, IsTrue, List, [], ◌∷◌, ◌++◌, length, Some, None, Ordering, Less, Greater, Equal, sym, refl, ap, ◌∙◌, subst, arith, inl, inr}
 use Rattle.std.specs.Ordering.{ordering_then, ordering_reverse, nat_cmp}
 use Rattle.std.specs.Cmp.{nat_cmp_is}
-use Rattle.std.specs.Cmp.Lexicographic.{slice_cmp}
 use Rattle.std.proofs.lemmas.Bool.{cases_order}
 use Rattle.std.proofs.lemmas.Cmp.{tied_itself}
 use Rattle.std.proofs.lemmas.List.{append-nil}
 use Rattle.context_model.specs.Atoms.{Atom}
-use Rattle.context_model.specs.Kinds.{atom_of}
-use Rattle.context_model.specs.Kinds.Kind.{Keyed}
 use Rattle.context_model.specs.KeyedMerge.{keys_of, EachPair}
 use Rattle.context_model.specs.Merge.{AllBelow}
-use Rattle.context_model.specs.Orders.{Path, atom_cmp, path_cmp, IsIn, Rises}
+use Rattle.context_model.specs.Orders.{Path, atom_cmp, path_cmp, IsIn}
 use Rattle.context_model.specs.Paths.{is_header, level, atom_at, path_at}
 use Rattle.context_model.specs.Varints.{unsigned_varint}
-use Rattle.context_model.proofs.OrderLaws.{atoms_total, atoms_anti}
+use Rattle.context_model.proofs.OrderLaws.{atoms_total}
 use Rattle.context_model.proofs.PlacesOf.{paths_rise}
-use Rattle.context_model.proofs.Rising.{Rises-push}
 use Rattle.context_model.proofs.VarintLaws.{unsigned_varint-order, unsigned_varint-injective}
-use Rattle.bag_model.specs.Readings.{PathsOf, datum_path, key_path, HasScalar, IsFirst, HasCount, IsGreatest, HasKey, Reads}
+use Rattle.bag_model.specs.Readings.{PathsOf, IsFirst, IsGreatest, Reads}
 use Rattle.bag_model.specs.Scalars.{ScalarKind, ScalarValue, scalar_cmp, IsScalarOf, spelling}
 use Rattle.bag_model.specs.Shapes.{Shape}
-use Rattle.bag_model.specs.Values.{Value, Entries, pairs}
+use Rattle.bag_model.specs.Values.{Value}
 use Rattle.bag_model.proofs.ScalarOrder.{scalar_total}
 use Rattle.bag_model.proofs.SpellingOrder.{spelling-order, spelling-one}
-use Rattle.bag_walks.specs.Parts.{IsBehind, HasNoHeader, IsDataPart, StaysBelow, IsSegment, IsInside, Stands}
-use Rattle.bag_walks.specs.Gathered.{IsDatumAt, IsFirstDatum, IsLastDatum, GathersData, GathersCounts, GathersEntries}
+use Rattle.bag_walks.specs.Parts.{IsBehind, HasNoHeader, IsDataPart, StaysBelow, Stands}
+use Rattle.bag_walks.specs.Gathered.{IsDatumAt, IsFirstDatum, IsLastDatum}
 use Rattle.bag_walks.proofs.Inside.{inside_along, datum_there, header_there}
-use Rattle.bag_walks.proofs.Bridge.{data_are, headers_are}
+use Rattle.bag_walks.proofs.Bridge.{data_are}
 
 -- ---- lists
 

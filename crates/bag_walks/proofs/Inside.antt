@@ -1,16 +1,16 @@
 -- Along a part of a list the headers of a path stay open, and what stands there has paths below it.
-use Rattle.std.proofs.Common.{◌≡◌, ℕ, zero, suc, ◌+◌, ◌-◌, ◌<◌, ◌≤◌, Bool, true, false, cond, nat_le, List, [], ◌∷◌, ◌++◌, length, take, slice_get, Some, Less, Greater, Equal, sym, refl, ap, ◌∙◌, subst, arith, add-one, le_refl}
+use Rattle.std.proofs.Common.{◌≡◌, ℕ, zero, suc, ◌+◌, ◌-◌, ◌<◌, ◌≤◌, Bool, true, false, cond, nat_le, List, [], ◌∷◌, ◌++◌, length, take, sym, refl, ap, ◌∙◌, subst, arith, le_refl}
 use Rattle.std.proofs.lemmas.List.{take_all, take-take, take-append-le, length-take-le}
 use Rattle.context_model.specs.Atoms.{Atom}
-use Rattle.context_model.specs.Orders.{Path, atom_cmp, path_cmp, IsIn}
-use Rattle.context_model.specs.Paths.{is_header, level, header_count, depth_after, path_after, last_path_after, atom_at, path_before, path_at, paths}
+use Rattle.context_model.specs.Orders.{Path}
+use Rattle.context_model.specs.Paths.{is_header, level, header_count, depth_after, path_after, atom_at, path_before, path_at}
 use Rattle.context_model.specs.Ended.{AreHeaders}
 use Rattle.context_model.specs.WellFormed.{IsWellFormed}
 use Rattle.context_model.proofs.Following.{Fits, Follows-back, IsWellFormed-follows, IsWellFormed-take, next_bound, header_count-length}
-use Rattle.context_model.proofs.PathPlaces.{depth-length, header_path, later_place, place_at}
-use Rattle.context_model.proofs.PlacesOf.{path_at-next, paths_rise, last_is}
+use Rattle.context_model.proofs.PathPlaces.{depth-length, header_path}
+use Rattle.context_model.proofs.PlacesOf.{path_at-next}
 use Rattle.std.proofs.lemmas.List.{take_more}
-use Rattle.bag_walks.specs.Parts.{IsBehind, HasNoHeader, IsDataPart, StaysBelow, IsSegment, IsInside, Stands}
+use Rattle.bag_walks.specs.Parts.{IsBehind, HasNoHeader, StaysBelow, IsInside}
 
 -- ---- an atom of a well-formed list, at its place
 

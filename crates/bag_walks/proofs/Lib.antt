@@ -7,3 +7,6 @@ pub mod Absent
 pub mod Turns
 pub mod EachSlot
 pub mod Going
+pub mod SlotFits
+pub mod SlotShapes
+pub mod OnePlace

@@ -1,16 +1,16 @@
 -- Sets, counters and maps, gathered one atom after another.
-use Rattle.std.proofs.Common.{◌≡◌, ℕ, zero, suc, ◌+◌, ◌-◌, ◌*◌, ◌<◌, ◌≤◌, ◌⊎◌, ◌↔◌, Bool, true, false, nat_le, List, [], ◌∷◌, ◌++◌, length, Ordering, Less, Equal, sym, refl, ap, ◌∙◌, subst, arith, inl, inr}
+use Rattle.std.proofs.Common.{◌≡◌, ℕ, ◌+◌, ◌-◌, ◌*◌, ◌<◌, ◌≤◌, ◌⊎◌, true, nat_le, List, [], ◌∷◌, ◌++◌, length, sym, refl, ap, ◌∙◌, subst, arith, inl, inr}
 use Rattle.std.proofs.lemmas.Bool.{cases_order}
 use Rattle.std.proofs.lemmas.Bool.Decides.{nat_tests}
 use Rattle.context_model.specs.Atoms.{Atom}
 use Rattle.context_model.specs.Kinds.{atom_of}
 use Rattle.context_model.specs.Kinds.Kind.{Indexed, Keyed}
-use Rattle.context_model.specs.KeyedMerge.{keys_of, EachPair}
+use Rattle.context_model.specs.KeyedMerge.{keys_of}
 use Rattle.context_model.specs.Merge.{AllBelow}
 use Rattle.context_model.specs.Orders.{Path, atom_cmp, IsIn, Rises}
 use Rattle.context_model.specs.Paths.{is_header, level, atom_at}
 use Rattle.context_model.proofs.Rising.{Rises-push}
-use Rattle.bag_model.specs.Readings.{PathsOf, datum_path, key_path, HasScalar, IsGreatest, HasKey, Reads}
+use Rattle.bag_model.specs.Readings.{PathsOf, key_path, HasScalar, IsGreatest, HasKey, Reads}
 use Rattle.bag_model.specs.Scalars.{ScalarKind, ScalarValue, scalar_cmp, IsScalarOf, spelling}
 use Rattle.bag_model.specs.Shapes.{Shape}
 use Rattle.bag_model.specs.Values.{Value, Entries, pairs}

@@ -1,7 +1,7 @@
 -- Where a walk below a path stops, all that follows is beyond the path.
-use Rattle.std.proofs.Common.{◌≡◌, ℕ, zero, suc, ◌+◌, ◌<◌, ◌≤◌, ◌⊎◌, ◌↔◌, Bool, true, false, cond, List, [], ◌∷◌, ◌++◌, length, take, drop, slice_get, Some, Ordering, Less, Greater, Equal, sym, refl, ap, ◌∙◌, subst, arith, inl, inr, le_refl, length-append, append_assoc, take-append-drop}
+use Rattle.std.proofs.Common.{◌≡◌, ℕ, zero, suc, ◌+◌, ◌<◌, ◌≤◌, ◌↔◌, Bool, true, false, cond, List, [], ◌∷◌, ◌++◌, length, take, drop, slice_get, Some, Ordering, Less, Greater, Equal, sym, refl, ap, ◌∙◌, subst, arith, inl, inr, le_refl, length-append, append_assoc, take-append-drop}
 use Rattle.std.specs.Ordering.{ordering_then, ordering_reverse}
-use Rattle.std.proofs.lemmas.Bool.{cases_eq, cases_order}
+use Rattle.std.proofs.lemmas.Bool.{cases_order}
 use Rattle.std.proofs.lemmas.Cmp.{tied_itself}
 use Rattle.std.proofs.lemmas.List.{append-nil}
 use Rattle.std.proofs.lemmas.Option.{get_or_from_slice_get}
@@ -15,10 +15,10 @@ use Rattle.context_model.proofs.PathPlaces.{header_path, depth-length, length_at
 use Rattle.context_model.proofs.Places.{IsEnded-at, IsEnded-nowhere, front_of-take, marker_at}
 use Rattle.context_model.proofs.PlacesOf.{path_at-next, path_there, paths_rise, place_of_path, IsAtPlace, last_is, front_is_path}
 use Rattle.context_model.proofs.Beyond.{header_greater}
-use Rattle.bag_walks.specs.Parts.{IsBehind, StaysBelow, IsSegment, IsInside, Stands}
-use Rattle.bag_walks.specs.Searches.{IsPassed, IsStop, HasPassed, IsSought, IsFirstBeyond}
+use Rattle.bag_walks.specs.Parts.{IsBehind, StaysBelow, IsSegment, IsInside}
+use Rattle.bag_walks.specs.Searches.{IsSought, IsFirstBeyond}
 use Rattle.bag_walks.proofs.Inside.{fits_there, inside_along}
-use Rattle.bag_walks.proofs.Bridge.{no_less, longer, not_before, header_later, datum_is_less}
+use Rattle.bag_walks.proofs.Bridge.{no_less, longer, not_before, header_later}
 
 -- ---- ended, by the place where a walk stops
 

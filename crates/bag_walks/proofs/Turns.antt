@@ -1,10 +1,10 @@
 -- One turn of a walk over the fields of a bag: the header of the next field is sought, and is there or not.
-use Rattle.std.proofs.Common.{◌≡◌, ◌≢◌, ℕ, zero, suc, ◌+◌, ◌-◌, ◌*◌, ◌^◌, ◌<◌, ◌≤◌, ◌⊎◌, Bool, true, false, List, [], ◌∷◌, ◌++◌, length, Ordering, Less, Equal, Greater, sym, refl, ap, ◌∙◌, subst, arith, inl, inr, le_refl}
-use Rattle.std.specs.Ordering.{ordering_then, nat_cmp}
+use Rattle.std.proofs.Common.{◌≡◌, ◌≢◌, ℕ, ◌+◌, ◌-◌, ◌*◌, ◌^◌, ◌<◌, ◌≤◌, true, List, [], ◌∷◌, ◌++◌, length, Ordering, Less, Equal, Greater, sym, refl, ap, ◌∙◌, subst, arith, inl, inr, le_refl}
+use Rattle.std.specs.Ordering.{ordering_then}
 use Rattle.std.specs.Cmp.{nat_cmp_is}
 use Rattle.std.proofs.lemmas.Bool.{cases_order}
 use Rattle.std.proofs.lemmas.Cmp.{tied_itself}
-use Rattle.std.proofs.lemmas.List.{append-nil, length-append}
+use Rattle.std.proofs.lemmas.List.{append-nil}
 use Rattle.context_model.specs.Atoms.{Atom}
 use Rattle.context_model.specs.Kinds.{atom_of}
 use Rattle.context_model.specs.Kinds.Kind.{Indexed}
@@ -15,11 +15,10 @@ use Rattle.context_model.proofs.OrderLaws.{atoms_total, atoms_anti}
 use Rattle.context_model.proofs.VarintLaws.{unsigned_varint-order}
 use Rattle.bag_model.specs.Readings.{PathsOf}
 use Rattle.bag_walks.specs.Parts.{IsBehind, StaysBelow, IsSegment, IsInside, Stands}
-use Rattle.bag_walks.specs.Searches.{IsPassed, IsStop, HasPassed, IsSought}
+use Rattle.bag_walks.specs.Searches.{HasPassed, IsSought}
 use Rattle.bag_walks.proofs.Inside.{inside_along, child_behind}
 use Rattle.bag_walks.proofs.Bridge.{earlier_stands, none_below}
 use Rattle.bag_walks.proofs.Gathering.{same_first}
-use Rattle.bag_walks.proofs.Sets.{index_header}
 use Rattle.bag_walks.proofs.Absent.{IsBare}
 
 -- The header of a lesser number comes first.

@@ -1,12 +1,11 @@
 -- What a walk has gathered of a field when it has come to a place.
-use Rattle.std.specs.Prelude.{◌≡◌, ◌⊎◌, ◌↔◌, ℕ, ◌^◌, ◌<◌, ◌≤◌, List, [], ◌∷◌, ◌++◌, length, Option, Some, None}
+use Rattle.std.specs.Prelude.{◌≡◌, ◌↔◌, ℕ, ◌<◌, ◌≤◌, List, ◌∷◌, length, Option, Some, None}
 use Rattle.context_model.specs.Atoms.{Atom}
 use Rattle.context_model.specs.KeyedMerge.{keys_of, EachPair}
 use Rattle.context_model.specs.Kinds.{atom_of}
 use Rattle.context_model.specs.Kinds.Kind.{Keyed}
 use Rattle.context_model.specs.Orders.{Path, atom_cmp, IsIn, Rises}
 use Rattle.context_model.specs.Paths.{atom_at}
-use Rattle.context_model.specs.Varints.{unsigned_varint}
 use Rattle.bag_model.specs.Readings.{PathsOf, key_path, IsGreatest, Reads}
 use Rattle.bag_model.specs.Scalars.{ScalarKind, ScalarValue, scalar_cmp, IsScalarOf, spelling}
 use Rattle.bag_model.specs.Shapes.{Shape}

@@ -3,3 +3,4 @@ pub mod Searches
 pub mod Gathered
 pub mod Slots
 pub mod Going
+pub mod SlotFits

@@ -16,6 +16,8 @@ use Rattle.bag_model.specs.Shapes.{Nodes}
 use Rattle.bag_model.specs.Tables.{IsTable}
 use Rattle.bag_model.specs.Typed.{AreTyped, IsFirstIllTyped}
 use Rattle.bag_model.proofs.IllTyped.{first_ill_typed}
+use Rattle.bag_walks.proofs.OnePlace.{one_place}
+use Rattle.wire_bytes.proofs.OneCode.{one_code}
 use Rattle.bdl_load.specs.Loading.{Holding}
 use Rattle.report_text.specs.Blocks.{IsBlock}
 use Rattle.graph_text.specs.Additions.{graph_of}
@@ -45,34 +47,10 @@ use Rattle.baggage_cli.specs.Trimming.{trimmed_line, TrimsLines}
 use Rattle.baggage_cli.specs.Under.{InputUnder, SaysGraph, AcceptsUnder}
 use Rattle.baggage_cli.proofs.GraphInputs.{inputs_say, lines_say}
 
--- ---- one code for what it says
-
-code_back : PlainCode → ByteCode
-code_back plain.ByteCode.CutLength = CutLength
-code_back plain.ByteCode.AtomTooLong = AtomTooLong
-code_back plain.ByteCode.LongForm = LongForm
-code_back plain.ByteCode.CutBody = CutBody
-code_back plain.ByteCode.BadPrefix = BadPrefix
-code_back plain.ByteCode.BadIndex = BadIndex
-code_back plain.ByteCode.LevelJump = LevelJump
-code_back plain.ByteCode.OutOfOrder = OutOfOrder
-
-code_back-byte_code_of : (code : ByteCode) → code_back (byte_code_of code) ≡ code
-unfolding code_back
-code_back-byte_code_of CutLength = refl
-code_back-byte_code_of AtomTooLong = refl
-code_back-byte_code_of LongForm = refl
-code_back-byte_code_of CutBody = refl
-code_back-byte_code_of BadPrefix = refl
-code_back-byte_code_of BadIndex = refl
-code_back-byte_code_of LevelJump = refl
-code_back-byte_code_of OutOfOrder = refl
-
-code_cancel : (c d : ByteCode) → byte_code_of c ≡ byte_code_of d → c ≡ d
-code_cancel c d e = sym (code_back-byte_code_of c) ∙ ap code_back e ∙ code_back-byte_code_of d
+-- ---- one fault for what is wrong
 
 same_fault : (f g : InputFault) (i j : ℕ) (c d : ByteCode) → f ≡ Bytes i c → g ≡ Bytes j d → i ≡ j → byte_code_of c ≡ byte_code_of d → f ≡ g
-same_fault f g i j c d f_is g_is offsets codes = let code = code_cancel c d codes in cc (f_is, g_is, offsets, code)
+same_fault f g i j c d f_is g_is offsets codes = let code = one_code c d codes in cc (f_is, g_is, offsets, code)
 
 -- ---- lines of lists and of contexts
 
@@ -93,16 +71,6 @@ context_bytes_definite = record {
       same_fault f g i j c d f_is g_is same.0 same.1;
   not_both = λ earlier bytes said fault f (i, c, first, is). (has_one_context bytes).either said i (byte_code_of c) f first;
 }
-
--- A list has one first ill-typed place.
-one_place : (table : Nodes) (list : List Atom) (i j : ℕ) → IsFirstIllTyped table list i → IsFirstIllTyped table list j → i ≡ j
-one_place table list i j first other = elim (cases_lt i j) [
-  | inl less ↦ absurd (other.first i less first.misspells)
-  | inr more ↦ elim (cases_lt j i) [
-    | inl less ↦ absurd (first.first j less other.misspells)
-    | inr fewer ↦ omega arith
-  ]
-]
 
 -- What is wrong with bytes under a table.
 abbrev TypedFault : Nodes → List ℕ → InputFault → Type 0

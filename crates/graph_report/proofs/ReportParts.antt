@@ -42,16 +42,6 @@ one_report blocks nodes lists (n ∷ shows) a b (block, rest, is, others, whole)
     ∙ ap (λ t. step_text n other ++ t) (one_report blocks nodes lists shows rest end others too)
     ∙ sym all
 
--- What is shown are steps of the graph.
-pub shown_within : (graph : Graph) (items : List ℕ) (k : ℕ) → IsGraph graph → items ≡ graph.shows → k < length items → get_or items k 0 < length graph.steps
-shown_within graph items k sound same l =
-    sound.shows (get_or items k 0) (subst (λ (shows : List ℕ). IsIn (get_or items k 0) shows) same (in_at items k l))
-  where
-    in_at : (xs : List ℕ) (n : ℕ) → n < length xs → IsIn (get_or xs n 0) xs
-    in_at [] n less = absurd (omega (arith, less))
-    in_at (x ∷ xs) zero less = inl refl
-    in_at (x ∷ xs) (suc n) less = inr (in_at xs n (omega (arith, less)))
-
 -- Under a table without fields each list is typed.
 pub one_typed : (list : List Atom) → IsWellFormed list → (n : ℕ) → n < length (list ∷ []) → IsTypedContext no_node (list_at (list ∷ []) n)
 one_typed list w zero l = record { well_formed = w; typed = tt }

@@ -11,6 +11,8 @@ use Rattle.bag_model.specs.Tables.{IsTable}
 use Rattle.bag_model.specs.Typed.{IsFirstIllTyped}
 use Rattle.context_model.specs.Framing.{size_of}
 use Rattle.bag_model.proofs.IllTyped.{first_ill_typed}
+use Rattle.bag_walks.proofs.OnePlace.{one_place}
+use Rattle.wire_bytes.proofs.OneCode.{one_code}
 use Rattle.wire_bytes.specs.declared.contexts.ByteCode.{ByteCode}
 use Rattle.wire_bytes.specs.declared.contexts.ByteCode.TheVariants.{CutLength, AtomTooLong, LongForm, CutBody, BadPrefix, BadIndex, LevelJump, OutOfOrder}
 use Rattle.wire_bytes.specs.Codes.{byte_code_of}
@@ -33,40 +35,6 @@ abbrev pub HasOneForm : Type 0
 HasOneForm = (text : List ℕ) (a b : Statement) → HasForm text a → HasForm text b → a ≡ b
 
 -- ---- what is wrong with a context that is received
-
-code_back : PlainCode → ByteCode
-code_back plain.ByteCode.CutLength = CutLength
-code_back plain.ByteCode.AtomTooLong = AtomTooLong
-code_back plain.ByteCode.LongForm = LongForm
-code_back plain.ByteCode.CutBody = CutBody
-code_back plain.ByteCode.BadPrefix = BadPrefix
-code_back plain.ByteCode.BadIndex = BadIndex
-code_back plain.ByteCode.LevelJump = LevelJump
-code_back plain.ByteCode.OutOfOrder = OutOfOrder
-
-code_back-byte_code_of : (code : ByteCode) → code_back (byte_code_of code) ≡ code
-unfolding code_back
-code_back-byte_code_of CutLength = refl
-code_back-byte_code_of AtomTooLong = refl
-code_back-byte_code_of LongForm = refl
-code_back-byte_code_of CutBody = refl
-code_back-byte_code_of BadPrefix = refl
-code_back-byte_code_of BadIndex = refl
-code_back-byte_code_of LevelJump = refl
-code_back-byte_code_of OutOfOrder = refl
-
-one_code : (c d : ByteCode) → byte_code_of c ≡ byte_code_of d → c ≡ d
-one_code c d e = sym (code_back-byte_code_of c) ∙ ap code_back e ∙ code_back-byte_code_of d
-
--- A list has one first ill-typed place.
-one_place : (table : Nodes) (list : List Atom) (i j : ℕ) → IsFirstIllTyped table list i → IsFirstIllTyped table list j → i ≡ j
-one_place table list i j first other = elim (cases_lt i j) [
-  | inl less ↦ absurd (other.first i less first.misspells)
-  | inr more ↦ elim (cases_lt j i) [
-    | inl less ↦ absurd (first.first j less other.misspells)
-    | inr fewer ↦ omega arith
-  ]
-]
 
 -- Digits say these bytes alone.
 one_hex : (hex a b : List ℕ) → hex_bytes hex ≡ Some a → hex_bytes hex ≡ Some b → b ≡ a

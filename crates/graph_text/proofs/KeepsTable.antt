@@ -18,7 +18,7 @@ use Rattle.trace_model.specs.Graphs.{Act, Graph, IsGraph, view_at, IsViewOf, IsA
 use Rattle.text_lines.specs.Lines.{Line, lines_of}
 use Rattle.text_lines.specs.Readings.{AllSay}
 use Rattle.write_text.specs.Writes.{IsWrite}
-use Rattle.recorded_graph.proofs.Growing.{graphs_grow}
+use Rattle.recorded_graph.proofs.Growing.{empty_sound, service_sound, step_sound, show_sound, graphs_grow}
 use Rattle.graph_lines.specs.Forms.{IsSound}
 use Rattle.graph_lines.specs.Statements as lines
 use Rattle.graph_lines.specs.Statements.{NamedView, NamedAct, Statement}
@@ -26,8 +26,7 @@ use Rattle.graph_text.specs.Additions.{Addition, with_addition, graph_of, MeansV
 use Rattle.graph_text.specs.GraphLines.{SaysAddition, graph_lines, IsGraphOf}
 use Rattle.graph_text.proofs.Follows.{KeepsRules, may_follow, is_shown}
 use Rattle.graph_text.proofs.Grown.{graph_of_more}
-use Rattle.graph_text.proofs.SlotFits.{only_fits}
-use Rattle.graph_text.proofs.Sound.{empty_sound, service_sound, step_sound, show_sound}
+use Rattle.bag_walks.proofs.SlotFits.{only_fits}
 
 -- The value of a write is of the shape, and each atom of its layout, at any path, is within the limit of bytes.
 pub record WritesFit : Type 0 where

@@ -5,8 +5,6 @@ mod ViewPaths
 mod Meanings
 mod Definite
 mod Follows
-mod SlotFits
-mod Sound
 mod Grown
 mod KeepsTable
 mod Refusals

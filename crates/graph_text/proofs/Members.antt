@@ -5,23 +5,6 @@ use Rattle.std.proofs.lemmas.List.Sorted.{Contains-permutation, IsPermutation-sy
 use Rattle.std.specs.List.Sorted.{IsPermutation}
 use Rattle.context_model.specs.Orders.{IsIn}
 
--- An element more.
-pub in_push : {K : Type 0} (xs : List K) (x y : K) → IsIn x (xs ++ y ∷ []) ↔ (IsIn x xs ⊎ (x ≡ y))
-in_push {K} xs x y = (to xs, from xs)
-  where
-    to : (xs : List K) → IsIn x (xs ++ y ∷ []) → IsIn x xs ⊎ (x ≡ y)
-    to [] (inl e) = inr e
-    to [] (inr none) = absurd none
-    to (z ∷ zs) (inl e) = inl (inl e)
-    to (z ∷ zs) (inr i) = elim (to zs i) [ inl j ↦ inl (inr j) | inr e ↦ inr e ]
-
-    from : (xs : List K) → IsIn x xs ⊎ (x ≡ y) → IsIn x (xs ++ y ∷ [])
-    from [] (inl none) = absurd none
-    from [] (inr e) = inl e
-    from (z ∷ zs) (inl (inl e)) = inl e
-    from (z ∷ zs) (inl (inr i)) = inr (from zs (inl i))
-    from (z ∷ zs) (inr e) = inr (from zs (inr e))
-
 -- The element at a place.
 pub in_get : {K : Type 0} (xs : List K) (i : ℕ) (d : K) → i < length xs → IsIn (get_or xs i d) xs
 in_get [] i d h = absurd (omega arith)

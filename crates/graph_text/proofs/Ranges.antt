@@ -10,7 +10,8 @@ use Rattle.bag_model.proofs.Finite.{in_append_first, in_append_second, in_append
 use Rattle.field_table.specs.Ranges.{slots_between}
 use Rattle.field_table.proofs.SlotRanges.{in_between}
 use Rattle.graph_text.specs.Additions.{InSome}
-use Rattle.graph_text.proofs.Members.{in_push, in_permutation, contains_from_in}
+use Rattle.graph_text.proofs.Members.{in_permutation, contains_from_in}
+use Rattle.bag_walks.proofs.Gathering.{in_push}
 
 -- The slots are those of the ranges; all are below the greatest end, and none is missing between the greatest start and that.
 pub record Covers (ranges : List (ℕ × ℕ)) (slots : List ℕ) (next : ℕ) : Type 0 where

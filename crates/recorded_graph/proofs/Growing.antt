@@ -80,7 +80,7 @@ module _ (graph : Graph) (step : model.Step) (g : IsGraph graph) (f : MayFollow 
   old_step : (parent : ℕ) (own : model.Step) → parent < length graph.steps → HasStep (with_step graph step) parent own → HasStep graph parent own
   old_step parent own l e = elim (get_more graph.steps step own parent e) [ inl h ↦ h | inr h ↦ absurd (let same = h.0 in omega (arith, same, l)) ]
 
-  step_sound : IsGraph (with_step graph step)
+  pub step_sound : IsGraph (with_step graph step)
   step_sound = record {
     acts = each_step graph step (λ n s. IsSoundAct s.act) g.acts f.act;
     earlier = λ n parent. each_step graph step (λ m s. IsIn parent (parents_of s.act) → parent < m) (λ m s h. g.earlier m parent s h) (λ j. (f.parents parent j).earlier) n;

@@ -18,30 +18,17 @@ use Rattle.bag_scan.specs.declared.states.State.{State}
 use Rattle.bag_scan.specs.declared.states.State.TheVariants.{Exact, Partial}
 use Rattle.bag_decode.specs.SlotWalks.{IsSpanOfSlot, SaysAt}
 use Rattle.report_text.specs.Blocks.{is_exact}
+use Rattle.report_text.proofs.SlotLines.{exact_is}
 use Rattle.serde_json.specs.Data.{Data}
 use Rattle.report_json.specs.JsonReports.{slot_object, IsSlotObject}
 
 one_some : {A : Type 0} (x y : A) → Some x ≡ Some y → x ≡ y
 one_some x y e = cc
 
--- There is a span for each slot.
-pub as_many : (nodes : Nodes) (list : List Atom) (spans : List Span) → AreSpans list (slots_of nodes) [] spans → length spans ≡ length (slots_of nodes)
-as_many nodes list spans are = each-count (IsSpanAt list) (slots_of nodes) [] spans are
-
--- The span with the number of a slot is that of the slot.
-pub span_there : (nodes : Nodes) (list : List Atom) (spans : List Span) (slot : ℕ) (span : Span) → AreSpans list (slots_of nodes) [] spans → slice_get spans slot ≡ Some span → IsSpanOfSlot nodes list slot span
-span_there nodes list spans slot span are is = λ at there.
-    let (own, found, r) = each-at (IsSpanAt list) (slots_of nodes) [] spans slot at are there in
-    subst (IsSpanAt list (field_path at.numbers) at.shape) (one_some own span (sym found ∙ is)) r
-
 -- What is said of a slot is of its shape.
 pub value_fits : (nodes : Nodes) (list : List Atom) (slot : ℕ) (v : Value) → SaysAt nodes list slot v → (at : SlotAt) → HasSlot nodes slot at → IsOfShape at.shape v
 value_fits nodes list slot v (own, there, says) at here =
     subst (λ (found : SlotAt). IsOfShape found.shape v) (one_some own at (sym there ∙ here)) (Reads-shape own.shape (PathsOf list) (field_path own.numbers) v says)
-
-exact_is : (state : State) → IsTrue (is_exact state) ↔ (state ≡ Exact)
-exact_is Exact = (λ t. refl, λ e. refl)
-exact_is Partial = (λ t. cc, λ e. absurd (cc e))
 
 -- An object with what is said of a slot, and with its state, shows it.
 pub object_shown : (nodes : Nodes) (list : List Atom) (slot : ℕ) (marker : Option ℕ) (span : Span) (state : State) (v : Value) (d : Data) → SaysAt nodes list slot v → IsWellFormed list → IsFirstMarker list marker

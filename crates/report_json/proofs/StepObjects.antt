@@ -50,13 +50,3 @@ all_begun nodes lists shows at before after (objects, are, is) all closed = (
   (are.0 ∙ all, are.1),
   closed ∙ ap (λ (l : List ℕ). l ++ 93 ∷ []) is ∙ ap (λ (l : List ℕ). 91 ∷ l) (sym (row_closed false objects)),
 )
-
--- What is shown are steps of the graph.
-pub shown_within : (graph : Graph) (items : List ℕ) (k : ℕ) → IsGraph graph → items ≡ graph.shows → k < length items → get_or items k 0 < length graph.steps
-shown_within graph items k sound same l =
-    sound.shows (get_or items k 0) (subst (λ (shows : List ℕ). IsIn (get_or items k 0) shows) same (in_at items k l))
-  where
-    in_at : (xs : List ℕ) (n : ℕ) → n < length xs → IsIn (get_or xs n 0) xs
-    in_at [] n less = absurd (omega (arith, less))
-    in_at (x ∷ xs) zero less = inl refl
-    in_at (x ∷ xs) (suc n) less = inr (in_at xs n (omega (arith, less)))

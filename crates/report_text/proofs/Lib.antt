@@ -5,4 +5,4 @@ mod Places
 mod Textless
 mod ValueRows
 mod OneBlock
-mod SlotLines
+pub mod SlotLines

@@ -37,7 +37,7 @@ span_there nodes list spans slot span are is = λ at there.
     same : (own : Span) → Some own ≡ Some span → own ≡ span
     same own e = cc
 
-exact_is : (state : State) → IsTrue (is_exact state) ↔ (state ≡ Exact)
+pub exact_is : (state : State) → IsTrue (is_exact state) ↔ (state ≡ Exact)
 exact_is Exact = (λ t. refl, λ e. refl)
 exact_is Partial = (λ t. cc, λ e. absurd (cc e))
 

@@ -9,5 +9,6 @@ pub mod TruthLaws
 pub mod FaithfulLaws
 pub mod RunLaws
 pub mod ShownLaws
+pub mod ShownSteps
 pub mod GivenLaws
 mod GraphRows

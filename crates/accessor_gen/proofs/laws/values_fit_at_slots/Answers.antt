@@ -1,5 +1,5 @@
-use Rattle.accessor_gen.proofs.SlotFits.{values_fit_at_slots}
+use Rattle.bag_walks.proofs.SlotFits.{only_fits}
 use Rattle.accessor_gen.proofs.laws.values_fit_at_slots.Goals as goal
 
 pub returns : goal.returns
-returns c = values_fit_at_slots
+returns c = only_fits

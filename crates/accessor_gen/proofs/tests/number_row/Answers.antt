@@ -13,8 +13,8 @@ use Rattle.scalar_types.specs.declared.kinds.ScalarKind.TheVariants.{Fixed32}
 use Rattle.field_table.specs.declared.shapes.Shape.TheVariants as variants
 use Rattle.scalar_types.specs.declared.kinds.ScalarKind.{ScalarKind}
 use Rattle.accessor_gen.specs.Accessors.{FindsAccessor}
-use Rattle.accessor_gen.specs.Writes.{FitsAnywhere}
-use Rattle.accessor_gen.proofs.SlotFits.{last_is}
+use Rattle.bag_walks.specs.SlotFits.{FitsAnywhere}
+use Rattle.bag_walks.proofs.SlotFits.{last_is}
 use Rattle.accessor_gen.proofs.tests.number_row.Goals as goal
 
 abbrev number_shape : Shape

@@ -1,7 +1,8 @@
 use Rattle.std.proofs.Common.{ℕ, List, get_or, take, sym, subst, arith}
 use Rattle.std.proofs.lemmas.List.{take_more}
 use Rattle.graph_report.specs.Reports.{IsReport}
-use Rattle.graph_report.proofs.ReportParts.{shown_within, one_more}
+use Rattle.trace_model.proofs.ShownSteps.{shown_within}
+use Rattle.graph_report.proofs.ReportParts.{one_more}
 use Rattle.graph_report.proofs.reports.report.Goals as goal
 
 pub put_step-requires-clause-within : goal.put_step-requires-clause-within

@@ -6,7 +6,8 @@ use Rattle.bag_value.specs.Plain.{plain}
 use Rattle.serde_json.specs.View.{view}
 use Rattle.report_json.specs.JsonReports.{AreInPlace, IsSlotObject}
 use Rattle.report_json.proofs.Placed.{one_placed}
-use Rattle.report_json.proofs.SlotObjects.{as_many, span_there, value_fits, object_shown}
+use Rattle.report_text.proofs.SlotLines.{as_many, span_there}
+use Rattle.report_json.proofs.SlotObjects.{value_fits, object_shown}
 use Rattle.report_json.proofs.objects.slots_json.Goals as goal
 
 pub index-span-requires : goal.index-span-requires

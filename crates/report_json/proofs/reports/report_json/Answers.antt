@@ -1,6 +1,7 @@
 use Rattle.std.proofs.Common.{◌≡◌, ℕ, List, length, get_or, sym, ap, arith}
 use Rattle.std.specs.List.{slice_index}
-use Rattle.report_json.proofs.StepObjects.{one_begun, all_begun, shown_within}
+use Rattle.trace_model.proofs.ShownSteps.{shown_within}
+use Rattle.report_json.proofs.StepObjects.{one_begun, all_begun}
 use Rattle.report_json.proofs.reports.report_json.Goals as goal
 
 pub put_step-requires-clause-within : goal.put_step-requires-clause-within

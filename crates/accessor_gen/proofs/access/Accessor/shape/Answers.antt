@@ -1,4 +1,4 @@
-use Rattle.accessor_gen.proofs.SlotShapes.{slot_has_shape}
+use Rattle.bag_walks.proofs.SlotShapes.{slot_has_shape}
 use Rattle.accessor_gen.proofs.access.Accessor.shape.Goals as goal
 
 pub returns-clause-is : goal.returns-clause-is

@@ -20,18 +20,19 @@ node_shape name number own nodes place at (inl first) inside later = subst (λ (
 node_shape name number own nodes place at (inr behind) inside later = later behind.behind behind.at
 
 mutual
-  shape_of_slot : (nodes : Nodes) (place : ℕ) (at : SlotAt) → AreFields nodes → HasSlot nodes place at → IsShape at.shape
-  shape_of_slot no_node place at are e = absurd (cc e)
-  shape_of_slot (node name number own nodes) place at are e =
-      node_shape name number own nodes place at (first_or_later name number own nodes place at e) (λ inner found. shape_inside own place inner are.2 found) (λ behind found. shape_of_slot nodes behind at are.4 found)
+  -- The shape of a slot of a table is one.
+  pub slot_shape : (nodes : Nodes) (place : ℕ) (at : SlotAt) → AreFields nodes → HasSlot nodes place at → IsShape at.shape
+  slot_shape no_node place at are e = absurd (cc e)
+  slot_shape (node name number own nodes) place at are e =
+      node_shape name number own nodes place at (first_or_later name number own nodes place at e) (λ inner found. inner_shape own place inner are.2 found) (λ behind found. slot_shape nodes behind at are.4 found)
 
-  shape_inside : (own : Shape) (place : ℕ) (at : SlotAt) → IsShape own → slice_get (slots_in own) place ≡ Some at → IsShape at.shape
-  shape_inside (Bag nodes) place at is e = shape_of_slot nodes place at is e
-  shape_inside Taint place at is e = alone_shape Taint place at is e
-  shape_inside (Scalar kind) place at is e = alone_shape (Scalar kind) place at is e
-  shape_inside (Set kind) place at is e = alone_shape (Set kind) place at is e
-  shape_inside Counter place at is e = alone_shape Counter place at is e
-  shape_inside (Map key value) place at is e = alone_shape (Map key value) place at is e
+  inner_shape : (own : Shape) (place : ℕ) (at : SlotAt) → IsShape own → slice_get (slots_in own) place ≡ Some at → IsShape at.shape
+  inner_shape (Bag nodes) place at is e = slot_shape nodes place at is e
+  inner_shape Taint place at is e = alone_shape Taint place at is e
+  inner_shape (Scalar kind) place at is e = alone_shape (Scalar kind) place at is e
+  inner_shape (Set kind) place at is e = alone_shape (Set kind) place at is e
+  inner_shape Counter place at is e = alone_shape Counter place at is e
+  inner_shape (Map key value) place at is e = alone_shape (Map key value) place at is e
 
 -- What a table answers as the shape of a slot is one that a table may have.
 pub slot_has_shape : (nodes : Nodes) (slot : ℕ) (shape : Shape) → IsTable nodes → Some shape ≡ option_map (λ (at : SlotAt). at.shape) (slice_get (slots_of nodes) slot) → IsShape shape
@@ -41,4 +42,4 @@ slot_has_shape nodes slot shape table e = by (slice_get (slots_of nodes) slot) r
     by None there is = absurd (cc is)
     by (Some at) there is =
         let same : at.shape ≡ shape = cc is in
-        subst IsShape same (shape_of_slot nodes slot at table.well_formed there)
+        subst IsShape same (slot_shape nodes slot at table.well_formed there)

@@ -21,18 +21,15 @@ use Rattle.bag_model.specs.Values.{Value, value, bottom, bottoms}
 use Rattle.bag_model.proofs.LayoutLaws.{InLayouts-bottom}
 use Rattle.bag_model.proofs.OfShape.{IsBottom-bottom, AreBottom-bottoms}
 use Rattle.bag_model.proofs.SlotNumbers.{IsInFirst, IsLater, first_or_later}
+use Rattle.bag_walks.specs.SlotFits.{FitsAnywhere}
 
 -- The path ends with an atom that fits.
 abbrev Fits : Path → Type 0
 Fits p = length (last_atom p) ≤ ATOM_MAX
 
--- So do all paths of the layout of the value, wherever it stands.
-abbrev pub FitsAnywhere : Shape → Value → Type 0
-FitsAnywhere shape v = (q p : Path) → InLayout shape q v p → length (last_atom p) ≤ ATOM_MAX
-
 -- ---- headers
 
-last_is : (q : Path) (a : Atom) → last_atom (q ++ a ∷ []) ≡ a
+pub last_is : (q : Path) (a : Atom) → last_atom (q ++ a ∷ []) ≡ a
 last_is [] a = refl
 last_is (x ∷ []) a = refl
 last_is (x ∷ y ∷ q) a = last_is (y ∷ q) a

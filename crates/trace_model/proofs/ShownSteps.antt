@@ -1,0 +1,13 @@
+-- What is shown are steps of the graph.
+use Rattle.std.proofs.Common.{◌≡◌, inl, inr, ℕ, zero, suc, ◌<◌, List, [], ◌∷◌, length, get_or, refl, subst, arith}
+use Rattle.context_model.specs.Orders.{IsIn}
+use Rattle.trace_model.specs.Graphs.{Graph, IsGraph}
+
+pub shown_within : (graph : Graph) (items : List ℕ) (k : ℕ) → IsGraph graph → items ≡ graph.shows → k < length items → get_or items k 0 < length graph.steps
+shown_within graph items k sound same l =
+    sound.shows (get_or items k 0) (subst (λ (shows : List ℕ). IsIn (get_or items k 0) shows) same (in_at items k l))
+  where
+    in_at : (xs : List ℕ) (n : ℕ) → n < length xs → IsIn (get_or xs n 0) xs
+    in_at [] n less = absurd (omega (arith, less))
+    in_at (x ∷ xs) zero less = inl refl
+    in_at (x ∷ xs) (suc n) less = inr (in_at xs n (omega (arith, less)))
