@@ -1,9 +1,6 @@
 -- A line says one thing or has one fault, never both.
-use Rattle.std.proofs.Common.{◌≡◌, ◌⊎◌, inl, inr, ℕ, List, take, Some, refl, sym, ◌∙◌, ap, subst, arith}
-use Rattle.std.proofs.lemmas.Bool.{cases_lt}
+use Rattle.std.proofs.Common.{◌≡◌, ◌⊎◌, inl, inr, ℕ, List, take, Some, sym, ◌∙◌, ap, subst}
 use Rattle.context_model.specs.Atoms.{Atom}
-use Rattle.context_model.specs.ByteCodes.{ByteCode as PlainCode}
-use Rattle.context_model.specs.ByteCodes as plain
 use Rattle.context_model.specs.ContextFault.{IsContextOf, IsFirstContextFault}
 use Rattle.context_model.proofs.ContextFronts.{has_one_context}
 use Rattle.bag_model.specs.Shapes.{Nodes}
@@ -14,7 +11,6 @@ use Rattle.bag_model.proofs.IllTyped.{first_ill_typed}
 use Rattle.bag_walks.proofs.OnePlace.{one_place}
 use Rattle.wire_bytes.proofs.OneCode.{one_code}
 use Rattle.wire_bytes.specs.declared.contexts.ByteCode.{ByteCode}
-use Rattle.wire_bytes.specs.declared.contexts.ByteCode.TheVariants.{CutLength, AtomTooLong, LongForm, CutBody, BadPrefix, BadIndex, LevelJump, OutOfOrder}
 use Rattle.wire_bytes.specs.Codes.{byte_code_of}
 use Rattle.text_lines.specs.HexLines.{hex_bytes}
 use Rattle.text_lines.specs.Lines.{lines_of}

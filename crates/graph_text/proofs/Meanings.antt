@@ -1,22 +1,21 @@
 -- What a line means under a table is one thing.
-use Rattle.std.proofs.Common.{◌≡◌, ◌⊎◌, inl, inr, ℕ, zero, suc, List, [], ◌∷◌, Option, Some, None, refl, sym, ◌∙◌, ap, subst}
+use Rattle.std.proofs.Common.{◌≡◌, ℕ, List, [], ◌∷◌, Some, sym, ◌∙◌, ap, subst}
 use Rattle.std.proofs.lemmas.Cmp.{nat_cmp_total}
 use Rattle.std.specs.List.{slice_get}
-use Rattle.std.specs.Option.{option_map}
 use Rattle.std.specs.Ordering.{nat_cmp}
 use Rattle.context_model.specs.Atoms.{Atom}
 use Rattle.context_model.specs.ContextFault.{IsContextOf}
 use Rattle.context_model.proofs.ContextFronts.{has_one_context}
 use Rattle.context_model.proofs.GreedyElements.{Rises-unique}
-use Rattle.bag_model.specs.Shapes.{Shape, Nodes, Taint, Scalar, Set, Counter, Map, Bag, no_node, node}
-use Rattle.bag_model.specs.Slots.{SlotAt, slots_of, slots_in}
+use Rattle.bag_model.specs.Shapes.{Shape, Nodes}
+use Rattle.bag_model.specs.Slots.{SlotAt, slots_of}
 use Rattle.bag_model.specs.SlotValues.{HasSlot}
-use Rattle.bag_model.specs.Tables.{IsShape, AreFields, IsTable}
+use Rattle.bag_model.specs.Tables.{IsShape, IsTable}
 use Rattle.bag_model.specs.Values.{Value}
 use Rattle.bag_model.specs.Views as views
 use Rattle.bag_model.specs.Views.{View}
 use Rattle.bag_model.proofs.NamePathLaws.{name_paths_differ}
-use Rattle.bag_model.proofs.SlotNumbers.{IsInFirst, IsLater, first_or_later}
+use Rattle.bag_walks.proofs.SlotShapes.{slot_shape}
 use Rattle.trace_model.specs.Graphs as graphs
 use Rattle.trace_model.specs.Graphs.{Act, Graph}
 use Rattle.write_text.specs.Writes.{IsWrite}

@@ -1,9 +1,10 @@
 -- What is in a list.
-use Rattle.std.proofs.Common.{◌≡◌, ◌⊎◌, ◌↔◌, inl, inr, ℕ, zero, suc, ◌+◌, ◌<◌, ◌≤◌, List, [], ◌∷◌, ◌++◌, length, get_or, take, map, All, Contains, refl, sym, ap, subst, arith}
+use Rattle.std.proofs.Common.{◌↔◌, inl, inr, ℕ, zero, suc, ◌+◌, ◌<◌, ◌≤◌, List, [], ◌∷◌, length, get_or, take, map, All, Contains, refl, sym, ap, subst, arith}
 use Rattle.std.proofs.lemmas.List.{take_more, take_all}
 use Rattle.std.proofs.lemmas.List.Sorted.{Contains-permutation, IsPermutation-sym}
 use Rattle.std.specs.List.Sorted.{IsPermutation}
 use Rattle.context_model.specs.Orders.{IsIn}
+use Rattle.bag_walks.proofs.Gathering.{in_push}
 
 -- The element at a place.
 pub in_get : {K : Type 0} (xs : List K) (i : ℕ) (d : K) → i < length xs → IsIn (get_or xs i d) xs
