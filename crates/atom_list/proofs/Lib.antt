@@ -4,6 +4,7 @@ pub mod Flat
 pub mod Frames
 pub mod Opening
 pub mod Rooms
+pub mod Rows
 pub mod TakingOut
 pub mod WalkLaws
 pub mod Walking

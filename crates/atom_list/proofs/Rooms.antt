@@ -1,7 +1,6 @@
 -- The room for bytes that lists are given.
-use Rattle.std.proofs.Common.{◌≡◌, ℕ, ◌+◌, ◌*◌, ◌-◌, ◌<◌, ◌≤◌, List, [], ◌∷◌, ◌++◌, length, take, drop, get_or, slice_range, sym, ◌∙◌, ap, length-append, arith}
-use Rattle.std.proofs.lemmas.List.{take_more, take-append-drop, take-take}
-use Rattle.std.proofs.lemmas.List.Edits.{between_more}
+use Rattle.std.proofs.Common.{◌≡◌, ℕ, ◌+◌, ◌*◌, ◌-◌, ◌≤◌, List, [], ◌∷◌, ◌++◌, length, take, drop, slice_range, sym, ◌∙◌, ap, length-append, arith}
+use Rattle.std.proofs.lemmas.List.{take-append-drop, take-take}
 use Rattle.context_model.specs.Atoms.{Atom}
 use Rattle.context_model.specs.Framing.{length_code, frame, bytes_of, size_of}
 use Rattle.context_model.proofs.FramingLaws.{length-length_code}
@@ -21,21 +20,13 @@ room_of-size (x ∷ list) =
     let size : size_of (x ∷ list) ≡ length (frame x) + size_of list = length-append (frame x) (bytes_of list) in
     (omega arith, omega arith)
 
-pub room_of-more : (list : List Atom) (i : ℕ) → i < length list → room_of (take (i + 1) list) ≡ room_of (take i list) + (length (get_or list i []) + 3)
-room_of-more list i within =
-    ap room_of (take_more list i [] within) ∙ room_of-append (take i list) (get_or list i [] ∷ []) ∙ (omega arith)
-
 pub room_of-front : (m n : ℕ) (list : List Atom) → m ≤ n → room_of (take m list) ≤ room_of (take n list)
 room_of-front m n list below =
     let e : room_of (take n list) ≡ room_of (take m list) + room_of (drop m (take n list)) =
     ap room_of (sym (take-append-drop m (take n list))) ∙ room_of-append (take m (take n list)) (drop m (take n list)) ∙ ap (λ v. room_of v + room_of (drop m (take n list))) (take-take m n list below) in
     omega arith
 
--- A run with one atom more, and a longer run.
-pub room_of-run : (list : List Atom) (from at : ℕ) → from ≤ at → at < length list → room_of (slice_range list from (at + 1)) ≡ room_of (slice_range list from at) + (length (get_or list at []) + 3)
-room_of-run list from at order within =
-    ap room_of (between_more list from at [] order within) ∙ room_of-append (slice_range list from at) (get_or list at [] ∷ []) ∙ (omega arith)
-
+-- A longer run.
 pub room_of-longer : (list : List Atom) (from m n : ℕ) → m ≤ n → room_of (slice_range list from m) ≤ room_of (slice_range list from n)
 room_of-longer list from m n below = room_of-front (m - from) (n - from) (drop from list) (omega arith)
 

@@ -1,5 +1,5 @@
 -- Atoms that stand in one buffer, each behind its length.
-use Rattle.std.specs.Prelude.{◌≡◌, ℕ, ◌+◌, ◌-◌, ◌≤◌, List, [], ◌∷◌, ◌++◌, map, length, take, drop, slice_index, slice_range, ◌⊎◌}
+use Rattle.std.specs.Prelude.{◌≡◌, ℕ, ◌+◌, ◌-◌, ◌<◌, ◌≤◌, List, [], ◌∷◌, ◌++◌, map, length, take, drop, slice_index, slice_range, ◌⊎◌}
 use Rattle.std.specs.List.{AllByRecursion}
 use Rattle.outside.specs.declared.TheConstants.{ATOM_MAX}
 use Rattle.context_model.specs.Atoms.{Atom, AreAtoms}
@@ -57,6 +57,12 @@ pub record IsPieceOf (bytes : List ℕ) (at : ℕ) (starts : List ℕ) (list : L
   pub short : AreAtoms list
   pub framed : bytes ≡ bytes_of list
   pub there : starts ≡ starts_from at list
+
+-- The first so many starts are those of frames that follow one another in the buffer. The last of them ends at this place.
+pub record IsRow (bytes : List ℕ) (starts : List ℕ) (count end : ℕ) : Type 0 where
+  pub piece : IsPieceOf (slice_range bytes (slice_index starts 0) end) (slice_index starts 0) (take count starts) (take count (atoms_at bytes starts))
+  pub order : slice_index starts 0 ≤ end
+  pub within : 0 < count → end ≤ length bytes
 
 -- The start moved from one buffer to another, by where the frames begin in each.
 abbrev pub moved : ℕ → ℕ → ℕ → ℕ

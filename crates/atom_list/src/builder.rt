@@ -1,6 +1,6 @@
 //! Lists that are built atom by atom in room that was taken first.
 
-ghost use Rattle.std.specs.Prelude.{◌≡◌, ℕ, List, ◌+◌, ◌≤◌, [], ◌∷◌, ◌++◌, length, drop, slice_range, IfOk, OnOk};
+ghost use Rattle.std.specs.Prelude.{◌≡◌, ℕ, List, ◌+◌, ◌<◌, ◌≤◌, [], ◌∷◌, ◌++◌, length, drop, slice_range, IfOk, OnOk};
 ghost use Rattle.context_model.specs.Framing.{bytes_of};
 ghost use Rattle.atom_list.specs.Builder.{room_of, run_room, AddsPiece};
 ghost use Rattle.atom_list.specs.Starts.{IsPieceOf};
@@ -103,7 +103,7 @@ impl Builder {
         put_moved(&mut self.starts, starts, at, to);
     }
 
-    /// Adds the atoms of a list from one place to another, those of its untouched front as one piece. It takes no memory.
+    /// Adds the atoms of a list from one place to another, those whose frames follow one another as one piece. It takes no memory.
     pub fn push_run(&mut self, list: &AtomList, from: usize, to: usize)
         requires order { from ≤ to }
         requires within { to ≤ length list.now }
@@ -113,12 +113,33 @@ impl Builder {
         ensures byte_room { self.old.byte_room ≤ self.new.byte_room + run_room list.now from to }
         ensures atom_room { self.new.atom_room + to ≡ self.old.atom_room + from }
     {
-        let piece = list.piece(from, to);
-        let count = piece.starts.len();
-        self.push_piece(piece.bytes, piece.at, piece.starts);
-        for at in from + count..to {
-            self.push(list.get(at).unwrap());
+        let mut at = from;
+        while at < to {
+            at = self.push_next(list, at, to);
         }
+    }
+
+    /// Adds the frames that follow one another from a place on, or the one atom there where it has none. The result is the
+    /// place behind them. It takes no memory.
+    fn push_next(&mut self, list: &AtomList, at: usize, to: usize) -> usize
+        requires order { at < to }
+        requires within { to ≤ length list.now }
+        requires byte_room { run_room list.now at to ≤ self.old.byte_room }
+        requires atom_room { to ≤ at + self.old.atom_room }
+        ensures later { at < result }
+        ensures within { result ≤ to }
+        ensures atoms { self.new.atoms ≡ self.old.atoms ++ slice_range list.now at result }
+        ensures byte_room { self.old.byte_room ≤ self.new.byte_room + run_room list.now at result }
+        ensures atom_room { self.new.atom_room + result ≡ self.old.atom_room + at }
+    {
+        let piece = list.piece(at, to);
+        let count = piece.starts.len();
+        if count == 0 {
+            self.push(list.get(at).unwrap());
+            return at + 1;
+        }
+        self.push_piece(piece.bytes, piece.at, piece.starts);
+        at + count
     }
 
     /// Adds the atoms of a list from a place on. It takes no memory.

@@ -1,12 +1,12 @@
 //! Frames that follow one another in the buffer of a list.
 
-ghost use Rattle.std.specs.Prelude.{◌≡◌, ◌+◌, ◌*◌, ◌≤◌, length, IfSome};
+ghost use Rattle.std.specs.Prelude.{◌≡◌, ◌+◌, ◌*◌, ◌<◌, ◌≤◌, [], length, IfSome};
 ghost use Rattle.context_model.specs.Framing.{bytes_of};
-ghost use Rattle.atom_list.specs.Builder.{room_of};
+ghost use Rattle.atom_list.specs.Builder.{room_of, run_room};
 ghost use Rattle.atom_list.specs.Starts.{IsPieceFrom};
 
 use crate::lists::AtomList;
-use crate::starts::frame_end;
+use crate::starts::{frame_end, row_of};
 
 /// Frames that follow one another, which begin at `at` in the buffer of their list, and where each begins there.
 #[derive(Clone, Copy)]
@@ -16,9 +16,37 @@ pub struct Piece<'a> {
     pub starts: &'a [u32],
 }
 
+impl Piece<'_> {
+    /// No frame.
+    fn empty() -> Piece<'static>
+        ensures bytes { result.bytes.now ≡ [] }
+        ensures starts { result.starts.now ≡ [] }
+    {
+        Piece {
+            bytes: &[],
+            at: 0,
+            starts: &[],
+        }
+    }
+}
+
 impl AtomList {
-    /// The frames of the atoms from one place to another, as far as nothing was cut from the list.
+    /// The frames of the atoms from one place to another, as far as they follow one another in the buffer.
     pub(crate) fn piece(&self, from: usize, to: usize) -> Piece<'_>
+        requires order { from ≤ to }
+        requires within { to ≤ length self.now }
+        ensures short { from + length result.starts.now ≤ to }
+        ensures piece { IsPieceFrom self.now from result.bytes.now result.at result.starts.now }
+    {
+        if from < self.laid {
+            self.front_piece(from, to)
+        } else {
+            self.found_piece(from, to)
+        }
+    }
+
+    /// The frames from one place to another as far as the laid front goes. None of them is looked at but the last.
+    fn front_piece(&self, from: usize, to: usize) -> Piece<'_>
         requires order { from ≤ to }
         requires within { to ≤ length self.now }
         ensures short { from + length result.starts.now ≤ to }
@@ -26,11 +54,7 @@ impl AtomList {
     {
         let to = to.min(self.laid);
         if to <= from {
-            return Piece {
-                bytes: &[],
-                at: 0,
-                starts: &[],
-            };
+            return Piece::empty();
         }
         let start = self.starts[from];
         let end = frame_end(self.bytes.as_slice(), self.starts[to - 1]);
@@ -38,6 +62,28 @@ impl AtomList {
             bytes: &self.bytes.as_slice()[start as usize..end],
             at: start,
             starts: &self.starts.as_slice()[from..to],
+        }
+    }
+
+    /// The frames from one place to another as far as each is found behind the one before it: none where a marker that a cut
+    /// left stands first.
+    fn found_piece(&self, from: usize, to: usize) -> Piece<'_>
+        requires order { from ≤ to }
+        requires within { to ≤ length self.now }
+        ensures short { from + length result.starts.now ≤ to }
+        ensures piece { IsPieceFrom self.now from result.bytes.now result.at result.starts.now }
+    {
+        let bytes = self.bytes.as_slice();
+        let starts = &self.starts.as_slice()[from..to];
+        let (count, end) = row_of(bytes, starts);
+        if count == 0 {
+            return Piece::empty();
+        }
+        let start = starts[0];
+        Piece {
+            bytes: &bytes[start as usize..end],
+            at: start,
+            starts: &starts[..count],
         }
     }
 
@@ -59,12 +105,30 @@ impl AtomList {
         ensures enough { IfSome result (λ room. room_of self.now ≤ room) }
         ensures bound { IfSome result (λ room. room ≤ room_of self.now + 2 * length self.now) }
     {
-        let piece = self.piece(0, self.len());
-        let count = piece.starts.len();
-        let mut room = count.checked_mul(2)?.checked_add(piece.bytes.len())?;
-        for at in count..self.len() {
-            room = room.checked_add(self.get(at).unwrap().len() + 3)?;
+        let mut room: usize = 0;
+        let mut at = 0;
+        while at < self.len() {
+            let (count, more) = self.next_room(at)?;
+            room = room.checked_add(more)?;
+            at += count;
         }
         Some(room)
+    }
+
+    /// How many frames follow one another from a place on, or 1 where the atom there has none, and room for them. `None` where
+    /// no such number fits.
+    fn next_room(&self, at: usize) -> Option<(usize, usize)>
+        requires { at < length self.now }
+        ensures some { IfSome result (λ next. 1 ≤ next.0) }
+        ensures few { IfSome result (λ next. at + next.0 ≤ length self.now) }
+        ensures enough { IfSome result (λ next. run_room self.now at (at + next.0) ≤ next.1) }
+        ensures bound { IfSome result (λ next. next.1 ≤ run_room self.now at (at + next.0) + 2 * next.0) }
+    {
+        let piece = self.piece(at, self.len());
+        let count = piece.starts.len();
+        if count == 0 {
+            return Some((1, self.get(at).unwrap().len() + 3));
+        }
+        Some((count, count.checked_mul(2)?.checked_add(piece.bytes.len())?))
     }
 }

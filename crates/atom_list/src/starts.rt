@@ -5,7 +5,7 @@ ghost use Rattle.std.specs.Ordering.{nat_cmp};
 ghost use Rattle.context_model.specs.Framing.{frame};
 ghost use Rattle.context_model.specs.Orders.{Rises};
 ghost use Rattle.context_model.specs.WireFault.{length_front, length_said};
-ghost use Rattle.atom_list.specs.Starts.{atom_at, IsStart, BeginsFrame, AreStarts, AreMovable, KeepsFront, LeavesOut, moved};
+ghost use Rattle.atom_list.specs.Starts.{atom_at, IsStart, BeginsFrame, AreStarts, AreMovable, IsRow, KeepsFront, LeavesOut, moved};
 
 use outside::ATOM_MAX;
 
@@ -50,6 +50,25 @@ pub(crate) fn frame_end(bytes: &[u8], start: u32) -> usize
     let start = start as usize;
     let (skip, len) = length_at(bytes, start);
     start + skip + len
+}
+
+/// How many of these frames, from the first on, follow one another in the buffer, and where the last of them ends.
+pub(crate) fn row_of(bytes: &[u8], starts: &[u32]) -> (usize, usize)
+    requires { AreStarts bytes.now starts.now }
+    ensures few { result.0 ≤ length starts.now }
+    ensures row { IsRow bytes.now starts.now result.0 result.1 }
+{
+    let Some(first) = starts.first() else {
+        return (0, 0);
+    };
+    let mut end = *first as usize;
+    for (count, start) in starts.iter().enumerate() {
+        if *start as usize != end || bytes.len() <= end {
+            return (count, end);
+        }
+        end = frame_end(bytes, *start);
+    }
+    (starts.len(), end)
 }
 
 /// Appends starts, moved from a buffer where the first is `from` to one where it is `to`. It takes no memory.

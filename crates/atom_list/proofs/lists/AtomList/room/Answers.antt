@@ -1,25 +1,18 @@
-use Rattle.std.proofs.Common.{◌≡◌, ◌+◌, ◌-◌, [], length, take, option_copied, sym, ◌∙◌, ap, arith}
-use Rattle.std.proofs.lemmas.List.{length-take-le}
-use Rattle.std.proofs.lemmas.Option.{get_or_from_slice_get}
-use Rattle.context_model.specs.Framing.{size_of}
-use Rattle.atom_list.proofs.Rooms.{room_of-size, room_of-more}
+use Rattle.std.proofs.Common.{◌≡◌, ◌+◌, take, slice_range, ◌∙◌, ap, arith}
+use Rattle.atom_list.specs.Builder.{room_of}
+use Rattle.atom_list.proofs.Flat.{take_split}
+use Rattle.atom_list.proofs.Rooms.{room_of-append}
 use Rattle.atom_list.proofs.lists.AtomList.room.Goals as goal
-
-pub loop-at-init : goal.loop-at-init
-loop-at-init c =
-    let list = c.args.self.now in
-    let count = length c.piece-piece.result.starts.now in
-    let size = room_of-size (take count list) in
-    let whole : 0 + count - 0 ≡ count = omega arith in
-    let long : length c.piece-piece.result.bytes.now ≡ size_of (take count list) = ap length c.piece-piece.ensures.piece.framed ∙ ap (λ n. size_of (take n list)) whole in
-    let few : length (take count list) ≡ count = length-take-le count list (omega arith) in
-    record { enough = omega (arith, c.in_ok-room.ensures, c.in_ok-checked_mul.ensures); bound = omega (arith, c.in_ok-room.ensures, c.in_ok-checked_mul.ensures) }
 
 pub loop-at-preserved : goal.loop-at-preserved
 loop-at-preserved c =
     let list = c.args.self.now in
     let at = c.loop-at.at in
-    let same = get_or_from_slice_get list at c.unwrap.result.now [] (sym c.get.ensures.value ∙ ap option_copied c.unwrap.ensures) in
-    let next = ap length same in
-    let more = room_of-more list at (omega arith) in
-    record { enough = omega (arith, c.in_ok-room-2.ensures); bound = omega (arith, c.in_ok-room-2.ensures) }
+    let next = at + c.in_ok-count.count in
+    let parts : room_of (take next list) ≡ room_of (take at list) + room_of (slice_range list at next) =
+    ap room_of (take_split at next list (omega arith)) ∙ room_of-append (take at list) (slice_range list at next) in
+    record {
+      within = c.in_ok-count.ensures.few;
+      enough = omega (arith, c.in_ok-count.ensures.enough, c.in_ok-room.ensures);
+      bound = omega (arith, c.in_ok-count.ensures.bound, c.in_ok-room.ensures);
+    }

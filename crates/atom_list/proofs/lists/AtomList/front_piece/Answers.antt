@@ -3,7 +3,7 @@ use Rattle.std.proofs.lemmas.List.{length-take, length-drop}
 use Rattle.context_model.specs.Framing.{frame, size_of}
 use Rattle.atom_list.specs.Starts.{atom_at, atoms_at, BeginsFrame, IsFlat, IsPieceOf}
 use Rattle.atom_list.proofs.Flat.{start_is, end_is, front_frame, piece_of, ends_within}
-use Rattle.atom_list.proofs.lists.AtomList.piece.Goals as goal
+use Rattle.atom_list.proofs.lists.AtomList.front_piece.Goals as goal
 
 pub frame_end-end-requires : goal.frame_end-end-requires
 frame_end-end-requires c =
