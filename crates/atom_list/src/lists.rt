@@ -103,13 +103,14 @@ impl AtomList {
     }
 
     /// Keeps the first `keep` atoms and puts a marker behind them. It takes no memory, since at least one atom leaves
-    /// before the marker comes.
+    /// before the marker comes, and gives back what the others took beside the buffer.
     pub fn cut_to_marker(&mut self, keep: usize)
         requires { keep < length self.old }
         ensures { self.new ≡ take keep self.old ++ [] ∷ [] }
     {
         self.starts.truncate(keep + 1);
         self.starts[keep] = u32::MAX;
+        self.starts.shrink_to_fit();
         self.laid = self.laid.min(keep);
     }
 
