@@ -1,15 +1,12 @@
 -- A list has one block.
-use Rattle.std.proofs.Common.{◌≡◌, ◌↔◌, ℕ, zero, suc, Bool, true, false, List, ◌++◌, length, Some, IsTrue, sym, refl, ap, ◌∙◌, subst}
-use Rattle.std.specs.List.{slice_get}
+use Rattle.std.proofs.Common.{◌≡◌, ◌↔◌, ℕ, zero, suc, List, ◌++◌, length, Some, IsTrue, sym, refl, ap, ◌∙◌, subst}
 use Rattle.context_model.specs.Atoms.{Atom}
 use Rattle.context_model.specs.Ended.{IsEnded, field_path}
 use Rattle.bag_model.specs.Readings.{PathsOf}
 use Rattle.bag_model.specs.Shapes.{Nodes}
 use Rattle.bag_model.specs.Slots.{SlotAt, slots_of}
 use Rattle.bag_model.specs.SlotValues.{SaysSlot}
-use Rattle.bag_model.specs.Values.{Value}
 use Rattle.bag_model.proofs.Uniqueness.{Reads-unique}
-use Rattle.trace_model.specs.Shown.{IsShown}
 use Rattle.bag_scan.specs.declared.states.State.{State}
 use Rattle.bag_scan.specs.declared.states.State.TheVariants.{Exact, Partial}
 use Rattle.report_text.specs.Blocks.{bytes_line, slot_line, is_exact, IsSlotLine, AreSlotLines, HasOneBlock}

@@ -1,13 +1,12 @@
 -- The lines of slots, one after another.
-use Rattle.std.proofs.Common.{◌≡◌, ℕ, zero, suc, ◌+◌, ◌<◌, List, [], ◌∷◌, ◌++◌, length, get_or, ◌↔◌, IsTrue, Option, Some, sym, refl, ap, ◌∙◌, subst, append_assoc, arith}
+use Rattle.std.proofs.Common.{◌≡◌, ℕ, suc, ◌+◌, List, [], ◌++◌, length, ◌↔◌, IsTrue, Option, Some, sym, refl, ap, ◌∙◌, subst, append_assoc, arith}
 use Rattle.std.specs.List.{slice_get}
 use Rattle.std.proofs.lemmas.List.{append-nil}
 use Rattle.context_model.specs.Atoms.{Atom}
 use Rattle.context_model.specs.Ended.{IsEnded, field_path}
 use Rattle.context_model.specs.WellFormed.{IsWellFormed}
 use Rattle.bag_model.specs.Shapes.{Nodes}
-use Rattle.bag_model.specs.Slots.{SlotAt, slots_of}
-use Rattle.bag_model.specs.SlotValues.{HasSlot, SaysSlot}
+use Rattle.bag_model.specs.Slots.{slots_of}
 use Rattle.bag_model.specs.Values.{Value}
 use Rattle.bag_walks.proofs.EachSlot.{each-at, each-count}
 use Rattle.bag_scan.specs.Spans.{IsSpanAt, AreSpans}
@@ -16,7 +15,7 @@ use Rattle.bag_scan.specs.declared.spans.Span.{Span}
 use Rattle.bag_scan.specs.declared.states.State.{State}
 use Rattle.bag_scan.specs.declared.states.State.TheVariants.{Exact, Partial}
 use Rattle.bag_decode.specs.SlotWalks.{IsSpanOfSlot, SaysAt}
-use Rattle.report_text.specs.Blocks.{slot_line, is_exact, IsSlotLine, AreSlotLines, AddsSlotLines, IsBlock, AddsBlock, bytes_line}
+use Rattle.report_text.specs.Blocks.{slot_line, is_exact, IsSlotLine, AddsSlotLines}
 
 pub no_lines : (nodes : Nodes) (list : List Atom) (text : List ℕ) → AddsSlotLines nodes list 0 text text
 no_lines nodes list text = ([], sym (append-nil text), refl)

@@ -1,4 +1,5 @@
 pub mod Commas
+pub mod Growth
 pub mod ScalarTexts
 pub mod ValueTexts
 pub mod Blocks

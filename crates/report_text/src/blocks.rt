@@ -1,12 +1,13 @@
 //! The block of a context: its bytes, and what it says of each slot.
 
-ghost use Rattle.std.specs.Prelude.{◌≡◌, ◌<◌, ◌++◌, [], length, IfOk, OnOk};
+ghost use Rattle.std.specs.Prelude.{◌≡◌, ◌<◌, ◌++◌, [], length, IfOk, OnOk, OnErr};
 ghost use Rattle.bag_model.specs.Readings.{PathsOf};
 ghost use Rattle.bag_model.specs.Slots.{SlotAt, slots_of};
 ghost use Rattle.bag_model.specs.SlotValues.{HasSlot};
 ghost use Rattle.bag_model.specs.Typed.{AreTyped};
 ghost use Rattle.bag_value.specs.Plain.{plain};
 ghost use Rattle.report_text.specs.Blocks.{slot_line, AddsSlotLines, AddsBlock, IsBlock};
+ghost use Rattle.report_text.specs.Growth.{Extends};
 
 use crate::value_texts::put_value;
 use atom_list::Context;
@@ -29,7 +30,8 @@ fn put_slot(
     into: &mut Vec<u8>,
 ) -> Result<(), Memory>
     requires { slot < length (slots_of table.now) }
-    ensures { OnOk result ((at : SlotAt) → HasSlot table.now slot at → into.new.items ≡ into.old.items ++ slot_line at state (plain value.now)) }
+    ensures ok { OnOk result ((at : SlotAt) → HasSlot table.now slot at → into.new.items ≡ into.old.items ++ slot_line at state (plain value.now)) }
+    ensures err { OnErr result (Extends into.old.items into.new.items) }
 {
     into.extend_from_slice(table.name(alloc, slot)?.as_str().as_bytes())?;
     into.extend_from_slice(match state {
@@ -49,7 +51,8 @@ fn put_slots(
     into: &mut Vec<u8>,
 ) -> Result<(), Memory>
     requires { AreTyped table.now (PathsOf context.now) [] }
-    ensures { OnOk result (AddsSlotLines table.now context.now (length (slots_of table.now)) into.old.items into.new.items) }
+    ensures ok { OnOk result (AddsSlotLines table.now context.now (length (slots_of table.now)) into.old.items into.new.items) }
+    ensures err { OnErr result (Extends into.old.items into.new.items) }
 {
     let spans = spans_of(alloc, table, context)?;
     let marker = first_marker(context);
@@ -61,7 +64,7 @@ fn put_slots(
     Ok(())
 }
 
-/// Appends the block of a typed context. Want of memory may leave a part of it.
+/// Appends the block of a typed context. Want of memory may leave a part of it behind what stood there.
 pub fn put_block(
     alloc: Global,
     table: &Table,
@@ -69,7 +72,8 @@ pub fn put_block(
     into: &mut Vec<u8>,
 ) -> Result<(), Memory>
     requires { AreTyped table.now (PathsOf context.now) [] }
-    ensures { OnOk result (AddsBlock table.now context.now into.old.items into.new.items) }
+    ensures ok { OnOk result (AddsBlock table.now context.now into.old.items into.new.items) }
+    ensures err { OnErr result (Extends into.old.items into.new.items) }
 {
     into.extend_from_slice(b"bytes ")?;
     push_hex(into, write(alloc, context.list())?.as_slice())?;

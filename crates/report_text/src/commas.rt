@@ -1,13 +1,15 @@
 //! Commas between texts.
 
-ghost use Rattle.std.specs.Prelude.{◌≡◌, ◌++◌, OnOk};
+ghost use Rattle.std.specs.Prelude.{◌≡◌, ◌++◌, OnOk, OnErr};
 ghost use Rattle.report_text.specs.Commas.{comma_before};
+ghost use Rattle.report_text.specs.Growth.{Extends};
 
 use outside::Memory;
 
 /// Appends the comma before the text that has `at` texts before it: none before the first.
 pub(crate) fn put_comma(at: usize, into: &mut Vec<u8>) -> Result<(), Memory>
-    ensures { OnOk result (into.new.items ≡ into.old.items ++ comma_before at) }
+    ensures ok { OnOk result (into.new.items ≡ into.old.items ++ comma_before at) }
+    ensures err { OnErr result (Extends into.old.items into.new.items) }
 {
     if at > 0 {
         into.push(b',')?;

@@ -1,11 +1,12 @@
 //! Texts of values of every shape.
 
-ghost use Rattle.std.specs.Prelude.{◌≡◌, ◌++◌, map, OnOk};
+ghost use Rattle.std.specs.Prelude.{◌≡◌, ◌++◌, map, OnOk, OnErr};
 ghost use Rattle.field_table.specs.Plain.{shape_of, nodes_of};
 ghost use Rattle.scalar_types.specs.ScalarViews.{value_of};
 ghost use Rattle.bag_value.specs.Plain.{plain};
 ghost use Rattle.report_text.specs.Commas.{in_braces, in_brackets};
 ghost use Rattle.report_text.specs.ValueTexts.{taint_text, set_text, counts_text, value_text, entry_texts, field_texts};
+ghost use Rattle.report_text.specs.Growth.{Extends};
 
 use crate::commas::put_comma;
 use crate::scalar_texts::{put_bytes, put_number, put_scalar};
@@ -14,12 +15,13 @@ use counter_type::Counts;
 use field_table::{Shape, Slots};
 use outside::Memory;
 
-/// Appends the text of a value of a field of this shape. Want of memory may leave a part of the text.
+/// Appends the text of a value of a field of this shape. Want of memory may leave a part of it behind what stood there.
 ///
 /// The shape gives the names of a bag's fields, and nothing else. A map or a bag under a shape of another kind has no text.
 #[cycle(text)]
 pub fn put_value(shape: &Shape, value: &Val, into: &mut Vec<u8>) -> Result<(), Memory>
-    ensures { OnOk result (into.new.items ≡ into.old.items ++ value_text (shape_of shape.now) (plain value.now)) }
+    ensures ok { OnOk result (into.new.items ≡ into.old.items ++ value_text (shape_of shape.now) (plain value.now)) }
+    ensures err { OnErr result (Extends into.old.items into.new.items) }
 {
     match (shape, value) {
         (_, Val::Taint(on)) => put_taint(*on, into),
@@ -36,7 +38,8 @@ pub fn put_value(shape: &Shape, value: &Val, into: &mut Vec<u8>) -> Result<(), M
 /// Appends a map from each key to a value of this shape.
 #[cycle(text)]
 fn put_map(shape: &Shape, entries: &Entries, into: &mut Vec<u8>) -> Result<(), Memory>
-    ensures { OnOk result (into.new.items ≡ into.old.items ++ in_braces (entry_texts (shape_of shape.now) entries.now)) }
+    ensures ok { OnOk result (into.new.items ≡ into.old.items ++ in_braces (entry_texts (shape_of shape.now) entries.now)) }
+    ensures err { OnErr result (Extends into.old.items into.new.items) }
 {
     into.push(b'{')?;
     for (at, entry) in entries.as_slice().iter().enumerate() {
@@ -52,15 +55,17 @@ fn put_map(shape: &Shape, entries: &Entries, into: &mut Vec<u8>) -> Result<(), M
 /// Appends a bag of these fields.
 #[cycle(text)]
 fn put_bag(fields: &Slots, values: &Vals, into: &mut Vec<u8>) -> Result<(), Memory>
-    ensures { OnOk result (into.new.items ≡ into.old.items ++ in_brackets (field_texts (nodes_of fields.now) values.now)) }
+    ensures ok { OnOk result (into.new.items ≡ into.old.items ++ in_brackets (field_texts (nodes_of fields.now) values.now)) }
+    ensures err { OnErr result (Extends into.old.items into.new.items) }
 {
     into.push(b'[')?;
     for at in 0..fields.len().min(values.len()) {
         let field = fields.get(at).unwrap();
+        let value = values.get(at).unwrap();
         put_comma(at, into)?;
         into.extend_from_slice(field.name.as_str().as_bytes())?;
         into.push(b'=')?;
-        put_value(&field.shape, values.get(at).unwrap(), into)?;
+        put_value(&field.shape, value, into)?;
     }
     into.push(b']')?;
     Ok(())
@@ -68,7 +73,8 @@ fn put_bag(fields: &Slots, values: &Vals, into: &mut Vec<u8>) -> Result<(), Memo
 
 /// Appends a taint.
 fn put_taint(on: bool, into: &mut Vec<u8>) -> Result<(), Memory>
-    ensures { OnOk result (into.new.items ≡ into.old.items ++ taint_text on) }
+    ensures ok { OnOk result (into.new.items ≡ into.old.items ++ taint_text on) }
+    ensures err { OnErr result (Extends into.old.items into.new.items) }
 {
     let word = if on { "on" } else { "off" };
     into.extend_from_slice(word.as_bytes())?;
@@ -77,7 +83,8 @@ fn put_taint(on: bool, into: &mut Vec<u8>) -> Result<(), Memory>
 
 /// Appends a set.
 fn put_set(set: &ScalarSet, into: &mut Vec<u8>) -> Result<(), Memory>
-    ensures { OnOk result (into.new.items ≡ into.old.items ++ set_text (map value_of set.now.items)) }
+    ensures ok { OnOk result (into.new.items ≡ into.old.items ++ set_text (map value_of set.now.items)) }
+    ensures err { OnErr result (Extends into.old.items into.new.items) }
 {
     into.push(b'{')?;
     for at in 0..set.len() {
@@ -90,7 +97,8 @@ fn put_set(set: &ScalarSet, into: &mut Vec<u8>) -> Result<(), Memory>
 
 /// Appends a counter.
 fn put_counts(counts: &Counts, into: &mut Vec<u8>) -> Result<(), Memory>
-    ensures { OnOk result (into.new.items ≡ into.old.items ++ counts_text counts.now) }
+    ensures ok { OnOk result (into.new.items ≡ into.old.items ++ counts_text counts.now) }
+    ensures err { OnErr result (Extends into.old.items into.new.items) }
 {
     put_number(counts.total(), into)?;
     into.push(b'{')?;

@@ -16,4 +16,4 @@ returns c =
     (step_added c.args.table.now lists c.args.number c.index-lists-number.result c.args.into.now.items c.push.new.self.items c.put_block.new.into.items
     (get_or_read lists c.args.number c.index-lists-number.result c.requires.within c.index-lists-number.is [])
     (last ∙ ap (λ (t : List ℕ). t ++ 10 ∷ []) (second ∙ ap (λ (t : List ℕ). t ++ c.as_bytes.result.now) first ∙ ap (λ (t : List ℕ). (c.args.into.now.items ++ codes "step ") ++ t) digits)))
-    c.put_block.ensures
+    c.put_block.ensures.ok

@@ -12,11 +12,11 @@ loop-at-preserved c =
     let fields = c.args.fields.now in
     let field = c.field-item.result in
     next_text (c.args.into.now.items ++ codes "(") c.loop-at.into.items c.put_comma.new.into.items c.put_plain.new.into.items
-    (map plain_text fields) at (plain_text (plain_of field)) c.loop-at.invariant c.in_ok-put_comma.ensures c.in_ok-put_plain.ensures
+    (map plain_text fields) at (plain_text (plain_of field)) c.loop-at.invariant c.in_ok-put_comma.ensures.ok c.in_ok-put_plain.ensures.ok
     (mapped plain_text fields at (plain_of field) (seen plain_of c.as_slice-field-items.result.now field fields at c.as_slice-field-items.ensures.values (omega arith) c.field-item.is))
 
-pub returns : goal.returns
-returns c =
+pub returns-clause-ok : goal.returns-clause-ok
+returns-clause-ok c =
     let fields = c.args.fields.now in
     let items = c.as_slice-field-items.result.now in
     closed c.args.into.now.items (codes "(") c.loop-at.into.items c.push-2.new.self.items (codes ")") (map plain_text fields) c.loop-at.at c.loop-at.invariant

@@ -10,6 +10,7 @@ use Rattle.bag_value.specs.declared.vals.Val.{Val}
 use Rattle.bag_value.specs.Plain.{plain, pair_of}
 use Rattle.report_text.specs.ScalarTexts.{scalar_text}
 use Rattle.report_text.specs.ValueTexts.{value_text, entry_texts, field_texts}
+use Rattle.report_text.proofs.Grown.{unchanged, appended, further, stopped}
 use Rattle.report_text.proofs.Joined.{next_text, closed, three_parts, read_part}
 use Rattle.report_text.proofs.Textless.{no_text, bag_textless}
 use Rattle.report_text.proofs.Parts.{entry_text, entries_mapped, field_text, get_field_text, length-field_texts, entry_size, value_size}
@@ -32,13 +33,13 @@ put_map-loop-at-preserved t c =
     let entry = c.entry-item.result in
     let there = seen pair_of c.as_slice-entry-items.result.now entry (pairs es) at c.as_slice-entry-items.ensures (omega arith) c.entry-item.is in
     next_text (c.args.into.now.items ++ codes "{") c.loop-at.into.items c.put_comma.new.into.items c.put_value.new.into.items
-    (entry_texts shape es) at (entry_text shape (pair_of entry)) c.loop-at.invariant c.in_ok-put_comma.ensures
+    (entry_texts shape es) at (entry_text shape (pair_of entry)) c.loop-at.invariant c.in_ok-put_comma.ensures.ok
     (three_parts c.put_comma.new.into.items c.put_scalar.new.into.items c.push-in-loop-at.new.self.items c.put_value.new.into.items
-    (scalar_text (value_of entry.key)) (codes ":") (value_text shape (plain entry.value)) c.in_ok-put_scalar.ensures c.in_ok-push-2.ensures.items c.in_ok-put_value.ensures)
+    (scalar_text (value_of entry.key)) (codes ":") (value_text shape (plain entry.value)) c.in_ok-put_scalar.ensures.ok c.in_ok-push-2.ensures.items c.in_ok-put_value.ensures.ok)
     (ap (λ l. slice_get l at) (entries_mapped shape es) ∙ mapped (entry_text shape) (pairs es) at (pair_of entry) there)
 
-pub put_map-returns : goal.put_map-returns
-put_map-returns t c =
+pub put_map-returns-clause-ok : goal.put_map-returns-clause-ok
+put_map-returns-clause-ok t c =
     let es = c.args.entries.now in
     let shape = shape_of c.args.shape.now in
     closed c.args.into.now.items (codes "{") c.loop-at.into.items c.push-2.new.self.items (codes "}") (entry_texts shape es) c.loop-at.at c.loop-at.invariant
@@ -48,8 +49,8 @@ put_map-returns t c =
 pub put_bag-put_value-requires : goal.put_bag-put_value-requires
 put_bag-put_value-requires t c =
     let vs = c.args.values.now in
-    let v = c.unwrap.result in (
-      omega (arith, c.decreases, value_size vs c.loop-at.at (plain v.now) (answered _ c.get-in-loop-at.result v (values_list vs) c.loop-at.at c.get-in-loop-at.ensures c.unwrap.ensures)),
+    let v = c.unwrap-value.result in (
+      omega (arith, c.decreases, value_size vs c.loop-at.at (plain v.now) (answered _ c.get-in-loop-at.result v (values_list vs) c.loop-at.at c.get-in-loop-at.ensures c.unwrap-value.ensures)),
       tt,
     )
 
@@ -59,29 +60,49 @@ put_bag-loop-at-preserved t c =
     let nodes = nodes_of c.args.fields.now in
     let vs = c.args.values.now in
     let slot = c.unwrap-field.result in
-    let v = c.unwrap.result in
+    let v = c.unwrap-value.result in
     let field : Field = record { name = slot.now.name; number = slot.now.number; shape = shape_of slot.now.shape } in
     let there = answered _ c.get.result slot (fields nodes) at c.get.ensures c.unwrap-field.ensures ∙ ap Some (field_is slot.now) in
-    let value_there = answered _ c.get-in-loop-at.result v (values_list vs) at c.get-in-loop-at.ensures c.unwrap.ensures in
+    let value_there = answered _ c.get-in-loop-at.result v (values_list vs) at c.get-in-loop-at.ensures c.unwrap-value.ensures in
     next_text (c.args.into.now.items ++ codes "[") c.loop-at.into.items c.put_comma.new.into.items c.put_value.new.into.items
-    (field_texts nodes vs) at (field_text field (plain v.now)) c.loop-at.invariant c.in_ok-put_comma.ensures
+    (field_texts nodes vs) at (field_text field (plain v.now)) c.loop-at.invariant c.in_ok-put_comma.ensures.ok
     (three_parts c.put_comma.new.into.items c.extend_from_slice.new.self.items c.push-in-loop-at.new.self.items c.put_value.new.into.items
     slot.now.name (codes "=") (value_text (shape_of slot.now.shape) (plain v.now))
     (read_part c.put_comma.new.into.items c.extend_from_slice.new.self.items c.as_bytes.result.now c.as_str.result.now slot.now.name
     c.in_ok-extend_from_slice.ensures.items c.as_bytes.ensures.value c.as_str.ensures.value)
-    c.in_ok-push-2.ensures.items c.in_ok-put_value.ensures)
+    c.in_ok-push-2.ensures.items c.in_ok-put_value.ensures.ok)
     (get_field_text nodes vs at field (plain v.now) there value_there)
 
-pub put_bag-returns : goal.put_bag-returns
-put_bag-returns t c =
+pub put_bag-returns-clause-ok : goal.put_bag-returns-clause-ok
+put_bag-returns-clause-ok t c =
     let nodes = nodes_of c.args.fields.now in
     let vs = c.args.values.now in
     closed c.args.into.now.items (codes "[") c.loop-at.into.items c.push-2.new.self.items (codes "]") (field_texts nodes vs) c.loop-at.at c.loop-at.invariant
     (omega (arith, length-field_texts nodes vs, c.len.ensures, c.len-2.ensures, c.min-at-end.ensures))
     c.in_ok-push-3.ensures.items
 
-pub put_value-returns-in_default-2 : goal.put_value-returns-in_default-2
-put_value-returns-in_default-2 t c =
+pub put_value-returns-in_default-2-clause-ok : goal.put_value-returns-in_default-2-clause-ok
+put_value-returns-in_default-2-clause-ok t c =
     let shape = c.args.shape.now in
     no_text c.args.into.now.items (value_text (shape_of shape) (plain c.args.value.now))
     (ap (λ (v : Val). value_text (shape_of shape) (plain v)) c.in_default.is-1 ∙ bag_textless shape c.in_default.field-0-1 c.in_default.not-Bag-0)
+
+pub put_map-returns-in_err-push-3-clause-err : goal.put_map-returns-in_err-push-3-clause-err
+put_map-returns-in_err-push-3-clause-err t c =
+    stopped c.from_residual-in_err-push-3.result _ _ _ _ _ c.loop-at.invariant (unchanged _ _ c.in_err-push-3.ensures.items)
+
+pub put_bag-returns-in_err-push-3-clause-err : goal.put_bag-returns-in_err-push-3-clause-err
+put_bag-returns-in_err-push-3-clause-err t c =
+    stopped c.from_residual-in_err-push-3.result _ _ _ _ _ c.loop-at.invariant (unchanged _ _ c.in_err-push-3.ensures.items)
+
+pub put_bag-returns-in_err-extend_from_slice-clause-err : goal.put_bag-returns-in_err-extend_from_slice-clause-err
+put_bag-returns-in_err-extend_from_slice-clause-err t c =
+    stopped c.from_residual-in_err-extend_from_slice.result _ _ _ _ _ c.loop-at.invariant
+    (appended _ _ _ (c.in_err-extend_from_slice.ensures.items ∙ c.in_ok-put_comma.ensures.ok))
+
+pub put_bag-returns-in_err-put_value-clause-err : goal.put_bag-returns-in_err-put_value-clause-err
+put_bag-returns-in_err-put_value-clause-err t c =
+    stopped c.from_residual-in_err-put_value.result _ _ _ _ _ c.loop-at.invariant
+    (further _ _ _
+    (appended _ _ _ (three_parts _ _ _ _ _ _ _ c.in_ok-put_comma.ensures.ok c.in_ok-extend_from_slice.ensures.items c.in_ok-push-2.ensures.items))
+    c.in_err-put_value.ensures.err)
