@@ -7,7 +7,7 @@ use Rattle.field_table.proofs.shapes.Shape.TheLaws.TheKnot.{crosses as shapes_cr
 use Rattle.field_table.specs.contracts.shapes.Slots.{the_field as slots_field}
 use Rattle.field_table.specs.contracts.tables.Table.{the_row as table_row}
 
-pub slots_sync : IsSync slots_field.row
+slots_sync : IsSync slots_field.row
 slots_sync = search (sendable, crosses, text_sync, kinds_cross, shapes_cross) depth 30
 
 pub table_sync : IsSync table_row

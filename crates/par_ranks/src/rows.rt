@@ -5,24 +5,14 @@ ghost use Rattle.std.specs.Fork.{slice_chunk};
 ghost use Rattle.trace_model.specs.Graphs.{IsOfTable};
 ghost use Rattle.par_ranks.specs.Rows.{IsRow, AreMade, ArePut, IsRowRun};
 
+use crate::chunks::chunk_count;
 use crate::steps::{run_chunk, run_in_turn};
-use crate::turns::{CHUNKED_MIN, WIDE_MIN};
 use atom_list::Context;
 use field_table::Table;
 use outside::{Gate, Memory};
 use recorded_graph::Graph;
 use std::alloc::Global;
 use std::thread::{Threads, map_chunks};
-
-/// From so many steps on a row is cut into more than two chunks: for fewer, each further thread costs more than it saves.
-const WELL_FILLED: usize = 1_024;
-
-/// How many chunks a row of so many steps is cut into at most.
-fn chunk_count(steps: usize) -> usize
-    ensures { 0 < result }
-{
-    if steps < WELL_FILLED { 2 } else { 4 }
-}
 
 /// The lists of the steps of each chunk of a row, a thread for each chunk.
 fn run_chunks<R: Threads + Sync, G: Gate>(
@@ -94,7 +84,7 @@ fn put(lists: &mut Vec<Context>, steps: &[usize], made: Vec<Context>)
     }
 }
 
-/// Runs the steps of a row in chunks, beside one another.
+/// Runs the steps of a row in so many chunks, beside one another.
 fn run_in_chunks<R: Threads + Sync, G: Gate>(
     rt: &R,
     alloc: Global,
@@ -103,25 +93,20 @@ fn run_in_chunks<R: Threads + Sync, G: Gate>(
     graph: &Graph,
     lists: &mut Vec<Context>,
     row: &[usize],
+    chunks: usize,
 ) -> Result<(), Memory>
     requires table { IsOfTable table.now graph.now }
     requires lists { length lists.old.items ≡ length graph.now.steps }
     requires row { IsRow graph.now row.now }
+    requires chunks { 0 < chunks }
     ensures { OnOk result (IsRowRun table.now graph.now row.now lists.old.items lists.new.items) }
 {
-    let size = row.len() / chunk_count(row.len()) + 1;
+    let size = row.len().div_ceil(chunks).max(1);
     let pool = lists.as_slice();
     let parts = run_chunks(rt, alloc, gate, table, graph, pool, row, size)?;
     let made = gather(alloc, table, graph, pool, row, size, parts)?;
     put(lists, row, made);
     Ok(())
-}
-
-/// Whether a row is run in chunks: it has many steps, and they aren't joins of many parents.
-fn goes_in_chunks(graph: &Graph, row: &[usize]) -> bool
-    requires { IsRow graph.now row.now }
-{
-    CHUNKED_MIN <= row.len() && graph.step(row[0]).act.parents().len() < WIDE_MIN
 }
 
 /// Runs the steps of a row.
@@ -139,9 +124,10 @@ pub(crate) fn run_row<R: Threads + Sync, G: Gate>(
     requires row { IsRow graph.now row.now }
     ensures { OnOk result (IsRowRun table.now graph.now row.now lists.old.items lists.new.items) }
 {
-    if goes_in_chunks(graph, row) {
-        run_in_chunks(rt, alloc, gate, table, graph, lists, row)
-    } else {
+    let chunks = chunk_count(graph, lists.as_slice(), row);
+    if chunks < 2 {
         run_in_turn(rt, alloc, gate, table, graph, lists, row)
+    } else {
+        run_in_chunks(rt, alloc, gate, table, graph, lists, row, chunks)
     }
 }

@@ -51,9 +51,9 @@ fn run_rows<R: Threads + Sync, G: Gate>(
 /// The lists of all steps of a graph of a table, in the order of the steps: those that
 /// [`run_all`](graph_runner::run_all) gives.
 ///
-/// The steps of one rank don't need each other. Where there are 64 or more of them they are run in several threads, and
-/// their joins of 64 parents or more one after another, each in several threads. Each step passes the gate, as the piece of
-/// its number, before it is run.
+/// The steps of one rank don't need each other. They are run in several threads where there are 64 or more of them, or 8
+/// or more whose parents have many atoms, and their joins of 64 parents or more one after another, each in several
+/// threads. Each step passes the gate, as the piece of its number, before it is run.
 pub fn run_ranks<R: Threads + Sync, G: Gate>(
     rt: &R,
     alloc: Global,

@@ -51,25 +51,46 @@ fn with(rt: &impl Abort, table: &Table, mut graph: Graph, act: Act) -> Result<Gr
     Ok(graph)
 }
 
-/// The same graph with a step more that receives a header with a datum.
+/// The context of an atom list that is well formed.
+fn context_of(rt: &impl Abort, list: AtomList) -> Context {
+    match Context::check(list) {
+        Ok(context) => context,
+        Err((fault, at, _list)) => panic!(rt; "{fault:?} at {at}"),
+    }
+}
+
+/// A header with a datum.
+fn short(rt: &impl Abort, alloc: Global, number: u8) -> Result<Context, Memory> {
+    let mut list = AtomList::new(alloc);
+    list.push(&[0xf8, number])?;
+    list.push(b"\0")?;
+    Ok(context_of(rt, list))
+}
+
+/// So many headers with three data each.
+fn long(rt: &impl Abort, alloc: Global, headers: u8) -> Result<Context, Memory> {
+    let mut list = AtomList::new(alloc);
+    for number in 0..headers {
+        list.push(&[0xf8, number])?;
+        for datum in 0..3u8 {
+            list.push(&[0, datum])?;
+        }
+    }
+    Ok(context_of(rt, list))
+}
+
+/// The same graph with a step more that receives a context.
 fn receiving(
     rt: &impl Abort,
-    alloc: Global,
     table: &Table,
     graph: Graph,
-    number: u8,
+    context: Context,
 ) -> Result<Graph, Memory>
     requires table { table.now ≡ no_node }
     requires graph { IsOfTable table.now graph }
     ensures { IfOk result (λ grown. IsOfTable table.now grown) }
 {
-    let mut list = AtomList::new(alloc);
-    list.push(&[0xf8, number])?;
-    list.push(b"\0")?;
-    match Context::check(list) {
-        Ok(context) => with(rt, table, graph, Act::Recv(context)),
-        Err((fault, at, _list)) => panic!(rt; "{fault:?} at {at}"),
-    }
+    with(rt, table, graph, Act::Recv(context))
 }
 
 /// A start and so many branches of it.
@@ -122,7 +143,7 @@ fn mixed(rt: &impl Abort, alloc: Global, table: &Table) -> Result<Graph, Memory>
 {
     let mut graph = one_service(alloc, table)?;
     for number in 0..80u8 {
-        graph = receiving(rt, alloc, table, graph, number)?;
+        graph = receiving(rt, table, graph, short(rt, alloc, number)?)?;
     }
     for number in 0..160 {
         graph = with(rt, table, graph, act(alloc, 80, number)?)?;
@@ -184,19 +205,36 @@ impl Piece {
     }
 }
 
-/// A gate where two pieces meet. They do only where both run at the same time.
+/// A gate where the pieces of two steps meet. They do only where both run at the same time.
 #[derive(Drop)]
 struct Meeting {
+    steps: [usize; 2],
     first: Piece,
     last: Piece,
 }
 
+impl Meeting {
+    /// Where these two steps meet.
+    fn of(first: usize, last: usize) -> Meeting {
+        Meeting {
+            steps: [first, last],
+            first: Piece::new(),
+            last: Piece::new(),
+        }
+    }
+
+    /// Whether each saw the other.
+    fn took_place(&self) -> bool {
+        self.first.saw.load(Ordering::SeqCst) && self.last.saw.load(Ordering::SeqCst)
+    }
+}
+
 impl Gate for Meeting {
     fn enter(&self, piece: usize) {
-        match piece {
-            1 => self.first.meet(&self.last),
-            1000 => self.last.meet(&self.first),
-            _ => {}
+        if piece == self.steps[0] {
+            self.first.meet(&self.last);
+        } else if piece == self.steps[1] {
+            self.last.meet(&self.first);
         }
     }
 }
@@ -206,14 +244,39 @@ fn steps_of_a_rank_meet(rt: HostRuntime) -> Result<(), Fail> {
     let alloc = rt.alloc();
     let table = no_fields(alloc);
     let graph = star(&rt, alloc, &table, 1000)?;
-    let meeting = Meeting {
-        first: Piece::new(),
-        last: Piece::new(),
-    };
+    let meeting = Meeting::of(1, 1000);
     let lists = run_ranks(&rt, alloc, &meeting, &table, &graph)?;
     assert_eq!(rt; lists.len(), 1001);
     assert!(rt; lists.iter().all(|list| list.list().is_empty()));
-    assert!(rt; meeting.first.saw.load(Ordering::SeqCst));
-    assert!(rt; meeting.last.saw.load(Ordering::SeqCst));
+    assert!(rt; meeting.took_place());
+    Ok(())
+}
+
+/// Two steps that receive the same long context, and so many joins of both.
+fn joins(rt: &impl Abort, alloc: Global, table: &Table, count: usize) -> Result<Graph, Memory>
+    requires { table.now ≡ no_node }
+    ensures { IfOk result (λ graph. IsOfTable table.now graph) }
+{
+    let mut graph = one_service(alloc, table)?;
+    for _received in 0..2 {
+        graph = receiving(rt, table, graph, long(rt, alloc, 120)?)?;
+    }
+    for _joined in 0..count {
+        let parents = round(alloc, 2, 0, 2)?;
+        graph = with(rt, table, graph, Act::Join { parents })?;
+    }
+    Ok(graph)
+}
+
+#[test]
+fn few_steps_with_many_atoms_meet(rt: HostRuntime) -> Result<(), Fail> {
+    let alloc = rt.alloc();
+    let table = no_fields(alloc);
+    let graph = joins(&rt, alloc, &table, 16)?;
+    let meeting = Meeting::of(2, 17);
+    let lists = run_ranks(&rt, alloc, &meeting, &table, &graph)?;
+    assert_eq!(rt; lists.len(), 18);
+    assert!(rt; lists.iter().all(|list| list.list().len() == 480));
+    assert!(rt; meeting.took_place());
     Ok(())
 }

@@ -14,8 +14,8 @@ use std::alloc::Global;
 /// From so many parents on a join is run in several threads.
 pub(crate) const WIDE_MIN: usize = 64;
 
-/// From so many steps on a row is cut into chunks: to start threads for fewer costs more than it saves.
-pub(crate) const CHUNKED_MIN: usize = 64;
+/// From so many steps on a row may be cut into chunks.
+pub(crate) const BESIDE_MIN: usize = 8;
 
 /// The turn of a step, from those of the steps before it.
 fn turn_after(turns: &[usize], parents: &[usize]) -> usize
@@ -66,7 +66,7 @@ fn turns_count(turns: &[usize]) -> usize
     count
 }
 
-/// Whether threads are of use: some turn has enough steps for chunks, or a join of many parents.
+/// Whether threads may be of use: some turn has enough steps for chunks, or a join of many parents.
 pub(crate) fn are_worth_threads(alloc: Global, turns: &[usize]) -> Result<bool, Memory>
     requires few { length turns.now < 2 ^ 32 }
     requires low { AreLow turns.now }
@@ -74,7 +74,7 @@ pub(crate) fn are_worth_threads(alloc: Global, turns: &[usize]) -> Result<bool, 
     let mut widths = vec![in alloc; 0usize; turns_count(turns)]?;
     for turn in turns {
         let width = widths[*turn].saturating_add(1);
-        if *turn % 2 == 1 || CHUNKED_MIN <= width {
+        if *turn % 2 == 1 || BESIDE_MIN <= width {
             return Ok(true);
         }
         widths[*turn] = width;
