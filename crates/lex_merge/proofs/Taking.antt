@@ -2,7 +2,6 @@
 use Rattle.std.proofs.Common.{◌≡◌, ℕ, ◌+◌, ◌-◌, ◌<◌, ◌≤◌, ◌⊎◌, inl, inr, List, [], ◌∷◌, ◌++◌, length, take, drop, slice_range, refl, sym, ◌∙◌, ap, subst, append_assoc, Less, Equal, arith}
 use Rattle.std.specs.Cmp.{tied_itself}
 use Rattle.std.specs.Ordering.{ordering_reverse}
-use Rattle.std.proofs.lemmas.Bool.{cases_lt}
 use Rattle.std.proofs.lemmas.List.{drop_more, drop_all, append-nil, append_cancel_right}
 use Rattle.std.proofs.lemmas.List.Edits.{between_more}
 use Rattle.std.proofs.lemmas.List.Folds.{drop_split}
@@ -106,19 +105,6 @@ all_of a b i j run all =
 -- Of two atoms that don't tie the other comes first.
 pub later_back : (a : List Atom) (i : ℕ) (b : List Atom) (j : ℕ) → IsLater a i b j → i < length a → j < length b → atom_cmp (atom_at b j) (atom_at a i) ≡ Less
 later_back a i b j later in_a in_b = atoms_total.antisymm (atom_at b j) (atom_at a i) ∙ ap ordering_reverse (later in_a in_b)
-
--- A run from places where the first list has the lesser atom isn't empty.
-pub some_taken : (a : List Atom) (i : ℕ) (b : List Atom) (j k l : ℕ) → IsRun a i b j k l → IsLater a k b l → IsLater b j a i → i < length a → j < length b → i < k
-some_taken a i b j k l run ends heads in_a in_b = elim (cases_lt i k) [
-  | inl less ↦ less
-  | inr not ↦ (
-      let at_k : i ≡ k = omega (arith, run.from_a) in
-      let at_l : j ≡ l = omega (arith, run.from_b, run.no_fewer) in
-      let late = subst (λ n. IsLater a i b n) (sym at_l) (subst (λ m. IsLater a m b l) (sym at_k) ends) in_a in_b in
-      let less = later_back b j a i heads in_b in_a in
-      absurd (cc (late, less))
-      )
-]
 
 -- ---- rooms
 

@@ -51,7 +51,23 @@ pub(crate) fn run_end(a: &AtomList, i: usize, b: &AtomList, j: usize) -> (usize,
     (next, other)
 }
 
-/// Puts out a run of the first list, and answers the places behind it.
+/// The same, where the first of these atoms is known to come before that of the second list: it isn't compared again.
+fn run_behind(a: &AtomList, i: usize, b: &AtomList, j: usize) -> (usize, usize)
+    requires first { i ≤ length a.now }
+    requires second { j ≤ length b.now }
+    requires before { IsLater b.now j a.now i }
+    ensures run { IsRun a.now i b.now j result.0 result.1 }
+    ensures ends { IsLater a.now result.0 b.now result.1 }
+    ensures some { i < length a.now → j < length b.now → i < result.0 }
+{
+    if i == a.len() || j == b.len() {
+        return (i, j);
+    }
+    run_end(a, i + 1, b, j)
+}
+
+/// Puts out a run of the first list, whose first atom is known to come before that of the second, and answers the places
+/// behind it.
 pub(crate) fn push_run(
     built: &mut Builder,
     a: &AtomList,
@@ -59,12 +75,13 @@ pub(crate) fn push_run(
     b: &AtomList,
     j: usize,
 ) -> (usize, usize)
-    requires { HasRoom a.now i b.now j built.old }
+    requires room { HasRoom a.now i b.now j built.old }
+    requires before { IsLater b.now j a.now i }
     ensures on { GoesOn a.now i b.now j built.old result.0 result.1 built.new }
     ensures ends { IsLater a.now result.0 b.now result.1 }
-    ensures some { IsLater b.now j a.now i → i < length a.now → j < length b.now → i < result.0 }
+    ensures some { i < length a.now → j < length b.now → i < result.0 }
 {
-    let (next, other) = run_end(a, i, b, j);
+    let (next, other) = run_behind(a, i, b, j);
     built.push_run(a, i, next);
     (next, other)
 }
