@@ -91,3 +91,7 @@ words_call (Some task) scene answer answers seven = absurd (never_seven task sce
 pub unasked_call : (scene : Scene) (answer : ℕ) → Answers None scene answer → (answer ≡ 7) ⊎ (answer ≡ 5)
 unasked_call scene answer (library, requests, source, out, inl told) = inl told.0
 unasked_call scene answer (library, requests, source, out, inr failed) = inr failed.0
+
+-- Words that ask for nothing touch the sink of errors alone.
+pub untouched_call : (scene : Scene) (answer : ℕ) → Answers None scene answer → IsSame scene.library × IsSame scene.requests × IsSame scene.source × IsSame scene.out
+untouched_call scene answer (library, requests, source, out, told) = (library, requests, source, out)

@@ -44,7 +44,7 @@ use Rattle.baggage_cli.specs.Running.{input_fault, IsReportAs, IsRunReport, grap
 use Rattle.baggage_cli.specs.Tables.{TableGives}
 use Rattle.baggage_cli.specs.Top.{InputGives}
 use Rattle.baggage_cli.specs.Trimming.{trimmed_line, TrimsLines}
-use Rattle.baggage_cli.specs.Under.{InputUnder, SaysGraph, AcceptsUnder}
+use Rattle.baggage_cli.specs.Under.{InputUnder}
 use Rattle.baggage_cli.proofs.GraphInputs.{inputs_say, lines_say}
 
 -- ---- one fault for what is wrong
@@ -91,10 +91,10 @@ said_not_ill_typed table bytes said fault says typed (inr (list, place, say, fir
     let same = (has_one_context bytes).list list said say says in
     first_ill_typed table said place (subst (λ l. IsFirstIllTyped table l place) same first) typed
 
-pub list_lines_definite : IsDefinite list_lines
+list_lines_definite : IsDefinite list_lines
 list_lines_definite = hex_lines_definite Hex list_bytes list_bytes_definite
 
-pub context_lines_definite : IsDefinite context_lines
+context_lines_definite : IsDefinite context_lines
 context_lines_definite = hex_lines_definite Hex context_bytes context_bytes_definite
 
 typed_bytes_definite : (table : Nodes) → IsDefinite (typed_bytes table)
@@ -104,13 +104,13 @@ typed_bytes_definite table = record {
   not_both = λ earlier bytes said fault f. said_not_ill_typed table bytes said fault f.0 f.1;
 }
 
-pub typed_lines_definite : (table : Nodes) → IsDefinite (typed_lines table)
+typed_lines_definite : (table : Nodes) → IsDefinite (typed_lines table)
 typed_lines_definite table = hex_lines_definite Hex (typed_bytes table) (typed_bytes_definite table)
 
 only_one_definite : {A : Type 0} (reading : Reading A InputFault) → IsDefinite reading → IsDefinite (only_one reading)
 only_one_definite reading definite = at_most_definite 1 (Code Excess) reading definite
 
-pub merged_lines_definite : IsDefinite merged_lines
+merged_lines_definite : IsDefinite merged_lines
 merged_lines_definite = at_most_definite LINES_MAX (Code TooManyLines) context_lines context_lines_definite
 
 -- ---- lines come to one outcome
@@ -122,7 +122,7 @@ refuses_lines_one reading definite lines r s (m, f, bad, r_is) (n, g, other, s_i
     cc (r_is, s_is, same.0, same.1)
 
 -- What lines say and how they are refused exclude each other.
-pub said_not_refused : {A : Type 0} (reading : Reading A InputFault) → IsDefinite reading → (lines : List Line) (said : List A) (r : Refusal)
+said_not_refused : {A : Type 0} (reading : Reading A InputFault) → IsDefinite reading → (lines : List Line) (said : List A) (r : Refusal)
     → AllSay reading [] lines said → RefusesLines reading lines r → ⊥
 said_not_refused reading definite lines said r all (number, fault, bad, is) = good_not_bad reading definite lines said number fault all bad
 
@@ -174,30 +174,8 @@ reads_one_one reading definite gives one lines a b (inr f) (inr g) =
 trims_one : (budget : ℕ) (list : List Atom) (x y : List ℕ) → x ≡ trimmed_line budget list → y ≡ trimmed_line budget list → x ≡ y
 trims_one budget list x y x_is y_is = x_is ∙ sym y_is
 
-only_says : {A : Type 0} (reading : Reading A InputFault) (lines : List Line) (a : A) → AllSay reading [] lines (a ∷ []) → AllSay (only_one reading) [] lines (a ∷ [])
-only_says reading lines a says = all_say-at_most 1 (Code Excess) reading lines (a ∷ []) says (omega arith)
-
--- One line that says something isn't refused.
-pub only_not_refused : {A : Type 0} (reading : Reading A InputFault) → IsDefinite reading → (gives : A → List ℕ → Type 0) (input : List ℕ) (a : A) (refusal : Refusal) → length input ≤ INPUT_MAX
-    → AllSay reading [] (lines_of input) (a ∷ []) → Within (ReadsOne reading gives) input (Err refusal) → ⊥
-only_not_refused reading definite gives input a refusal few says (inl long) = let above = long.0 in omega arith
-only_not_refused reading definite gives input a refusal few says (inr (short, inl none)) = none_said reading (a ∷ []) a refl (subst (λ ls. AllSay reading [] ls (a ∷ [])) none.0 says)
-only_not_refused reading definite gives input a refusal few says (inr (short, inr refused)) =
-    said_not_refused (only_one reading) (only_one_definite reading definite) (lines_of input) (a ∷ []) refusal (only_says reading (lines_of input) a says) refused
-
 pub ok_no_err : (output : List ℕ) (refusal : Refusal) → ◌≡◌ {A = Outcome} (Ok output) (Err refusal) → ⊥
 ok_no_err output refusal e = cc e
-
--- What one line says gives the output.
-pub only_gave : {A : Type 0} (reading : Reading A InputFault) → IsDefinite reading → (gives : A → List ℕ → Type 0) (input : List ℕ) (a : A) (output : List ℕ)
-    → AllSay reading [] (lines_of input) (a ∷ []) → Within (ReadsOne reading gives) input (Ok output) → gives a output
-only_gave reading definite gives input a output says (inl long) = absurd (ok_no_err output _ long.1)
-only_gave reading definite gives input a output says (inr (short, inl none)) = absurd (ok_no_err output _ none.1)
-only_gave {A} reading definite gives input a output says (inr (short, inr (said, all, (b, is, gave)))) =
-    let all_same = all_say_one (only_one reading) (only_one_definite reading definite) (lines_of input) said (a ∷ []) all (only_says reading (lines_of input) a says) in
-    let only : ◌≡◌ {A = List A} (b ∷ []) (a ∷ []) = sym is ∙ all_same in
-    let same : b ≡ a = cc only in
-    subst (λ c. gives c output) same gave
 
 within_one : (gives : List Line → Outcome → Type 0) → ((lines : List Line) (a b : Outcome) → gives lines a → gives lines b → a ≡ b) → GivesOne (Within gives)
 within_one gives one input a b (inl f) (inl g) = f.1 ∙ sym g.1
@@ -240,12 +218,6 @@ module _ (laws : GraphLaws) (table : Nodes) (is_table : IsTable table) where
   run_gives_one form input a b (inr f) (inl g) = absurd (let long = g.0 in let short = f.0 in omega arith)
   run_gives_one form input a b (inr f) (inr g) = runs_one form input a b f.1 g.1
 
-  -- An input that says a graph isn't refused.
-  graph_not_refused : (form : Form) (input : List ℕ) (graph : Graph) (refusal : Refusal) → SaysGraph table input graph → InputUnder (running form) table input (Err refusal) → ⊥
-  graph_not_refused form input graph refusal (few, says) (inl long) = let above = long.0 in omega arith
-  graph_not_refused form input graph refusal (few, (every, all, is)) (inr (short, refused)) =
-      said_not_refused (graph_inputs table) (graph_inputs_definite laws.definite table is_table) (lines_of input) every refusal (inputs_say table [] (lines_of input) every all) refused
-
 -- ---- inputs under a table
 
 module _ (laws : Laws) (table : Nodes) (is_table : IsTable table) where
@@ -254,12 +226,6 @@ module _ (laws : Laws) (table : Nodes) (is_table : IsTable table) where
   input_under_one decoding =
       within_one (DecodesLines table) (reads_one_one (typed_lines table) (typed_lines_definite table) (IsBlock table) (laws.one_block table))
   input_under_one (running form) = run_gives_one laws.graphs table is_table form
-
-  -- An input that has nothing to refuse isn't refused.
-  pub accepted_under : (purpose : Purpose) (input : List ℕ) (refusal : Refusal) → AcceptsUnder purpose table input → InputUnder purpose table input (Err refusal) → ⊥
-  accepted_under decoding input refusal accepts bad =
-      only_not_refused (typed_lines table) (typed_lines_definite table) (IsBlock table) input accepts.0 refusal accepts.1.0 accepts.1.1 bad
-  accepted_under (running form) input refusal accepts bad = graph_not_refused laws.graphs table is_table form input accepts.0 refusal accepts.1 bad
 
 -- ---- tasks
 

@@ -7,7 +7,6 @@ use Rattle.outside.specs.Told.{Asks}
 use Rattle.context_model.specs.Atoms.{Atom}
 use Rattle.context_model.specs.Framing.{bytes_of}
 use Rattle.context_model.specs.Merged.{IsMerged}
-use Rattle.context_model.proofs.MergedLaws.{has_one_merge}
 use Rattle.bag_model.specs.Shapes.{Nodes}
 use Rattle.bdl_load.specs.Loading.{Holding}
 use Rattle.bdl_check.specs.Definitions.{IsTableOf}
@@ -24,30 +23,31 @@ use Rattle.text_lines.specs.declared.TheConstants.{INPUT_MAX}
 use Rattle.text_lines.specs.HexLines.{hex_line}
 use Rattle.text_lines.specs.Lines.{Line, lines_of}
 use Rattle.text_lines.specs.Readings.{AllSay}
-use Rattle.text_lines.proofs.ReadingLaws.{all_say_one, at_most-all_say, all_say-at_most}
+use Rattle.text_lines.proofs.ReadingLaws.{at_most-all_say, at_most-few}
 use Rattle.baggage_cli.specs.Building.{product_text}
 use Rattle.baggage_cli.specs.Commands.{Origin, compiled, Product, Form, as_json, Purpose, decoding, running, Task, trim, merge, load, build, under, decode, run_json, ReadsSource, FetchesFiles, TakesTable}
 use Rattle.baggage_cli.specs.declared.merging.TheConstants.{LINES_MAX}
-use Rattle.baggage_cli.specs.declared.refusals.InputCode.TheVariants.{TooLong, TooManyLines}
+use Rattle.baggage_cli.specs.declared.refusals.InputCode.TheVariants.{TooLong, Form as Excess, TooManyLines}
 use Rattle.baggage_cli.specs.declared.refusals.InputFault.{InputFault}
 use Rattle.baggage_cli.specs.declared.refusals.InputFault.TheVariants.{Code, Hex, Graph, Bytes, IllTyped}
 use Rattle.baggage_cli.specs.declared.refusals.Notice.TheVariants.{LibraryFailed, SourceFailed, Memory}
 use Rattle.baggage_cli.specs.declared.refusals.Refusal.{Refusal}
 use Rattle.baggage_cli.specs.declared.refusals.Refusal.TheVariants.{Input}
 use Rattle.baggage_cli.specs.Laws.{GraphLaws, Laws}
-use Rattle.baggage_cli.specs.Merging.{merged_lines, MergesLines, MergeGives}
+use Rattle.baggage_cli.specs.Merging.{MergesLines, MergeGives}
 use Rattle.baggage_cli.specs.Outcomes.{Outcome}
-use Rattle.baggage_cli.specs.Reading.{IsRead, Within, list_lines, context_lines, typed_lines}
-use Rattle.baggage_cli.specs.Refusals.{input_status, input_line, line_of, notice_line}
+use Rattle.baggage_cli.specs.Reading.{IsRead, Within, ReadsOne, list_lines, context_lines, typed_lines}
+use Rattle.baggage_cli.specs.Refusals.{status_of, input_status, input_line, line_of, notice_line}
 use Rattle.baggage_cli.specs.Loading.{load_heading, IsLoadOutput}
 use Rattle.baggage_cli.specs.Running.{IsReportAs, ShowsTruth}
-use Rattle.baggage_cli.specs.Scene.{Change, Scene, IsSame, IsSteady, HasFailed, Takes, HasNoFault}
+use Rattle.baggage_cli.specs.Scene.{Change, Scene, scene_of, IsSame, IsSteady, HasFailed, Takes, HasNoFault}
 use Rattle.baggage_cli.specs.Tables.{TableGives, AsksNames}
-use Rattle.baggage_cli.specs.Top.{TellsFiles, InputGives, Answers, SaysList, SaysContexts, Accepts, IsFailure}
+use Rattle.baggage_cli.specs.Top.{TellsFiles, TellsAll, InputGives, Comes, Answers, SaysList, SaysContexts, IsRefusedFor, FailsSink, IsFailure}
+use Rattle.baggage_cli.specs.Top.IsRefusedFor.{by_files, by_input}
 use Rattle.baggage_cli.specs.Trimming.{trimmed_line, TrimsLines, TrimGives}
-use Rattle.baggage_cli.specs.Under.{LinesGive, InputUnder, SaysTyped, AcceptsUnder}
+use Rattle.baggage_cli.specs.Under.{LinesGive, InputUnder, SaysTyped}
 use Rattle.baggage_cli.proofs.GraphInputs.{ran_graph}
-use Rattle.baggage_cli.proofs.Definite.{list_lines_definite, context_lines_definite, typed_lines_definite, merged_lines_definite, only_not_refused, only_gave, ok_no_err, ok_table, accepted_under, same_table, input_gives_one, said_not_refused}
+use Rattle.baggage_cli.proofs.Definite.{ok_no_err, ok_table, same_table, input_gives_one}
 use Rattle.baggage_cli.proofs.Endings.{Ending, OfFiles, Gives, err_same, fetches_table, ending}
 use Rattle.baggage_cli.proofs.Endings.Ending.{read_out, table_out, load_out, bad_input, bad_table, library_failed, source_failed, memory_wanting, sink_failed}
 use Rattle.baggage_cli.proofs.Obtained.{no_ok}
@@ -164,29 +164,38 @@ read_done task scene answer (sink_failed five failed) some is = absurd (omega ar
 ok_same : (a b : List ℕ) → ◌≡◌ {A = Outcome} (Ok a) (Ok b) → a ≡ b
 ok_same a b e = cc e
 
--- Where the one line of an input says a list, and the answer is 0, the line of the trimmed list was written.
-pub trim_appends : (budget : ℕ) (input : List ℕ) (list : List Atom) (scene : Scene) (answer : ℕ) → Answers (Some (trim budget)) scene answer
-    → scene.source.before ≡ Some input → SaysList input list → answer ≡ 0 → Appends scene.out.before scene.out.after (trimmed_line budget list)
-trim_appends budget input list scene answer answers told says is =
-    let done = read_done (trim budget) scene answer (ending (trim budget) scene answer answers) tt is in
+-- What one line of an input gave is what the line says.
+one_said : {A : Type 0} (reading : Reading A InputFault) (gives : A → List ℕ → Type 0) (input output : List ℕ) → Within (ReadsOne reading gives) input (Ok output)
+    → (a : A) × ((length input ≤ INPUT_MAX) × AllSay reading [] (lines_of input) (a ∷ [])) × gives a output
+one_said reading gives input output (inl long) = absurd (ok_no_err output _ long.1)
+one_said reading gives input output (inr (short, inl none)) = absurd (ok_no_err output _ none.1)
+one_said reading gives input output (inr (short, inr (said, all, (a, is, gave)))) =
+    (a, (short, subst (AllSay reading [] (lines_of input)) is (at_most-all_say 1 (Code Excess) reading [] (lines_of input) said all)), gave)
+
+-- Where the answer is 0, the one line of the input says a list, and the line of the trimmed list was written.
+pub trim_appends : (budget : ℕ) (input : List ℕ) (scene : Scene) (answer : ℕ) → Answers (Some (trim budget)) scene answer → scene.source.before ≡ Some input → answer ≡ 0
+    → (list : List Atom) × SaysList input list × Appends scene.out.before scene.out.after (trimmed_line budget list)
+trim_appends budget input scene answer answers told zero =
+    let done = read_done (trim budget) scene answer (ending (trim budget) scene answer answers) tt zero in
     let same = told_input scene.source input done.input told done.read in
-    let gave = subst (λ i. TrimGives budget i (Ok done.output)) (sym same) done.gave in
-    subst (Appends scene.out.before scene.out.after) (only_gave list_lines list_lines_definite (λ l output. output ≡ trimmed_line budget l) input list done.output says.1 gave) done.out.0
+    let (list, says, is) = one_said list_lines (λ l output. output ≡ trimmed_line budget l) input done.output (subst (λ i. TrimGives budget i (Ok done.output)) (sym same) done.gave) in
+    (list, says, subst (Appends scene.out.before scene.out.after) is done.out.0)
 
-merges_given : (input : List ℕ) (lists : List (List Atom)) (merged : List Atom) (output : List ℕ) → SaysContexts input lists → IsMerged lists merged → MergeGives input (Ok output)
-    → output ≡ hex_line (bytes_of merged)
-merges_given input lists merged output says is (inl long) = absurd (cc (long.1))
-merges_given input lists merged output says is (inr (short, (others, all, (other, others_is, output_is)))) =
-    let same = all_say_one context_lines context_lines_definite (lines_of input) others lists (at_most-all_say LINES_MAX (Code TooManyLines) context_lines [] (lines_of input) others all) says.1 in
-    output_is ∙ ap (λ m. hex_line (bytes_of m)) (has_one_merge lists other merged (subst (λ ls. IsMerged ls other) same others_is) is)
+-- The lines of an input that were merged say contexts.
+contexts_merged : (input output : List ℕ) → MergeGives input (Ok output)
+    → (lists : List (List Atom)) × (merged : List Atom) × SaysContexts input lists × IsMerged lists merged × (output ≡ hex_line (bytes_of merged))
+contexts_merged input output (inl long) = absurd (ok_no_err output _ long.1)
+contexts_merged input output (inr (short, (lists, all, (merged, merges, is)))) =
+    (lists, merged, (short, at_most-all_say LINES_MAX (Code TooManyLines) context_lines [] (lines_of input) lists all, at_most-few LINES_MAX (Code TooManyLines) context_lines (lines_of input) lists all), merges, is)
 
--- Where the lines of an input say contexts, and the answer is 0, the line of their merge was written.
-pub merge_appends : (input : List ℕ) (lists : List (List Atom)) (merged : List Atom) (scene : Scene) (answer : ℕ) → Answers (Some merge) scene answer
-    → scene.source.before ≡ Some input → SaysContexts input lists → IsMerged lists merged → answer ≡ 0 → Appends scene.out.before scene.out.after (hex_line (bytes_of merged))
-merge_appends input lists merged scene answer answers told says is zero =
+-- Where the answer is 0, the lines of the input say contexts, and the line of their merge was written.
+pub merge_appends : (input : List ℕ) (scene : Scene) (answer : ℕ) → Answers (Some merge) scene answer → scene.source.before ≡ Some input → answer ≡ 0
+    → (lists : List (List Atom)) × (merged : List Atom) × SaysContexts input lists × IsMerged lists merged × Appends scene.out.before scene.out.after (hex_line (bytes_of merged))
+merge_appends input scene answer answers told zero =
     let done = read_done merge scene answer (ending merge scene answer answers) tt zero in
     let same = told_input scene.source input done.input told done.read in
-    subst (Appends scene.out.before scene.out.after) (merges_given input lists merged done.output says is (subst (λ i. MergeGives i (Ok done.output)) (sym same) done.gave)) done.out.0
+    let (lists, merged, says, merges, is) = contexts_merged input done.output (subst (λ i. MergeGives i (Ok done.output)) (sym same) done.gave) in
+    (lists, merged, says, merges, subst (Appends scene.out.before scene.out.after) is done.out.0)
 
 -- Where the answer is 0, the input gave what was written, under a table that the told files give.
 record GaveUnder (purpose : Purpose) (origin : Origin) (held : Holding) (input : List ℕ) (scene : Scene) : Type 0 where
@@ -208,14 +217,15 @@ gave_under purpose origin held input scene answer answers told content zero =
       written = done.out.0;
     }
 
--- Where the one line of an input says a context that is typed under the table, and the answer is 0, the block of the context was written.
-pub decode_appends : Laws → (file bag : List ℕ) (held : Holding) (table : Nodes) (input : List ℕ) (list : List Atom) (scene : Scene) (answer : ℕ) → Answers (Some (decode file bag)) scene answer
-    → scene.library.before ≡ Some held → IsTableOf held file bag table → scene.source.before ≡ Some input → SaysTyped table input list → answer ≡ 0
-    → (text : List ℕ) × IsBlock table list text × Appends scene.out.before scene.out.after text
-decode_appends laws file bag held table input list scene answer answers told is content says zero =
+-- Where the answer is 0, the one line of the input says a context that is typed under the table, and the block of the context was written.
+pub decode_appends : (file bag : List ℕ) (held : Holding) (input : List ℕ) (scene : Scene) (answer : ℕ) → Answers (Some (decode file bag)) scene answer
+    → scene.library.before ≡ Some held → scene.source.before ≡ Some input → answer ≡ 0
+    → (table : Nodes) × (list : List Atom) × (text : List ℕ) × IsTableOf held file bag table × SaysTyped table input list × IsBlock table list text
+    × Appends scene.out.before scene.out.after text
+decode_appends file bag held input scene answer answers told content zero =
     let done = gave_under decoding (compiled file bag) held input scene answer answers told content zero in
-    let one = ok_table done.table table (laws.tables.gives_one (compiled file bag) held (Ok done.table) (Ok table) done.is is) in
-    (done.output, only_gave (typed_lines table) (typed_lines_definite table) (IsBlock table) input list done.output says.1 (subst (λ t. InputUnder decoding t input (Ok done.output)) one done.gave), done.written)
+    let (list, says, block) = one_said (typed_lines done.table) (IsBlock done.table) input done.output done.gave in
+    (done.table, list, done.output, done.is, says, block, done.written)
 
 -- What is shown of a run is honest.
 shows_truth : GraphLaws → (table : Nodes) (graph : model.Graph) (lists : Lists) → IsRecorded table graph → IsRun table graph lists → ShowsTruth table graph lists
@@ -593,81 +603,64 @@ sink_told task scene answer answers is = by (ending task scene answer answers)
 
 -- ---- completeness
 
--- What a task accepts has nothing wrong.
-accepted : Laws → (task : Task) (input : List ℕ) (number : ℕ) (fault : InputFault) (files : Option Holding) (content : Option (List ℕ)) → Accepts task files content
-    → content ≡ Some input → InputGives task files input (Err (Input number fault)) → ⊥
-accepted laws (trim budget) input number fault files content (told, is, (list, says)) same bad =
-    let same_input : told ≡ input = cc (is, same) in
-    let here = subst (λ i. SaysList i list) same_input says in
-    only_not_refused list_lines list_lines_definite (λ l output. output ≡ trimmed_line budget l) input list (Input number fault) here.0 here.1 bad
-accepted laws merge input number fault files content (told, is, (lists, says, few)) same (inl long) =
-    let same_input : told ≡ input = cc (is, same) in
-    let short = subst (λ i. length i ≤ INPUT_MAX) same_input says.0 in
-    let above = long.0 in
-    absurd (omega arith)
-accepted laws merge input number fault files content (told, is, (lists, says, few)) same (inr (short, refused)) =
-    let same_input : told ≡ input = cc (is, same) in
-    said_not_refused merged_lines merged_lines_definite (lines_of input) lists (Input number fault)
-    (subst (λ i. AllSay merged_lines [] (lines_of i) lists) same_input (all_say-at_most LINES_MAX (Code TooManyLines) context_lines (lines_of told) lists says.1 few)) refused
-accepted laws (load rounds) input number fault files content accepts same bad = absurd bad
-accepted laws (build product origin) input number fault files content accepts same bad = absurd bad
-accepted laws (under purpose origin) input number fault files content (held, told, table, is, text, holds, accepts) same (other, knows, found, known, bad) =
-    let same_input : text ≡ input = cc (holds, same) in
-    accepted_under laws table (laws.tables.is_table origin held table is) purpose input (Input number fault) (subst (AcceptsUnder purpose table) same_input accepts)
-    (subst (λ t. InputUnder purpose t input (Err (Input number fault))) (same_table laws.tables origin files held other table found told is knows known) bad)
-
-accepted_told : (task : Task) (files : Option Holding) (content : Option (List ℕ)) → Accepts task files content → ReadsSource task → (input : List ℕ) × (content ≡ Some input)
-accepted_told (trim budget) files content accepts reads = (accepts.0, accepts.1)
-accepted_told merge files content accepts reads = (accepts.0, accepts.1)
-accepted_told (load rounds) files content accepts reads = absurd reads
-accepted_told (build product origin) files content accepts reads = absurd reads
-accepted_told (under purpose origin) files content accepts reads = (accepts.4, accepts.5)
-
-accepted_tells : (task : Task) (files : Option Holding) (content : Option (List ℕ)) → Accepts task files content → TellsFiles task files
-accepted_tells (trim budget) files content accepts = λ fetches. absurd fetches
-accepted_tells merge files content accepts = λ fetches. absurd fetches
-accepted_tells (load rounds) files content accepts = λ fetches. absurd fetches
-accepted_tells (build product origin) files content accepts = λ fetches. (accepts.0, accepts.1)
-accepted_tells (under purpose origin) files content accepts = λ fetches. (accepts.0, accepts.1)
-
--- The table of an accepted task isn't refused.
-accepted_sound : Laws → (task : Task) (origin : Origin) (refusal : Refusal) (held : Holding) (files : Option Holding) (content : Option (List ℕ)) → Accepts task files content → TakesTable task origin
-    → files ≡ Some held → TableGives origin held (Err refusal) → ⊥
-accepted_sound laws (trim budget) origin refusal held files content accepts takes told bad = takes
-accepted_sound laws merge origin refusal held files content accepts takes told bad = takes
-accepted_sound laws (load rounds) origin refusal held files content accepts takes told bad = takes
-accepted_sound laws (build product own) origin refusal held files content accepts takes told bad =
-    let same : held ≡ accepts.0 = cc (told, accepts.1) in
-    accepts.2 refusal (subst (λ o. TableGives o accepts.0 (Err refusal)) (sym takes) (subst (λ h. TableGives origin h (Err refusal)) same bad))
-accepted_sound laws (under purpose own) origin refusal held files content accepts takes told bad =
-    let same : held ≡ accepts.0 = cc (told, accepts.1) in
-    not_both laws own accepts.0 accepts.2 refusal accepts.3 (subst (λ o. TableGives o accepts.0 (Err refusal)) (sym takes) (subst (λ h. TableGives origin h (Err refusal)) same bad))
-
-refused_input : Laws → (task : Task) (input : List ℕ) (number : ℕ) (fault : InputFault) (scene : Scene) → Accepts task scene.library.before scene.source.before → ReadsSource task → IsRead scene.source input
-    → Gives task scene input (Err (Input number fault)) → ⊥
-refused_input laws task input number fault scene accepts reads read bad =
-    let told = accepted_told task scene.library.before scene.source.before accepts reads in
-    let same = told_input scene.source told.0 input told.1 read in
-    let given = told_gives task scene input (Err (Input number fault)) (accepted_tells task scene.library.before scene.source.before accepts) bad in
-    accepted laws task input number fault scene.library.before scene.source.before accepts (told.1 ∙ ap Some same) given
-
-refused_table : Laws → (task : Task) (origin : Origin) (refusal : Refusal) (scene : Scene) → Accepts task scene.library.before scene.source.before → TakesTable task origin
-    → OfFiles scene origin (λ held. TableGives origin held (Err refusal)) → ⊥
-refused_table laws task origin refusal scene accepts takes came =
-    let held = accepted_tells task scene.library.before scene.source.before accepts (fetches_table task origin takes) in
-    accepted_sound laws task origin refusal held.0 scene.library.before scene.source.before accepts takes held.1 (told_result scene origin held.0 (Err refusal) held.1 came)
-
--- Such a call answers 0 or 6.
-pub completes : Laws → (task : Task) (scene : Scene) (answer : ℕ) → Answers (Some task) scene answer → Accepts task scene.library.before scene.source.before → HasNoFault scene → (answer ≡ 0) ⊎ (answer ≡ 6)
-completes laws task scene answer answers accepts sure = by (ending task scene answer answers)
+-- Where nothing that was told is refused and no object failed, the answer is 0 or 6.
+pub completes : (task : Task) (scene : Scene) (answer : ℕ) → Answers (Some task) scene answer → TellsAll task scene.library.before scene.source.before
+    → ((refusal : Refusal) → IsRefusedFor task scene.library.before scene.source.before refusal → ⊥) → HasNoFault scene → (answer ≡ 0) ⊎ (answer ≡ 6)
+completes task scene answer answers tells sound sure = by (ending task scene answer answers)
   where
     by : Ending task scene answer → (answer ≡ 0) ⊎ (answer ≡ 6)
     by (read_out input output zero reads read gave written) = inl zero
     by (table_out product origin table zero asks came unread written) = inl zero
     by (load_out rounds output zero asks unread made written) = inl zero
-    by (bad_input input number fault status reads read gave said) = absurd (refused_input laws task input number fault scene accepts reads read gave)
-    by (bad_table origin refusal one takes came unread said) = absurd (refused_table laws task origin refusal scene accepts takes came)
+    by (bad_input input number fault status reads read gave said) =
+        let told = tells.1 reads in
+        let same = told_input scene.source told.0 input told.1 read in
+        absurd (sound (Input number fault) (by_input input (told.1 ∙ ap Some same) (told_gives task scene input (Err (Input number fault)) tells.0 gave)))
+    by (bad_table origin refusal one takes came unread said) =
+        let held = tells.0 (fetches_table task origin takes) in
+        absurd (sound refusal (by_files origin held.0 takes held.1 (told_result scene origin held.0 (Err refusal) held.1 came)))
     by (library_failed four fetches failed said) = absurd (sure.library failed)
     by (source_failed four reads failed said) = absurd (sure.source failed)
     by (memory_wanting six said) = inr six
     by (sink_failed five failed) = absurd (elim failed [ inl out ↦ sure.out out | inr errs ↦ sure.errs errs ])
+
+-- ---- a sink that failed
+
+-- A change of an object that tells nothing and counted no fault.
+quiet_change : Change (List ℕ)
+quiet_change = record { before = None; after = None; faults_before = 0; faults_after = 0 }
+
+never_rose : HasFailed quiet_change → ⊥
+never_rose rose = omega arith
+
+-- No task is refused for a sink.
+refused_otherwise : (task : Task) (scene : Scene) (refusal : Refusal) → Comes task scene.library scene.requests scene.source (Err refusal) → status_of refusal ≢ 5
+refused_otherwise task scene refusal comes five =
+    let quiet = scene_of scene.library scene.requests scene.source quiet_change quiet_change in
+    elim (sink_told task quiet (status_of refusal) (Err refusal, comes, ((refl, refl), inl (refl, (tt, refl)))) five) [
+      | inl failed ↦ never_rose failed
+      | inr failed ↦ never_rose failed
+    ]
+
+-- What stands where a sink failed.
+pub part_told : (task : Task) (scene : Scene) (answer : ℕ) → Answers (Some task) scene answer → answer ≡ 5 → FailsSink task scene
+part_told task scene answer (Ok output, comes, inl (zero, written, same)) five = absurd (omega arith)
+part_told task scene answer (Ok output, comes, inr (is, part, told)) five = inl (output, comes, part, told)
+part_told task scene answer (Err refusal, comes, (same, inl (is, told))) five = absurd (refused_otherwise task scene refusal comes (sym is ∙ five))
+part_told task scene answer (Err refusal, comes, (same, inr (is, part))) five = inr (refusal, comes, same, part)
+
+-- ---- what a task doesn't use
+
+pub unfetched_files : (task : Task) (scene : Scene) (answer : ℕ) → Answers (Some task) scene answer → (FetchesFiles task → ⊥) → IsSame scene.library × IsSame scene.requests
+unfetched_files (trim budget) scene answer (outcome, (same, unasked, reads), delivers) none = (same, unasked)
+unfetched_files merge scene answer (outcome, (same, unasked, reads), delivers) none = (same, unasked)
+unfetched_files (load rounds) scene answer (outcome, (same, unasked, unread, gives), delivers) none = (same, unasked)
+unfetched_files (build product origin) scene answer answers none = absurd (none tt)
+unfetched_files (under purpose origin) scene answer answers none = absurd (none tt)
+
+pub unread_input : (task : Task) (scene : Scene) (answer : ℕ) → Answers (Some task) scene answer → (ReadsSource task → ⊥) → IsSame scene.source
+unread_input (trim budget) scene answer answers none = absurd (none tt)
+unread_input merge scene answer answers none = absurd (none tt)
+unread_input (load rounds) scene answer (outcome, (same, unasked, unread, gives), delivers) none = unread
+unread_input (build product origin) scene answer (outcome, (unread, builds), delivers) none = unread
+unread_input (under purpose origin) scene answer answers none = absurd (none tt)

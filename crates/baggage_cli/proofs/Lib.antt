@@ -9,7 +9,7 @@ pub mod Obtained
 pub mod TableLaws
 pub mod Printed
 pub mod Interrupted
-pub mod CommandLine
+pub mod ThreeWords
 pub mod Fronts
 pub mod Delivered
 pub mod Definite

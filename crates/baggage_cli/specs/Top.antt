@@ -7,19 +7,20 @@ use Rattle.text_lines.specs.Readings.{AllSay}
 use Rattle.bag_model.specs.Shapes.{Nodes}
 use Rattle.bdl_load.specs.Loading.{Holding}
 use Rattle.baggage_cli.specs.declared.merging.TheConstants.{LINES_MAX}
-use Rattle.baggage_cli.specs.declared.refusals.Notice.TheVariants.{WordsRefused}
+use Rattle.baggage_cli.specs.declared.refusals.Notice.TheVariants.{SinkFailed, WordsRefused}
 use Rattle.baggage_cli.specs.declared.refusals.Refusal.{Refusal}
 use Rattle.baggage_cli.specs.Building.{BuildsProduct}
-use Rattle.baggage_cli.specs.Commands.{Task, FetchesFiles, trim, merge, load, build, under}
+use Rattle.baggage_cli.specs.Commands.{Task, Origin, ReadsSource, FetchesFiles, TakesTable, trim, merge, load, build, under}
 use Rattle.baggage_cli.specs.Delivery.{Notifies, Delivers}
 use Rattle.baggage_cli.specs.Loading.{LoadGives}
 use Rattle.baggage_cli.specs.Merging.{MergeGives}
 use Rattle.baggage_cli.specs.Outcomes.{Outcome}
 use Rattle.baggage_cli.specs.Reading.{Reads, list_lines, context_lines}
-use Rattle.baggage_cli.specs.Scene.{Change, Scene, IsSame}
+use Rattle.baggage_cli.specs.Refusals.{line_of, notice_line}
+use Rattle.baggage_cli.specs.Scene.{Change, Scene, IsSame, Takes, TakesPart}
 use Rattle.baggage_cli.specs.Tables.{TableGives}
 use Rattle.baggage_cli.specs.Trimming.{TrimGives}
-use Rattle.baggage_cli.specs.Under.{InputUnder, ReadsUnder, AcceptsUnder}
+use Rattle.baggage_cli.specs.Under.{InputUnder, ReadsUnder}
 
 -- The library tells which files it holds, where the task fetches any.
 abbrev pub TellsFiles : Task → Option Holding → Type 0
@@ -61,23 +62,31 @@ Answers (Some task) scene answer =
 abbrev pub SaysList : List ℕ → List Atom → Type 0
 SaysList input list = (length input ≤ INPUT_MAX) × AllSay list_lines [] (lines_of input) (list ∷ [])
 
--- An input that isn't too long has lines that say these contexts.
+-- An input that isn't too long has lines that say these contexts, and there are no more than may be merged.
 abbrev pub SaysContexts : List ℕ → List (List Atom) → Type 0
-SaysContexts input lists = (length input ≤ INPUT_MAX) × AllSay context_lines [] (lines_of input) lists
+SaysContexts input lists =
+    (length input ≤ INPUT_MAX) × AllSay context_lines [] (lines_of input) lists × (length lists ≤ LINES_MAX)
 
--- The task has nothing to refuse in what the library and the source tell.
-abbrev pub Accepts : Task → Option Holding → Option (List ℕ) → Type 0
-Accepts (trim budget) files content =
-    (input : List ℕ) × (content ≡ Some input) × ((list : List Atom) × SaysList input list)
-Accepts merge files content =
-    (input : List ℕ) × (content ≡ Some input)
-    × ((lists : List (List Atom)) × SaysContexts input lists × (length lists ≤ LINES_MAX))
-Accepts (load rounds) files content = Unit {0}
-Accepts (build product origin) files content =
-    (held : Holding) × (files ≡ Some held) × ((refusal : Refusal) → TableGives origin held (Err refusal) → ⊥)
-Accepts (under purpose origin) files content =
-    (held : Holding) × (files ≡ Some held) × (table : Nodes) × TableGives origin held (Ok table)
-    × (input : List ℕ) × (content ≡ Some input) × AcceptsUnder purpose table input
+-- The objects that the task uses tell what they hold.
+abbrev pub TellsAll : Task → Option Holding → Option (List ℕ) → Type 0
+TellsAll task files content = TellsFiles task files × (ReadsSource task → (input : List ℕ) × (content ≡ Some input))
+
+-- What the library and the source tell is refused for this: the files that a table comes from, or the input.
+pub data IsRefusedFor (task : Task) (files : Option Holding) (content : Option (List ℕ)) (refusal : Refusal) : Type 0 where
+  by_files : (origin : Origin) (held : Holding) → TakesTable task origin → files ≡ Some held
+      → TableGives origin held (Err refusal) → IsRefusedFor task files content refusal
+  by_input : (input : List ℕ) → content ≡ Some input → InputGives task files input (Err refusal)
+      → IsRefusedFor task files content refusal
+
+-- A sink failed. Either it is that of the output, which has a front of what the task comes to, and the errors have the line
+-- that says so, or a front of that line; or it is that of the errors, which have a front of the line of what the task is
+-- refused for, and nothing was written.
+abbrev pub FailsSink : Task → Scene → Type 0
+FailsSink task scene =
+    ((output : List ℕ) × Comes task scene.library scene.requests scene.source (Ok output) × TakesPart scene.out output
+    × (Takes scene.errs (notice_line SinkFailed) ⊎ TakesPart scene.errs (notice_line SinkFailed)))
+    ⊎ ((refusal : Refusal) × Comes task scene.library scene.requests scene.source (Err refusal) × IsSame scene.out
+    × TakesPart scene.errs (line_of refusal))
 
 -- The world outside failed, or memory was wanting: no other status hides what is wrong with an input or a definition.
 abbrev pub IsFailure : ℕ → Type 0

@@ -35,12 +35,3 @@ ReadsUnder purpose origin library requests source =
 abbrev pub SaysTyped : Nodes → List ℕ → List Atom → Type 0
 SaysTyped table input list =
     (length input ≤ INPUT_MAX) × AllSay (typed_lines table) [] (lines_of input) (list ∷ [])
-
--- An input that isn't too long says this graph under the table, line by line.
-abbrev pub SaysGraph : Nodes → List ℕ → Graph → Type 0
-SaysGraph table input graph = (length input ≤ INPUT_MAX) × IsGraphOf table input graph
-
--- An input has nothing to refuse under a table.
-abbrev pub AcceptsUnder : Purpose → Nodes → List ℕ → Type 0
-AcceptsUnder decoding table input = (list : List Atom) × SaysTyped table input list
-AcceptsUnder (running form) table input = (graph : Graph) × SaysGraph table input graph

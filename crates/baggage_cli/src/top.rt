@@ -30,7 +30,7 @@ ghost use Rattle.baggage_cli.specs.Building.{ok_line};
 ghost use Rattle.baggage_cli.specs.Loading.{load_heading};
 ghost use Rattle.baggage_cli.specs.Running.{ShowsTruth};
 ghost use Rattle.baggage_cli.specs.Tables.{IsPrinted, TableGives, AsksNames};
-ghost use Rattle.baggage_cli.specs.Top.{TellsFiles, InputGives, Comes, Answers, SaysList, SaysContexts, Accepts, IsFailure};
+ghost use Rattle.baggage_cli.specs.Top.{TellsFiles, TellsAll, InputGives, Comes, Answers, SaysList, SaysContexts, IsRefusedFor, FailsSink, IsFailure};
 ghost use Rattle.baggage_cli.specs.Under.{SaysTyped};
 
 use crate::building::build;
@@ -128,15 +128,21 @@ fn answer_words<R: Threads + Sync, G: Gate, L: Library, S: Source, K: Sink, E: S
 /// All that the program does: decides the words, carries their command out, and writes its output to `out` or the line of its
 /// refusal to `errs`. The answer is the status that the program ends with.
 ///
-/// `trim N` reads one line of hexadecimal digits from the source, which frames a list of atoms, and writes the line of the
-/// list trimmed to `N` bytes. `merge` reads any number of lines up to 4,096, each of which frames a context, and writes the
-/// line of their merge, a dash where there is no line. Empty lines and lines that begin with `#` are skipped.
-/// `check FILE BAG` reads nothing from the source: it compiles the bag of that name in the definition whose root is that file of
-/// the library, with the files that it imports, and writes the line `ok S`, where `S` is the number of the slots of its table.
-/// `decode FILE BAG` compiles the same, then reads one line from the source, which frames a context that is typed under the
-/// table, and writes the context's block: the line of its bytes and a line for each slot. `run FILE BAG` compiles the same, then
-/// reads a recorded graph from the source, line by line, runs it under the table, and writes the report: the number and the
-/// block of each step that the graph shows. Where the definition is refused the source isn't read.
+/// | words | what is read | what is written |
+/// |---|---|---|
+/// | `trim N` | one line of hexadecimal digits, the bytes of a list of atoms | the line of the list cut to `N` bytes |
+/// | `merge` | up to 4,096 lines, each the bytes of a context | the line of their merge, a dash where there is none |
+/// | `check FILE BAG` | the definition of that file with all that it imports | `ok S`, with the number of the bag's slots |
+/// | `table FILE BAG` | the same | the text of the bag's table |
+/// | `decode FILE BAG` | the same, then one line of a context that is typed under the table | the context's block |
+/// | `run FILE BAG` | the same, then a recorded graph of steps | the number and the block of each step that it shows |
+/// | `runjson FILE BAG` | the same | these as JSON |
+/// | `runtable FILE` | the text of a table, then a graph | as `run` |
+/// | `load N` | nothing | the report of a graph of `42 N + 1` steps, which is made here |
+///
+/// Files come from the library, and lines from the source; lines that are empty or begin with `#` are skipped. Where a
+/// definition or a table is refused, the source isn't read. A rank of steps and a join of many contexts may be cut into
+/// pieces that run in threads; each piece passes the gate.
 pub fn baggage_top<R: Threads + Sync, G: Gate, L: Library, S: Source, K: Sink, E: Sink>(
     rt: &R,
     alloc: Global,
@@ -156,14 +162,15 @@ pub fn baggage_top<R: Threads + Sync, G: Gate, L: Library, S: Source, K: Sink, E
         (change E.written E.faults errs.old errs.new)) result }
 
     // What follows from it, task by task.
-    ensures trim { (budget : ℕ) (input : List ℕ) (list : List (List ℕ))
-        → command_of words.now ≡ Some (trim budget) → S.left source.old ≡ Some input
-        → SaysList input list → result ≡ 0
-        → Appends (K.written out.old) (K.written out.new) (trimmed_line budget list) }
-    ensures merge { (input : List ℕ) (lists : List (List (List ℕ))) (merged : List (List ℕ))
-        → command_of words.now ≡ Some merge → S.left source.old ≡ Some input
-        → SaysContexts input lists → IsMerged lists merged → result ≡ 0
-        → Appends (K.written out.old) (K.written out.new) (hex_line (bytes_of merged)) }
+    ensures trim { (budget : ℕ) (input : List ℕ)
+        → command_of words.now ≡ Some (trim budget) → S.left source.old ≡ Some input → result ≡ 0
+        → (list : List (List ℕ)) × SaysList input list
+        × Appends (K.written out.old) (K.written out.new) (trimmed_line budget list) }
+    ensures merge { (input : List ℕ)
+        → command_of words.now ≡ Some merge → S.left source.old ≡ Some input → result ≡ 0
+        → (lists : List (List (List ℕ))) × (merged : List (List ℕ))
+        × SaysContexts input lists × IsMerged lists merged
+        × Appends (K.written out.old) (K.written out.new) (hex_line (bytes_of merged)) }
     ensures check { (file bag : List ℕ) (held : Holding)
         → command_of words.now ≡ Some (check file bag) → L.files library.old ≡ Some held → result ≡ 0
         → (table : Nodes) × IsTableOf held file bag table
@@ -172,11 +179,11 @@ pub fn baggage_top<R: Threads + Sync, G: Gate, L: Library, S: Source, K: Sink, E
         → command_of words.now ≡ Some (print file bag) → L.files library.old ≡ Some held → result ≡ 0
         → (table : Nodes) × IsTableOf held file bag table
         × Appends (K.written out.old) (K.written out.new) (table_text table) }
-    ensures decode { (file bag : List ℕ) (held : Holding) (table : Nodes) (input : List ℕ) (list : List (List ℕ))
+    ensures decode { (file bag : List ℕ) (held : Holding) (input : List ℕ)
         → command_of words.now ≡ Some (decode file bag) → L.files library.old ≡ Some held
-        → IsTableOf held file bag table → S.left source.old ≡ Some input
-        → SaysTyped table input list → result ≡ 0
-        → (text : List ℕ) × IsBlock table list text
+        → S.left source.old ≡ Some input → result ≡ 0
+        → (table : Nodes) × (list : List (List ℕ)) × (text : List ℕ)
+        × IsTableOf held file bag table × SaysTyped table input list × IsBlock table list text
         × Appends (K.written out.old) (K.written out.new) text }
     ensures run { (file bag : List ℕ) (held : Holding) (input : List ℕ)
         → command_of words.now ≡ Some (run file bag) → L.files library.old ≡ Some held
@@ -230,6 +237,17 @@ pub fn baggage_top<R: Threads + Sync, G: Gate, L: Library, S: Source, K: Sink, E
     ensures unread { result ≡ 1 → S.left source.new ≡ S.left source.old }
     ensures unread_steady { result ≡ 1 → S.faults source.new ≡ S.faults source.old }
 
+    // What the words don't ask for isn't used: no file is fetched, nothing is read, and words that ask for nothing touch
+    // the sink of errors alone.
+    ensures unfetched { (task : Task) → command_of words.now ≡ Some task → (FetchesFiles task → ⊥)
+        → (L.asked library.new ≡ L.asked library.old) × (L.faults library.new ≡ L.faults library.old) }
+    ensures unread_source { (task : Task) → command_of words.now ≡ Some task → (ReadsSource task → ⊥)
+        → (S.left source.new ≡ S.left source.old) × (S.faults source.new ≡ S.faults source.old) }
+    ensures untouched { command_of words.now ≡ None
+        → (L.asked library.new ≡ L.asked library.old) × (L.faults library.new ≡ L.faults library.old)
+        × (S.left source.new ≡ S.left source.old) × (S.faults source.new ≡ S.faults source.old)
+        × (K.written out.new ≡ K.written out.old) × (K.faults out.new ≡ K.faults out.old) }
+
     // With status 0 no stream counted a fault, and nothing was said.
     ensures source_steady { result ≡ 0 → S.faults source.new ≡ S.faults source.old }
     ensures out_steady { result ≡ 0 → K.faults out.new ≡ K.faults out.old }
@@ -270,15 +288,24 @@ pub fn baggage_top<R: Threads + Sync, G: Gate, L: Library, S: Source, K: Sink, E
         × Appends (E.written errs.old) (E.written errs.new) (notice_line Notice.SourceFailed)) }
     ensures sink_failed { result ≡ 5
         → Rose (K.faults out.old) (K.faults out.new) ⊎ Rose (E.faults errs.old) (E.faults errs.new) }
+    // Then the output has a front of what the task comes to, or the errors have one of the line of a refusal.
+    ensures part { (task : Task) → command_of words.now ≡ Some task → result ≡ 5
+        → FailsSink task (scene_of
+        (change L.files L.faults library.old library.new)
+        (change L.asked L.faults library.old library.new)
+        (change S.left S.faults source.old source.new)
+        (change K.written K.faults out.old out.new)
+        (change E.written E.faults errs.old errs.new)) }
     ensures memory { (task : Task) → command_of words.now ≡ Some task → result ≡ 6
         → Appends (E.written errs.old) (E.written errs.new) (notice_line Notice.Memory) }
     ensures words { result ≡ 7 → (command_of words.now ≡ None)
         × Appends (E.written errs.old) (E.written errs.new) (notice_line Notice.WordsRefused) }
     ensures unasked { command_of words.now ≡ None → (result ≡ 7) ⊎ (result ≡ 5) }
 
-    // Where a task has nothing to refuse and no count rose, there is only success and want of memory.
+    // Where the objects tell what they hold, none of it is refused, and no count rose, there is only success and want of memory.
     ensures complete { (task : Task) → command_of words.now ≡ Some task
-        → Accepts task (L.files library.old) (S.left source.old)
+        → TellsAll task (L.files library.old) (S.left source.old)
+        → ((refusal : Refusal) → IsRefusedFor task (L.files library.old) (S.left source.old) refusal → ⊥)
         → HasNoFault (scene_of (change L.files L.faults library.old library.new)
         (change L.asked L.faults library.old library.new)
         (change S.left S.faults source.old source.new)

@@ -1,14 +1,14 @@
 use Rattle.baggage_cli.specs.Commands.{compiled, printed, slot_line, whole_text, as_lines}
 use Rattle.baggage_cli.specs.Scene.{change, scene_of}
-use Rattle.baggage_cli.proofs.Calls.{files_kept, counts_kept, steady_call, unread_call, quiet_call, sink_call, words_call, unasked_call}
-use Rattle.baggage_cli.proofs.Facts.{trim_appends, merge_appends, decode_appends, run_appends, run_json_appends, load_appends, build_appends, has_asked, ended_source, left_told, table_told, refusal_told, input_told, bad_told, failed_told, memory_told, completes}
+use Rattle.baggage_cli.proofs.Calls.{files_kept, counts_kept, steady_call, unread_call, quiet_call, sink_call, words_call, unasked_call, untouched_call}
+use Rattle.baggage_cli.proofs.Facts.{trim_appends, merge_appends, decode_appends, run_appends, run_json_appends, load_appends, build_appends, has_asked, ended_source, left_told, table_told, refusal_told, input_told, bad_told, failed_told, memory_told, completes, part_told, unfetched_files, unread_input}
 use Rattle.baggage_cli.proofs.top.baggage_top.Goals as goal
 
 pub returns-clause-trim : goal.returns-clause-trim
-returns-clause-trim g c = λ budget input list is told says done. trim_appends budget input list _ c.answer_words.result (rw is at c.answer_words.ensures) told says done
+returns-clause-trim g c = λ budget input is told done. trim_appends budget input _ c.answer_words.result (rw is at c.answer_words.ensures) told done
 
 pub returns-clause-merge : goal.returns-clause-merge
-returns-clause-merge g c = λ input lists merged is told says merges done. merge_appends input lists merged _ c.answer_words.result (rw is at c.answer_words.ensures) told says merges done
+returns-clause-merge g c = λ input is told done. merge_appends input _ c.answer_words.result (rw is at c.answer_words.ensures) told done
 
 pub returns-clause-check : goal.returns-clause-check
 returns-clause-check g c =
@@ -38,7 +38,7 @@ returns-clause-decode g c =
     (change g.S.Source.left g.S.Source.faults c.args.source.now c.answer_words.new.source)
     (change g.K.Sink.written g.K.Sink.faults c.args.out.now c.answer_words.new.out)
     (change g.E.Sink.written g.E.Sink.faults c.args.errs.now c.answer_words.new.errs) in
-    λ file bag held table input list is told table_is content says done. decode_appends c.tell_laws.ensures file bag held table input list scene c.answer_words.result (rw is at c.answer_words.ensures) told table_is content says done
+    λ file bag held input is told content done. decode_appends file bag held input scene c.answer_words.result (rw is at c.answer_words.ensures) told content done
 
 pub returns-clause-run : goal.returns-clause-run
 returns-clause-run g c =
@@ -173,12 +173,21 @@ returns-clause-words g c = λ seven. words_call _ _ c.answer_words.result c.answ
 pub returns-clause-unasked : goal.returns-clause-unasked
 returns-clause-unasked g c = λ is. unasked_call _ c.answer_words.result (rw is at c.answer_words.ensures)
 
+pub returns-clause-unfetched : goal.returns-clause-unfetched
+returns-clause-unfetched g c = λ task is none.
+    let (library, requests) = unfetched_files task _ c.answer_words.result (rw is at c.answer_words.ensures) none in
+    (requests.0, requests.1)
+
+pub returns-clause-unread_source : goal.returns-clause-unread_source
+returns-clause-unread_source g c = λ task is none. unread_input task _ c.answer_words.result (rw is at c.answer_words.ensures) none
+
+pub returns-clause-untouched : goal.returns-clause-untouched
+returns-clause-untouched g c = λ is.
+    let (library, requests, source, out) = untouched_call _ c.answer_words.result (rw is at c.answer_words.ensures) in
+    (requests.0, requests.1, source.0, source.1, out.0, out.1)
+
+pub returns-clause-part : goal.returns-clause-part
+returns-clause-part g c = λ task is five. part_told task _ c.answer_words.result (rw is at c.answer_words.ensures) five
+
 pub returns-clause-complete : goal.returns-clause-complete
-returns-clause-complete g c =
-    let scene = scene_of
-    (change g.L.Library.files g.L.Library.faults c.args.library.now c.answer_words.new.library)
-    (change g.L.Library.asked g.L.Library.faults c.args.library.now c.answer_words.new.library)
-    (change g.S.Source.left g.S.Source.faults c.args.source.now c.answer_words.new.source)
-    (change g.K.Sink.written g.K.Sink.faults c.args.out.now c.answer_words.new.out)
-    (change g.E.Sink.written g.E.Sink.faults c.args.errs.now c.answer_words.new.errs) in
-    λ task is accepts sure. completes c.tell_laws.ensures task scene c.answer_words.result (rw is at c.answer_words.ensures) accepts sure
+returns-clause-complete g c = λ task is tells sound sure. completes task _ c.answer_words.result (rw is at c.answer_words.ensures) tells sound sure

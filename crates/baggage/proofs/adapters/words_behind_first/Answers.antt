@@ -1,7 +1,7 @@
 use Rattle.std.proofs.Common.{◌++◌, ◌∷◌, ◌∙◌, [], List, ℕ, ap, string_bytes, sym}
 use Rattle.std.specs.Vec.Iter.{into_iter_items, into_iter_len}
-use Rattle.baggage_cli.proofs.CommandLine.{behind_first, one_more, none_left}
-use Rattle.baggage_cli.proofs.adapters.words_behind_first.Goals as goal
+use Rattle.baggage.proofs.CommandLine.{behind_first, one_more, none_left}
+use Rattle.baggage.proofs.adapters.words_behind_first.Goals as goal
 
 pub loop-text-init : goal.loop-text-init
 loop-text-init c =

@@ -1,6 +1,6 @@
 use Rattle.std.proofs.KnownBytes.{Keeps-refl, Keeps-trans}
-use Rattle.baggage_cli.proofs.Interrupted.{kept_then_write}
-use Rattle.baggage_cli.proofs.adapters.write_uninterrupted.Goals as goal
+use Rattle.baggage.proofs.Interrupted.{kept_then_write}
+use Rattle.baggage.proofs.adapters.write_uninterrupted.Goals as goal
 
 pub loop-init : goal.loop-init
 loop-init g c = Keeps-refl _

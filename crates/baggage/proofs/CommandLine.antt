@@ -1,6 +1,5 @@
 -- The words of a command line are its texts without the first.
 use Rattle.std.proofs.Common.{◌≡◌, ◌<◌, ◌↔◌, IsSome, ℕ, List, [], ◌∷◌, ◌++◌, length, map, drop, Option, Some, None, refl, sym, ap, ◌∙◌, append_assoc, append-nil, arith}
-use Rattle.std.specs.List.{slice_get}
 use Rattle.std.specs.Option.{option_to_list}
 
 -- Behind the first text are those that are left once it was taken.
@@ -21,12 +20,3 @@ one_more f x before after words new all is added whole =
 pub none_left : {A : Type 0} (f : A → List ℕ) (rest : List A) (words all : List (List ℕ)) → length rest ≡ 0 → words ++ map f rest ≡ all → words ≡ all
 none_left f [] words all none whole = sym (append-nil words) ∙ whole
 none_left f (x ∷ rest) words all none whole = absurd (omega arith)
-
--- Three words, by each of them.
-pub three_words : (words : List (List ℕ)) (name file bag : List ℕ) → length words ≡ 3 → slice_get words 0 ≡ Some name → slice_get words 1 ≡ Some file → slice_get words 2 ≡ Some bag
-    → words ≡ name ∷ file ∷ bag ∷ []
-three_words [] name file bag three first second third = absurd (omega arith)
-three_words (x ∷ []) name file bag three first second third = absurd (omega arith)
-three_words (x ∷ y ∷ []) name file bag three first second third = absurd (omega arith)
-three_words (x ∷ y ∷ z ∷ []) name file bag three first second third = cc (first, second, third)
-three_words (x ∷ y ∷ z ∷ w ∷ more) name file bag three first second third = absurd (omega arith)

@@ -2,45 +2,15 @@
 #![tactic(auto)]
 
 mod adapters;
-mod building;
-#[cfg(test)]
-mod check_tests;
-mod commands;
-#[cfg(test)]
-mod decode_tests;
-mod decoding;
-mod delivery;
-#[cfg(test)]
-mod load_tests;
-mod loading;
-mod merging;
-#[cfg(test)]
-mod random_tests;
-#[cfg(test)]
-mod ranks_tests;
-mod reading;
-mod refusals;
-#[cfg(test)]
-mod run_tests;
-mod running;
-#[cfg(test)]
-mod table_tests;
-mod tables;
-#[cfg(test)]
-mod tests;
-mod top;
-mod trimming;
-mod under;
 
 use adapters::{FileLibrary, StreamSink, StreamSource, words_of};
+use baggage_cli::{Notice, baggage_top, notify};
 use outside::{Memory, Open, Words};
-use refusals::Notice;
 use std::alloc::Global;
 use std::io::{Read, Write};
 use std::process::ExitCode;
 use std::rt::Files;
 use std::thread::Threads;
-use top::baggage_top;
 
 fn main(rt: HostRuntime) -> ExitCode {
     let words = words_of(&rt);
@@ -86,6 +56,6 @@ where
             &mut out,
             &mut errs,
         ),
-        Err(Memory) => delivery::notify(&mut errs, Notice::Memory),
+        Err(Memory) => notify(&mut errs, Notice::Memory),
     }
 }

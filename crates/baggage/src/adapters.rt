@@ -1,6 +1,6 @@
 //! Standard input, output and error, the files of the system, and the words of the command line.
 
-ghost use Rattle.std.specs.Prelude.{◌≡◌, ◌≤◌, ◌⊎◌, ◌↔◌, drop, length, map, string_bytes, take, IfOk, IfSome, IsTrue, None};
+ghost use Rattle.std.specs.Prelude.{◌≡◌, ◌≢◌, ◌≤◌, ◌⊎◌, ◌↔◌, [], drop, length, map, string_bytes, take, IfOk, IfErr, IfSome, IsErr, IsOkAnd, IsTrue, None};
 ghost use Rattle.std.specs.Io.{ReadsAtMost, WritesAtMost};
 ghost use Rattle.std.specs.Io.KnownBytes.{ReadConsumes, WriteAppends};
 ghost use Rattle.std.specs.IoError.{error_kind};
@@ -200,11 +200,23 @@ fn words_behind_first(alloc: Global, mut texts: Args) -> Result<Words, Memory>
     Ok(words)
 }
 
+/// The words of these arguments, of which the first is the program's name. Arguments that aren't all UTF-8 give none, and no
+/// command has that form.
+fn words_in(alloc: Global, arguments: io::Result<Args>) -> Result<Words, Memory>
+    ensures words { IfOk arguments (λ texts. IfOk result
+        (λ words. words ≡ drop 1 (map string_bytes (into_iter_items texts)))) }
+    ensures none { IfErr arguments (λ error. error_kind error ≢ ErrorKind.OutOfMemory
+        → IsOkAnd result (λ words. words ≡ [])) }
+    ensures wanting { IfErr arguments (λ error. error_kind error ≡ ErrorKind.OutOfMemory → IsErr result) }
+{
+    match arguments {
+        Ok(texts) => words_behind_first(alloc, texts),
+        Err(error) if error.kind() == ErrorKind::OutOfMemory => Err(Memory),
+        Err(_) => Ok(Words::new(alloc)),
+    }
+}
+
 /// The words of the command line without the program's name. Where one of them isn't UTF-8 there are none.
 pub fn words_of(rt: &(impl Env + AllocGlobal)) -> Result<Words, Memory> {
-    match env::args(rt) {
-        Ok(args) => words_behind_first(rt.alloc(), args),
-        Err(error) if error.kind() == ErrorKind::OutOfMemory => Err(Memory),
-        Err(_) => Ok(Words::new(rt.alloc())),
-    }
+    words_in(rt.alloc(), env::args(rt))
 }

@@ -1,6 +1,6 @@
 use Rattle.std.proofs.KnownBytes.{Keeps-refl, Keeps-trans}
-use Rattle.baggage_cli.proofs.Interrupted.{kept_then_read}
-use Rattle.baggage_cli.proofs.adapters.read_uninterrupted.Goals as goal
+use Rattle.baggage.proofs.Interrupted.{kept_then_read}
+use Rattle.baggage.proofs.adapters.read_uninterrupted.Goals as goal
 
 pub loop-init : goal.loop-init
 loop-init g c = Keeps-refl _

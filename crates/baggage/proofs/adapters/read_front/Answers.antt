@@ -1,8 +1,8 @@
 use Rattle.std.proofs.Common.{◌∙◌, ap, take}
 use Rattle.std.specs.Option.{option_map}
 use Rattle.outside.specs.declared.TheConstants.{FETCH_MAX}
-use Rattle.baggage_cli.proofs.Fronts.{front_read}
-use Rattle.baggage_cli.proofs.adapters.read_front.Goals as goal
+use Rattle.baggage.proofs.Fronts.{front_read}
+use Rattle.baggage.proofs.adapters.read_front.Goals as goal
 
 pub returns-clause-front : goal.returns-clause-front
 returns-clause-front g c =

@@ -1,0 +1,20 @@
+//! All that the program does, as one call over objects that stand for its files and streams: `baggage_top`.
+#![tactic(auto)]
+
+mod building;
+mod commands;
+mod decoding;
+mod delivery;
+mod loading;
+mod merging;
+mod reading;
+mod refusals;
+mod running;
+mod tables;
+mod top;
+mod trimming;
+mod under;
+
+pub use delivery::notify;
+pub use refusals::Notice;
+pub use top::baggage_top;
