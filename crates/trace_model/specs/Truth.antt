@@ -86,6 +86,11 @@ TruthIsJoin = (nodes : Nodes) (graph : Graph) (n : ℕ) (truth : Values) (added 
     → ((vs : Values) → IsIn vs added ↔ IsAdded nodes graph n vs)
     → truth ≡ join_all nodes added
 
+-- All additions on the way to a step can be listed, so that their join is one of a list.
+abbrev pub AdditionsAreListed : Type 0
+AdditionsAreListed = (nodes : Nodes) (graph : Graph) (n : ℕ) → IsRecorded nodes graph → n < length graph.steps
+    → (added : List Values) × ((vs : Values) → IsIn vs added ↔ IsAdded nodes graph n vs)
+
 -- ---- what was cut off, and what no table names
 
 -- An act cuts something off, where the steps have these lists: it trims a list that doesn't fit. A received list with a

@@ -3,12 +3,13 @@
 ghost use Rattle.trace_model.specs.Faithful.{RunsAreFaithful, EndsInParents, AlikeStepsSayTheSame};
 ghost use Rattle.trace_model.specs.Runs.{GivesContexts, HasOneRun, RunsGrow};
 ghost use Rattle.trace_model.specs.Shown.{ShownIsHonest};
-ghost use Rattle.trace_model.specs.Truth.{HasOneTruth, SameWritesReachAlike, TruthIsJoin};
+ghost use Rattle.trace_model.specs.Truth.{AdditionsAreListed, HasOneTruth, SameWritesReachAlike, TruthIsJoin};
 
 /// A sound graph of a table has one truth at each step, and that is the join of all that the steps on the way wrote and
-/// received, in whatever order that is listed and however often.
+/// received, in whatever order that is listed and however often. It can be listed.
 pub fn truth_is_the_join()
     ensures one { HasOneTruth }
+    ensures listed { AdditionsAreListed }
     ensures join { TruthIsJoin }
 {}
 
