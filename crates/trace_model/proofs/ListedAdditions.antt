@@ -44,10 +44,13 @@ one_listed : (D : Values → Type 0) (vs : Values) → D vs → ((ws : Values) �
 one_listed D vs d one = (vs ∷ [], λ ws. ((λ i. elim i [ inl e ↦ subst D (sym e) d | inr j ↦ absurd j ]), λ e. inl (one ws e)))
 
 both_listed : (D E F : Values → Type 0) → ((vs : Values) → F vs → D vs ⊎ E vs) → ((vs : Values) → D vs ⊎ E vs → F vs) → CanBeListed D → CanBeListed E → CanBeListed F
-both_listed D E F splits joins (first, of_first) (second, of_second) = (first ++ second, λ vs. (
-  (λ i. joins vs (elim (in_both vs first second i) [ inl j ↦ inl ((of_first vs).0 j) | inr j ↦ inr ((of_second vs).0 j) ])),
-  λ f. elim (splits vs f) [ inl d ↦ from_first vs first second ((of_first vs).1 d) | inr e ↦ from_second vs first second ((of_second vs).1 e) ],
-))
+both_listed D E F splits joins (first, of_first) (second, of_second) = (
+  first ++ second,
+  λ vs. (
+    (λ i. joins vs (elim (in_both vs first second i) [ inl j ↦ inl ((of_first vs).0 j) | inr j ↦ inr ((of_second vs).0 j) ])),
+    λ f. elim (splits vs f) [ inl d ↦ from_first vs first second ((of_first vs).1 d) | inr e ↦ from_second vs first second ((of_second vs).1 e) ],
+  ),
+)
 
 -- ---- what an act adds
 

@@ -18,7 +18,8 @@ shown_is_honest nodes graph lists n slot exact v s shown =
     record {
       truth = λ t. f.exact slot shown.at v shown.there shown.says ((shown.ended).0 t);
       below = f.below slot shown.at v shown.there shown.says;
-      uncut = λ none. (shown.ended).1 (inl none);
+      uncut = λ whole. (shown.ended).1 (inl (λ marker. whole ((f.marked).0 marker)));
+      unmarked = λ none. (shown.ended).1 (inl none);
     }
 
 -- ---- the same writes

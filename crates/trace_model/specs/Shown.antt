@@ -9,7 +9,7 @@ use Rattle.bag_model.specs.Slots.{SlotAt}
 use Rattle.bag_model.specs.SlotValues.{HasSlot, SaysSlot}
 use Rattle.trace_model.specs.Graphs.{Graph}
 use Rattle.trace_model.specs.Runs.{Lists, list_at}
-use Rattle.trace_model.specs.Truth.{IsTruthAt}
+use Rattle.trace_model.specs.Truth.{IsTruthAt, WasCut}
 use Rattle.trace_model.specs.Faithful.{IsRunStep}
 
 -- The value is what the list says of the slot, and it is called exact where the slot is ended in the list.
@@ -20,13 +20,14 @@ pub record IsShown (nodes : Nodes) (list : List Atom) (slot : ℕ)
   pub ended : IsTrue exact ↔ IsEnded list (field_path at.numbers)
   pub says : SaysSlot list at v
 
--- A value that is called exact is the truth at the slot; no value says more than the truth; and where nothing was cut off it
--- is called exact.
+-- A value that is called exact is the truth at the slot; no value says more than the truth; and where nothing was cut off on
+-- the way, so that the list has no marker, it is called exact.
 pub record IsHonest (nodes : Nodes) (graph : Graph) (lists : Lists) (n slot : ℕ)
     (exact : Bool) (v : Value) : Type 0 where
   pub truth : IsTrue exact → IsTruthAt nodes graph n slot v
   pub below : (truth : Value) × IsTruthAt nodes graph n slot truth × IsValueBelow v truth
-  pub uncut : ¬ (HasMarker (list_at lists n)) → IsTrue exact
+  pub uncut : ¬ (WasCut graph lists n) → IsTrue exact
+  pub unmarked : ¬ (HasMarker (list_at lists n)) → IsTrue exact
 
 -- What is shown of the list of a step is honest.
 abbrev pub ShownIsHonest : Type 0

@@ -30,7 +30,8 @@ pub fn runs_are_faithful()
     ensures { RunsAreFaithful }
 {}
 
-/// A value that is shown as exact is the truth, no value that is shown says more, and where nothing was cut off each is exact.
+/// A value that is shown as exact is the truth, no value that is shown says more, and where nothing was cut off on the way
+/// each is exact.
 pub fn shown_values_are_honest()
     ensures { ShownIsHonest }
 {}
