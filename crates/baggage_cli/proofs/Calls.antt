@@ -1,7 +1,7 @@
 -- What holds of every call.
 use Rattle.std.proofs.Common.{◌≡◌, ◌≢◌, ◌⊎◌, inl, inr, ℕ, List, Option, Some, None, Ok, Err, refl, arith}
 use Rattle.std.specs.Io.KnownBytes.{Appends}
-use Rattle.baggage_cli.specs.Commands.{Task, trim, merge, load, build, under}
+use Rattle.baggage_cli.specs.Commands.{Task, alone, load, build, under}
 use Rattle.baggage_cli.specs.declared.refusals.Notice.TheVariants.{WordsRefused}
 use Rattle.baggage_cli.specs.Delivery.{Tells, Delivers}
 use Rattle.baggage_cli.specs.Outcomes.{Outcome}
@@ -25,8 +25,7 @@ told_never_fell status line errs answer (inr failed) = failed.1.2
 -- The files of the library are as before, and no count of the library and the source fell.
 came_kept : (task : Task) (scene : Scene) (outcome : Outcome) → Comes task scene.library scene.requests scene.source outcome
     → (scene.library.after ≡ scene.library.before) × NeverFell scene.library × NeverFell scene.source
-came_kept (trim budget) scene outcome (same, unasked, (counts, why)) = (same.0, same_never_fell scene.library same, counts)
-came_kept merge scene outcome (same, unasked, (counts, why)) = (same.0, same_never_fell scene.library same, counts)
+came_kept (alone filter) scene outcome (same, unasked, (counts, why)) = (same.0, same_never_fell scene.library same, counts)
 came_kept (load rounds) scene outcome (same, unasked, unread, gives) = (same.0, same_never_fell scene.library same, same_never_fell scene.source unread)
 came_kept (build product origin) scene outcome (unread, inl (refusal, (same, counts, why), begun, is)) = (same, counts, same_never_fell scene.source unread)
 came_kept (build product origin) scene outcome (unread, inr (table, (same, counts, why), built)) = (same, counts, same_never_fell scene.source unread)

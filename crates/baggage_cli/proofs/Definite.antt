@@ -29,21 +29,22 @@ use Rattle.text_lines.specs.Lines.{Line, lines_of}
 use Rattle.text_lines.specs.Readings.{Reading, IsDefinite, AllSay, IsFirstBad}
 use Rattle.text_lines.proofs.HexLaws.{hex_lines_definite}
 use Rattle.text_lines.proofs.ReadingLaws.{all_say_one, first_bad_one, good_not_bad, none_bad, at_most_definite, all_say-at_most}
-use Rattle.baggage_cli.specs.Commands.{Origin, Form, as_lines, as_json, Purpose, decoding, running, Task, trim, merge, load, build, under}
+use Rattle.baggage_cli.specs.Commands.{Origin, Form, as_lines, as_json, Purpose, decoding, running, Filter, trimming, merging, Task, alone, load, build, under}
 use Rattle.baggage_cli.specs.declared.merging.TheConstants.{LINES_MAX}
 use Rattle.baggage_cli.specs.declared.refusals.InputCode.TheVariants.{Form as Excess, TooManyLines}
 use Rattle.baggage_cli.specs.declared.refusals.InputFault.{InputFault}
 use Rattle.baggage_cli.specs.declared.refusals.InputFault.TheVariants.{Code, Hex, Bytes}
 use Rattle.baggage_cli.specs.declared.refusals.Refusal.{Refusal}
 use Rattle.baggage_cli.specs.Decoding.{DecodesLines}
+use Rattle.baggage_cli.specs.Filters.{FiltersLines}
 use Rattle.baggage_cli.specs.Laws.{TableLaws, GraphLaws, Laws}
-use Rattle.baggage_cli.specs.Merging.{merged_lines, IsMergeOf, MergesLines}
+use Rattle.baggage_cli.specs.Merging.{merged_lines, IsMergeOf}
 use Rattle.baggage_cli.specs.Outcomes.{Outcome, GivesOne}
 use Rattle.baggage_cli.specs.Reading.{Within, RefusesLines, ReadsLines, only_one, ReadsOne, list_bytes, context_bytes, typed_bytes, list_lines, context_lines, typed_lines}
 use Rattle.baggage_cli.specs.Running.{input_fault, IsReportAs, IsRunReport, graph_inputs, RunsLines}
 use Rattle.baggage_cli.specs.Tables.{TableGives}
 use Rattle.baggage_cli.specs.Top.{InputGives}
-use Rattle.baggage_cli.specs.Trimming.{trimmed_line, TrimsLines}
+use Rattle.baggage_cli.specs.Trimming.{trimmed_line}
 use Rattle.baggage_cli.specs.Under.{InputUnder}
 use Rattle.baggage_cli.proofs.GraphInputs.{inputs_say, lines_say}
 
@@ -240,11 +241,14 @@ same_table laws origin files held other table found told is same known =
     let one : other ≡ held = cc whole in
     ok_table found table (laws.gives_one origin held (Ok found) (Ok table) (subst (λ h. TableGives origin h (Ok found)) one known) is)
 
+-- Lines come to one outcome by themselves.
+filters_lines_one : (filter : Filter) (lines : List Line) (a b : Outcome) → FiltersLines filter lines a → FiltersLines filter lines b → a ≡ b
+filters_lines_one (trimming budget) = reads_one_one list_lines list_lines_definite (λ list output. output ≡ trimmed_line budget list) (trims_one budget)
+filters_lines_one merging = reads_lines_one merged_lines merged_lines_definite IsMergeOf merged_one
+
 -- An input gives one outcome.
 pub input_gives_one : Laws → (task : Task) (files : Option Holding) → GivesOne (InputGives task files)
-input_gives_one laws (trim budget) files =
-    within_one (TrimsLines budget) (reads_one_one list_lines list_lines_definite (λ list output. output ≡ trimmed_line budget list) (trims_one budget))
-input_gives_one laws merge files = within_one MergesLines (reads_lines_one merged_lines merged_lines_definite IsMergeOf merged_one)
+input_gives_one laws (alone filter) files = within_one (FiltersLines filter) (filters_lines_one filter)
 input_gives_one laws (load rounds) files = λ input a b f g. absurd f
 input_gives_one laws (build product origin) files = λ input a b f g. absurd f
 input_gives_one laws (under purpose origin) files = λ input a b (held, told, table, is, gave) (other, same, found, known, given).

@@ -1,7 +1,7 @@
 -- How a refusal is delivered.
 use Rattle.std.proofs.Common.{inl, inr, ℕ, List, Some, Err, refl}
 use Rattle.bdl_load.specs.Loading.{Holding}
-use Rattle.baggage_cli.specs.Commands.{Task, trim, merge, load, build, under}
+use Rattle.baggage_cli.specs.Commands.{Task, alone, load, build, under}
 use Rattle.baggage_cli.specs.declared.refusals.Notice.TheVariants.{Memory}
 use Rattle.baggage_cli.specs.declared.refusals.Refusal.{Refusal}
 use Rattle.baggage_cli.specs.declared.refusals.Refusal.TheVariants.{Input, Definition, Table, Plain}
@@ -13,8 +13,7 @@ use Rattle.baggage_cli.proofs.Obtained.{obtains_memory}
 -- Where a task may come to a refusal it may come to want of memory.
 pub memory_instead : (task : Task) (library : Change Holding) (requests : Change (List (List ℕ))) (source : Change (List ℕ)) (refusal : Refusal)
     → Comes task library requests source (Err refusal) → Comes task library requests source (Err (Plain Memory))
-memory_instead (trim budget) library requests source refusal (same, unasked, (counts, why)) = (same, unasked, (counts, inl refl))
-memory_instead merge library requests source refusal (same, unasked, (counts, why)) = (same, unasked, (counts, inl refl))
+memory_instead (alone filter) library requests source refusal (same, unasked, (counts, why)) = (same, unasked, (counts, inl refl))
 memory_instead (load rounds) library requests source refusal (same, unasked, unread, gives) = (same, unasked, unread, inl refl)
 memory_instead (build product origin) library requests source refusal (same, inl (other, obtains, begun, is)) =
     (same, inl (Plain Memory, obtains_memory origin library requests other obtains, tt, refl))

@@ -9,17 +9,16 @@ use Rattle.baggage_cli.specs.declared.refusals.Notice.TheVariants.{LibraryFailed
 use Rattle.baggage_cli.specs.declared.refusals.Refusal.{Refusal}
 use Rattle.baggage_cli.specs.declared.refusals.Refusal.TheVariants.{Input, Plain}
 use Rattle.baggage_cli.specs.Building.{product_text}
-use Rattle.baggage_cli.specs.Commands.{Origin, compiled, printed, Product, decoding, running, Task, trim, merge, load, build, under, ReadsSource, FetchesFiles, TakesTable}
+use Rattle.baggage_cli.specs.Commands.{Origin, compiled, printed, Product, decoding, running, Filter, trimming, merging, Task, alone, load, build, under, ReadsSource, FetchesFiles, TakesTable}
 use Rattle.baggage_cli.specs.Delivery.{Delivers}
+use Rattle.baggage_cli.specs.Filters.{FiltersLines, FilterGives}
 use Rattle.baggage_cli.specs.Loading.{IsLoadOutput, LoadGives}
-use Rattle.baggage_cli.specs.Merging.{MergeGives}
 use Rattle.baggage_cli.specs.Outcomes.{Outcome}
 use Rattle.baggage_cli.specs.Reading.{IsRead, Reads}
 use Rattle.baggage_cli.specs.Refusals.{status_of, line_of, input_status, input_line, notice_line}
 use Rattle.baggage_cli.specs.Scene.{Scene, IsSame, HasFailed, Takes}
 use Rattle.baggage_cli.specs.Tables.{IsUnprinted, TableGives, CameFrom, Obtains}
 use Rattle.baggage_cli.specs.Top.{Answers}
-use Rattle.baggage_cli.specs.Trimming.{TrimGives}
 use Rattle.baggage_cli.specs.Under.{InputUnder}
 use Rattle.baggage_cli.proofs.Obtained.{obtained_table}
 
@@ -29,8 +28,7 @@ OfFiles scene origin Holds = CameFrom origin scene.library scene.requests Holds
 
 -- What an input gives for a task, with a table that came of the files of the library where the task reads under one.
 abbrev pub Gives : Task → Scene → List ℕ → Outcome → Type 0
-Gives (trim budget) scene = TrimGives budget
-Gives merge scene = MergeGives
+Gives (alone filter) scene = FilterGives filter
 Gives (load rounds) scene = λ input outcome. ⊥
 Gives (build product origin) scene = λ input outcome. ⊥
 Gives (under purpose origin) scene = λ input outcome.
@@ -79,12 +77,14 @@ refusal_delivered scene answer outcome refusal is delivers = by (subst (λ o. De
 
 -- ---- tasks that read the source
 
+refuses_lines : (filter : Filter) (lines : List Line) (refusal : Refusal) → FiltersLines filter lines (Err refusal) → (number : ℕ) × (fault : InputFault) × (refusal ≡ Input number fault)
+refuses_lines (trimming budget) lines refusal (inl none) = (0, Code NoLine, cc (none.1))
+refuses_lines (trimming budget) lines refusal (inr (number, fault, bad, is)) = (number, fault, is)
+refuses_lines merging lines refusal (number, fault, bad, is) = (number, fault, is)
+
 refuses_input : (task : Task) (scene : Scene) (input : List ℕ) (refusal : Refusal) → Gives task scene input (Err refusal) → (number : ℕ) × (fault : InputFault) × (refusal ≡ Input number fault)
-refuses_input (trim budget) scene input refusal (inl long) = (0, Code TooLong, cc (long.1))
-refuses_input (trim budget) scene input refusal (inr (short, inl none)) = (0, Code NoLine, cc (none.1))
-refuses_input (trim budget) scene input refusal (inr (short, inr (number, fault, bad, is))) = (number, fault, is)
-refuses_input merge scene input refusal (inl long) = (0, Code TooLong, cc (long.1))
-refuses_input merge scene input refusal (inr (short, (number, fault, bad, is))) = (number, fault, is)
+refuses_input (alone filter) scene input refusal (inl long) = (0, Code TooLong, cc (long.1))
+refuses_input (alone filter) scene input refusal (inr (short, refused)) = refuses_lines filter (lines_of input) refusal refused
 refuses_input (load rounds) scene input refusal gave = absurd gave
 refuses_input (build product origin) scene input refusal gave = absurd gave
 refuses_input (under decoding origin) scene input refusal (table, came, inl long) = (0, Code TooLong, cc (long.1))
@@ -126,8 +126,7 @@ pub err_same : (r s : Refusal) → ◌≡◌ {A = Result Nodes Refusal} (Err r) 
 err_same r s e = cc e
 
 pub fetches_table : (task : Task) (origin : Origin) → TakesTable task origin → FetchesFiles task
-fetches_table (trim budget) origin takes = absurd takes
-fetches_table merge origin takes = absurd takes
+fetches_table (alone filter) origin takes = absurd takes
 fetches_table (load rounds) origin takes = absurd takes
 fetches_table (build product own) origin takes = tt
 fetches_table (under purpose own) origin takes = tt
@@ -191,8 +190,7 @@ load_ending rounds scene answer outcome unread (inr (output, made, is)) delivers
 
 -- A call that asks for a task ends in one of these ways.
 pub ending : (task : Task) (scene : Scene) (answer : ℕ) → Answers (Some task) scene answer → Ending task scene answer
-ending (trim budget) scene answer (outcome, (same, unasked, reads), delivers) = reading_ending (trim budget) scene answer outcome (TrimGives budget) tt (λ input gave. gave) reads delivers
-ending merge scene answer (outcome, (same, unasked, reads), delivers) = reading_ending merge scene answer outcome MergeGives tt (λ input gave. gave) reads delivers
+ending (alone filter) scene answer (outcome, (same, unasked, reads), delivers) = reading_ending (alone filter) scene answer outcome (FilterGives filter) tt (λ input gave. gave) reads delivers
 ending (load rounds) scene answer (outcome, (same, unasked, unread, gives), delivers) = load_ending rounds scene answer outcome unread gives delivers
 ending (build product origin) scene answer (outcome, (unread, inl (refusal, obtains, begun, is)), delivers) =
     untabled_ending (build product origin) origin scene answer refusal outcome refl obtains unread is delivers

@@ -25,7 +25,7 @@ use Rattle.text_lines.specs.Lines.{Line, lines_of}
 use Rattle.text_lines.specs.Readings.{AllSay}
 use Rattle.text_lines.proofs.ReadingLaws.{at_most-all_say, at_most-few}
 use Rattle.baggage_cli.specs.Building.{product_text}
-use Rattle.baggage_cli.specs.Commands.{Origin, compiled, Product, Form, as_json, Purpose, decoding, running, Task, trim, merge, load, build, under, decode, run_json, ReadsSource, FetchesFiles, TakesTable}
+use Rattle.baggage_cli.specs.Commands.{Origin, compiled, Product, Form, as_json, Purpose, decoding, running, trimming, Task, alone, trim, merge, load, build, under, decode, run_json, ReadsSource, FetchesFiles, TakesTable}
 use Rattle.baggage_cli.specs.declared.merging.TheConstants.{LINES_MAX}
 use Rattle.baggage_cli.specs.declared.refusals.InputCode.TheVariants.{TooLong, Form as Excess, TooManyLines}
 use Rattle.baggage_cli.specs.declared.refusals.InputFault.{InputFault}
@@ -33,8 +33,9 @@ use Rattle.baggage_cli.specs.declared.refusals.InputFault.TheVariants.{Code, Hex
 use Rattle.baggage_cli.specs.declared.refusals.Notice.TheVariants.{LibraryFailed, SourceFailed, Memory}
 use Rattle.baggage_cli.specs.declared.refusals.Refusal.{Refusal}
 use Rattle.baggage_cli.specs.declared.refusals.Refusal.TheVariants.{Input}
+use Rattle.baggage_cli.specs.Filters.{FiltersLines, FilterGives}
 use Rattle.baggage_cli.specs.Laws.{GraphLaws, Laws}
-use Rattle.baggage_cli.specs.Merging.{MergesLines, MergeGives}
+use Rattle.baggage_cli.specs.Merging.{MergesLines}
 use Rattle.baggage_cli.specs.Outcomes.{Outcome}
 use Rattle.baggage_cli.specs.Reading.{IsRead, Within, ReadsOne, list_lines, context_lines, typed_lines}
 use Rattle.baggage_cli.specs.Refusals.{status_of, input_status, input_line, line_of, notice_line}
@@ -44,7 +45,7 @@ use Rattle.baggage_cli.specs.Scene.{Change, Scene, scene_of, IsSame, IsSteady, H
 use Rattle.baggage_cli.specs.Tables.{TableGives, AsksNames}
 use Rattle.baggage_cli.specs.Top.{TellsFiles, TellsAll, InputGives, Comes, Answers, SaysList, SaysContexts, IsRefusedFor, FailsSink, IsFailure}
 use Rattle.baggage_cli.specs.Top.IsRefusedFor.{by_files, by_input}
-use Rattle.baggage_cli.specs.Trimming.{trimmed_line, TrimsLines, TrimGives}
+use Rattle.baggage_cli.specs.Trimming.{trimmed_line}
 use Rattle.baggage_cli.specs.Under.{LinesGive, InputUnder, SaysTyped}
 use Rattle.baggage_cli.proofs.GraphInputs.{ran_graph}
 use Rattle.baggage_cli.proofs.Definite.{ok_no_err, ok_table, same_table, input_gives_one}
@@ -101,8 +102,7 @@ told_result scene origin held outcome told came = (of_told scene origin (λ h. T
 
 -- What an input gives for a task, it gives with the files that the library told.
 told_gives : (task : Task) (scene : Scene) (input : List ℕ) (outcome : Outcome) → TellsFiles task scene.library.before → Gives task scene input outcome → InputGives task scene.library.before input outcome
-told_gives (trim budget) scene input outcome tells gave = gave
-told_gives merge scene input outcome tells gave = gave
+told_gives (alone filter) scene input outcome tells gave = gave
 told_gives (load rounds) scene input outcome tells gave = absurd gave
 told_gives (build product origin) scene input outcome tells gave = absurd gave
 told_gives (under purpose origin) scene input outcome tells (table, came, gave) =
@@ -110,16 +110,14 @@ told_gives (under purpose origin) scene input outcome tells (table, came, gave) 
     (held.0, held.1, table, told_result scene origin held.0 (Ok table) held.1 came, gave)
 
 given_tells : (task : Task) (files : Option Holding) (input : List ℕ) (outcome : Outcome) → InputGives task files input outcome → TellsFiles task files
-given_tells (trim budget) files input outcome gave = λ fetches. absurd fetches
-given_tells merge files input outcome gave = λ fetches. absurd fetches
+given_tells (alone filter) files input outcome gave = λ fetches. absurd fetches
 given_tells (load rounds) files input outcome gave = absurd gave
 given_tells (build product origin) files input outcome gave = absurd gave
 given_tells (under purpose origin) files input outcome gave = λ fetches. (gave.0, gave.1)
 
 -- A task takes its table from one place.
 takes_one : (task : Task) (a b : Origin) → TakesTable task a → TakesTable task b → a ≡ b
-takes_one (trim budget) a b takes also = absurd takes
-takes_one merge a b takes also = absurd takes
+takes_one (alone filter) a b takes also = absurd takes
 takes_one (load rounds) a b takes also = absurd takes
 takes_one (build product own) a b takes also = sym takes ∙ also
 takes_one (under purpose own) a b takes also = sym takes ∙ also
@@ -131,8 +129,7 @@ not_both laws origin held table refusal gave bad = no_ok table refusal (laws.tab
 -- An input gives nothing under a table that is refused.
 no_table_given : Laws → (task : Task) (origin : Origin) (held : Holding) (refusal : Refusal) (files : Option Holding) (input : List ℕ) (outcome : Outcome) → TakesTable task origin
     → files ≡ Some held → TableGives origin held (Err refusal) → InputGives task files input outcome → ⊥
-no_table_given laws (trim budget) origin held refusal files input outcome takes told bad gave = takes
-no_table_given laws merge origin held refusal files input outcome takes told bad gave = takes
+no_table_given laws (alone filter) origin held refusal files input outcome takes told bad gave = takes
 no_table_given laws (load rounds) origin held refusal files input outcome takes told bad gave = takes
 no_table_given laws (build product own) origin held refusal files input outcome takes told bad gave = gave
 no_table_given laws (under purpose own) origin held refusal files input outcome takes told bad (other, tells, table, is, gave) =
@@ -178,11 +175,11 @@ pub trim_appends : (budget : ℕ) (input : List ℕ) (scene : Scene) (answer : �
 trim_appends budget input scene answer answers told zero =
     let done = read_done (trim budget) scene answer (ending (trim budget) scene answer answers) tt zero in
     let same = told_input scene.source input done.input told done.read in
-    let (list, says, is) = one_said list_lines (λ l output. output ≡ trimmed_line budget l) input done.output (subst (λ i. TrimGives budget i (Ok done.output)) (sym same) done.gave) in
+    let (list, says, is) = one_said list_lines (λ l output. output ≡ trimmed_line budget l) input done.output (subst (λ i. FilterGives (trimming budget) i (Ok done.output)) (sym same) done.gave) in
     (list, says, subst (Appends scene.out.before scene.out.after) is done.out.0)
 
 -- The lines of an input that were merged say contexts.
-contexts_merged : (input output : List ℕ) → MergeGives input (Ok output)
+contexts_merged : (input output : List ℕ) → Within MergesLines input (Ok output)
     → (lists : List (List Atom)) × (merged : List Atom) × SaysContexts input lists × IsMerged lists merged × (output ≡ hex_line (bytes_of merged))
 contexts_merged input output (inl long) = absurd (ok_no_err output _ long.1)
 contexts_merged input output (inr (short, (lists, all, (merged, merges, is)))) =
@@ -194,7 +191,7 @@ pub merge_appends : (input : List ℕ) (scene : Scene) (answer : ℕ) → Answer
 merge_appends input scene answer answers told zero =
     let done = read_done merge scene answer (ending merge scene answer answers) tt zero in
     let same = told_input scene.source input done.input told done.read in
-    let (lists, merged, says, merges, is) = contexts_merged input done.output (subst (λ i. MergeGives i (Ok done.output)) (sym same) done.gave) in
+    let (lists, merged, says, merges, is) = contexts_merged input done.output (subst (λ i. Within MergesLines i (Ok done.output)) (sym same) done.gave) in
     (lists, merged, says, merges, subst (Appends scene.out.before scene.out.after) is done.out.0)
 
 -- Where the answer is 0, the input gave what was written, under a table that the told files give.
@@ -326,8 +323,7 @@ has_asked task origin held scene answer answers takes told few = by (ending task
     asked_all own Holds same came = subst (λ o. AskedAll held o scene) same (of_told scene own Holds held told came).1
 
     asked_given : (t : Task) (input : List ℕ) (outcome : Outcome) → TakesTable t origin → Gives t scene input outcome → AskedAll held origin scene
-    asked_given (trim budget) input outcome own gave = absurd own
-    asked_given merge input outcome own gave = absurd own
+    asked_given (alone filter) input outcome own gave = absurd own
     asked_given (load rounds) input outcome own gave = absurd own
     asked_given (build product o) input outcome own gave = absurd gave
     asked_given (under purpose o) input outcome own (table, came, gave) = asked_all o (λ h. TableGives o h (Ok table)) own came
@@ -480,8 +476,7 @@ within_short gives input output (inl long) = absurd (ok_no_err output (Input 0 (
 within_short gives input output (inr (short, gave)) = short
 
 short_given : (task : Task) (scene : Scene) (input output : List ℕ) → Gives task scene input (Ok output) → length input ≤ INPUT_MAX
-short_given (trim budget) scene input output gave = within_short (TrimsLines budget) input output gave
-short_given merge scene input output gave = within_short MergesLines input output gave
+short_given (alone filter) scene input output gave = within_short (FiltersLines filter) input output gave
 short_given (load rounds) scene input output gave = absurd gave
 short_given (build product origin) scene input output gave = absurd gave
 short_given (under purpose origin) scene input output (table, came, gave) = within_short (LinesGive purpose table) input output gave
@@ -652,15 +647,13 @@ part_told task scene answer (Err refusal, comes, (same, inr (is, part))) five = 
 -- ---- what a task doesn't use
 
 pub unfetched_files : (task : Task) (scene : Scene) (answer : ℕ) → Answers (Some task) scene answer → (FetchesFiles task → ⊥) → IsSame scene.library × IsSame scene.requests
-unfetched_files (trim budget) scene answer (outcome, (same, unasked, reads), delivers) none = (same, unasked)
-unfetched_files merge scene answer (outcome, (same, unasked, reads), delivers) none = (same, unasked)
+unfetched_files (alone filter) scene answer (outcome, (same, unasked, reads), delivers) none = (same, unasked)
 unfetched_files (load rounds) scene answer (outcome, (same, unasked, unread, gives), delivers) none = (same, unasked)
 unfetched_files (build product origin) scene answer answers none = absurd (none tt)
 unfetched_files (under purpose origin) scene answer answers none = absurd (none tt)
 
 pub unread_input : (task : Task) (scene : Scene) (answer : ℕ) → Answers (Some task) scene answer → (ReadsSource task → ⊥) → IsSame scene.source
-unread_input (trim budget) scene answer answers none = absurd (none tt)
-unread_input merge scene answer answers none = absurd (none tt)
+unread_input (alone filter) scene answer answers none = absurd (none tt)
 unread_input (load rounds) scene answer (outcome, (same, unasked, unread, gives), delivers) none = unread
 unread_input (build product origin) scene answer (outcome, (unread, builds), delivers) none = unread
 unread_input (under purpose origin) scene answer answers none = absurd (none tt)

@@ -6,6 +6,8 @@ use Rattle.std.specs.Str.{all_ascii_digits}
 use Rattle.std.specs.Str.Parse.{digits_value}
 use Rattle.baggage_cli.specs.declared.commands.Command as code_commands
 use Rattle.baggage_cli.specs.declared.commands.Command.TheVariants as code
+use Rattle.baggage_cli.specs.declared.commands.Filter.{Filter as CodeFilter}
+use Rattle.baggage_cli.specs.declared.commands.Filter.TheVariants.{Trim, Merge}
 use Rattle.baggage_cli.specs.declared.commands.Origin as code_origins
 use Rattle.baggage_cli.specs.declared.commands.Origin.TheVariants.{Bag, Printed}
 use Rattle.baggage_cli.specs.declared.commands.Product.{Product as CodeProduct}
@@ -37,14 +39,25 @@ pub data Purpose : Type 0 where
   decoding : Purpose
   running : Form → Purpose
 
--- What is to be done: a list is cut to a budget, contexts are merged, the load of so many rounds is run, and something is made
--- of a table, or of an input under one.
+-- What is made of an input by itself: a list is cut to a budget, or contexts are merged.
+pub data Filter : Type 0 where
+  trimming : ℕ → Filter
+  merging : Filter
+
+-- What is to be done: something is made of an input by itself, the load of so many rounds is run, and something is made of a
+-- table, or of an input under one.
 pub data Task : Type 0 where
-  trim : ℕ → Task
-  merge : Task
+  alone : Filter → Task
   load : ℕ → Task
   build : Product → Origin → Task
   under : Purpose → Origin → Task
+
+-- A list is cut to a budget, or contexts are merged.
+abbrev pub trim : ℕ → Task
+trim budget = alone (trimming budget)
+
+abbrev pub merge : Task
+merge = alone merging
 
 -- The slots of a bag are counted, its table is printed, a context is decoded under the table, or a graph is run under it and
 -- its report printed as lines or as JSON; or a graph is run under a printed table.
@@ -68,6 +81,10 @@ run_table file = under (running as_lines) (printed file)
 
 -- ---- the commands of the code
 
+abbrev pub filter_of : CodeFilter → Filter
+filter_of (Trim budget) = trimming (non_zero_u32_get budget)
+filter_of Merge = merging
+
 abbrev pub origin_of : code_origins.Origin → Origin
 origin_of (Bag file bag) = compiled file.now bag.now
 origin_of (Printed file) = printed file.now
@@ -86,8 +103,7 @@ purpose_of (Run form) = running (form_of form)
 
 -- What the code's command asks for.
 abbrev pub task_of : code_commands.Command → Task
-task_of (code.Trim budget) = trim (non_zero_u32_get budget)
-task_of code.Merge = merge
+task_of (code.Alone filter) = alone (filter_of filter)
 task_of (code.Load rounds) = load rounds
 task_of (code.Build product origin) = build (product_of product) (origin_of origin)
 task_of (code.Read purpose origin) = under (purpose_of purpose) (origin_of origin)
@@ -127,32 +143,28 @@ command_of words = None
 
 -- The task reads the source.
 abbrev pub ReadsSource : Task → Type 0
-ReadsSource (trim budget) = Unit {0}
-ReadsSource merge = Unit {0}
+ReadsSource (alone filter) = Unit {0}
 ReadsSource (load rounds) = ⊥
 ReadsSource (build product origin) = ⊥
 ReadsSource (under purpose origin) = Unit {0}
 
 -- The task fetches files of the library.
 abbrev pub FetchesFiles : Task → Type 0
-FetchesFiles (trim budget) = ⊥
-FetchesFiles merge = ⊥
+FetchesFiles (alone filter) = ⊥
 FetchesFiles (load rounds) = ⊥
 FetchesFiles (build product origin) = Unit {0}
 FetchesFiles (under purpose origin) = Unit {0}
 
 -- The task takes its table from there.
 abbrev pub TakesTable : Task → Origin → Type 0
-TakesTable (trim budget) origin = ⊥
-TakesTable merge origin = ⊥
+TakesTable (alone filter) origin = ⊥
 TakesTable (load rounds) origin = ⊥
 TakesTable (build product own) origin = own ≡ origin
 TakesTable (under purpose own) origin = own ≡ origin
 
 -- A load has at least one round, and not too many.
 abbrev pub IsInRange : Task → Type 0
-IsInRange (trim budget) = Unit {0}
-IsInRange merge = Unit {0}
+IsInRange (alone filter) = Unit {0}
 IsInRange (load rounds) = (1 ≤ rounds) × (rounds ≤ ROUNDS_MAX)
 IsInRange (build product origin) = Unit {0}
 IsInRange (under purpose origin) = Unit {0}

@@ -5,6 +5,7 @@ pub mod Outcomes
 pub mod Reading
 pub mod Trimming
 pub mod Merging
+pub mod Filters
 pub mod Tables
 pub mod Building
 pub mod Decoding

@@ -11,7 +11,7 @@ use Rattle.baggage_cli.specs.declared.refusals.InputCode.TheVariants.{TooManyLin
 use Rattle.baggage_cli.specs.declared.refusals.InputFault.{InputFault}
 use Rattle.baggage_cli.specs.declared.refusals.InputFault.TheVariants.{Code}
 use Rattle.baggage_cli.specs.Outcomes.{Outcome}
-use Rattle.baggage_cli.specs.Reading.{ReadsLines, Within, context_lines}
+use Rattle.baggage_cli.specs.Reading.{ReadsLines, context_lines}
 
 -- The lines that are merged, of which there may be so many.
 abbrev pub merged_lines : Reading (List Atom) InputFault
@@ -24,7 +24,3 @@ IsMergeOf lists output = (merged : List Atom) × IsMerged lists merged × (outpu
 -- What lines come to, merged: lines of contexts give the line of their merge.
 abbrev pub MergesLines : List Line → Outcome → Type 0
 MergesLines = ReadsLines merged_lines IsMergeOf
-
--- What an input gives, merged.
-abbrev pub MergeGives : List ℕ → Outcome → Type 0
-MergeGives = Within MergesLines

@@ -10,16 +10,15 @@ use Rattle.baggage_cli.specs.declared.merging.TheConstants.{LINES_MAX}
 use Rattle.baggage_cli.specs.declared.refusals.Notice.TheVariants.{SinkFailed, WordsRefused}
 use Rattle.baggage_cli.specs.declared.refusals.Refusal.{Refusal}
 use Rattle.baggage_cli.specs.Building.{BuildsProduct}
-use Rattle.baggage_cli.specs.Commands.{Task, Origin, ReadsSource, FetchesFiles, TakesTable, trim, merge, load, build, under}
+use Rattle.baggage_cli.specs.Commands.{Task, Origin, ReadsSource, FetchesFiles, TakesTable, alone, load, build, under}
 use Rattle.baggage_cli.specs.Delivery.{Notifies, Delivers}
+use Rattle.baggage_cli.specs.Filters.{FilterGives}
 use Rattle.baggage_cli.specs.Loading.{LoadGives}
-use Rattle.baggage_cli.specs.Merging.{MergeGives}
 use Rattle.baggage_cli.specs.Outcomes.{Outcome}
 use Rattle.baggage_cli.specs.Reading.{Reads, list_lines, context_lines}
 use Rattle.baggage_cli.specs.Refusals.{line_of, notice_line}
 use Rattle.baggage_cli.specs.Scene.{Change, Scene, IsSame, Takes, TakesPart}
 use Rattle.baggage_cli.specs.Tables.{TableGives}
-use Rattle.baggage_cli.specs.Trimming.{TrimGives}
 use Rattle.baggage_cli.specs.Under.{InputUnder, ReadsUnder}
 
 -- The library tells which files it holds, where the task fetches any.
@@ -29,8 +28,7 @@ TellsFiles task files = FetchesFiles task → (held : Holding) × (files ≡ Som
 -- What an input gives for a task, with the files that the library told. Of files that it doesn't tell and the task
 -- fetches, nothing is said.
 abbrev pub InputGives : Task → Option Holding → List ℕ → Outcome → Type 0
-InputGives (trim budget) files = TrimGives budget
-InputGives merge files = MergeGives
+InputGives (alone filter) files = FilterGives filter
 InputGives (load rounds) files = λ input outcome. ⊥
 InputGives (build product origin) files = λ input outcome. ⊥
 InputGives (under purpose origin) files = λ input outcome.
@@ -39,9 +37,8 @@ InputGives (under purpose origin) files = λ input outcome.
 
 -- What a task may come to, with the library and the source before and after it.
 abbrev pub Comes : Task → Change Holding → Change (List (List ℕ)) → Change (List ℕ) → Outcome → Type 0
-Comes (trim budget) library requests source outcome =
-    IsSame library × IsSame requests × Reads (TrimGives budget) source outcome
-Comes merge library requests source outcome = IsSame library × IsSame requests × Reads MergeGives source outcome
+Comes (alone filter) library requests source outcome =
+    IsSame library × IsSame requests × Reads (FilterGives filter) source outcome
 Comes (load rounds) library requests source outcome =
     IsSame library × IsSame requests × IsSame source × LoadGives rounds outcome
 Comes (build product origin) library requests source outcome =

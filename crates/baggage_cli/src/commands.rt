@@ -46,15 +46,20 @@ pub enum Purpose {
     Run(Form),
 }
 
+/// What is made of an input by itself.
+#[derive(Clone, Copy, Debug)]
+pub enum Filter {
+    /// The one line's list of atoms, cut to a budget of bytes.
+    Trim { budget: NonZeroU32 },
+    /// The merge of the contexts of all lines.
+    Merge,
+}
+
 /// A command with what it is asked for. The names stay in the words, so it takes no memory.
 #[derive(Clone, Copy, Debug)]
 pub enum Command<'a> {
-    /// Cut one line of atoms to a budget of bytes.
-    Trim {
-        budget: NonZeroU32,
-    },
-    /// Merge the contexts of all lines.
-    Merge,
+    /// Make something of the input by itself.
+    Alone(Filter),
     /// Run the load of so many rounds, at most [`ROUNDS_MAX`].
     Load {
         rounds: u32,
@@ -90,7 +95,7 @@ fn bare_command(name: &str) -> Option<Command<'static>>
     ensures range { IfSome result (λ command. spec.IsInRange (spec.task_of command)) }
 {
     match name {
-        "merge" => Some(Command::Merge),
+        "merge" => Some(Command::Alone(Filter::Merge)),
         _ => None,
     }
 }
@@ -101,7 +106,7 @@ fn trim_command(word: &str) -> Option<Command<'static>>
     ensures range { IfSome result (λ command. spec.IsInRange (spec.task_of command)) }
 {
     let budget = NonZeroU32::new(read_number(word)?)?;
-    Some(Command::Trim { budget })
+    Some(Command::Alone(Filter::Trim { budget }))
 }
 
 /// The command that runs the load of so many rounds as this word says.

@@ -5,6 +5,7 @@ mod building;
 mod commands;
 mod decoding;
 mod delivery;
+mod filters;
 mod loading;
 mod merging;
 mod reading;

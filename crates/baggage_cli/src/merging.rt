@@ -3,16 +3,14 @@
 ghost use Rattle.std.specs.Prelude.{◌≡◌, ◌⊎◌, [], IfOk, IfErr};
 ghost use Rattle.text_lines.specs.Lines.{lines_of};
 ghost use Rattle.text_lines.specs.Readings.{AllSay};
-ghost use Rattle.baggage_cli.specs.Scene.{change};
 ghost use Rattle.baggage_cli.specs.Outcomes.{outcome_of, OrMemory};
-ghost use Rattle.baggage_cli.specs.Reading.{Reads, RefusesLines};
-ghost use Rattle.baggage_cli.specs.Merging.{merged_lines, MergesLines, MergeGives};
+ghost use Rattle.baggage_cli.specs.Reading.{RefusesLines};
+ghost use Rattle.baggage_cli.specs.Merging.{merged_lines, MergesLines};
 
-use crate::reading::{line_context, read_input};
+use crate::reading::line_context;
 use crate::refusals::{InputCode, InputFault, Notice, Refusal};
 use atom_list::Context;
 use lex_merge::merge_many;
-use outside::Source;
 use std::alloc::Global;
 use text_lines::{hex_line, lines_of};
 use wire_bytes::write;
@@ -38,20 +36,13 @@ fn read_contexts(alloc: Global, input: &[u8]) -> Result<Vec<Context>, Refusal>
     }
     Ok(contexts)
 }
+
 /// The line of the merge of the contexts of an input's lines.
-fn merged_line(alloc: Global, input: &[u8]) -> Result<Vec<u8>, Refusal>
+pub fn merged_line(alloc: Global, input: &[u8]) -> Result<Vec<u8>, Refusal>
     ensures { OrMemory (MergesLines (lines_of input.now)) (outcome_of result) }
 {
     let contexts = read_contexts(alloc, input)?;
     let merged = merge_many(alloc, contexts)?;
     let bytes = write(alloc, merged.list())?;
     Ok(hex_line(alloc, bytes.as_slice())?)
-}
-
-/// Reads the source to its end and answers the line of the merge of its lines' contexts.
-pub fn merge_source<S: Source>(alloc: Global, source: &mut S) -> Result<Vec<u8>, Refusal>
-    ensures { Reads MergeGives (change S.left S.faults source.old source.new) (outcome_of result) }
-{
-    let input = read_input(alloc, source)?;
-    merged_line(alloc, input.as_slice())
 }

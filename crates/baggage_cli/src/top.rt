@@ -36,10 +36,9 @@ ghost use Rattle.baggage_cli.specs.Under.{SaysTyped};
 use crate::building::build;
 use crate::commands::{Command, command_of};
 use crate::delivery::{deliver, notify, refuse};
+use crate::filters::filter_source;
 use crate::loading::run_load;
-use crate::merging::merge_source;
 use crate::refusals::{InputFault, Notice, Refusal};
-use crate::trimming::trim_source;
 use crate::under::read_under;
 use bdl_check::laws;
 use graph_report::laws::lists_have_one_report;
@@ -88,8 +87,7 @@ fn carry_out<R: Threads + Sync, G: Gate, L: Library, S: Source>(
         (change S.left S.faults source.old source.new) (outcome_of result) }
 {
     match command {
-        Command::Trim { budget } => trim_source(alloc, source, budget),
-        Command::Merge => merge_source(alloc, source),
+        Command::Alone(filter) => filter_source(alloc, source, filter),
         Command::Load { rounds } => run_load(rt, alloc, gate, rounds),
         Command::Build { product, origin } => build(alloc, library, product, origin),
         Command::Read { purpose, origin } => {

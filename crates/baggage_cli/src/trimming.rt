@@ -4,15 +4,13 @@ ghost use Rattle.std.specs.Prelude.{◌≡◌, ◌⊎◌, [], ◌∷◌, IfOk, I
 ghost use Rattle.std.specs.Int.NonZero.{non_zero_u32_get};
 ghost use Rattle.text_lines.specs.Lines.{lines_of};
 ghost use Rattle.text_lines.specs.Readings.{AllSay};
-ghost use Rattle.baggage_cli.specs.Scene.{change};
 ghost use Rattle.baggage_cli.specs.Outcomes.{outcome_of, OrMemory};
-ghost use Rattle.baggage_cli.specs.Reading.{Reads, only_one, RefusesOne, list_lines};
-ghost use Rattle.baggage_cli.specs.Trimming.{TrimsLines, TrimGives};
+ghost use Rattle.baggage_cli.specs.Reading.{only_one, RefusesOne, list_lines};
+ghost use Rattle.baggage_cli.specs.Trimming.{TrimsLines};
 
-use crate::reading::{end_lines, first_line, line_list, read_input};
+use crate::reading::{end_lines, first_line, line_list};
 use crate::refusals::{Notice, Refusal};
 use atom_list::AtomList;
-use outside::Source;
 use overflow_trim::trim;
 use std::alloc::Global;
 use std::num::NonZeroU32;
@@ -34,24 +32,11 @@ fn only_list(alloc: Global, input: &[u8]) -> Result<AtomList, Refusal>
 }
 
 /// The line of the list of an input's one line, trimmed to the budget.
-fn trimmed_line(alloc: Global, input: &[u8], budget: NonZeroU32) -> Result<Vec<u8>, Refusal>
+pub fn trimmed_line(alloc: Global, input: &[u8], budget: NonZeroU32) -> Result<Vec<u8>, Refusal>
     ensures { OrMemory (TrimsLines (non_zero_u32_get budget) (lines_of input.now)) (outcome_of result) }
 {
     let mut list = only_list(alloc, input)?;
     trim(&mut list, u64::from(budget.get()));
     let bytes = write(alloc, &list)?;
     Ok(hex_line(alloc, bytes.as_slice())?)
-}
-
-/// Reads the source to its end and answers the line of its list, trimmed to the budget.
-pub fn trim_source<S: Source>(
-    alloc: Global,
-    source: &mut S,
-    budget: NonZeroU32,
-) -> Result<Vec<u8>, Refusal>
-    ensures { Reads (TrimGives (non_zero_u32_get budget))
-        (change S.left S.faults source.old source.new) (outcome_of result) }
-{
-    let input = read_input(alloc, source)?;
-    trimmed_line(alloc, input.as_slice(), budget)
 }
