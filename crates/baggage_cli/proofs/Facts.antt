@@ -22,7 +22,7 @@ use Rattle.graph_text.specs.GraphLines.{IsGraphOf}
 use Rattle.text_lines.specs.declared.TheConstants.{INPUT_MAX}
 use Rattle.text_lines.specs.HexLines.{hex_line}
 use Rattle.text_lines.specs.Lines.{Line, lines_of}
-use Rattle.text_lines.specs.Readings.{AllSay}
+use Rattle.text_lines.specs.Readings.{Reading, AllSay}
 use Rattle.text_lines.proofs.ReadingLaws.{at_most-all_say, at_most-few}
 use Rattle.baggage_cli.specs.Building.{product_text}
 use Rattle.baggage_cli.specs.Commands.{Origin, compiled, Product, Form, as_json, Purpose, decoding, running, trimming, Task, alone, trim, merge, load, build, under, decode, run_json, ReadsSource, FetchesFiles, TakesTable}
@@ -622,11 +622,11 @@ completes task scene answer answers tells sound sure = by (ending task scene ans
 -- ---- a sink that failed
 
 -- A change of an object that tells nothing and counted no fault.
-quiet_change : Change (List ℕ)
+abbrev quiet_change : Change (List ℕ)
 quiet_change = record { before = None; after = None; faults_before = 0; faults_after = 0 }
 
 never_rose : HasFailed quiet_change → ⊥
-never_rose rose = omega arith
+never_rose rose = let less : 1 ≤ 0 = rose in omega arith
 
 -- No task is refused for a sink.
 refused_otherwise : (task : Task) (scene : Scene) (refusal : Refusal) → Comes task scene.library scene.requests scene.source (Err refusal) → status_of refusal ≢ 5
