@@ -8,9 +8,7 @@ pub mod Loads
 pub mod Obtained
 pub mod TableLaws
 pub mod Printed
-pub mod Interrupted
 pub mod ThreeWords
-pub mod Fronts
 pub mod Delivered
 pub mod Definite
 pub mod Endings
