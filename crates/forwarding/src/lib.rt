@@ -28,4 +28,3 @@ pub fn forward(
     trim_context(&mut merged, budget);
     Ok(write(alloc, merged.list())?)
 }
-

@@ -8,7 +8,6 @@ ghost use Rattle.context_model.specs.WellFormed.{IsWellFormed};
 use atom_list::{AtomList, Context};
 use wire_bytes::{frame_len, size};
 
-
 /// How many atoms of a list stay within a budget of bytes: all of them where the list fits, and otherwise as many as fit
 /// with the byte of a marker behind them. It takes no memory.
 pub fn kept(list: &AtomList, budget: u64) -> usize
