@@ -33,6 +33,7 @@ fn lists(rt: HostRuntime) -> Result<(), Fail> {
         expect_bytes(&rt, alloc, list.framed().unwrap_or(b""), bytes)?;
         cut(&rt, &mut list, *keep);
         expect_atoms(&rt, alloc, &list, left)?;
+        expect_atoms(&rt, alloc, &list.copy()?, left)?;
         assert!(rt; list.framed().is_none(), "{atoms}");
         drop(list);
         expect_atoms(&rt, alloc, &copy, atoms)?;

@@ -9,6 +9,7 @@ use lex_merge::{merge, merge_lists, merge_many};
 use outside::{Gate, MeetingGate, Memory, Open};
 use std::alloc::Global;
 use std::process::Abort;
+use std::sync::atomic::{AtomicUsize, Ordering};
 use std::test::Fail;
 use std::thread::Threads;
 
@@ -16,7 +17,7 @@ use std::thread::Threads;
 static LISTS: [(&str, &str, &str); 2] = [("62 61", "61", "61 62 61"), ("62 61", "62 61", "62 61")];
 
 /// Two contexts and their merge.
-static CONTEXTS: [(&str, &str, &str); 7] = [
+static CONTEXTS: [(&str, &str, &str); 8] = [
     ("", "", ""),
     ("", FOUR, FOUR),
     (FOUR, FIVE, BOTH),
@@ -26,6 +27,7 @@ static CONTEXTS: [(&str, &str, &str); 7] = [
     ("f800 0061 0063", "f800 0062 0063", "f800 0061 0062 0063"),
     // a marker stays behind the atom that it followed
     ("f800 -", "f800 0000000007 f801", "f800 - 0000000007 f801"),
+    ("f801 f802 -", "f802 -", "f801 f802 -"),
 ];
 
 /// A field with an entry, twice under different numbers.
@@ -154,12 +156,50 @@ fn merges_at_places(rt: HostRuntime) -> Result<(), Fail> {
     expect_merge(&rt, alloc, &Open, &pool, &in_turn(alloc, 4096, 5)?, all)
 }
 
+/// A gate that counts how often each half passes it.
+#[derive(Drop)]
+struct CountingGate {
+    first: AtomicUsize,
+    second: AtomicUsize,
+}
+
+impl Gate for CountingGate {
+    fn enter(&self, piece: usize) {
+        let half = if piece == 0 {
+            &self.first
+        } else {
+            &self.second
+        };
+        half.fetch_add(1, Ordering::SeqCst);
+    }
+}
+
+/// Numbers of places, and how often each half of them passes the gate.
+static PASSES: [(usize, usize); 5] = [(0, 0), (1, 0), (2, 1), (63, 1), (64, 1)];
+
 #[test]
-fn halves_meet(rt: HostRuntime) -> Result<(), Fail> {
+fn halves_pass_the_gate(rt: HostRuntime) -> Result<(), Fail> {
     let alloc = rt.alloc();
-    let meeting = MeetingGate::new(0, 1);
     let mut pool = Vec::new(alloc);
     pool.push(Context::empty(alloc))?;
+    for (count, passes) in &PASSES {
+        let gate = CountingGate {
+            first: AtomicUsize::new(0),
+            second: AtomicUsize::new(0),
+        };
+        expect_merge(&rt, alloc, &gate, &pool, &in_turn(alloc, *count, 1)?, "")?;
+        assert_eq!(rt;
+            gate.first.load(Ordering::SeqCst),
+            *passes,
+            "{count} places"
+        );
+        assert_eq!(rt;
+            gate.second.load(Ordering::SeqCst),
+            *passes,
+            "{count} places"
+        );
+    }
+    let meeting = MeetingGate::new(0, 1);
     expect_merge(&rt, alloc, &meeting, &pool, &in_turn(alloc, 64, 1)?, "")?;
     assert!(rt; meeting.have_met());
     Ok(())
