@@ -51,24 +51,17 @@ pub fn expect_atoms(
     list: &AtomList,
     atoms: &str,
 ) -> Result<(), Fail> {
-    let mut at = 0;
-    let mut each = list.iter();
-    for word in atoms.split_whitespace() {
-        let expected = hex_bytes(alloc, word.as_bytes())?;
-        let expected = expected.as_slice();
-        assert!(rt;
-            matches!(list.get(at), Some(atom) if atom == expected),
-            "at {at} of {atoms}"
-        );
-        assert!(rt;
-            matches!(each.next(), Some(atom) if atom == expected),
-            "at {at} of {atoms}"
-        );
-        at += 1;
+    let mut words = atoms.split_whitespace();
+    for atom in list.iter() {
+        expect_bytes(rt, alloc, atom, words.next().ok_or("an atom too many")?)?;
     }
-    assert_eq!(rt; list.len(), at, "{atoms}");
-    assert!(rt; list.get(at).is_none(), "{atoms}");
+    assert!(rt; words.next().is_none(), "{atoms}");
+    let mut each = list.iter();
+    for at in 0..list.len() {
+        assert!(rt; list.get(at) == each.next(), "at {at} of {atoms}");
+    }
     assert!(rt; each.next().is_none(), "{atoms}");
-    assert_eq!(rt; list.is_empty(), at == 0, "{atoms}");
+    assert!(rt; list.get(list.len()).is_none(), "{atoms}");
+    assert_eq!(rt; list.is_empty(), list.len() == 0, "{atoms}");
     Ok(())
 }

@@ -212,7 +212,12 @@ fn places(rt: HostRuntime) -> Result<(), Fail> {
 fn is_datum(context: &Context, at: usize) -> bool
     ensures { IsTrue result → (payload : List ℕ) × (slice_get context.now at ≡ Some (0 ∷ payload)) }
 {
-    matches!(context.list().get(at), Some([0, ..]))
+    if let Some(atom) = context.list().get(at) {
+        if let Some((first, _rest)) = atom.split_first() {
+            return *first == 0;
+        }
+    }
+    false
 }
 
 /// Takes out the data at two places.
