@@ -21,8 +21,6 @@ use std::cmp::Ordering;
 
 mod headers;
 pub mod laws;
-#[cfg(test)]
-mod tests;
 
 pub use headers::{FieldHeader, indexed_prefix, is_key, keyed_prefix};
 

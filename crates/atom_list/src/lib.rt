@@ -16,8 +16,6 @@ mod places;
 mod scan;
 mod sharing;
 mod starts;
-#[cfg(test)]
-mod tests;
 
 pub use builder::Builder;
 pub use contexts::{Context, ShapeFault};

@@ -3,8 +3,6 @@
 
 mod alone;
 mod forked;
-#[cfg(test)]
-mod tests;
 
 pub use alone::merge_alone;
 pub use forked::merge_all;

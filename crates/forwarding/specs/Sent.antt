@@ -1,10 +1,12 @@
 -- What a forwarding service sends on.
-use Rattle.std.specs.Prelude.{◌≡◌, ℕ, List, [], ◌∷◌}
+use Rattle.std.specs.Prelude.{◌≡◌, ◌⊎◌, ℕ, List, [], ◌∷◌}
 use Rattle.context_model.specs.Atoms.{Atom}
 use Rattle.context_model.specs.ContextFault.{IsContextOf}
 use Rattle.context_model.specs.Framing.{bytes_of}
 use Rattle.context_model.specs.Merged.{IsMerged}
 use Rattle.context_model.specs.Trimmed.{trimmed}
+use Rattle.wire_bytes.specs.Codes.{IsContextFaultOf}
+use Rattle.wire_bytes.specs.declared.contexts.ContextFault.{ContextFault}
 
 -- Both are the bytes of contexts, and what is sent are those of their merge, trimmed to the budget.
 pub record Forwards (first second : List ℕ) (budget : ℕ) (sent : List ℕ) : Type 0 where
@@ -15,3 +17,9 @@ pub record Forwards (first second : List ℕ) (budget : ℕ) (sent : List ℕ) :
   pub is_second : IsContextOf other second
   pub is_merged : IsMerged (one ∷ other ∷ []) merged
   pub is_sent : sent ≡ bytes_of (trimmed merged budget)
+
+-- The refusal is the fault of the first bytes, or that of the second where the first are those of a context.
+abbrev pub RefusesFirst : List ℕ → List ℕ → ContextFault → Type 0
+RefusesFirst first second fault =
+    IsContextFaultOf first fault
+    ⊎ ((list : List Atom) × IsContextOf list first × IsContextFaultOf second fault)

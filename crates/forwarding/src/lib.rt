@@ -2,8 +2,8 @@
 //! bytes. It knows no definition and no type.
 #![tactic(auto)]
 
-ghost use Rattle.std.specs.Prelude.{◌<◌, IfOk};
-ghost use Rattle.forwarding.specs.Sent.{Forwards};
+ghost use Rattle.std.specs.Prelude.{◌<◌, IfOk, IfErr};
+ghost use Rattle.forwarding.specs.Sent.{Forwards, RefusesFirst};
 
 use lex_merge::merge;
 use overflow_trim::trim_context;
@@ -19,7 +19,8 @@ pub fn forward(
     budget: u64,
 ) -> Result<Vec<u8>, ContextFault>
     requires { 0 < budget }
-    ensures { IfOk result (λ sent. Forwards first.now second.now budget sent.items) }
+    ensures sent { IfOk result (λ sent. Forwards first.now second.now budget sent.items) }
+    ensures refused { IfErr result (RefusesFirst first.now second.now) }
 {
     let first = read_context(alloc, first)?;
     let second = read_context(alloc, second)?;
@@ -27,6 +28,3 @@ pub fn forward(
     trim_context(&mut merged, budget);
     Ok(write(alloc, merged.list())?)
 }
-
-#[cfg(test)]
-mod tests;

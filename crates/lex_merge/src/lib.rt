@@ -18,8 +18,6 @@ use std::cmp::Ordering;
 pub mod laws;
 mod many;
 mod runs;
-#[cfg(test)]
-mod tests;
 
 /// An empty list with room for the atoms of both lists.
 fn room_for(alloc: Global, a: &AtomList, b: &AtomList) -> Result<Builder, Memory>

@@ -14,8 +14,6 @@ ghost use Rattle.lex_varint.specs.Fronts.{IsUnsignedAt, IsUnsignedCut, IsUnsigne
 use std::marker::Model;
 
 pub mod laws;
-#[cfg(test)]
-mod tests;
 
 /// Why the front of a byte string isn't a varint.
 #[derive(Clone, Copy, Debug, PartialEq, Eq)]

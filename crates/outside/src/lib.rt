@@ -9,14 +9,12 @@ mod gates;
 mod in_memory;
 mod libraries;
 mod streams;
-#[cfg(test)]
-mod tests;
 mod texts;
 mod transfers;
 
 pub use answers::{Failed, LibraryFault, Memory, ReadFault};
 pub use faults::FaultCount;
-pub use gates::{Gate, Open};
+pub use gates::{Gate, MeetingGate, Open};
 pub use in_memory::{MemorySink, MemorySource, SureSink, SureSource};
 pub use libraries::{Library, MemoryLibrary, SureLibrary};
 pub use streams::{Sink, Source};

@@ -209,19 +209,3 @@ impl<'a> Iterator for WordIter<'a> {
         self.rest.next()
     }
 }
-
-#[cfg(test)]
-mod tests {
-    use super::*;
-    use std::test::Fail;
-
-    #[test]
-    fn a_copy_shares_the_characters(rt: HostRuntime) -> Result<(), Fail> {
-        let text = Text::of(rt.alloc(), "a")?;
-        assert_eq!(rt; Arc::strong_count(&text.string), 1);
-        let copy = text.copy()?;
-        assert_eq!(rt; copy.as_str(), "a");
-        assert_eq!(rt; Arc::strong_count(&text.string), 2);
-        Ok(())
-    }
-}

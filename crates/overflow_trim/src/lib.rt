@@ -6,10 +6,7 @@ ghost use Rattle.context_model.specs.Trimmed.{kept_of, trimmed, KeepsLongest, Cu
 ghost use Rattle.context_model.specs.WellFormed.{IsWellFormed};
 
 use atom_list::{AtomList, Context};
-use wire_bytes::frame_len;
-
-#[cfg(test)]
-mod tests;
+use wire_bytes::{frame_len, size};
 
 /// How many atoms of a list stay within a budget of bytes: all of them where the list fits, and otherwise as many as fit
 /// with the byte of a marker behind them. It takes no memory.
@@ -18,6 +15,9 @@ pub fn kept(list: &AtomList, budget: u64) -> usize
     ensures { result ≡ kept_of list.now budget }
 {
     let room = u128::from(budget);
+    if size(list) <= room {
+        return list.len();
+    }
     let mut total: u128 = 0;
     for at in 0..list.len() {
         let next = total + frame_len(list.get(at).unwrap()) as u128;

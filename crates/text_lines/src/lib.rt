@@ -4,8 +4,6 @@
 
 mod hex_lines;
 mod lines;
-#[cfg(test)]
-mod tests;
 
 pub use hex_lines::{HexCode, HexFault, hex_bytes, hex_line, push_digits, push_hex};
 pub use lines::{Line, Lines, lines_of};

@@ -4,8 +4,6 @@
 mod contexts;
 mod lengths;
 mod reading;
-#[cfg(test)]
-mod tests;
 mod writing;
 
 pub use context_model::LENGTH_MAX;

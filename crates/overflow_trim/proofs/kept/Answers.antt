@@ -21,6 +21,11 @@ room_left kept i total budget e less = grind (arith, nat_tests)
 no_room : (kept i total budget : ℕ) → kept ≡ (if nat_lt total budget then i else i - 1) → budget ≤ total → i - 1 ≡ kept
 no_room kept i total budget e more = grind (arith, nat_tests)
 
+-- The whole list fits.
+pub returns-then-size-room : goal.returns-then-size-room
+returns-then-size-room c =
+    c.len.ensures.len ∙ sym (kept_of-fits c.args.list.now c.args.budget (omega (arith, c.size.ensures)))
+
 pub returns-then-total-room : goal.returns-then-total-room
 returns-then-total-room c =
     let list = c.args.list.now in
@@ -53,4 +58,4 @@ returns c =
     let list = c.args.list.now in
     let all : take c.loop-at.at list ≡ list = take_all c.loop-at.at list (omega arith) in
     let whole : size_of (take c.loop-at.at list) ≡ size_of list = ap size_of all in
-    c.len.ensures.len ∙ sym (kept_of-fits list c.args.budget (omega arith))
+    c.len-2.ensures.len ∙ sym (kept_of-fits list c.args.budget (omega arith))

@@ -2,7 +2,7 @@
 
 ghost use Rattle.std.specs.Prelude.{◌≡◌, ◌+◌, ◌^◌, ◌<◌, length};
 
-use crate::{
+use outside::{
     FETCH_MAX, Gate, Library, LibraryFault, Memory, MemoryLibrary, MemorySink, MemorySource,
     Octets, Open, ReadFault, Sink, Source, SureLibrary, SureSink, SureSource, Text, Words,
     read_all, write_all,
@@ -51,6 +51,23 @@ fn small_types(rt: HostRuntime) -> Result<(), Fail> {
     crosses_threads(&words);
     crosses_threads(&Memory);
     Open.enter(0);
+    Ok(())
+}
+
+/// A text of a mebibyte is copied so often that no machine would have memory for the characters.
+#[test]
+fn copies_share_their_characters(rt: HostRuntime) -> Result<(), Fail> {
+    let alloc = rt.alloc();
+    let mut long = String::new(alloc);
+    for _ in 0..1 << 16 {
+        long.push_str("sixteen bytes ..")?;
+    }
+    let text = Text::from_string(long)?;
+    let mut copies = Words::new(alloc);
+    for _ in 0..1 << 20 {
+        copies.push(text.copy()?)?;
+    }
+    assert!(rt; matches!(copies.get(1 << 19), Some(copy) if copy.as_str() == text.as_str()));
     Ok(())
 }
 

@@ -1,0 +1,274 @@
+//! Lists and contexts, and what they are asked.
+
+ghost use Rattle.std.specs.Prelude.{◌≡◌, ◌<◌, ℕ, List, ◌∷◌, IsTrue, Some, slice_get};
+
+use crate::atom_texts::{bytes_of, context_of, expect_atoms, expect_bytes, list_of};
+use atom_list::{AtomList, Builder, Context, Scan, ShapeFault};
+use outside::Memory;
+use std::alloc::Global;
+use std::process::Abort;
+use std::test::Fail;
+
+/// Cuts a list to so many atoms and a marker.
+fn cut(rt: &impl Abort, list: &mut AtomList, keep: usize) {
+    assert!(rt; keep < list.len());
+    list.cut_to_marker(keep);
+}
+
+/// Lists, their bytes, how many atoms are kept before a marker, and what is left then.
+static CUTS: [(&str, &str, usize, &str); 3] = [
+    ("f800 0000000007 -", "02f80005000000000700", 1, "f800 -"),
+    ("f800 0000000007 -", "02f80005000000000700", 0, "-"),
+    ("f800 0001 f801", "02f80002000102f801", 2, "f800 0001 -"),
+];
+
+#[test]
+fn lists(rt: HostRuntime) -> Result<(), Fail> {
+    let alloc = rt.alloc();
+    expect_atoms(&rt, alloc, &AtomList::new(alloc), "")?;
+    for (atoms, bytes, keep, left) in &CUTS {
+        let mut list = list_of(&rt, alloc, atoms)?;
+        let copy = list.copy()?;
+        assert!(rt; list.framed().is_some(), "{atoms}");
+        expect_bytes(&rt, alloc, list.framed().unwrap_or(b""), bytes)?;
+        cut(&rt, &mut list, *keep);
+        expect_atoms(&rt, alloc, &list, left)?;
+        expect_atoms(&rt, alloc, &list.copy()?, left)?;
+        assert!(rt; list.framed().is_none(), "{atoms}");
+        drop(list);
+        expect_atoms(&rt, alloc, &copy, atoms)?;
+        // a context is cut as its list
+        let mut context = context_of(&rt, alloc, atoms)?;
+        let copy = context.copy()?;
+        assert!(rt; *keep < context.list().len());
+        context.cut_to_marker(*keep);
+        expect_atoms(&rt, alloc, context.list(), left)?;
+        expect_atoms(&rt, alloc, &copy.into_list(), atoms)?;
+    }
+    Ok(())
+}
+
+#[test]
+fn lists_that_are_built(rt: HostRuntime) -> Result<(), Fail> {
+    let alloc = rt.alloc();
+    let mut built = Builder::with_room(alloc, 8, 1)?;
+    built.push(b"\xf8\x00");
+    expect_atoms(&rt, alloc, &built.finish()?, "f800")?;
+    let mut exact = Builder::with_room(alloc, 5, 1)?;
+    exact.push(b"\xf8\x00");
+    expect_bytes(&rt, alloc, &exact.into_bytes(), "02f800")?;
+    assert!(rt; Builder::with_room(alloc, 1 << 32, 0).is_err());
+    let mut grown = Builder::with_room(alloc, 0, 0)?;
+    grown.reserve(5, 1)?;
+    grown.push(b"\xf8\x01");
+    assert!(rt; grown.reserve((1 << 32) - 3, 0).is_err());
+    expect_atoms(&rt, alloc, &grown.finish()?, "f801")?;
+    Ok(())
+}
+
+/// The atoms of a list from a place on, in a list of their own.
+fn rest_of(alloc: Global, list: &AtomList) -> Result<AtomList, Memory> {
+    let room = list.room().ok_or(Memory)?;
+    let mut built = Builder::with_room(alloc, room, list.len())?;
+    built.push_rest(list, 0);
+    built.finish()
+}
+
+/// The atoms of a list from one place to another, in a list of their own.
+#[tactic(auto, using(crate::proofs::Rooms::room_of_run))]
+fn run_of(
+    rt: &impl Abort,
+    alloc: Global,
+    list: &AtomList,
+    from: usize,
+    to: usize,
+) -> Result<AtomList, Memory> {
+    assert!(rt; from <= to);
+    assert!(rt; to <= list.len());
+    let room = list.room().ok_or(Memory)?;
+    let mut built = Builder::with_room(alloc, room, list.len())?;
+    built.push_run(list, from, to);
+    built.finish()
+}
+
+#[test]
+fn lists_of_other_lists(rt: HostRuntime) -> Result<(), Fail> {
+    let alloc = rt.alloc();
+    let mut origin = list_of(&rt, alloc, "f800 0061 0062 -")?;
+    assert_eq!(rt; origin.room(), Some(10 + 2 * 4));
+    expect_atoms(&rt, alloc, &run_of(&rt, alloc, &origin, 1, 3)?, "0061 0062")?;
+    let copy = origin.copy()?;
+    cut(&rt, &mut origin, 2);
+    expect_atoms(&rt, alloc, &run_of(&rt, alloc, &origin, 1, 3)?, "0061 -")?;
+    assert_eq!(rt; origin.room(), Some(6 + 2 * 2 + 3));
+    expect_atoms(&rt, alloc, &rest_of(alloc, &origin)?, "f800 0061 -")?;
+    drop(origin);
+    let rest = rest_of(alloc, &copy)?;
+    drop(copy);
+    expect_atoms(&rt, alloc, &rest, "f800 0061 0062 -")?;
+    assert!(rt; rest.framed() == Some(b"\x02\xf8\x00\x02\0a\x02\0b\0"));
+    Ok(())
+}
+
+#[test]
+fn lists_that_are_found(rt: HostRuntime) -> Result<(), Fail> {
+    let alloc = rt.alloc();
+    let mut scan = Scan::over(alloc, b"\x80\0".as_slice().to_vec(alloc)?)?;
+    assert_eq!(rt; scan.offset(), 0);
+    assert_eq!(rt; scan.rest(), b"\x80\0".as_slice());
+    expect_atoms(&rt, alloc, &scan.finish()?, "")?;
+    let mut scan = Scan::over(alloc, b"\x02\xf8\0\0\x07".as_slice().to_vec(alloc)?)?;
+    scan.note(1, 2)?;
+    assert_eq!(rt; scan.offset(), 3);
+    assert_eq!(rt; scan.rest(), b"\0\x07".as_slice());
+    scan.note(1, 0)?;
+    assert_eq!(rt; scan.rest(), b"\x07".as_slice());
+    expect_atoms(&rt, alloc, &scan.finish()?, "f800 -")?;
+    Ok(())
+}
+
+/// Contexts, how many atoms stand before their first marker, numbers of fields one in another, and whether the innermost
+/// is ended.
+static ENDED: [(&str, usize, &[u64], bool); 11] = [
+    ("f800 0007 -", 2, &[0], false),
+    ("f800 0007 -", 2, &[1], false),
+    ("f800 0007 f801 -", 3, &[0], true),
+    ("f800 0007 f801 -", 3, &[0, 3], true),
+    ("f800 0007 f801 -", 3, &[1], false),
+    // what stands behind the first marker doesn't count
+    ("f800 - - f801", 1, &[0], false),
+    // a key comes after each indexed header of its level
+    ("f800 f161 -", 2, &[0, u64::MAX], true),
+    ("f800 f161 -", 2, &[0], false),
+    (NESTED, 7, &[0, 9], true),
+    ("-", 0, &[0], false),
+    ("0001 0002 f800", 3, &[5], true),
+];
+
+/// A field that is open at level 0, a map below it, and another field.
+const NESTED: &str = "f800 0007 f161 e802 00 f162 f801 -";
+
+#[test]
+fn ended_fields(rt: HostRuntime) -> Result<(), Fail> {
+    let alloc = rt.alloc();
+    for (atoms, front, numbers, ended) in &ENDED {
+        let context = context_of(&rt, alloc, atoms)?;
+        let marked = *front < context.list().len();
+        assert_eq!(rt; context.front_len(), *front, "{atoms}");
+        assert_eq!(rt; context.has_marker(), marked, "{atoms}");
+        assert!(rt; numbers.len() <= 16);
+        assert_eq!(rt; context.ended(numbers), *ended, "{atoms}");
+    }
+    Ok(())
+}
+
+/// The 16 headers of the levels from 0 to 15, and a datum below them.
+const DEEPEST: &str =
+    "f800 f000 e800 e000 d800 d000 c800 c000 b800 b000 a800 a000 9800 9000 8800 8000 00";
+
+/// Contexts, places in them, and the places of the headers around each.
+static PLACES: [(&str, usize, &[usize]); 12] = [
+    (NESTED, 0, &[]),
+    (NESTED, 1, &[0]),
+    (NESTED, 2, &[0]),
+    (NESTED, 3, &[0, 2]),
+    (NESTED, 4, &[0, 2, 3]),
+    (NESTED, 5, &[0]),
+    (NESTED, 6, &[]),
+    (NESTED, 7, &[6]),
+    ("- - 0001", 1, &[]),
+    ("0001 f800", 1, &[]),
+    (
+        DEEPEST,
+        15,
+        &[0, 1, 2, 3, 4, 5, 6, 7, 8, 9, 10, 11, 12, 13, 14],
+    ),
+    (
+        DEEPEST,
+        16,
+        &[0, 1, 2, 3, 4, 5, 6, 7, 8, 9, 10, 11, 12, 13, 14, 15],
+    ),
+];
+
+#[test]
+fn places(rt: HostRuntime) -> Result<(), Fail> {
+    let alloc = rt.alloc();
+    for (atoms, at, around) in &PLACES {
+        let context = context_of(&rt, alloc, atoms)?;
+        let Some(place) = context.walk().nth(*at) else {
+            panic!(&rt; "no place at {at} of {atoms}");
+        };
+        assert_eq!(rt; place.at, *at, "{atoms}");
+        assert_eq!(rt; usize::from(place.level), around.len(), "{at} of {atoms}");
+        for level in 0..16 {
+            let expected = around.get(level).copied().unwrap_or(0);
+            assert_eq!(rt; place.above[level], expected, "{at} of {atoms}");
+        }
+    }
+    Ok(())
+}
+
+/// Whether a datum stands at a place.
+fn is_datum(context: &Context, at: usize) -> bool
+    ensures { IsTrue result → (payload : List ℕ) × (slice_get context.now at ≡ Some (0 ∷ payload)) }
+{
+    if let Some(atom) = context.list().get(at) {
+        if let Some((first, _rest)) = atom.split_first() {
+            return *first == 0;
+        }
+    }
+    false
+}
+
+/// Takes out the data at two places.
+fn drop_both(rt: &impl Abort, context: &mut Context, first: usize, second: usize) {
+    assert!(rt; first < second);
+    assert!(rt; is_datum(context, first));
+    assert!(rt; is_datum(context, second));
+    context.drop_data(&[first, second]);
+}
+
+/// Contexts, two places of data, and what is left without them.
+static DROPS: [(&str, usize, usize, &str); 2] = [
+    ("0001 0002 f800 00 -", 0, 3, "0002 f800 -"),
+    ("0001 0002 0003", 0, 2, "0002"),
+];
+
+#[test]
+fn data_that_go(rt: HostRuntime) -> Result<(), Fail> {
+    let alloc = rt.alloc();
+    for (atoms, first, second, left) in &DROPS {
+        let mut context = context_of(&rt, alloc, atoms)?;
+        let copy = context.copy()?;
+        context.drop_data(&[]);
+        expect_atoms(&rt, alloc, context.list(), atoms)?;
+        drop_both(&rt, &mut context, *first, *second);
+        expect_atoms(&rt, alloc, context.list(), left)?;
+        expect_atoms(&rt, alloc, &copy.into_list(), atoms)?;
+    }
+    expect_atoms(&rt, alloc, Context::empty(alloc).list(), "")
+}
+
+/// Lists that are no contexts, what is first wrong with them, and at which place.
+static REFUSED: [(&str, ShapeFault, usize); 4] = [
+    ("f801 f800", ShapeFault::OutOfOrder, 1),
+    ("f800 01 f8", ShapeFault::BadPrefix, 1),
+    ("0001 f8 0001", ShapeFault::BadIndex, 1),
+    ("f800 - e800", ShapeFault::LevelJump, 2),
+];
+
+#[test]
+fn lists_that_are_no_contexts(rt: HostRuntime) -> Result<(), Fail> {
+    let alloc = rt.alloc();
+    for (atoms, fault, at) in &REFUSED {
+        match Context::check(list_of(&rt, alloc, atoms)?) {
+            Ok(_context) => panic!(&rt; "{atoms} is well formed"),
+            Err((found, place, list)) => {
+                assert_eq!(rt; found, *fault, "{atoms}");
+                assert_eq!(rt; place, *at, "{atoms}");
+                expect_atoms(&rt, alloc, &list, atoms)?;
+            }
+        }
+    }
+    Ok(())
+}
