@@ -68,10 +68,9 @@ fn slots_before_number(table: &Table, number: u64) -> Option<usize> {
 
 /// Before the field with each of the numbers from 0 on stand so many slots.
 fn counts_slots(rt: &impl Abort, table: &Table, rows: &[Option<usize>]) {
-    let mut number = 0;
-    for expected in rows {
-        assert!(rt; slots_before_number(table, number) == *expected, "{number}");
-        number += 1;
+    for (number, expected) in rows.iter().enumerate() {
+        let before = slots_before_number(table, number as u64);
+        assert!(rt; before == *expected, "{number}");
     }
 }
 
