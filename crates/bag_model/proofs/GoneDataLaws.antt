@@ -72,8 +72,8 @@ mutual
           let x = in_map (within name number) (slots_in shape) a k in
           let y = in_map (within name number) (slots_in shape) b l in
           let same : y.0 ≡ x.0 =
-              own x.0 y.0 x.1 y.1
-              (sym (slot_path-within q name number y.0) ∙ ap (slot_path q) (sym y.2) ∙ e ∙ ap (λ s. slot_path q s ++ r) x.2 ∙ ap (λ p. p ++ r) (slot_path-within q name number x.0))
+          own x.0 y.0 x.1 y.1
+          (sym (slot_path-within q name number y.0) ∙ ap (slot_path q) (sym y.2) ∙ e ∙ ap (λ s. slot_path q s ++ r) x.2 ∙ ap (λ p. p ++ r) (slot_path-within q name number x.0))
           in
           y.2 ∙ ap (within name number) same ∙ sym x.2
       by (inl k) (inr l) own rest =
