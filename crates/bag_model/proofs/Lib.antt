@@ -23,6 +23,7 @@ pub mod ReadingRows
 pub mod FirstLaws
 pub mod JoinLaws
 pub mod OfShape
+pub mod JoinUnionLaws
 pub mod BelowLaws
 pub mod PathsApart
 pub mod LayoutLaws
@@ -31,6 +32,7 @@ pub mod Covering
 pub mod SlotsBelow
 pub mod DataPlaces
 pub mod NormalLaws
+pub mod GoneDataLaws
 pub mod EachSlot
 pub mod SpellingTests
 pub mod NormalRows

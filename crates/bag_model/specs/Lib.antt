@@ -10,6 +10,7 @@ pub mod Sizes
 pub mod ShapeCode
 pub mod Values
 pub mod Joins
+pub mod JoinUnions
 pub mod Readings
 pub mod Typed
 pub mod MergeReadings
@@ -17,4 +18,5 @@ pub mod ValueCode
 pub mod Encodings
 pub mod Normal
 pub mod NormalForms
+pub mod GoneData
 pub mod SlotValues

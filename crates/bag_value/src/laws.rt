@@ -3,16 +3,30 @@
 ghost use Rattle.bag_model.specs.Shapes.{Shape};
 ghost use Rattle.bag_model.specs.Values.{Value, IsOfShape};
 ghost use Rattle.bag_model.specs.Joins.{Alike, join};
+ghost use Rattle.bag_model.specs.JoinUnions.{JoinsAreUnions, BottomSaysNothing};
 ghost use Rattle.bag_model.specs.MergeReadings.{MergesReadAsJoins};
 ghost use Rattle.bag_model.specs.Encodings.{EncodingsReadBack};
 ghost use Rattle.bag_model.specs.Typed.{TypedListsSay, TypedWhereNoneMisspells};
 ghost use Rattle.bag_model.specs.NormalForms.{NormalFormKeeps};
+ghost use Rattle.bag_model.specs.GoneData.{GoneDataLeaveHeaders};
 ghost use Rattle.bag_model.specs.SlotValues.{SlotsReadApart, OnlyFits};
 
 /// Two values of one shape can be joined, and their join is of the shape.
 pub fn values_of_one_shape_are_joined()
     ensures alike { (shape : Shape) (v w : Value) → IsOfShape shape v → IsOfShape shape w → Alike v w }
     ensures joined { (shape : Shape) (v w : Value) → IsOfShape shape v → IsOfShape shape w → IsOfShape shape (join v w) }
+{}
+
+/// The join of two values holds what both hold: a taint is on where one is, of two scalars stands the first, sets have the
+/// scalars of both, counters the writers of both with the greater count, maps the keys of both with joined values, and bags
+/// the join at each field.
+pub fn joins_are_unions()
+    ensures { JoinsAreUnions }
+{}
+
+/// Bottom says nothing, and is the only value of its shape that says nothing.
+pub fn bottom_says_nothing()
+    ensures { BottomSaysNothing }
 {}
 
 /// What is read of a merge is the join of what is read of its parts: a merge of typed lists is typed, and says the join of
@@ -40,6 +54,12 @@ pub fn typed_lists_say()
 /// exactly where the list has one; twice is once, and a list has one normal form.
 pub fn normal_form_keeps()
     ensures { NormalFormKeeps }
+{}
+
+/// A datum that normal form takes away stands under the header of its slot. The header stays, and is beyond each slot that
+/// the datum is beyond: so no slot that was ended is open without the datum.
+pub fn gone_data_leave_headers()
+    ensures { GoneDataLeaveHeaders }
 {}
 
 /// What a list says of a table it says slot by slot, and back.

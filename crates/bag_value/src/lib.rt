@@ -6,8 +6,6 @@ mod joins;
 pub mod laws;
 mod lists;
 mod sharing;
-#[cfg(test)]
-mod tests;
 mod vals;
 
 pub use lists::{Entries, Entry, Vals};

@@ -7,8 +7,6 @@ mod keys;
 mod lattice;
 mod moves;
 mod sharing;
-#[cfg(test)]
-mod tests;
 
 pub use counts::{Counts, counts_join_is_union};
 pub use keys::Keys;

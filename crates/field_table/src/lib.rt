@@ -6,8 +6,6 @@ mod shapes;
 mod sharing;
 mod slot_paths;
 mod tables;
-#[cfg(test)]
-mod tests;
 mod views;
 
 pub use laws::{name_paths_differ, ranges_are_exact};

@@ -114,6 +114,21 @@ impl Slots {
         )
     }
 
+    /// Adds a field with this name, number and shape at the end. Want of memory leaves the fields as they were.
+    pub fn add(&mut self, name: &str, number: u16, shape: Shape) -> Result<(), Memory>
+        ensures ok { OnOk result (fields (nodes_of self.new)
+            ≡ fields (nodes_of self.old) ++ record { name = name.now; number = number; shape = shape_of shape } ∷ []) }
+        ensures err { OnErr result (nodes_of self.new ≡ nodes_of self.old) }
+        ensures indexed { IsIndexed self.old → IsIndexedShape shape → IsIndexed self.new }
+    {
+        let name = Text::of(*self.items.allocator(), name)?;
+        self.push(Slot {
+            name,
+            number,
+            shape,
+        })
+    }
+
     /// Puts the index by name in order, once all fields are there. It takes no memory.
     pub(crate) fn sort_index(&mut self)
         ensures same { nodes_of self.new ≡ nodes_of self.old }

@@ -6,3 +6,4 @@ pub mod PackedSteps
 pub mod KindSpelled
 pub mod VarintFronts
 pub mod KindWords
+mod WordTexts

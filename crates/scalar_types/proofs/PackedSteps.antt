@@ -1,6 +1,6 @@
 -- The walks over the fields of a struct, in terms of the fields that are left.
 use Rattle.std.proofs.lemmas.Bool.Decides.{nat_tests}
-use Rattle.std.proofs.Common.{◌≡◌, ◌↔◌, ℕ, Bool, IsTrue, ◌==◌, List, [], ◌∷◌, ◌++◌, map, length, sym, refl, ap, ◌∙◌, subst, arith}
+use Rattle.std.proofs.Common.{◌≡◌, ◌↔◌, ℕ, Bool, IsTrue, ◌==◌, List, [], ◌∷◌, ◌++◌, map, length, sym, refl, ap, ◌∙◌, subst, append_assoc, arith}
 use Rattle.bag_model.specs.Scalars.{Word, Form, Plain, form_of, IsOfForm, ArePlainsOf, field_spelling, packed_spelling}
 use Rattle.bag_model.proofs.Codes.{code_rest}
 use Rattle.bag_model.proofs.SpellingOrder.{field_code}
@@ -71,6 +71,16 @@ fields_less kind kinds rest after v b s = by s.0 s.1
         same = code_rest (field_code (form_of (word_of kind))) w v (fields kinds ws) after s.fit.0 b.fit (s.same ∙ sym b.same);
       },
     )
+
+-- a field put behind others, and the fields behind it
+pub fields_put : (kind : ScalarKind) (kinds : List ScalarKind) (value : Scalar) (values : List Scalar) (f : Form) → f ≡ form_of (word_of kind)
+    → (before after all : List ℕ) → after ≡ before ++ field_spelling f (plain_of value)
+    → before ++ fields (kind ∷ kinds) (map plain_of (value ∷ values)) ≡ all → after ++ fields kinds (map plain_of values) ≡ all
+fields_put kind kinds value values f e before after all put so_far =
+    ap (λ l. l ++ fields kinds (map plain_of values)) put
+    ∙ append_assoc before (field_spelling f (plain_of value)) (fields kinds (map plain_of values))
+    ∙ ap (λ g. before ++ (field_spelling g (plain_of value) ++ fields kinds (map plain_of values))) e
+    ∙ so_far
 
 -- no fields
 pub no_fields : (rest : List ℕ) → rest ≡ [] → SpellsFields [] rest []

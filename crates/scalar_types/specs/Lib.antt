@@ -8,3 +8,4 @@ pub mod ScalarFalls
 pub mod Escapes
 pub mod WordCodecs
 pub mod KindLaws
+pub mod Words

@@ -13,10 +13,9 @@ mod plain_codecs;
 mod same_kinds;
 mod scalars;
 mod sharing;
-#[cfg(test)]
-mod tests;
 mod varint_codecs;
 mod word_codecs;
+mod words;
 
 pub use codec::{Codec, TakeFault, respelled, round_trip};
 pub use fixed_codecs::{Fixed, SignedFixed};

@@ -1,5 +1,7 @@
 //! Codecs of values that are spelled as they stand: nothing, a truth value, a text, a byte string.
 
+ghost use Rattle.std.specs.Prelude.{◌≡◌, [], ◌∷◌};
+ghost use Rattle.bag_model.specs.Scalars.{truth_bytes};
 ghost use Rattle.scalar_types.specs.Spelling.{AlwaysFits};
 
 use crate::codec::{Codec, TakeFault};
@@ -78,7 +80,7 @@ impl Codec for Flag {
     }
 
     fn put(&self, value: &bool, into: &mut Vec<u8>) -> Result<(), Memory> {
-        into.push(if *value { 1 } else { 0 })?;
+        into.push(truth_byte(*value))?;
         Ok(())
     }
 
@@ -101,6 +103,13 @@ impl Codec for Flag {
     fn copy_codec(&self) -> Result<Flag, Memory> {
         Ok(Flag)
     }
+}
+
+/// The byte of a truth value.
+fn truth_byte(truth: bool) -> u8
+    ensures { result ∷ [] ≡ truth_bytes truth }
+{
+    if truth { 1 } else { 0 }
 }
 
 impl Front for Flag {

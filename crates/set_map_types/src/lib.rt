@@ -6,8 +6,6 @@ mod least;
 mod map_of;
 mod set_of;
 mod sharing;
-#[cfg(test)]
-mod tests;
 
 pub use least::Least;
 pub use map_of::{MapOf, map_join_is_union};

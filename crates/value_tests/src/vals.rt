@@ -3,8 +3,8 @@
 ghost use Rattle.bag_model.specs.Joins.{Alike};
 ghost use Rattle.bag_value.specs.Plain.{plain};
 
-use crate::laws::values_of_one_shape_are_joined;
-use crate::{Entries, Entry, Val, Vals};
+use bag_value::laws::values_of_one_shape_are_joined;
+use bag_value::{Entries, Entry, Val, Vals};
 use counter_type::{Counts, Lattice, join_repeats, keeps_join_laws};
 use outside::Memory;
 use scalar_types::{Scalar, ScalarKind};

@@ -2,7 +2,7 @@ use Rattle.std.proofs.Common.{arith}
 use Rattle.std.proofs.lemmas.Option.{slice_get_within}
 use Rattle.bag_model.specs.Shapes.{fields}
 use Rattle.field_table.specs.Plain.{nodes_of}
-use Rattle.field_table.proofs.tests.slots_before_number.Goals as goal
+use Rattle.value_tests.proofs.tables.slots_before_number.Goals as goal
 
 pub find_number-requires : goal.find_number-requires
 find_number-requires c = c.nodes-nodes.ensures.ready.fields

@@ -2,10 +2,10 @@
 
 ghost use Rattle.std.specs.Prelude.{IsTrue, ◌↔◌, ◌≤◌};
 
-use crate::{Least, SetOf};
 use counter_type::{Lattice, joins_commute};
 use outside::Memory;
 use scalar_types::{Codec, TakeFault};
+use set_map_types::{Least, SetOf};
 use std::alloc::Global;
 use std::cmp::Ordering;
 use std::test::Fail;

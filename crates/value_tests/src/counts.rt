@@ -1,4 +1,6 @@
-use crate::{
+//! Counts of writers, and their joins.
+
+use counter_type::{
     Counts, Lattice, counts_join_is_union, join_repeats, joins_commute, joins_regroup,
     keeps_join_laws,
 };

@@ -1,9 +1,9 @@
-mod priorities;
+//! Least values, sets and maps, and their joins.
 
-use crate::{Least, MapOf, SetOf, map_join_is_union, set_join_is_union};
 use counter_type::{Counts, Lattice, join_repeats, joins_commute, joins_regroup, keeps_join_laws};
 use outside::{Memory, Text};
 use scalar_types::{LexU, Utf8};
+use set_map_types::{Least, MapOf, SetOf, map_join_is_union, set_join_is_union};
 use std::alloc::Global;
 use std::process::Abort;
 use std::test::Fail;

@@ -1,0 +1,58 @@
+//! The words of the kinds that are no structs, as the definition language spells them.
+
+ghost use Rattle.std.specs.Prelude.{◌≡◌, IfSome};
+ghost use Rattle.std.specs.Option.{option_map};
+ghost use Rattle.bag_model.specs.Words.{word_text};
+ghost use Rattle.scalar_types.specs.KindViews.{IsWord, word_of};
+ghost use Rattle.scalar_types.specs.Words.{word_named};
+
+use crate::kinds::ScalarKind;
+
+impl ScalarKind {
+    /// The kind with this word, `None` exactly where no kind has it.
+    #[tactic(auto, unfolding(crate::specs::Words::word_named))]
+    pub fn of_word(text: &str) -> Option<ScalarKind>
+        ensures word { option_map word_of result ≡ word_named text.now }
+        ensures plain { IfSome result IsWord }
+    {
+        match text {
+            "bool" => Some(ScalarKind::Bool),
+            "int32" => Some(ScalarKind::Int32),
+            "int64" => Some(ScalarKind::Int64),
+            "sint32" => Some(ScalarKind::Sint32),
+            "sint64" => Some(ScalarKind::Sint64),
+            "uint32" => Some(ScalarKind::Uint32),
+            "uint64" => Some(ScalarKind::Uint64),
+            "fixed32" => Some(ScalarKind::Fixed32),
+            "fixed64" => Some(ScalarKind::Fixed64),
+            "sfixed32" => Some(ScalarKind::Sfixed32),
+            "sfixed64" => Some(ScalarKind::Sfixed64),
+            "string" => Some(ScalarKind::Str),
+            "bytes" => Some(ScalarKind::Bytes),
+            _ => None,
+        }
+    }
+
+    /// The word of a kind that is no struct.
+    pub fn word(&self) -> &'static str
+        requires { IsWord self.now }
+        ensures { result.now ≡ word_text (word_of self.now) }
+    {
+        match self {
+            ScalarKind::Bool => "bool",
+            ScalarKind::Int32 => "int32",
+            ScalarKind::Int64 => "int64",
+            ScalarKind::Sint32 => "sint32",
+            ScalarKind::Sint64 => "sint64",
+            ScalarKind::Uint32 => "uint32",
+            ScalarKind::Uint64 => "uint64",
+            ScalarKind::Fixed32 => "fixed32",
+            ScalarKind::Fixed64 => "fixed64",
+            ScalarKind::Sfixed32 => "sfixed32",
+            ScalarKind::Sfixed64 => "sfixed64",
+            ScalarKind::Str => "string",
+            ScalarKind::Bytes => "bytes",
+            ScalarKind::Packed(_) => unreachable!(),
+        }
+    }
+}
