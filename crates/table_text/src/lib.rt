@@ -9,8 +9,6 @@ mod printing;
 mod reading;
 mod rows;
 mod shapes;
-#[cfg(test)]
-mod tests;
 mod words;
 
 pub use faults::{TableCode, TableFault};
