@@ -2,10 +2,11 @@
 
 use crate::pieces::{Piece, joined};
 use crate::tables::{slots_of, table_of};
+use field_table::Table;
 use outside::Memory;
 use std::alloc::Global;
 use std::test::Fail;
-use table_text::{TableFault, print_table, read_table};
+use table_text::{TableFault, TableText};
 
 /// Texts of tables, which have no fault.
 const TABLES: &str = "baggage table 1/ => 
@@ -258,9 +259,9 @@ fn fed(alloc: Global, text: &str) -> Result<Vec<u8>, Memory> {
 
 /// The first fault of a text, or nothing where it is a table's, which is printed as the text.
 fn answer_of(alloc: Global, text: &[u8]) -> Result<String, Fail> {
-    match read_table(alloc, text) {
+    match Table::read(alloc, text) {
         Ok(table) => {
-            if print_table(alloc, &table)?.as_slice() != text {
+            if table.print(alloc)?.as_slice() != text {
                 return Err(Fail::from("the table is printed as another text"));
             }
             Ok(String::new(alloc))
@@ -329,12 +330,8 @@ fn compiled_tables_are_printed_and_read(rt: HostRuntime) -> Result<(), Fail> {
     for (definition, text, slots) in &COMPILED {
         let table = table_of(alloc, definition, "B")?;
         let bytes = fed(alloc, text)?;
-        assert_eq!(rt;
-            print_table(alloc, &table)?.as_slice(),
-            bytes.as_slice(),
-            "{text}"
-        );
-        let Ok(read) = read_table(alloc, &bytes) else {
+        assert_eq!(rt; table.print(alloc)?.as_slice(), bytes.as_slice(), "{text}");
+        let Ok(read) = Table::read(alloc, &bytes) else {
             return Err(Fail::from("a table's text"));
         };
         assert_eq!(rt; slots_of(alloc, &read)?.as_str(), *slots);

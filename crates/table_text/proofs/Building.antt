@@ -66,8 +66,8 @@ whole bag next level head field is name number more indexed names least own name
       names = λ text.
           ap (list_any (bytes_eq text)) names ∙ is.names text
           ∙ ap (list_any (bytes_eq text))
-            (map-append name_of heads (head ∷ []) ∙ ap (λ (n : List ℕ). map name_of heads ++ n ∷ []) name ∙ sym (map-append name_of heads (field ∷ []))
-            ∙ ap (map name_of) (sym more));
+          (map-append name_of heads (head ∷ []) ∙ ap (λ (n : List ℕ). map name_of heads ++ n ∷ []) name ∙ sym (map-append name_of heads (field ∷ []))
+          ∙ ap (map name_of) (sym more));
       least = least ∙ is.least ∙ least_more heads head ∙ ap (λ n. n + 1) number ∙ sym (least_more heads field) ∙ ap least_behind (sym more);
     }
 

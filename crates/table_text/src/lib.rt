@@ -2,6 +2,7 @@
 #![tactic(auto)]
 
 mod builder;
+mod calls;
 mod faults;
 pub mod laws;
 mod names;
@@ -11,6 +12,7 @@ mod rows;
 mod shapes;
 mod words;
 
+pub use calls::TableText;
 pub use faults::{TableCode, TableFault};
 pub use printing::print_table;
 pub use reading::read_table;
