@@ -5,8 +5,6 @@
 mod access;
 mod finding;
 pub mod laws;
-#[cfg(test)]
-mod tests;
 
 pub use access::{Accessor, Reading};
 pub use finding::{accessor, accessors};

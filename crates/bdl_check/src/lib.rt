@@ -12,8 +12,6 @@ mod refusals;
 mod sizes;
 mod struct_kinds;
 mod tables;
-#[cfg(test)]
-mod tests;
 mod types;
 
 pub use bdl_load::{DefCode, DefFault, Fault};

@@ -107,5 +107,3 @@ pub fn lex(alloc: Global, source: &[u8]) -> Result<Vec<Token>, LexFault>
     Ok(tokens)
 }
 
-#[cfg(test)]
-mod tests;

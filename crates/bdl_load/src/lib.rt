@@ -7,8 +7,6 @@ mod files;
 pub mod laws;
 mod loader;
 mod source;
-#[cfg(test)]
-mod tests;
 
 pub use faults::{DefCode, DefFault, FIRST_SPOT, Fault, Finding};
 pub use files::LoadedFile;

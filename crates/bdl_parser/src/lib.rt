@@ -63,5 +63,3 @@ pub fn parse(alloc: Global, source: &[u8], tokens: &[Token]) -> Result<Module, P
     }
 }
 
-#[cfg(test)]
-mod tests;

@@ -73,19 +73,13 @@ module _ (before : List Row) (level : ℕ) (fs : List Field) (count : ℕ) (row 
   pub record MayStand : Type 0 where
     pub number : least_behind fs ≤ row.number
     pub name : IsIn row.name (map name_of fs) → ⊥
-    pub absent : list_any (bytes_eq row.name) (map name_of fs) ≡ false
     pub levels : level + levels_under row.shape < MAX_LEVELS
     pub fewer : count < MAX_FIELDS
-
-  not_true : (b : Bool) → (b ≡ true → ⊥) → b ≡ false
-  not_true true none = absurd (none refl)
-  not_true false none = refl
 
   pub may_stand_here : NoneOf (Breaks before row) rules_of_bag → MayStand
   may_stand_here none = record {
     number = not_less (least_behind fs) row.number (λ less. none.0 (breaks_order less));
     name = new_name none.1.0;
-    absent = not_true (list_any (bytes_eq row.name) (map name_of fs)) (λ found. none.1.0 (breaks_name found));
     levels = not_most MAX_LEVELS (level + levels_under row.shape) (λ deep. none.1.1.0 (breaks_levels deep));
     fewer = not_most MAX_FIELDS count (λ many. none.1.1.1.0 (breaks_count many));
   }

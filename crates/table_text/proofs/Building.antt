@@ -1,6 +1,7 @@
 -- Open bags, with a line more and with a bag closed.
-use Rattle.std.proofs.Common.{◌≡◌, ℕ, ◌+◌, ◌^◌, ◌<◌, ◌≤◌, true, List, [], ◌∷◌, ◌++◌, map, length, refl, sym, ap, subst, ◌∙◌, append_assoc, append-nil, add-zero, arith}
-use Rattle.std.specs.List.{AllByRecursion}
+use Rattle.std.proofs.Common.{◌≡◌, ℕ, ◌+◌, ◌^◌, ◌<◌, ◌≤◌, true, List, [], ◌∷◌, ◌++◌, map, length, ◌||◌, refl, sym, ap, subst, ◌∙◌, append_assoc, append-nil, add-zero, arith}
+use Rattle.std.specs.List.{AllByRecursion, list_any}
+use Rattle.std.specs.Str.{bytes_eq}
 use Rattle.std.proofs.lemmas.List.{map-append}
 use Rattle.bag_model.specs.declared.TheConstants.{MAX_LEVELS}
 use Rattle.bag_model.specs.Shapes.{Field, fields, no_node}
@@ -9,9 +10,11 @@ use Rattle.field_table.specs.Plain.{nodes_of, IsIndexed}
 use Rattle.table_text.specs.declared.builder.OpenBag.{OpenBag}
 use Rattle.table_text.specs.declared.builder.OpenField.{OpenField}
 use Rattle.table_text.specs.OpenBags.{IsBag, IsOpen, AreOpen, name_of, least_behind, level_inside, open_row, rows_around, IsBehind}
+use Rattle.table_text.specs.Names.{HaveNames}
 use Rattle.table_text.specs.Rows.{Row}
 use Rattle.table_text.specs.TableRows.{rows_of}
 use Rattle.table_text.proofs.Appended.{is_with, sound_with, levels_with}
+use Rattle.table_text.proofs.NameLists.{any_last}
 use Rattle.table_text.proofs.RuleTests.{least_more}
 use Rattle.table_text.proofs.Siblings.{IsStart, bag_start}
 
@@ -24,13 +27,13 @@ no_fields bag level empty indexed names least own few = record {
   indexed = indexed;
   sound = subst AreFields (sym empty) tt;
   shallow = omega (arith, few, ap levels empty);
-  names = names ∙ ap (λ nodes. map name_of (fields nodes)) (sym empty);
+  names = λ text. ap (list_any (bytes_eq text)) (names ∙ ap (λ nodes. map name_of (fields nodes)) (sym empty));
   least = least ∙ ap (λ nodes. least_behind (fields nodes)) (sym empty);
 }
 
 -- A line was noted.
 pub noted : (bag next : OpenBag) (level : ℕ) (head : Field) → IsBag bag level (fields (nodes_of bag.fields)) → next.fields ≡ bag.fields
-    → next.names ≡ bag.names ++ head.name ∷ [] → next.least ≡ head.number + 1 → next.level ≡ bag.level → IsBag next level (fields (nodes_of next.fields) ++ head ∷ [])
+    → HaveNames next.names (head.name ∷ bag.names) → next.least ≡ head.number + 1 → next.level ≡ bag.level → IsBag next level (fields (nodes_of next.fields) ++ head ∷ [])
 noted bag next level head is same names least own =
     let kept = ap nodes_of same in
     let heads = fields (nodes_of bag.fields) in
@@ -40,7 +43,9 @@ noted bag next level head is same names least own =
       indexed = subst IsIndexed (sym same) is.indexed;
       sound = subst AreFields (sym kept) is.sound;
       shallow = omega (arith, is.shallow, ap levels kept);
-      names = names ∙ ap (λ (l : List (List ℕ)). l ++ head.name ∷ []) is.names ∙ sym (map-append name_of heads (head ∷ [])) ∙ ap (map name_of) heads_same;
+      names = λ text.
+          names text ∙ ap (λ b. bytes_eq text head.name || b) (is.names text) ∙ sym (any_last text (map name_of heads) head.name)
+          ∙ ap (list_any (bytes_eq text)) (sym (map-append name_of heads (head ∷ [])) ∙ ap (map name_of) heads_same);
       least = least ∙ sym (least_more heads head) ∙ ap least_behind heads_same;
     }
 
@@ -58,9 +63,11 @@ whole bag next level head field is name number more indexed names least own name
       indexed = indexed;
       sound = subst AreFields (sym with) (sound_with nodes field is.sound named numbered shaped behind);
       shallow = omega (arith, is.shallow, deep, ap levels with, levels_with nodes field);
-      names =
-          names ∙ is.names ∙ map-append name_of heads (head ∷ []) ∙ ap (λ (n : List ℕ). map name_of heads ++ n ∷ []) name ∙ sym (map-append name_of heads (field ∷ []))
-          ∙ ap (map name_of) (sym more);
+      names = λ text.
+          ap (list_any (bytes_eq text)) names ∙ is.names text
+          ∙ ap (list_any (bytes_eq text))
+          (map-append name_of heads (head ∷ []) ∙ ap (λ (n : List ℕ). map name_of heads ++ n ∷ []) name ∙ sym (map-append name_of heads (field ∷ []))
+          ∙ ap (map name_of) (sym more));
       least = least ∙ is.least ∙ least_more heads head ∙ ap (λ n. n + 1) number ∙ sym (least_more heads field) ∙ ap least_behind (sym more);
     }
 

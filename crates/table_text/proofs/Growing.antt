@@ -1,7 +1,6 @@
 -- The fields so far with a bag closed, and with a line more.
 use Rattle.std.proofs.Common.{◌≡◌, ◌+◌, ◌<◌, ◌≤◌, true, false, if◌then◌else◌, List, [], ◌∷◌, ◌++◌, map, length, reverse, refl, sym, ap, subst, ◌∙◌, append_assoc, append-nil, length-append, zero-add, arith}
-use Rattle.std.specs.List.{AllByRecursion, list_any}
-use Rattle.std.specs.Str.{bytes_eq}
+use Rattle.std.specs.List.{AllByRecursion}
 use Rattle.text_lines.specs.Readings.{NoneOf}
 use Rattle.context_model.specs.Orders.{IsIn}
 use Rattle.bag_model.specs.declared.TheConstants.{MAX_LEVELS, MAX_FIELDS}
@@ -13,6 +12,7 @@ use Rattle.table_text.specs.declared.builder.OpenBag.{OpenBag}
 use Rattle.table_text.specs.declared.builder.OpenField.{OpenField}
 use Rattle.table_text.specs.declared.rows.Row.{Row as CodeRow}
 use Rattle.table_text.specs.OpenBags.{IsSoundRow, IsBag, AreOpen, IsSound, IsFresh, name_of, least_behind, head_of, level_inside, open_row, rows_around, rows_so_far, depth_of, IsBehind}
+use Rattle.table_text.specs.Names.{HaveNames}
 use Rattle.table_text.specs.Rows.{Row, IsToldShape}
 use Rattle.table_text.specs.Rules.{deepest, ends_in_bag, Breaks, rules_of_bag}
 use Rattle.table_text.specs.TableRows.{filled, rows_of, rows_in}
@@ -126,7 +126,7 @@ pub record IsNext (builder : Builder) (row : CodeRow) : Type 0 where
 -- The bag with the line noted.
 pub record IsNoted (builder : Builder) (row : CodeRow) (bag : OpenBag) : Type 0 where
   pub fields_same : bag.fields ≡ builder.bag.fields
-  pub names : bag.names ≡ builder.bag.names ++ row.name.now ∷ []
+  pub names : HaveNames bag.names (row.name.now ∷ builder.bag.names)
   pub least : bag.least ≡ row.number + 1
   pub level : bag.level ≡ builder.bag.level
 
@@ -225,12 +225,3 @@ is_next builder row sound row_is depth good =
     let is : IsHere before row.depth builder.bag.level fs builder.rows = subst (λ d. IsHere before d builder.bag.level fs builder.rows) (sym depth) (here builder sound) in
     let may = may_stand_here before builder.bag.level fs builder.rows (row_of row) is good in
     record { sound = sound; row_is = row_is; depth = depth; number = may.number; name = may.name; levels_fit = may.levels; fewer = may.fewer }
-
--- The name of the next line isn't among those of the bag.
-pub new_to_bag : (builder : Builder) (row : CodeRow) → IsSound builder → row.depth ≡ depth_of builder → NoneOf (Breaks (reverse (rows_so_far builder)) (row_of row)) rules_of_bag
-    → list_any (bytes_eq row.name.now) builder.bag.names ≡ false
-new_to_bag builder row sound depth good =
-    let before = reverse (rows_so_far builder) in
-    let fs = fields (nodes_of builder.bag.fields) in
-    let is : IsHere before row.depth builder.bag.level fs builder.rows = subst (λ d. IsHere before d builder.bag.level fs builder.rows) (sym depth) (here builder sound) in
-    ap (list_any (bytes_eq row.name.now)) sound.bag.names ∙ (may_stand_here before builder.bag.level fs builder.rows (row_of row) is good).absent

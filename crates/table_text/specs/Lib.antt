@@ -1,6 +1,7 @@
 pub mod TableTexts
 pub mod Rows
 pub mod TableRows
+pub mod Names
 pub mod OpenBags
 pub mod Words
 pub mod ShapeReads

@@ -9,6 +9,7 @@ use Rattle.table_text.specs.declared.builder.OpenBag.{OpenBag}
 use Rattle.table_text.specs.declared.builder.OpenField.{OpenField}
 use Rattle.table_text.specs.declared.builder.Builder.{Builder}
 use Rattle.table_text.specs.declared.rows.Row.{Row as CodeRow}
+use Rattle.table_text.specs.Names.{HaveNames}
 use Rattle.table_text.specs.Rows.{Row, IsToldShape, map_count}
 use Rattle.table_text.specs.Rules.{deepest, ends_in_bag}
 use Rattle.table_text.specs.TableRows.{rows_of}
@@ -42,7 +43,7 @@ pub record IsBag (bag : OpenBag) (level : ℕ) (heads : List Field) : Type 0 whe
   pub indexed : IsIndexed bag.fields
   pub sound : AreFields (nodes_of bag.fields)
   pub shallow : level + levels (nodes_of bag.fields) ≤ MAX_LEVELS
-  pub names : bag.names ≡ map name_of heads
+  pub names : HaveNames bag.names (map name_of heads)
   pub least : bag.least ≡ least_behind heads
 
 -- The field of a line, of which its bag is yet to be read.

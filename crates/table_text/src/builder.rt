@@ -1,14 +1,13 @@
 //! The bags of a table, while lines say their fields one after another.
 
-ghost use Rattle.std.specs.Prelude.{◌≡◌, ◌≢◌, ◌+◌, ◌<◌, ◌≤◌, ◌++◌, [], ◌∷◌, true, false, length, reverse, IfOk, IfErr, OnOk};
-ghost use Rattle.std.specs.List.{list_any};
-ghost use Rattle.std.specs.Str.{bytes_eq};
+ghost use Rattle.std.specs.Prelude.{◌≡◌, ◌≢◌, ◌+◌, ◌<◌, ◌≤◌, ◌++◌, [], ◌∷◌, length, reverse, IfOk, IfErr, OnOk};
 ghost use Rattle.bag_model.specs.declared.TheConstants.{MAX_LEVELS, MAX_FIELDS};
 ghost use Rattle.bag_model.specs.Shapes.{fields, no_node};
 ghost use Rattle.bag_model.specs.Tables.{levels_under};
 ghost use Rattle.field_table.specs.Plain.{shape_of, nodes_of, IsIndexed, IsIndexedShape};
 ghost use Rattle.text_lines.specs.Readings.{NoneOf, IsFirstOf};
 ghost use Rattle.table_text.specs.declared.TheConstants.{MAPS_MAX};
+ghost use Rattle.table_text.specs.Names.{HaveNames};
 ghost use Rattle.table_text.specs.Rows.{IsToldShape, map_count};
 ghost use Rattle.table_text.specs.Rules.{ends_in_bag, rules, rules_of_bag, Breaks};
 ghost use Rattle.table_text.specs.TableRows.{filled, rows_of};
@@ -93,9 +92,8 @@ impl<'a> OpenBag<'a> {
 
     /// Keeps the name and the number of a field whose line was read.
     fn note(&mut self, name: &'a str, number: u16) -> Result<(), Memory>
-        requires { list_any (bytes_eq name.now) self.old.names ≡ false }
         ensures fields { OnOk result (self.new.fields ≡ self.old.fields) }
-        ensures names { OnOk result (self.new.names ≡ self.old.names ++ name.now ∷ []) }
+        ensures names { OnOk result (HaveNames self.new.names (name.now ∷ self.old.names)) }
         ensures least { OnOk result (self.new.least ≡ number + 1) }
         ensures level { OnOk result (self.new.level ≡ self.old.level) }
     {

@@ -2,6 +2,7 @@
 #![tactic(auto)]
 
 mod builder;
+mod calls;
 mod faults;
 pub mod laws;
 mod names;
@@ -9,10 +10,9 @@ mod printing;
 mod reading;
 mod rows;
 mod shapes;
-#[cfg(test)]
-mod tests;
 mod words;
 
+pub use calls::TableText;
 pub use faults::{TableCode, TableFault};
 pub use printing::print_table;
 pub use reading::read_table;

@@ -1,18 +1,20 @@
 //! The names of a bag's fields.
 
-ghost use Rattle.std.specs.Prelude.{◌≡◌, ◌++◌, [], ◌∷◌, false, OnOk};
+ghost use Rattle.std.specs.Prelude.{◌≡◌, [], ◌∷◌, OnOk};
 ghost use Rattle.std.specs.List.{list_any};
 ghost use Rattle.std.specs.Str.{bytes_eq};
+ghost use Rattle.table_text.specs.Names.{HaveNames};
 
-use indexmap::IndexSet;
 use outside::Memory;
 use std::alloc::Global;
+use std::collections::BTreeSet;
 use std::marker::Model;
 
-/// The names of a bag's fields, each of which is found in constant time. Contracts see them as their list.
+/// The names of a bag's fields. No choice of names makes a look-up slow, as it may where names are hashed. Contracts see
+/// them as their list, in the order of the set.
 #[derive(Drop)]
 pub(crate) struct FieldNames<'a> {
-    names: IndexSet<&'a str>,
+    names: BTreeSet<&'a str>,
 }
 
 impl<'a> Model for FieldNames<'a> {
@@ -29,7 +31,7 @@ impl<'a> FieldNames<'a> {
         ensures { result ≡ [] }
     {
         FieldNames {
-            names: IndexSet::new(alloc),
+            names: BTreeSet::new(alloc),
         }
     }
 
@@ -40,10 +42,9 @@ impl<'a> FieldNames<'a> {
         self.names.contains(name)
     }
 
-    /// Adds a name that no field has.
+    /// Adds a name.
     pub(crate) fn add(&mut self, name: &'a str) -> Result<(), Memory>
-        requires { list_any (bytes_eq name.now) self.old ≡ false }
-        ensures { OnOk result (self.new ≡ self.old ++ name.now ∷ []) }
+        ensures { OnOk result (HaveNames self.new (name.now ∷ self.old)) }
     {
         self.names.insert(name)?;
         Ok(())

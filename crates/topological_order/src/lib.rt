@@ -4,8 +4,6 @@
 mod components;
 mod cycles;
 pub mod laws;
-#[cfg(test)]
-mod tests;
 mod walk;
 
 ghost use Rattle.std.specs.Prelude.{IfOk};

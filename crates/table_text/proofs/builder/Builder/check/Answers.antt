@@ -1,6 +1,4 @@
-use Rattle.std.proofs.Common.{reverse, sym, ap, subst, ◌∙◌, arith}
-use Rattle.std.specs.List.{list_any}
-use Rattle.std.specs.Str.{bytes_eq}
+use Rattle.std.proofs.Common.{reverse, sym, subst, ◌∙◌, arith}
 use Rattle.bag_model.specs.Shapes.{fields}
 use Rattle.field_table.specs.Plain.{nodes_of}
 use Rattle.table_text.specs.OpenBags.{rows_so_far}
@@ -25,7 +23,7 @@ returns-then-contains-clause-err c =
     let fs = fields (nodes_of builder.bag.fields) in
     let is : IsHere before row.depth builder.bag.level fs builder.rows = subst (λ d. IsHere before d builder.bag.level fs builder.rows) (sym c.requires.depth) (here builder c.requires.sound) in
     name_first before builder.bag.level fs builder.rows row is (omega (arith, c.if-from-self.false, c.from.ensures, c.requires.sound.bag.least))
-    (ap (list_any (bytes_eq row.name)) (sym c.requires.sound.bag.names) ∙ sym c.contains.ensures ∙ c.if-contains.true)
+    (sym (c.requires.sound.bag.names row.name) ∙ sym c.contains.ensures ∙ c.if-contains.true)
 
 pub returns-then-self-levels_under-ge-MAX_LEVELS-clause-err : goal.returns-then-self-levels_under-ge-MAX_LEVELS-clause-err
 returns-then-self-levels_under-ge-MAX_LEVELS-clause-err c =
@@ -35,7 +33,7 @@ returns-then-self-levels_under-ge-MAX_LEVELS-clause-err c =
     let fs = fields (nodes_of builder.bag.fields) in
     let is : IsHere before row.depth builder.bag.level fs builder.rows = subst (λ d. IsHere before d builder.bag.level fs builder.rows) (sym c.requires.depth) (here builder c.requires.sound) in
     levels_first before builder.bag.level fs builder.rows row is (omega (arith, c.if-from-self.false, c.from.ensures, c.requires.sound.bag.least))
-    (ap (list_any (bytes_eq row.name)) (sym c.requires.sound.bag.names) ∙ sym c.contains.ensures ∙ c.if-contains.false)
+    (sym (c.requires.sound.bag.names row.name) ∙ sym c.contains.ensures ∙ c.if-contains.false)
     (omega (arith, c.if-self-levels_under-ge-MAX_LEVELS.true, c.levels_under.ensures.levels))
 
 pub returns-then-self-ge-MAX_FIELDS-clause-err : goal.returns-then-self-ge-MAX_FIELDS-clause-err
@@ -46,7 +44,7 @@ returns-then-self-ge-MAX_FIELDS-clause-err c =
     let fs = fields (nodes_of builder.bag.fields) in
     let is : IsHere before row.depth builder.bag.level fs builder.rows = subst (λ d. IsHere before d builder.bag.level fs builder.rows) (sym c.requires.depth) (here builder c.requires.sound) in
     count_first before builder.bag.level fs builder.rows row is (omega (arith, c.if-from-self.false, c.from.ensures, c.requires.sound.bag.least))
-    (ap (list_any (bytes_eq row.name)) (sym c.requires.sound.bag.names) ∙ sym c.contains.ensures ∙ c.if-contains.false)
+    (sym (c.requires.sound.bag.names row.name) ∙ sym c.contains.ensures ∙ c.if-contains.false)
     (omega (arith, c.if-self-levels_under-ge-MAX_LEVELS.false, c.levels_under.ensures.levels)) c.if-self-ge-MAX_FIELDS.true
 
 pub returns-clause-ok : goal.returns-clause-ok
@@ -57,5 +55,5 @@ returns-clause-ok c =
     let fs = fields (nodes_of builder.bag.fields) in
     let is : IsHere before row.depth builder.bag.level fs builder.rows = subst (λ d. IsHere before d builder.bag.level fs builder.rows) (sym c.requires.depth) (here builder c.requires.sound) in
     none_broken before builder.bag.level fs builder.rows row is (omega (arith, c.if-from-self.false, c.from.ensures, c.requires.sound.bag.least))
-    (ap (list_any (bytes_eq row.name)) (sym c.requires.sound.bag.names) ∙ sym c.contains.ensures ∙ c.if-contains.false)
+    (sym (c.requires.sound.bag.names row.name) ∙ sym c.contains.ensures ∙ c.if-contains.false)
     (omega (arith, c.if-self-levels_under-ge-MAX_LEVELS.false, c.levels_under.ensures.levels)) c.if-self-ge-MAX_FIELDS.false

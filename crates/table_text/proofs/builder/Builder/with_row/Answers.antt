@@ -1,11 +1,8 @@
 use Rattle.std.proofs.Common.{◌+◌, refl, sym, ◌∙◌, arith}
 use Rattle.table_text.specs.declared.builder.Builder.{Builder}
 use Rattle.table_text.specs.Views.{row_of}
-use Rattle.table_text.proofs.Growing.{IsGrown, IsNoted, is_next, new_to_bag, opened, added}
+use Rattle.table_text.proofs.Growing.{IsGrown, IsNoted, is_next, opened, added}
 use Rattle.table_text.proofs.builder.Builder.with_row.Goals as goal
-
-pub note-requires : goal.note-requires
-note-requires c = new_to_bag c.args.self c.args.row c.requires.sound c.requires.depth c.requires.good
 
 pub returns-in_ok-push : goal.returns-in_ok-push
 returns-in_ok-push c =

@@ -1,7 +1,7 @@
 //! Definitions of one file or several, with their tables and their first faults.
 
 /// The files, the root first, each in a line with its name, a bar, and what it holds; the bag that is asked for; and the answer.
-pub(super) static ANSWERS: [(&str, &str, &str); 51] = [
+pub(crate) static ANSWERS: [(&str, &str, &str); 51] = [
     // Imports.
     (
         "m.bdl|import \"in.bdl\"; bag M { In x = 0; }\nin.bdl|bag In { bool a = 3; bool b = 3; }",

@@ -1,7 +1,7 @@
 //! Definitions of one file and their first faults.
 
 /// What the file holds, and the line, the column and the code of its first fault.
-pub(super) static FAULTS: [(&str, &str); 99] = [
+pub(crate) static FAULTS: [(&str, &str); 99] = [
     // The bytes of a file.
     ("bag B { bool a = 65536; }", "1:18 NumberRange"),
     ("bag B {", "1:7 Expected"),

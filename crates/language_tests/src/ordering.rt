@@ -3,10 +3,10 @@
 ghost use Rattle.std.specs.Prelude.{◌<◌, All, IsTrue};
 ghost use Rattle.topological_order.specs.Graphs.{graph_of, IsClosed};
 
-use crate::{Sorted, laws, topological_order};
 use outside::Memory;
 use std::alloc::Global;
 use std::test::Fail;
+use topological_order::{Sorted, topological_order};
 
 type Rows = &'static [&'static [usize]];
 
@@ -63,10 +63,19 @@ fn sorted(alloc: Global, graph: &[Vec<usize>]) -> Result<Sorted, Fail> {
     Ok(topological_order(alloc, graph)?)
 }
 
+/// A chain of so many nodes, from the first to the last: one at least.
+fn chain(alloc: Global, len: usize) -> Result<Vec<Vec<usize>>, Memory> {
+    let mut graph = Vec::new(alloc);
+    for to in 1..len {
+        graph.push(vec![in alloc; to]?)?;
+    }
+    graph.push(Vec::new(alloc))?;
+    Ok(graph)
+}
+
 #[test]
-fn first_cyclic_nodes(rt: HostRuntime) -> Result<(), Fail> {
+fn graphs_have_orders_or_cycles(rt: HostRuntime) -> Result<(), Fail> {
     let alloc = rt.alloc();
-    laws::orders_exclude_cycles();
     for (rows, want) in &GRAPHS {
         match sorted(alloc, &graph(alloc, rows)?)? {
             Sorted::Cycle(node) => assert_eq!(rt; Some(node), *want, "{rows:?}"),
@@ -77,16 +86,6 @@ fn first_cyclic_nodes(rt: HostRuntime) -> Result<(), Fail> {
         }
     }
     Ok(())
-}
-
-/// A chain of so many nodes, from the first to the last: one at least.
-fn chain(alloc: Global, len: usize) -> Result<Vec<Vec<usize>>, Memory> {
-    let mut graph = Vec::new(alloc);
-    for to in 1..len {
-        graph.push(vec![in alloc; to]?)?;
-    }
-    graph.push(Vec::new(alloc))?;
-    Ok(graph)
 }
 
 #[test]

@@ -1,0 +1,195 @@
+//! Accessors of definitions: their names, and what some of them read and write.
+
+ghost use Rattle.std.specs.Prelude.{◌<◌, ◌^◌};
+
+use crate::pieces::joined;
+use crate::tables::table_of;
+use accessor_gen::laws::values_fit_at_slots;
+use accessor_gen::{accessor, accessors};
+use bag_typed::check_typed;
+use bag_value::Val;
+use field_table::{Shape, Table};
+use outside::Memory;
+use scalar_types::{Scalar, ScalarKind};
+use std::alloc::Global;
+use std::test::Fail;
+use wire_bytes::{read_context, write};
+
+const REQUEST: &str =
+    "bag Req { fixed32 id = 0; set<string> tags = 1; counter hops = 2; taint debug = 3;
+    map<string, uint32> load = 4; }";
+
+const NESTED: &str = "bag Sub { fixed32 ok = 0; set<string> late = 9; }
+    bag Req { taint first = 0; Sub sub = 5; taint last = 300; }";
+
+// Each definition with the names of its accessors, and with names that none has.
+static NAMES: [(&str, &str, &str); 2] = [
+    (
+        REQUEST,
+        "id tags hops debug load",
+        "i ids Req Req.id load. LOAD",
+    ),
+    (
+        NESTED,
+        "first sub.ok sub.late last",
+        "i ids sub sub.o sub.ok. .ok",
+    ),
+];
+
+// What contexts say of the slots of `REQUEST`.
+static READINGS: [(&[u8], &str, &str); 8] = [
+    (
+        b"\x02\xf8\x00\x05\x00\x00\x00\x00\x07\x02\xf8\x01\x00",
+        "id",
+        "Exact 7",
+    ),
+    (
+        b"\x02\xf8\x00\x05\x00\x00\x00\x00\x07\x02\xf8\x01\x00",
+        "tags",
+        "Partial 0 elements",
+    ),
+    (
+        b"\x02\xf8\x00\x05\x00\x00\x00\x00\x09\x00",
+        "id",
+        "Partial 9",
+    ),
+    (
+        b"\x02\xf8\x00\x05\x00\x00\x00\x00\x09\x00",
+        "debug",
+        "Partial off",
+    ),
+    (b"\x02\xf8\x00\x05\x00\x00\x00\x00\x09", "id", "Exact 9"),
+    (
+        b"\x02\xf8\x00\x05\x00\x00\x00\x00\x09",
+        "tags",
+        "Exact 0 elements",
+    ),
+    (b"\x02\xf8\x03\x01\x00", "debug", "Exact on"),
+    (b"", "id", "Exact -"),
+];
+
+// A slot of 32 bits, a number that is written to it, and the bytes of the context.
+static WRITES: [(&str, &str, u32, &[u8]); 2] = [
+    (REQUEST, "id", 7, b"\x02\xf8\x00\x05\x00\x00\x00\x00\x07"),
+    (
+        NESTED,
+        "sub.ok",
+        258,
+        b"\x02\xf8\x05\x02\xf0\x00\x05\x00\x00\x00\x01\x02",
+    ),
+];
+
+/// The names of the accessors of a table, with a blank between two, or nothing where one isn't found by its name with the number
+/// of its place.
+fn names_of(alloc: Global, table: &Table) -> Result<Option<String>, Fail> {
+    let mut names = String::new(alloc);
+    let made = accessors(alloc, table)?;
+    for (slot, field) in made.iter().enumerate() {
+        let name = field.name.as_str();
+        let found = accessor(alloc, table, name)?.ok_or("an accessor")?;
+        if field.slot != slot || found.slot != slot || found.name.as_str() != name {
+            return Ok(None);
+        }
+        if 0 < slot {
+            names.push(' ')?;
+        }
+        names.push_str(name)?;
+    }
+    Ok(Some(names))
+}
+
+#[test]
+fn each_slot_has_an_accessor(rt: HostRuntime) -> Result<(), Fail> {
+    let alloc = rt.alloc();
+    for (definition, wanted, others) in &NAMES {
+        let table = table_of(alloc, definition, "Req")?;
+        let names = names_of(alloc, &table)?.ok_or("each is found")?;
+        assert_eq!(rt; names.as_str(), *wanted);
+        for name in others.split(' ') {
+            assert!(rt; accessor(alloc, &table, name)?.is_none(), "{name}");
+        }
+    }
+    Ok(())
+}
+
+/// A value of a scalar, a set or a taint.
+fn value_text(alloc: Global, value: &Val) -> Result<String, Memory> {
+    Ok(match value {
+        Val::Scalar(Some(Scalar::Unsigned(number))) => format!(in alloc; "{number}")?,
+        Val::Scalar(None) => String::from_str(alloc, "-")?,
+        Val::Set(set) => format!(in alloc; "{} elements", set.len())?,
+        Val::Taint(on) => String::from_str(alloc, if *on { "on" } else { "off" })?,
+        _ => String::from_str(alloc, "another value")?,
+    })
+}
+
+/// What the context with these bytes says of a slot.
+fn reading_of(alloc: Global, table: &Table, bytes: &[u8], name: &str) -> Result<String, Fail> {
+    let Ok(context) = read_context(alloc, bytes) else {
+        return Err(Fail::from("bytes of no context"));
+    };
+    if check_typed(table, &context).is_err() {
+        return Err(Fail::from("an ill-typed atom"));
+    }
+    let field = accessor(alloc, table, name)?.ok_or("an accessor")?;
+    let reading = field.get(alloc, table, &context)?;
+    let value = value_text(alloc, &reading.value)?;
+    Ok(format!(in alloc; "{:?} {value}", reading.state)?)
+}
+
+#[test]
+fn slots_are_read(rt: HostRuntime) -> Result<(), Fail> {
+    let alloc = rt.alloc();
+    let table = table_of(alloc, REQUEST, "Req")?;
+    for (bytes, name, wanted) in &READINGS {
+        let reading = reading_of(alloc, &table, bytes, name)?;
+        assert_eq!(rt; reading.as_str(), *wanted, "{name}");
+    }
+    Ok(())
+}
+
+/// The bytes of the context that says a number of 32 bits at a slot and nothing else.
+fn written(alloc: Global, table: &Table, name: &str, number: u64) -> Result<Vec<u8>, Fail>
+    requires { number < 2 ^ 32 }
+{
+    let field = accessor(alloc, table, name)?.ok_or("an accessor")?;
+    let Shape::Scalar(kind) = field.shape(table) else {
+        return Err(Fail::from("no scalar"));
+    };
+    let ScalarKind::Fixed32 = kind else {
+        return Err(Fail::from("not 32 bits"));
+    };
+    // The proof rests on this law.
+    values_fit_at_slots();
+    let value = Val::Scalar(Some(Scalar::Unsigned(number)));
+    let context = field.write(alloc, table, &value)?;
+    Ok(write(alloc, context.list())?)
+}
+
+#[test]
+fn slots_are_written(rt: HostRuntime) -> Result<(), Fail> {
+    let alloc = rt.alloc();
+    for (definition, name, number, bytes) in &WRITES {
+        let table = table_of(alloc, definition, "Req")?;
+        let context = written(alloc, &table, name, u64::from(*number))?;
+        assert_eq!(rt; context.as_slice(), *bytes);
+        let wanted = format!(in alloc; "Exact {number}")?;
+        let reading = reading_of(alloc, &table, bytes, name)?;
+        assert_eq!(rt; reading.as_str(), wanted.as_str());
+    }
+    Ok(())
+}
+
+#[test]
+fn the_last_of_300_slots(rt: HostRuntime) -> Result<(), Fail> {
+    let alloc = rt.alloc();
+    let fields = [("bag Req {", 1), (" fixed32 f# = #;", 300), (" }", 1)];
+    let table = table_of(alloc, joined(alloc, &fields)?.as_str(), "Req")?;
+    let last = b"\x03\xf8\x81\x2b\x05\x00\x00\x00\x00\x07";
+    let context = written(alloc, &table, "f299", 7)?;
+    assert_eq!(rt; context.as_slice(), last.as_slice());
+    let made = accessors(alloc, &table)?;
+    let field = made.last().ok_or("an accessor")?;
+    assert!(rt; made.len() == 300 && field.slot == 299 && field.name.as_str() == "f299");
+    Ok(())
+}

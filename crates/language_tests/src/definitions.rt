@@ -1,0 +1,215 @@
+//! Definitions with their tables and their first faults.
+
+use crate::one_file::FAULTS;
+use crate::pieces::{Piece, joined};
+use crate::several_files::ANSWERS;
+use crate::tables::{answer_of, compiled};
+use field_table::{Shape, Table};
+use outside::{MemoryLibrary, SureLibrary};
+use scalar_types::ScalarKind;
+use std::alloc::Global;
+use std::test::Fail;
+
+#[test]
+fn faults_of_one_file(rt: HostRuntime) -> Result<(), Fail> {
+    let alloc = rt.alloc();
+    for (source, fault) in &FAULTS {
+        let mut library = SureLibrary::new(alloc);
+        library.add("f.bdl", source.as_bytes())?;
+        let wanted = format!(in alloc; "f.bdl {fault}")?;
+        let answer = answer_of(alloc, &mut library, "f.bdl", "B")?;
+        assert_eq!(rt; answer.as_str(), wanted.as_str(), "{source}");
+    }
+    Ok(())
+}
+
+/// The answer for files in lines, each with its name, a bar, and what it holds. The first is the root.
+fn answer(alloc: Global, files: &str, bag: &str) -> Result<String, Fail> {
+    let mut library = SureLibrary::new(alloc);
+    for line in files.lines() {
+        let (name, source) = line.split_once('|').ok_or("a file")?;
+        library.add(name, source.as_bytes())?;
+    }
+    let (root, _) = files.split_once('|').ok_or("a root")?;
+    answer_of(alloc, &mut library, root, bag)
+}
+
+#[test]
+fn answers_of_several_files(rt: HostRuntime) -> Result<(), Fail> {
+    let alloc = rt.alloc();
+    for (files, bag, wanted) in &ANSWERS {
+        let answer = answer(alloc, files, bag)?;
+        assert_eq!(rt; answer.as_str(), *wanted, "{files}");
+    }
+    Ok(())
+}
+
+#[test]
+fn libraries_that_fail(rt: HostRuntime) -> Result<(), Fail> {
+    let alloc = rt.alloc();
+    let mut library = MemoryLibrary::new(alloc, vec![in alloc; 1, 4]?);
+    for wanted in ["z.bdl 1:1 NoFile", "failed"] {
+        let answer = answer_of(alloc, &mut library, "z.bdl", "Z")?;
+        assert_eq!(rt; answer.as_str(), wanted);
+    }
+    library.add("z.bdl", b"import \"y.bdl\"; bag Z { }")?;
+    library.add("y.bdl", b"")?;
+    for wanted in ["ok", "failed"] {
+        let answer = answer_of(alloc, &mut library, "z.bdl", "Z")?;
+        assert_eq!(rt; answer.as_str(), wanted);
+    }
+    let names = library.asked().ok_or("names")?;
+    let mut asked = String::new(alloc);
+    for at in 0..names.len() {
+        asked.push_str(names.get(at).ok_or("a name")?.as_str())?;
+        asked.push(' ')?;
+    }
+    assert_eq!(rt; asked.as_str(), "z.bdl z.bdl z.bdl y.bdl z.bdl ");
+    Ok(())
+}
+
+// The pieces of a definition, and of the table of its bag `B` the count of slots and that of the fields of the least struct, or the
+// first fault.
+static LONG: [(&[Piece], &str); 6] = [
+    (
+        &[("bag B { ", 1), ("bool f# = #; ", 16_384), ("}", 1)],
+        "16384 slots",
+    ),
+    (
+        &[("bag B { ", 1), ("bool f# = #; ", 16_385), ("}", 1)],
+        "f 1:5 TooManySlots",
+    ),
+    // Fields inside the values of a map.
+    (
+        &[
+            ("bag In { ", 1),
+            ("bool f# = #; ", 127),
+            ("} bag B { ", 1),
+            ("map<bool, In> m# = #; ", 128),
+            ("}", 1),
+        ],
+        "128 slots",
+    ),
+    (
+        &[
+            ("bag In { ", 1),
+            ("bool f# = #; ", 127),
+            ("} bag B { ", 1),
+            ("map<bool, In> m# = #; ", 128),
+            ("taint t = 128; }", 1),
+        ],
+        "f 1:1955 TooManySlots",
+    ),
+    // A struct that many fields name.
+    (
+        &[
+            ("struct S { ", 1),
+            ("bool f#; ", 2_000),
+            ("} bag B { ", 1),
+            ("S f# = #; ", 2_000),
+            ("}", 1),
+        ],
+        "2000 slots, 2000 fields",
+    ),
+    (
+        &[
+            ("struct S { ", 1),
+            ("bool f#; ", 2_000),
+            ("} bag In { ", 1),
+            ("set<S> s# = 1#; ", 1_000),
+            ("map<bool, S> m# = 2#; ", 1_000),
+            ("} bag B { In in = 0; }", 1),
+        ],
+        "2000 slots, 2000 fields",
+    ),
+];
+
+/// How many fields the struct has that a shape holds, and none without a struct.
+fn struct_len(shape: &Shape) -> usize {
+    match shape {
+        Shape::Scalar(ScalarKind::Packed(kinds)) | Shape::Set(ScalarKind::Packed(kinds)) => {
+            kinds.len()
+        }
+        Shape::Map(_, value) => struct_len(value),
+        _ => 0,
+    }
+}
+
+/// How many slots a table has, and how many fields the least struct of a slot.
+fn sizes_of(alloc: Global, table: &Table) -> Result<String, Fail> {
+    let mut least = usize::MAX;
+    for slot in 0..table.slots() {
+        least = least.min(struct_len(table.shape(slot)));
+    }
+    Ok(format!(in alloc; "{} slots, {least} fields", table.slots())?)
+}
+
+/// The sizes of the table of a bag, or the first fault of its definition.
+fn sizes_in(alloc: Global, library: &mut SureLibrary, bag: &str) -> Result<String, Fail> {
+    match compiled(alloc, library, "f", bag)? {
+        Ok(table) => sizes_of(alloc, &table),
+        Err(fault) => Ok(fault),
+    }
+}
+
+#[test]
+fn long_definitions(rt: HostRuntime) -> Result<(), Fail> {
+    let alloc = rt.alloc();
+    for (pieces, wanted) in &LONG {
+        let mut library = SureLibrary::new(alloc);
+        library.add("f", joined(alloc, pieces)?.as_bytes())?;
+        let answer = sizes_in(alloc, &mut library, "B")?;
+        assert!(rt; answer.as_str().starts_with(*wanted), "{wanted}: {answer}");
+    }
+    let mut library = SureLibrary::new(alloc);
+    library.add("f", b"import \"long\"; bag A { }")?;
+    let mut long = vec![in alloc; b' '; 1_048_576]?;
+    library.add("long", &long)?;
+    let answer = answer_of(alloc, &mut library, "f", "A")?;
+    assert_eq!(rt; answer.as_str(), "ok");
+    long.push(b' ')?;
+    library.add("long", &long)?;
+    let answer = answer_of(alloc, &mut library, "f", "A")?;
+    assert_eq!(rt; answer.as_str(), "long 1:1 DefTooLong");
+    Ok(())
+}
+
+// How many layers of bags there are, how many fields of the next each has, and the answer for the first.
+static LAYERS: [(u32, u32, &str); 4] = [
+    (
+        15,
+        1,
+        "ok f0.f0.f0.f0.f0.f0.f0.f0.f0.f0.f0.f0.f0.f0.f0.b:0.0.0.0.0.0.0.0.0.0.0.0.0.0.0.0:scalar",
+    ),
+    (16, 1, "f 1:5 TooDeep"),
+    (14, 30, "f 1:5 TooManySlots"),
+    (17, 30, "f 1:5 TooDeep"),
+];
+
+/// A file with bags `B0` to the one before `count`, each with as many fields of the next as `width`, and a last one with a field
+/// of one bool.
+fn layers(alloc: Global, count: u32, width: u32) -> Result<String, Fail> {
+    let mut text = String::new(alloc);
+    for layer in 0..count {
+        let inner = u64::from(layer) + 1;
+        text.push_str(format!(in alloc; "bag B{layer} {{ ")?.as_str())?;
+        for number in 0..width {
+            text.push_str(format!(in alloc; "B{inner} f{number} = {number}; ")?.as_str())?;
+        }
+        text.push_str("}\n")?;
+    }
+    text.push_str(format!(in alloc; "bag B{count} {{ bool b = 0; }}")?.as_str())?;
+    Ok(text)
+}
+
+#[test]
+fn bags_in_layers(rt: HostRuntime) -> Result<(), Fail> {
+    let alloc = rt.alloc();
+    for (count, width, wanted) in &LAYERS {
+        let mut library = SureLibrary::new(alloc);
+        library.add("f", layers(alloc, *count, *width)?.as_bytes())?;
+        let answer = answer_of(alloc, &mut library, "f", "B0")?;
+        assert_eq!(rt; answer.as_str(), *wanted);
+    }
+    Ok(())
+}

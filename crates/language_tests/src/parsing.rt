@@ -1,0 +1,287 @@
+//! The modules of texts, and their first faults.
+
+use crate::pieces::{Piece, joined};
+use bdl_lexer::{MAX_SOURCE, lex};
+use bdl_parser::{BagField, Decl, Module, ParseFault, StructField, TypeForm, TypeNode, parse};
+use std::alloc::Global;
+use std::test::Fail;
+
+// Each text with the number of the token at fault and the code.
+static TEXTS: [(&str, &str); 47] = [
+    ("bag B {", "3 Expected"),
+    ("bag", "1 Expected"),
+    ("bag B", "2 Expected"),
+    ("x", "0 Expected"),
+    ("bag bag { }", "1 Expected"),
+    ("bag B < }", "2 Expected"),
+    ("bag B { bool", "4 Expected"),
+    ("bag B { bool a", "5 Expected"),
+    ("bag B { bool a =", "6 Expected"),
+    ("bag B { bool a = 1", "7 Expected"),
+    ("bag B { bool a = 1;", "8 Expected"),
+    ("bag B { bool a = 1 }", "7 Expected"),
+    ("bag B { bool a, 1; }", "5 Expected"),
+    ("bag B { bool = 1; }", "4 Expected"),
+    ("bag B { 7 a = 1; }", "3 Expected"),
+    ("bag B { bool a = b; }", "6 Expected"),
+    ("bag B { bool bool = 1; }", "4 Expected"),
+    ("bag B { bool a = 1; } }", "9 Expected"),
+    ("bag B { } import \"f\";", "4 Expected"),
+    ("import", "1 Expected"),
+    ("import f;", "1 Expected"),
+    ("import \"f\"", "2 Expected"),
+    ("import \"f\" bag", "2 Expected"),
+    ("struct S { bool a = 1; }", "5 Expected"),
+    ("struct S { bool a }", "5 Expected"),
+    ("struct set { }", "1 Expected"),
+    ("bag B { set a = 1; }", "4 Expected"),
+    ("bag B { set<> a = 1; }", "5 Expected"),
+    ("bag B { set<bool a = 1; }", "6 Expected"),
+    ("bag B { map<bool> a = 1; }", "6 Expected"),
+    ("bag B { map<bool,> a = 1; }", "7 Expected"),
+    ("bag B { map<bool, bool a = 1; }", "8 Expected"),
+    ("bag B { set<bag> a = 1; }", "5 Expected"),
+    ("bag B { import a = 1; }", "3 Expected"),
+    (";", "0 Expected"),
+    ("bag B { \"t\" a = 1; }", "3 Expected"),
+    // What is a module, with its parts and their places.
+    ("", "ok"),
+    ("import \"f\";", "ok import \"f\" 1:8;"),
+    (
+        "import \"\"; import \"g\";",
+        "ok import \"\" 1:8; import \"g\" 1:19;",
+    ),
+    ("bag B { }", "ok bag B 1:5 { }"),
+    (
+        "bag B { bool a = 0; }",
+        "ok bag B 1:5 { 1:9 Bool a 1:14 = 0 1:18; }",
+    ),
+    (
+        "struct S { string a; bytes b; }",
+        "ok struct S 1:8 { 1:12 Str a 1:19; 1:22 Bytes b 1:28; }",
+    ),
+    (
+        "bag B { map<string, map<bytes, N>> a = 3; counter c = 4; taint t = 5; float f = 6; double d = 7; }",
+        "ok bag B 1:5 { 1:9 map<1:13 Str, 1:21 map<1:25 Bytes, 1:32 N>> a 1:36 = 3 1:40; 1:43 Counter c 1:51 = 4 1:55; 1:58 Taint t 1:64 = 5 1:68; 1:71 Float f 1:77 = 6 1:81; 1:84 Double d 1:91 = 7 1:95; }",
+    ),
+    (
+        "import \"f\"; struct S { bool a; } bag B { S s = 65535; }",
+        "ok import \"f\" 1:8; struct S 1:20 { 1:24 Bool a 1:29; } bag B 1:38 { 1:42 S s 1:44 = 65535 1:48; }",
+    ),
+    (
+        "bag imports { int32 a = 0; int64 b = 1; sint32 c = 2; sint64 d = 3; uint32 e = 4; uint64 f = 5; fixed32 g = 6; fixed64 h = 7; sfixed32 i = 8; sfixed64 j = 9; }",
+        "ok bag imports 1:5 { 1:15 Int32 a 1:21 = 0 1:25; 1:28 Int64 b 1:34 = 1 1:38; 1:41 Sint32 c 1:48 = 2 1:52; 1:55 Sint64 d 1:62 = 3 1:66; 1:69 Uint32 e 1:76 = 4 1:80; 1:83 Uint64 f 1:90 = 5 1:94; 1:97 Fixed32 g 1:105 = 6 1:109; 1:112 Fixed64 h 1:120 = 7 1:124; 1:127 Sfixed32 i 1:136 = 8 1:140; 1:143 Sfixed64 j 1:152 = 9 1:156; }",
+    ),
+    (
+        "import \"f.bdl\";\nbag B {\n  map<string, set<N>> a = 7; }",
+        "ok import \"f.bdl\" 1:8; bag B 2:5 { 3:3 map<3:7 Str, 3:15 set<3:19 N>> a 3:23 = 7 3:27; }",
+    ),
+    (
+        "struct S { bool a; bytes b; }",
+        "ok struct S 1:8 { 1:12 Bool a 1:17; 1:20 Bytes b 1:26; }",
+    ),
+];
+
+// The same of types inside one another: the pieces of the text, and what it is answered with at least at its front.
+static NESTED: [(&[Piece], &str); 9] = [
+    (
+        &[
+            ("bag B { ", 1),
+            ("set<", 32),
+            ("bool", 1),
+            (">", 32),
+            (" a = 0; }", 1),
+        ],
+        "67 TypeNesting",
+    ),
+    (
+        &[
+            ("bag B { ", 1),
+            ("set<", 33),
+            ("bool", 1),
+            (">", 33),
+            (" a = 0; }", 1),
+        ],
+        "67 TypeNesting",
+    ),
+    (
+        &[
+            ("bag B { ", 1),
+            ("map<bool,", 32),
+            ("bool", 1),
+            (">", 32),
+            (" a = 0; }", 1),
+        ],
+        "129 TypeNesting",
+    ),
+    (
+        &[("bag B { ", 1), ("set<", 32), ("x", 1), (">", 32)],
+        "67 TypeNesting",
+    ),
+    (
+        &[
+            ("bag B { ", 1),
+            ("set<", 32),
+            ("=", 1),
+            (">", 32),
+            (" a = 0; }", 1),
+        ],
+        "67 Expected",
+    ),
+    (&[("bag B { ", 1), ("set<", 32)], "67 Expected"),
+    (
+        &[
+            ("bag B { bool a = 1 } bag C { ", 1),
+            ("set<", 40),
+            ("bool", 1),
+            (">", 40),
+            (" a = 0; }", 1),
+        ],
+        "7 Expected",
+    ),
+    (
+        &[
+            ("struct S { ", 1),
+            ("set<", 33),
+            ("bool", 1),
+            (">", 33),
+            (" a; } x", 1),
+        ],
+        "67 TypeNesting",
+    ),
+    (
+        &[
+            ("bag B { ", 1),
+            ("set<", 31),
+            ("bool", 1),
+            (">", 31),
+            (" a = 0; }", 1),
+        ],
+        "ok bag B 1:5 {",
+    ),
+];
+
+/// A type with its place and those of the types inside it.
+fn type_text(alloc: Global, node: &TypeNode) -> Result<String, Fail> {
+    let place = format!(in alloc; "{}:{}", node.at.line, node.at.column)?;
+    let form = match &node.form {
+        TypeForm::Scalar(word) => format!(in alloc; "{word:?}")?,
+        TypeForm::Float => String::from_str(alloc, "Float")?,
+        TypeForm::Double => String::from_str(alloc, "Double")?,
+        TypeForm::Taint => String::from_str(alloc, "Taint")?,
+        TypeForm::Counter => String::from_str(alloc, "Counter")?,
+        TypeForm::Set(element) => {
+            let element = type_text(alloc, element)?;
+            format!(in alloc; "set<{element}>")?
+        }
+        TypeForm::Map(key, value) => {
+            let key = type_text(alloc, key)?;
+            let value = type_text(alloc, value)?;
+            format!(in alloc; "map<{key}, {value}>")?
+        }
+        TypeForm::Name(name) => String::from_str(alloc, name.as_str())?,
+    };
+    Ok(format!(in alloc; "{place} {form}")?)
+}
+
+/// The field of a bag with its places.
+fn bag_field_text(alloc: Global, field: &BagField) -> Result<String, Fail> {
+    let kind = type_text(alloc, &field.kind)?;
+    let name = format!(in alloc;
+        "{} {}:{}",
+        field.name.as_str(),
+        field.name_at.line,
+        field.name_at.column
+    )?;
+    let number = format!(in alloc;
+        "{} {}:{}",
+        field.number, field.number_at.line, field.number_at.column
+    )?;
+    Ok(format!(in alloc; " {kind} {name} = {number};")?)
+}
+
+/// The field of a struct with its places.
+fn struct_field_text(alloc: Global, field: &StructField) -> Result<String, Fail> {
+    let kind = type_text(alloc, &field.kind)?;
+    Ok(format!(in alloc;
+        " {kind} {} {}:{};",
+        field.name.as_str(),
+        field.name_at.line,
+        field.name_at.column
+    )?)
+}
+
+/// Appends a declaration.
+fn put_decl(alloc: Global, decl: &Decl, text: &mut String) -> Result<(), Fail> {
+    match decl {
+        Decl::Bag { name, at, fields } => {
+            text.push_str(format!(in alloc;
+                " bag {} {}:{} {{",
+                name.as_str(),
+                at.line,
+                at.column
+            )?.as_str())?;
+            for field in fields.as_slice() {
+                text.push_str(bag_field_text(alloc, field)?.as_str())?;
+            }
+        }
+        Decl::Struct { name, at, fields } => {
+            text.push_str(format!(in alloc;
+                " struct {} {}:{} {{",
+                name.as_str(),
+                at.line,
+                at.column
+            )?.as_str())?;
+            for field in fields.as_slice() {
+                text.push_str(struct_field_text(alloc, field)?.as_str())?;
+            }
+        }
+    }
+    text.push_str(" }")?;
+    Ok(())
+}
+
+/// A module with its places.
+fn module_text(alloc: Global, module: &Module) -> Result<String, Fail> {
+    let mut text = String::from_str(alloc, "ok")?;
+    for import in module.imports.as_slice() {
+        let (line, column) = (import.at.line, import.at.column);
+        text.push_str(format!(in alloc;
+            " import \"{}\" {line}:{column};",
+            import.file.as_str()
+        )?.as_str())?;
+    }
+    for decl in module.decls.as_slice() {
+        put_decl(alloc, decl, &mut text)?;
+    }
+    Ok(text)
+}
+
+/// The module of a text, or its first fault.
+fn answer_of(alloc: Global, text: &str) -> Result<String, Fail> {
+    let source = text.as_bytes();
+    if source.len() > MAX_SOURCE {
+        return Err(Fail::from("a longer text than any source"));
+    }
+    let tokens = lex(alloc, source)?;
+    match parse(alloc, source, &tokens) {
+        Ok(module) => module_text(alloc, &module),
+        Err(ParseFault::At { token, code }) => Ok(format!(in alloc; "{token} {code:?}")?),
+        Err(ParseFault::Memory) => Err(Fail::from("no memory")),
+    }
+}
+
+#[test]
+fn texts_are_modules_or_have_faults(rt: HostRuntime) -> Result<(), Fail> {
+    let alloc = rt.alloc();
+    for (text, wanted) in &TEXTS {
+        let answer = answer_of(alloc, text)?;
+        assert_eq!(rt; answer.as_str(), *wanted, "{text}");
+    }
+    for (pieces, wanted) in &NESTED {
+        let text = joined(alloc, pieces)?;
+        let answer = answer_of(alloc, text.as_str())?;
+        assert!(rt; answer.as_str().starts_with(*wanted), "{text}");
+    }
+    Ok(())
+}
