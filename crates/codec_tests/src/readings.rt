@@ -1,9 +1,7 @@
 //! What is read of contexts, and how it is encoded.
 
 use crate::common::{bag_text, context_of, table_of, words_of};
-use bag_codec::{can_encode, check_typed, decode, encode};
-use bag_value::Val;
-use field_table::Table;
+use bag_codec::{can_encode, check_typed, decode, encode, encode_and_read};
 use std::alloc::Global;
 use std::process::Abort;
 use std::test::Fail;
@@ -131,15 +129,6 @@ static ROWS: [Row; 63] = [
     (DEEP_COUNTER, "f801 f001 e801 e001 d801 d001 c801 c001 b801 b001 a801 a001 9801 9001 8801 8177 0005", "x=[x=[x=[x=[x=[x=[x=[x=[x=[x=[x=[x=[x=[x=[x=5{0x77:5}]]]]]]]]]]]]]]", "f801 f001 e801 e001 d801 d001 c801 c001 b801 b001 a801 a001 9801 9001 8801 8177 0005"),
 ];
 
-/// The words of the encoding of a value.
-fn encoding_of(alloc: Global, table: &Table, value: &Val) -> Result<Vec<u8>, Fail> {
-    if !can_encode(table, value) {
-        return Err(Fail::from("what was read can be encoded"));
-    }
-    let context = encode(alloc, table, value)?;
-    Ok(words_of(alloc, context.list())?)
-}
-
 /// What a context says, and how that is encoded.
 fn is_read(rt: &impl Abort, alloc: Global, row: &Row) -> Result<(), Fail> {
     let (definition, words, text, encoding) = *row;
@@ -150,7 +139,13 @@ fn is_read(rt: &impl Abort, alloc: Global, row: &Row) -> Result<(), Fail> {
     }
     let value = decode(alloc, &table, &context)?;
     assert_eq!(rt; bag_text(alloc, &table, &value)?.as_slice(), text.as_bytes(), "{words}");
-    assert_eq!(rt; encoding_of(alloc, &table, &value)?.as_slice(), encoding.as_bytes(), "{words}");
+    if !can_encode(&table, &value) {
+        panic!(rt; "can't be encoded: {words}");
+    }
+    let encoded = encode(alloc, &table, &value)?;
+    assert_eq!(rt; words_of(alloc, encoded.list())?.as_slice(), encoding.as_bytes(), "{words}");
+    let again = encode_and_read(alloc, &table, &value)?;
+    assert_eq!(rt; bag_text(alloc, &table, &again)?.as_slice(), text.as_bytes(), "{words}");
     Ok(())
 }
 
