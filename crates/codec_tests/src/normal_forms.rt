@@ -66,9 +66,17 @@ fn normal_row(
     }
     let left = words_of(alloc, &left)?;
     let once = normal(alloc, table, view, checked(rt, list))?;
-    assert_eq!(rt; words_of(alloc, once.list())?.as_slice(), left.as_slice(), "{row}");
+    assert_eq!(rt;
+        words_of(alloc, once.list())?.as_slice(),
+        left.as_slice(),
+        "{row}"
+    );
     let twice = normal(alloc, table, view, once)?;
-    assert_eq!(rt; words_of(alloc, twice.list())?.as_slice(), left.as_slice(), "{row}");
+    assert_eq!(rt;
+        words_of(alloc, twice.list())?.as_slice(),
+        left.as_slice(),
+        "{row}"
+    );
     Ok(())
 }
 

@@ -33,8 +33,12 @@ static DATA: [(usize, usize, Option<usize>, Option<usize>); 3] = [
 ];
 
 /// For a place: where the data from it on end, and where what stands below headers of lesser levels than this one.
-static ENDS: [(usize, usize, usize, usize); 4] =
-    [(1, 1, 2, 2), (7, 0, 8, 8), (3, 1, 3, 6), (0, 0, 0, 8)];
+static ENDS: [(usize, usize, usize, usize); 4] = [
+    (1, 1, 2, 2),
+    (7, 0, 8, 8),
+    (3, 1, 3, 6),
+    (0, 0, 0, 8),
+];
 
 #[test]
 fn searches(rt: HostRuntime) -> Result<(), Fail> {
@@ -66,25 +70,43 @@ fn searches(rt: HostRuntime) -> Result<(), Fail> {
 
 /// The words of a context, the place of its first marker, where what stands under the slot begins, where it ends, and the
 /// state of the slot.
-type Row = (
-    &'static str,
-    Option<usize>,
-    Option<usize>,
-    usize,
-    State,
-);
+type Row = (&'static str, Option<usize>, Option<usize>, usize, State);
 
 static SPANS: [Row; 8] = [
     (WHOLE, None, Some(4), 6, State::Exact),
     // Cut behind the slot, and before it.
-    ("f800 0007 f801 f004 e977 0005 -", Some(6), Some(4), 7, State::Partial),
+    (
+        "f800 0007 f801 f004 e977 0005 -",
+        Some(6),
+        Some(4),
+        7,
+        State::Partial,
+    ),
     ("f800 0007 f801 -", Some(3), None, 4, State::Partial),
     // A field that is beyond the slot stands before the marker.
     ("f800 0007 f807 -", Some(3), None, 2, State::Exact),
-    ("f801 f004 e977 0005 f807 -", Some(5), Some(2), 4, State::Exact),
-    ("f801 f004 e977 0005 f005 -", Some(5), Some(2), 4, State::Exact),
+    (
+        "f801 f004 e977 0005 f807 -",
+        Some(5),
+        Some(2),
+        4,
+        State::Exact,
+    ),
+    (
+        "f801 f004 e977 0005 f005 -",
+        Some(5),
+        Some(2),
+        4,
+        State::Exact,
+    ),
     // A marker before the slot, which stands behind it.
-    ("- f801 f004 e977 0005 f807", Some(0), Some(3), 5, State::Partial),
+    (
+        "- f801 f004 e977 0005 f807",
+        Some(0),
+        Some(3),
+        5,
+        State::Partial,
+    ),
     ("f801 f002 - f004", Some(2), Some(4), 4, State::Partial),
 ];
 

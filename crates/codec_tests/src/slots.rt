@@ -122,7 +122,11 @@ fn slots_are_written_alone(rt: HostRuntime) -> Result<(), Fail> {
     for (words, slot, alone) in &WRITTEN {
         let context = context_of(&rt, alloc, words)?;
         let written = slot_alone(&rt, alloc, &table, &context, *slot)?;
-        assert_eq!(rt; words_of(alloc, written.list())?.as_slice(), alone.as_bytes(), "{words}");
+        assert_eq!(rt;
+            words_of(alloc, written.list())?.as_slice(),
+            alone.as_bytes(),
+            "{words}"
+        );
     }
     Ok(())
 }
@@ -161,7 +165,10 @@ fn readings_agree(
     }
     let (read, joined) = merge_and_read(alloc, table, &one, &other)?;
     assert_eq!(rt; bag_text(alloc, table, &read)?.as_slice(), text.as_bytes());
-    assert_eq!(rt; bag_text(alloc, table, &joined)?.as_slice(), text.as_bytes());
+    assert_eq!(rt;
+        bag_text(alloc, table, &joined)?.as_slice(),
+        text.as_bytes()
+    );
     let (kept, read) = normal_and_read(alloc, table, &View::All, &other)?;
     let own = bag_text(alloc, table, &read)?;
     assert_eq!(rt; bag_text(alloc, table, &kept)?, own);

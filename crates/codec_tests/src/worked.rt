@@ -1,9 +1,7 @@
 //! Worked examples of one definition.
 
 use crate::common::{bag_text, context_of, table_of, text_of, words_of};
-use bag_codec::{
-    Val, bottom, can_encode, check_typed, decode, decode_slot, encode, normal,
-};
+use bag_codec::{Val, bottom, can_encode, check_typed, decode, decode_slot, encode, normal};
 use bag_value::laws::values_of_one_shape_are_joined;
 use counter_type::Lattice;
 use field_table::{Table, View};
@@ -32,11 +30,20 @@ fn one_number(rt: HostRuntime) -> Result<(), Fail> {
         panic!(rt; "a typed context and a slot");
     }
     let first = decode_slot(alloc, &table, &context, 0)?;
-    assert_eq!(rt; text_of(alloc, table.shape(0), &first)?.as_slice(), b"7".as_slice());
+    assert_eq!(rt;
+        text_of(alloc, table.shape(0), &first)?.as_slice(),
+        b"7".as_slice()
+    );
     let value = decode(alloc, &table, &context)?;
-    assert_eq!(rt; bag_text(alloc, &table, &value)?.as_slice(), SEVEN.as_bytes());
+    assert_eq!(rt;
+        bag_text(alloc, &table, &value)?.as_slice(),
+        SEVEN.as_bytes()
+    );
     let joined = joined_to_bottom(alloc, &table, &value)?;
-    assert_eq!(rt; bag_text(alloc, &table, &joined)?.as_slice(), SEVEN.as_bytes());
+    assert_eq!(rt;
+        bag_text(alloc, &table, &joined)?.as_slice(),
+        SEVEN.as_bytes()
+    );
     Ok(())
 }
 
@@ -66,7 +73,10 @@ fn bottom_is_an_empty_context(rt: HostRuntime) -> Result<(), Fail> {
     }
     let read = decode(alloc, &table, &context)?;
     assert!(rt; read.is_bottom());
-    assert_eq!(rt; bag_text(alloc, &table, &read)?.as_slice(), NOTHING.as_bytes());
+    assert_eq!(rt;
+        bag_text(alloc, &table, &read)?.as_slice(),
+        NOTHING.as_bytes()
+    );
     Ok(())
 }
 
@@ -76,9 +86,15 @@ fn least_of_two_numbers(rt: HostRuntime) -> Result<(), Fail> {
     let table = table_of(&rt, alloc, REQUEST)?;
     let both = context_of(&rt, alloc, "f800 0000000007 0000000009")?;
     let one = normal(alloc, &table, &View::All, both.copy()?)?;
-    assert_eq!(rt; words_of(alloc, one.list())?.as_slice(), b"f800 0000000007".as_slice());
+    assert_eq!(rt;
+        words_of(alloc, one.list())?.as_slice(),
+        b"f800 0000000007".as_slice()
+    );
     let same = normal(alloc, &table, &View::Nothing, both)?;
-    assert_eq!(rt; words_of(alloc, same.list())?.as_slice(), b"f800 0000000007 0000000009".as_slice());
+    assert_eq!(rt;
+        words_of(alloc, same.list())?.as_slice(),
+        b"f800 0000000007 0000000009".as_slice()
+    );
     let short = context_of(&rt, alloc, "f800 00000007")?;
     assert_eq!(rt; check_typed(&table, &short), Err(1));
     Ok(())
@@ -113,7 +129,11 @@ fn blocks(rt: HostRuntime) -> Result<(), Fail> {
         if check_typed(&table, &context).is_err() {
             panic!(rt; "ill-typed: {words}");
         }
-        assert_eq!(rt; block(alloc, &table, &context)?.as_slice(), text.as_bytes(), "{words}");
+        assert_eq!(rt;
+            block(alloc, &table, &context)?.as_slice(),
+            text.as_bytes(),
+            "{words}"
+        );
     }
     Ok(())
 }
