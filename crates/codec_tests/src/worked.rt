@@ -1,13 +1,12 @@
 //! Worked examples of one definition.
 
 use crate::common::{bag_text, context_of, table_of, text_of, words_of};
-use bag_codec::{Val, bottom, can_encode, check_typed, decode, decode_slot, encode, normal};
-use bag_value::laws::values_of_one_shape_are_joined;
+use bag_codec::{
+    bottom, can_encode, check_typed, decode, decode_slot, encode, merge_and_read, normal,
+};
 use counter_type::Lattice;
-use field_table::{Table, View};
+use field_table::View;
 use report_text::block;
-use std::alloc::Global;
-use std::process::Abort;
 use std::test::Fail;
 
 /// The baggage of a request: a field of each type.
@@ -25,10 +24,12 @@ const SEVEN: &str = "id=7 tags={} hops=0{} debug=off load={}";
 fn one_number(rt: HostRuntime) -> Result<(), Fail> {
     let alloc = rt.alloc();
     let table = table_of(&rt, alloc, REQUEST)?;
+    let empty = context_of(&rt, alloc, "")?;
     let context = context_of(&rt, alloc, "f800 0000000007")?;
-    if check_typed(&table, &context).is_err() || table.slots() == 0 {
-        panic!(rt; "a typed context and a slot");
+    if check_typed(&table, &empty).is_err() || check_typed(&table, &context).is_err() {
+        panic!(rt; "ill-typed");
     }
+    assert!(rt; 0 < table.slots());
     let first = decode_slot(alloc, &table, &context, 0)?;
     assert_eq!(rt;
         text_of(alloc, table.shape(0), &first)?.as_slice(),
@@ -39,25 +40,13 @@ fn one_number(rt: HostRuntime) -> Result<(), Fail> {
         bag_text(alloc, &table, &value)?.as_slice(),
         SEVEN.as_bytes()
     );
-    let joined = joined_to_bottom(alloc, &table, &value)?;
+    // What the empty context says is bottom.
+    let (_, joined) = merge_and_read(alloc, &table, &empty, &context)?;
     assert_eq!(rt;
         bag_text(alloc, &table, &joined)?.as_slice(),
         SEVEN.as_bytes()
     );
     Ok(())
-}
-
-/// The join of the value that says nothing with another.
-fn joined_to_bottom(alloc: Global, table: &Table, value: &Val) -> Result<Val, Fail> {
-    // The proof rests on this law.
-    values_of_one_shape_are_joined();
-    let mut joined = bottom(alloc, table)?;
-    if can_encode(table, &joined) && can_encode(table, value) {
-        joined.join(value)?;
-        Ok(joined)
-    } else {
-        Err(Fail::from("values of the table's shapes can be encoded"))
-    }
 }
 
 #[test]
