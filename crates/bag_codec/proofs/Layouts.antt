@@ -24,13 +24,13 @@ use Rattle.bag_codec.specs.Encodable.{HasRoom, FitsAtom, IsEncodable, AreEncodab
 
 -- ---- atoms behind a path
 
-last_is : (q : Path) (a : Atom) → last_atom (q ++ a ∷ []) ≡ a
+pub last_is : (q : Path) (a : Atom) → last_atom (q ++ a ∷ []) ≡ a
 last_is [] a = refl
 last_is (x ∷ []) a = refl
 last_is (x ∷ y ∷ q) a = last_is (y ∷ q) a
 
 -- The path ends with an atom that is within the limit.
-abbrev Fits : Path → Type 0
+abbrev pub Fits : Path → Type 0
 Fits p = length (last_atom p) ≤ ATOM_MAX
 
 -- Each path of the layout does.
@@ -43,7 +43,7 @@ LayoutsFit nodes q vs = (p : Path) → InLayouts nodes q vs p → Fits p
 fits_behind : (q p : Path) (first : ℕ) (bytes : List ℕ) → p ≡ q ++ (first ∷ bytes) ∷ [] → HasRoom bytes → Fits p
 fits_behind q p first bytes e room = subst Fits (sym e) (subst (λ (a : Atom). length a ≤ ATOM_MAX) (sym (last_is q (first ∷ bytes))) (omega (arith, room)))
 
-room_behind : (q : Path) (first : ℕ) (bytes : List ℕ) → Fits (q ++ (first ∷ bytes) ∷ []) → HasRoom bytes
+pub room_behind : (q : Path) (first : ℕ) (bytes : List ℕ) → Fits (q ++ (first ∷ bytes) ∷ []) → HasRoom bytes
 room_behind q first bytes fits = let few = subst (λ (a : Atom). length a ≤ ATOM_MAX) (last_is q (first ∷ bytes)) fits in omega (arith, few)
 
 short_varint : (n : ℕ) → length (unsigned_varint n) ≤ 9

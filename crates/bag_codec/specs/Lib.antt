@@ -1,2 +1,3 @@
 pub mod Encodable
+pub mod ForeignPaths
 pub mod Room

@@ -13,11 +13,10 @@
 #![tactic(auto)]
 
 mod encodable;
+pub mod laws;
 mod lengths;
 mod normal_readings;
 mod readings;
-#[cfg(test)]
-mod tests;
 
 pub use bag_decode::{bottom, bottom_of, decode, decode_field, decode_slot, slot_value};
 pub use bag_encode::encode;

@@ -1,11 +1,16 @@
 //! Calls that tie normal forms to what is read of them.
 
-ghost use Rattle.std.specs.Prelude.{◌≡◌, ◌<◌, [], length, IfOk};
+ghost use Rattle.std.specs.Prelude.{◌≡◌, ◌↔◌, ◌<◌, List, [], length, IfOk};
+ghost use Rattle.context_model.specs.Atoms.{Atom};
+ghost use Rattle.context_model.specs.Ended.{IsEnded, field_path};
+ghost use Rattle.bag_model.specs.Normal.{IsNormalOf};
 ghost use Rattle.bag_model.specs.Readings.{PathsOf, Reads};
 ghost use Rattle.bag_model.specs.Shapes as shapes;
-ghost use Rattle.bag_model.specs.Slots.{slots_of};
+ghost use Rattle.bag_model.specs.Slots.{SlotAt, slots_of};
+ghost use Rattle.bag_model.specs.SlotValues.{HasSlot};
 ghost use Rattle.bag_model.specs.Typed.{AreTyped};
 ghost use Rattle.bag_value.specs.Plain.{plain};
+ghost use Rattle.field_table.specs.Views.{view_of};
 
 use atom_list::Context;
 use bag_decode::decode;
@@ -27,6 +32,8 @@ pub fn normal_and_read(
 ) -> Result<(Val, Val), Memory>
     requires { AreTyped table.now (PathsOf context.now) [] }
     ensures one { IfOk result (λ two. two.0 ≡ two.1) }
+    ensures kept { IfOk result (λ two. (normal : List Atom) → IsNormalOf table.now (view_of view.now) context.now normal
+        → Reads (shapes.Shape.Bag table.now) (PathsOf normal) [] (plain two.0)) }
     ensures read { IfOk result (λ two. Reads (shapes.Shape.Bag table.now) (PathsOf context.now) [] (plain two.1)) }
 {
     // The proof rests on these laws, and learns that the fields make a table and that the list is well formed.
@@ -49,7 +56,11 @@ pub fn normal_and_states(
     slot: usize,
 ) -> Result<(State, State), Memory>
     requires { slot < length (slots_of table.now) }
-    ensures { IfOk result (λ two. two.0 ≡ two.1) }
+    ensures one { IfOk result (λ two. two.0 ≡ two.1) }
+    ensures kept { IfOk result (λ two. (normal : List Atom) (at : SlotAt) → IsNormalOf table.now (view_of view.now) context.now normal
+        → HasSlot table.now slot at → (two.0 ≡ State.Exact) ↔ IsEnded normal (field_path at.numbers)) }
+    ensures own { IfOk result (λ two. (at : SlotAt) → HasSlot table.now slot at
+        → (two.1 ≡ State.Exact) ↔ IsEnded context.now (field_path at.numbers)) }
 {
     // The proof rests on this law, and learns that the fields make a table and that the list is well formed.
     normal_form_keeps();

@@ -4,7 +4,7 @@ ghost use Rattle.std.specs.Prelude.{◌≡◌, List, [], ◌∷◌, IfOk};
 ghost use Rattle.context_model.specs.Atoms.{Atom};
 ghost use Rattle.context_model.specs.Merged.{IsMerged};
 ghost use Rattle.bag_encode.specs.BagValues.{bag_values};
-ghost use Rattle.bag_model.specs.Encodings.{FitsAtoms};
+ghost use Rattle.bag_model.specs.Encodings.{FitsAtoms, IsEncoding};
 ghost use Rattle.bag_model.specs.Readings.{PathsOf, Reads};
 ghost use Rattle.bag_model.specs.Shapes as shapes;
 ghost use Rattle.bag_model.specs.Typed.{AreTyped};
@@ -51,7 +51,9 @@ pub fn merge_and_read(
 pub fn encode_and_read(alloc: Global, table: &Table, value: &Val) -> Result<Val, Memory>
     requires shape { IsOfShape (shapes.Shape.Bag table.now) (plain value.now) }
     requires fits { FitsAtoms table.now (bag_values (plain value.now)) }
-    ensures { IfOk result (λ read. read ≡ value.now) }
+    ensures one { IfOk result (λ read. read ≡ value.now) }
+    ensures read { IfOk result (λ read. (list : List Atom) → IsEncoding table.now (bag_values (plain value.now)) list
+        → Reads (shapes.Shape.Bag table.now) (PathsOf list) [] (plain read)) }
 {
     // The proof rests on these laws, and learns that the fields make a table.
     encodings_read_back();

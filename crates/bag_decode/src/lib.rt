@@ -3,10 +3,9 @@
 #![tactic(auto)]
 
 mod bottoms;
+pub mod laws;
 mod leaves;
 mod slots;
-#[cfg(test)]
-mod tests;
 mod walks;
 
 pub use bottoms::{bottom, bottom_of};

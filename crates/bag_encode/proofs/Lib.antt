@@ -4,7 +4,5 @@ pub mod EncodingLaws
 pub mod Steps
 pub mod FieldSteps
 pub mod EntrySteps
-pub mod OneField
 pub mod SlotTrees
 pub mod SlotSteps
-pub mod OneSlot

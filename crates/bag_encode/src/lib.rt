@@ -9,9 +9,8 @@
 
 mod encoding;
 mod growing_list;
+pub mod laws;
 mod slots;
-#[cfg(test)]
-mod tests;
 mod values;
 
 pub use encoding::encode;

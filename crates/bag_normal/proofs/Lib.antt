@@ -5,4 +5,3 @@ mod FieldHeaders
 mod Below
 mod Keys
 mod SlotTurns
-mod NamesApart

@@ -6,7 +6,5 @@ mod fields;
 mod headers;
 mod known;
 mod normal_form;
-#[cfg(test)]
-mod tests;
 
 pub use normal_form::normal;

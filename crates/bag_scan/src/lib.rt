@@ -7,8 +7,6 @@ mod parts;
 mod searches;
 mod spans;
 mod states;
-#[cfg(test)]
-mod tests;
 
 pub use data::{first_datum, is_datum, last_datum};
 pub use parts::{atom, data_end, segment_end};

@@ -1,8 +1,5 @@
 //! Random values of random bags: what is read of a merge of their encodings, against their join.
 
-ghost use Rattle.std.specs.Prelude.{[]};
-ghost use Rattle.bag_model.specs.Readings.{PathsOf};
-ghost use Rattle.bag_model.specs.Typed.{AreTyped};
 ghost use Rattle.scalar_types.specs.KindViews.{IsWord};
 
 use crate::dice::Dice;
@@ -15,7 +12,7 @@ use bag_codec::{
 use bag_value::laws::values_of_one_shape_are_joined;
 use bdl_check::compile;
 use counter_type::Lattice;
-use field_table::{Shape, Slots, Table, View};
+use field_table::{Table, View};
 use outside::{Memory, SureLibrary};
 use report_text::put_value;
 use scalar_types::{KindList, ScalarKind};
@@ -39,49 +36,77 @@ fn word(dice: &mut Dice) -> &'static str {
     WORDS[dice.below(13)]
 }
 
-/// A type whose values hold no other values.
-fn plain_type(alloc: Global, dice: &mut Dice) -> Result<String, Fail> {
+/// Adds a type whose values hold no other values.
+fn put_plain(dice: &mut Dice, text: &mut String) -> Result<(), Memory> {
     let word = word(dice);
-    Ok(match dice.below(6) {
-        0 => String::from_str(alloc, "taint")?,
-        1 => String::from_str(alloc, "counter")?,
-        2 => String::from_str(alloc, "Packed")?,
-        3 => String::from_str(alloc, "set<Packed>")?,
-        4 => format!(in alloc; "set<{word}>")?,
-        _ => String::from_str(alloc, word)?,
-    })
+    match dice.below(6) {
+        0 => text.push_str("taint")?,
+        1 => text.push_str("counter")?,
+        2 => text.push_str("Packed")?,
+        3 => text.push_str("set<Packed>")?,
+        4 => write!(text, "set<{word}>")?,
+        _ => text.push_str(word)?,
+    }
+    Ok(())
 }
 
-/// A type of any form.
-fn any_type(alloc: Global, dice: &mut Dice) -> Result<String, Fail> {
-    let (outer, inner) = (word(dice), word(dice));
-    let plain = plain_type(alloc, dice)?;
-    Ok(match dice.below(8) {
-        0 => String::from_str(alloc, "Inner")?,
-        1 => format!(in alloc; "map<{outer}, Inner>")?,
-        2 => format!(in alloc; "map<{outer}, {plain}>")?,
-        3 => format!(in alloc; "map<{outer}, map<{inner}, {plain}>>")?,
-        _ => plain,
-    })
+/// Adds a type of any form: one to which maps lead, or a map to one, or to maps to one.
+fn put_any(dice: &mut Dice, text: &mut String) -> Result<(), Memory> {
+    let maps = match dice.below(8) {
+        0 | 1 => 1,
+        2 => 2,
+        _ => 0,
+    };
+    for _ in 0..maps {
+        write!(text, "map<{}, ", word(dice))?;
+    }
+    if dice.below(4) == 0 {
+        text.push_str("Inner")?;
+    } else {
+        put_plain(dice, text)?;
+    }
+    for _ in 0..maps {
+        text.push('>')?;
+    }
+    Ok(())
 }
 
-/// A definition: a struct, a bag that may stand inside the other, and that bag. Numbers of fields have a byte or more.
-fn random_definition(alloc: Global, dice: &mut Dice) -> Result<String, Fail> {
-    let mut text = String::from_str(alloc, "struct Packed {")?;
+/// Adds the fields of a struct.
+fn put_struct(dice: &mut Dice, text: &mut String) -> Result<(), Memory> {
     for at in 0..1 + dice.below(3) {
-        text.push_str(format!(in alloc; " {} s{at};", word(dice))?.as_str())?;
+        write!(text, " {} s{at};", word(dice))?;
     }
-    text.push_str(" } bag Inner {")?;
+    Ok(())
+}
+
+/// Adds the fields of the bag that may stand inside the other.
+fn put_inner(dice: &mut Dice, text: &mut String) -> Result<(), Memory> {
     for at in 0..1 + dice.below(3) {
-        let plain = plain_type(alloc, dice)?;
-        text.push_str(format!(in alloc; " {plain} i{at} = {at};")?.as_str())?;
+        text.push(' ')?;
+        put_plain(dice, text)?;
+        write!(text, " i{at} = {at};")?;
     }
-    text.push_str(" } bag Outer {")?;
+    Ok(())
+}
+
+/// Adds the fields of the outer bag. Their numbers have a byte or more.
+fn put_outer(dice: &mut Dice, text: &mut String) -> Result<(), Memory> {
     for at in 0..1 + dice.below(6) {
-        let any = any_type(alloc, dice)?;
-        let number = 60 * at + dice.below(60);
-        text.push_str(format!(in alloc; " {any} o{at} = {number};")?.as_str())?;
+        text.push(' ')?;
+        put_any(dice, text)?;
+        write!(text, " o{at} = {};", 60 * at + dice.below(60))?;
     }
+    Ok(())
+}
+
+/// A definition: a struct, a bag that may stand inside the other, and that bag.
+fn random_definition(alloc: Global, dice: &mut Dice) -> Result<String, Memory> {
+    let mut text = String::from_str(alloc, "struct Packed {")?;
+    put_struct(dice, &mut text)?;
+    text.push_str(" } bag Inner {")?;
+    put_inner(dice, &mut text)?;
+    text.push_str(" } bag Outer {")?;
+    put_outer(dice, &mut text)?;
     text.push_str(" }")?;
     Ok(text)
 }
@@ -131,58 +156,37 @@ fn merge_all(alloc: Global, dice: &mut Dice, contexts: Vec<Context>) -> Result<C
     Ok(contexts.pop().ok_or("a context")?)
 }
 
-/// Appends a line with the value of each slot of a field.
-#[cycle(lines)]
-fn put_slots(shape: &Shape, value: &Val, levels: usize, into: &mut Vec<u8>) -> Result<(), Memory> {
-    match (shape, value) {
-        (Shape::Bag(fields), Val::Bag(values)) if 0 < levels => {
-            put_fields(fields, values, levels - 1, into)
-        }
-        _ => {
-            put_value(shape, value, into)?;
-            Ok(into.push(b'\n')?)
-        }
-    }
-}
-
-/// Appends the lines of the slots of a bag's fields.
-#[cycle(lines)]
-fn put_fields(
-    fields: &Slots,
-    values: &Vals,
-    levels: usize,
-    into: &mut Vec<u8>,
-) -> Result<(), Memory> {
-    for at in 0..fields.len() {
-        if let (Some(field), Some(value)) = (fields.get(at), values.get(at)) {
-            put_slots(&field.shape, value, levels, into)?;
-        }
-    }
-    Ok(())
-}
-
-/// A line for each slot of the table with what a value has there.
-fn lines_of(alloc: Global, table: &Table, value: &Val) -> Result<Vec<u8>, Fail> {
+/// A line for each field of the table with what a value has there.
+fn fields_of(alloc: Global, table: &Table, value: &Val) -> Result<Vec<u8>, Fail> {
+    let Val::Bag(values) = value else {
+        return Err(Fail::from("no bag"));
+    };
     let mut lines = Vec::new(alloc);
-    if let Val::Bag(values) = value {
-        put_fields(table.nodes(), values, LEVELS, &mut lines)?;
+    let fields = table.nodes();
+    for at in 0..fields.len() {
+        let field = fields.get(at).ok_or("a field")?;
+        put_value(&field.shape, values.get(at).ok_or("a value")?, &mut lines)?;
+        lines.push(b'\n')?;
     }
     Ok(lines)
 }
 
 /// A line for each slot of the table with what a context says of it. No slot may have been cut off.
-fn lines_said<R: Abort>(
+fn slots_of<R: Abort>(
     rt: &R,
     alloc: Global,
     table: &Table,
     context: &Context,
-) -> Result<Vec<u8>, Fail>
-    requires { AreTyped table.now (PathsOf context.now) [] }
-{
+) -> Result<Vec<u8>, Memory> {
+    if check_typed(table, context).is_err() {
+        panic!(rt; "an ill-typed atom");
+    }
     let mut lines = Vec::new(alloc);
     for slot in 0..table.slots() {
-        let is_exact = matches!(state_of(table, context, slot), State::Exact);
-        assert!(rt; is_exact, "slot {slot}");
+        assert!(rt;
+            state_of(table, context, slot) == State::Exact,
+            "slot {slot}"
+        );
         let value = decode_slot(alloc, table, context, slot)?;
         put_value(table.shape(slot), &value, &mut lines)?;
         lines.push(b'\n')?;
@@ -199,17 +203,15 @@ fn reads_as<R: Abort>(
     merged: &Context,
     joined: &Val,
 ) -> Result<(), Fail> {
-    let lines = lines_of(alloc, table, joined)?;
-    match check_typed(table, merged) {
-        Ok(()) => {
-            let read = decode(alloc, table, merged)?;
-            let all = lines_of(alloc, table, &read)?;
-            let each = lines_said(rt, alloc, table, merged)?;
-            assert_eq!(rt; all.as_slice(), lines.as_slice(), "{definition}");
-            assert_eq!(rt; each.as_slice(), lines.as_slice(), "{definition}");
-        }
-        Err(place) => panic!(rt; "atom {place} is ill-typed: {definition}"),
+    if check_typed(table, merged).is_err() {
+        panic!(rt; "{definition}");
     }
+    let read = decode(alloc, table, merged)?;
+    assert_eq!(rt;
+        fields_of(alloc, table, &read)?,
+        fields_of(alloc, table, joined)?,
+        "{definition}"
+    );
     Ok(())
 }
 
@@ -230,7 +232,8 @@ fn add_random(
     join_of(table, joined, &value)
 }
 
-/// Compares the normal form of a merge with the encoding of the join, as bytes. A difference is told with the definition.
+/// Compares the slots of a merge with those of the encoding of the join, as texts, and the normal form of the merge with it,
+/// as bytes. A difference is told with the definition.
 fn is_written_as<R: Abort>(
     rt: &R,
     alloc: Global,
@@ -239,9 +242,12 @@ fn is_written_as<R: Abort>(
     merged: Context,
     joined: &Val,
 ) -> Result<(), Fail> {
-    let whole = write(alloc, encoded(alloc, table, joined)?.list())?;
-    let fewest = write(alloc, normal(alloc, table, &View::All, merged)?.list())?;
-    assert_eq!(rt; fewest.as_slice(), whole.as_slice(), "{definition}");
+    let whole = encoded(alloc, table, joined)?;
+    let slots = slots_of(rt, alloc, table, &whole)?;
+    assert_eq!(rt; slots_of(rt, alloc, table, &merged)?, slots, "{definition}");
+    let fewest = normal(alloc, table, &View::All, merged)?;
+    let bytes = write(alloc, whole.list())?;
+    assert_eq!(rt; write(alloc, fewest.list())?, bytes, "{definition}");
     Ok(())
 }
 

@@ -2,8 +2,6 @@
 #![tactic(auto)]
 
 mod payloads;
-#[cfg(test)]
-mod tests;
 mod walk;
 
 pub use walk::check_typed;

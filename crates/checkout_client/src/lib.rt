@@ -1,5 +1,6 @@
 //! An example of the libraries, to start from: a client that writes fields of a bag by their names, and reads them behind
-//! services that merge and cut what was written and know no definition. `tests.rt` goes the whole way, from a definition on.
+//! services that merge and cut what was written and know no definition. `codec_tests/src/checkout.rt` goes the whole way,
+//! from a definition on.
 #![tactic(auto)]
 
 ghost use Rattle.std.specs.Prelude.{IfOk, IfErr};
@@ -95,6 +96,3 @@ pub fn read_field(
     check_typed(table, &context).map_err(|place| FieldFault::IllTyped { place })?;
     Ok(field.get(alloc, table, &context)?)
 }
-
-#[cfg(test)]
-mod tests;
