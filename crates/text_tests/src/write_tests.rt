@@ -205,7 +205,7 @@ static WRITES: [Row; 20] = [
     ),
 ];
 
-/// Texts that no line of a table can hold, each behind the lines of a table, and the text of the value or `none`.
+/// The lines of a table, bytes that no line above can hold, and the text of the value that they write or `none`.
 static BYTES: [(&str, &[u8], &str); 6] = [
     ("0 0 a scalar string", b"\"\x7f\"", r#""\x7f""#),
     ("0 0 a scalar string", b"\"\x1f\"", "none"),
