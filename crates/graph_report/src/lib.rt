@@ -3,7 +3,5 @@
 
 pub mod laws;
 mod reports;
-#[cfg(test)]
-mod tests;
 
 pub use reports::report;

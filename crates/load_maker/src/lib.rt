@@ -3,7 +3,8 @@
 
 pub mod laws;
 mod loads;
-#[cfg(test)]
-mod tests;
 
 pub use loads::make_load;
+
+/// The most rounds of a load.
+pub const ROUNDS_MAX: u32 = 1_000;

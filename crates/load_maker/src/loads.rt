@@ -3,9 +3,10 @@
 //! A round has 42 steps: five in each of its eight lanes, one that joins the lanes, and one that brings what they say back to
 //! the service at which the round began.
 
-ghost use Rattle.std.specs.Prelude.{◌≡◌, ◌++◌, ◌<◌, ◌≤◌, [], ◌∷◌, IfOk, OnOk, string_bytes};
+ghost use Rattle.std.specs.Prelude.{◌≡◌, ◌++◌, ◌*◌, ◌<◌, ◌≤◌, [], ◌∷◌, IfOk, OnOk, string_bytes};
 ghost use Rattle.bag_model.specs.Shapes.{fields};
 ghost use Rattle.field_table.specs.Plain.{nodes_of, shape_of, IsIndexed, IsIndexedShape};
+ghost use Rattle.load_maker.specs.declared.TheConstants.{ROUNDS_MAX};
 ghost use Rattle.load_maker.specs.Loads.{load_table, lane_of, join_of, end_of, round_of, load_text, line_of, text_of};
 
 use field_table::{Shape, Slot, Slots, Table};
@@ -62,7 +63,7 @@ fn make_table(alloc: Global) -> Result<Table, Memory>
 /// Appends the lines of a lane of a round: a branch, a write to each field, and a step to the second service.
 #[tactic(auto, unfolding(crate::specs::Loads::text_of))]
 fn put_lane(text: &mut String, round: u32, lane: u32) -> Result<(), Memory>
-    requires round { round < 1000 }
+    requires round { round < ROUNDS_MAX }
     requires lane { lane < 8 }
     ensures { OnOk result (string_bytes text.new ≡ string_bytes text.old ++ text_of (lane_of round lane)) }
 {
@@ -86,7 +87,7 @@ fn put_lane(text: &mut String, round: u32, lane: u32) -> Result<(), Memory>
 
 /// Appends the line that joins the lanes of a round, which begins at this step.
 fn put_join(text: &mut String, start: u32) -> Result<(), Memory>
-    requires { start < 42000 }
+    requires { start < 42 * ROUNDS_MAX }
     ensures { OnOk result (string_bytes text.new ≡ string_bytes text.old ++ line_of (join_of start)) }
 {
     writeln!(
@@ -108,7 +109,7 @@ fn put_join(text: &mut String, start: u32) -> Result<(), Memory>
 /// Appends the lines that end a round: its lanes are joined, and what they say goes back to the first service.
 #[tactic(auto, unfolding(crate::specs::Loads::text_of))]
 fn put_end(text: &mut String, round: u32) -> Result<(), Memory>
-    requires { round < 1000 }
+    requires { round < ROUNDS_MAX }
     ensures { OnOk result (string_bytes text.new ≡ string_bytes text.old ++ text_of (end_of round)) }
 {
     let start = 42 * round;
@@ -119,7 +120,7 @@ fn put_end(text: &mut String, round: u32) -> Result<(), Memory>
 
 /// Appends the lines of a round.
 fn put_round(text: &mut String, round: u32) -> Result<(), Memory>
-    requires { round < 1000 }
+    requires { round < ROUNDS_MAX }
     ensures { OnOk result (string_bytes text.new ≡ string_bytes text.old ++ text_of (round_of round)) }
 {
     for lane in 0..8 {
@@ -130,7 +131,7 @@ fn put_round(text: &mut String, round: u32) -> Result<(), Memory>
 
 /// The text of the load.
 fn make_text(alloc: Global, rounds: u32) -> Result<String, Memory>
-    requires { rounds ≤ 1000 }
+    requires { rounds ≤ ROUNDS_MAX }
     ensures { IfOk result (λ text. string_bytes text ≡ load_text rounds) }
 {
     let mut text = String::from_str(alloc, "service a all\nservice b none\nstart 0 a\n")?;
@@ -145,7 +146,7 @@ fn make_text(alloc: Global, rounds: u32) -> Result<String, Memory>
 /// greatest load has 42,001 steps in about a million bytes. See `docs/FORMATS.md` for the lines of a round.
 pub fn make_load(alloc: Global, n: u32) -> Result<(Table, Vec<u8>), Memory>
     requires some { 1 ≤ n }
-    requires few { n ≤ 1000 }
+    requires few { n ≤ ROUNDS_MAX }
     ensures table { IfOk result (λ load. load.0 ≡ load_table) }
     ensures text { IfOk result (λ load. load.1.items ≡ load_text n) }
 {

@@ -5,6 +5,5 @@ mod SlotObjects
 mod Placed
 mod StepObjects
 mod OneJson
-mod FieldNames
 mod SameData
 mod JsonRows

@@ -4,7 +4,5 @@
 pub mod laws;
 mod objects;
 mod reports;
-#[cfg(test)]
-mod tests;
 
 pub use reports::report_json;

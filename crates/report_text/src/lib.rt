@@ -5,8 +5,6 @@ mod blocks;
 mod commas;
 pub mod laws;
 mod scalar_texts;
-#[cfg(test)]
-mod tests;
 mod value_texts;
 
 pub use blocks::{block, put_block};

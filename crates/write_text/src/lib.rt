@@ -6,8 +6,6 @@ pub mod laws;
 mod literals;
 mod numbers;
 mod strings;
-#[cfg(test)]
-mod tests;
 mod writes;
 
 pub use writes::read_write;
