@@ -1,4 +1,3 @@
-mod NameLaws
 mod Members
 mod Ranges
 mod ViewPaths
