@@ -144,7 +144,9 @@ fn gives<R: Abort + Threads + Sync>(
     requires { IsOfTable table.now graph.now }
 {
     assert!(rt; step < graph.steps());
-    assert!(rt; places.len() == graph.step(step).act.parents().len());
+    let own = graph.step(step);
+    let parents = own.act.parents();
+    assert!(rt; places.len() == parents.len());
     check_places(rt, pool, places);
     let beside = run_step(rt, alloc, table, graph, step, pool, places)?;
     let alone = run_step_alone(alloc, table, graph, step, pool, places)?;

@@ -6,6 +6,7 @@ use graph_text::laws::{lines_are_definite, texts_have_one_graph};
 use graph_text::{Act, BUDGET_MAX, PARENTS_MAX, read_graph};
 use recorded_graph::STEPS_MAX;
 use std::alloc::Global;
+use std::process::Abort;
 use std::test::Fail;
 use text_lines::DIGITS_MAX;
 
@@ -157,8 +158,11 @@ BadHex recv 2 a 0
 BadHex recv 2 a 0g
 BadHex recv 2 a --";
 
-/// Refused lines that end in a word many times: the code, the line, the word, and how many times.
-const LONG: [(&str, &str, &str, usize); 5] = [
+/// A refused line that ends in a word many times: the code, the line, the word, and how many times.
+type Long = (&'static str, &'static str, &'static str, usize);
+
+/// Refused lines behind the same.
+const LONG: [Long; 5] = [
     ("TooManyParents", "join 2", " 0", PARENTS_MAX + 1),
     ("WrongService", "join 2 0 1", " 0", PARENTS_MAX),
     ("NoSuchStep", "join 2 0 2", " 0", PARENTS_MAX),
@@ -192,16 +196,28 @@ fn lines_that_are_refused(rt: HostRuntime) -> Result<(), Fail> {
     Ok(())
 }
 
+/// Compares the faults of texts that go on behind the front with a line of each row.
+fn are_refused(
+    rt: &impl Abort,
+    alloc: Global,
+    front: &str,
+    number: usize,
+    rows: &[Long],
+) -> Result<(), Fail> {
+    let table = table_of(rt, alloc, "Small")?;
+    for (code, line, word, times) in rows {
+        let text = with_words(alloc, format!(in alloc; "{front}{line}")?.as_str(), word, *times)?;
+        let fault = fault_of(alloc, &table, text.as_str())?;
+        assert_eq!(rt; fault, Some(printed(alloc, number, code)?), "{line}");
+    }
+    Ok(())
+}
+
 #[test]
 fn long_lines_that_are_refused(rt: HostRuntime) -> Result<(), Fail> {
     let alloc = rt.alloc();
+    are_refused(&rt, alloc, FRONT, 5, &LONG)?;
     let table = table_of(&rt, alloc, "Small")?;
-    for (code, line, word, times) in LONG {
-        let front = format!(in alloc; "{FRONT}{line}")?;
-        let text = with_words(alloc, front.as_str(), word, times)?;
-        let fault = fault_of(alloc, &table, text.as_str())?;
-        assert_eq!(rt; fault, Some(printed(alloc, 5, code)?), "{line}");
-    }
     let front = format!(in alloc; "{FRONT}join 2")?;
     let most = with_words(alloc, front.as_str(), " 0", PARENTS_MAX)?;
     assert!(rt; fault_of(alloc, &table, most.as_str())?.is_none());
@@ -274,30 +290,30 @@ fn contexts_that_are_refused(rt: HostRuntime) -> Result<(), Fail> {
     Ok(())
 }
 
-/// Refused lines behind as many steps as there may be: the code, the line, the word at its end, and how many times.
-const AT_THE_EDGE: [(&str, &str, &str, usize); 9] = [
-    ("TooManySteps", "recv 100000 a 0", "", 0),
+/// Refused lines behind as many steps as there may be: rules that come before that of the number of steps.
+const BEFORE_ROOM: [Long; 5] = [
     ("NoSuchService", "start 100000 z", "", 0),
     ("NoSuchService", "forward 100000 0 z", "", 0),
     ("NoSuchStep", "branch 100000 100000", "", 0),
     ("BadValue", "set 100000 0 id x", "", 0),
     ("BudgetRange", "trim 100000 0 0", "", 0),
-    ("TooManySteps", "trim 100000 0 1", "", 0),
+];
+
+/// And rules that come behind it.
+const BEHIND_ROOM: [Long; 3] = [
+    ("TooManySteps", "recv 100000 a 0", "", 0),
     ("TooManySteps", "join 100000", " 0", PARENTS_MAX + 1),
     ("TooManySteps", "recv 100000 a ", "0", DIGITS_MAX + 1),
 ];
 
 #[test]
-fn as_many_steps_as_there_may_be(rt: HostRuntime) -> Result<(), Fail> {
-    let alloc = rt.alloc();
-    let table = table_of(&rt, alloc, "Small")?;
-    let text = star_text(alloc, STEPS_MAX - 1)?;
-    assert_eq!(rt; graph_of(&rt, alloc, &table, text.as_str()).steps(), STEPS_MAX);
-    for (code, line, word, times) in AT_THE_EDGE {
-        let last = with_words(alloc, line, word, times)?;
-        let whole = format!(in alloc; "{text}{last}")?;
-        let fault = fault_of(alloc, &table, whole.as_str())?;
-        assert_eq!(rt; fault, Some(printed(alloc, STEPS_MAX + 2, code)?), "{line}");
-    }
-    Ok(())
+fn steps_behind_the_most_with_other_faults(rt: HostRuntime) -> Result<(), Fail> {
+    let text = star_text(rt.alloc(), STEPS_MAX - 1)?;
+    are_refused(&rt, rt.alloc(), text.as_str(), STEPS_MAX + 2, &BEFORE_ROOM)
+}
+
+#[test]
+fn steps_behind_the_most(rt: HostRuntime) -> Result<(), Fail> {
+    let text = star_text(rt.alloc(), STEPS_MAX - 1)?;
+    are_refused(&rt, rt.alloc(), text.as_str(), STEPS_MAX + 2, &BEHIND_ROOM)
 }

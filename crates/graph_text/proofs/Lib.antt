@@ -1,3 +1,4 @@
+mod Numbers
 mod Members
 mod Ranges
 mod ViewPaths
