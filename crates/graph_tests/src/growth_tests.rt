@@ -12,7 +12,7 @@ use std::process::Abort;
 use std::test::Fail;
 
 /// Steps of each kind at two services: the number of the service, what the step does, its parents, and its budget.
-const STEPS: [(usize, &str, &[usize], u64); 7] = [
+static STEPS: [(usize, &str, &[usize], u64); 7] = [
     (0, "start", &[], 0),
     (0, "set", &[0], 0),
     (0, "trim", &[1], 9),
@@ -23,7 +23,7 @@ const STEPS: [(usize, &str, &[usize], u64); 7] = [
 ];
 
 /// Steps that may follow those, or may not.
-const FOLLOWERS: [(usize, &str, &[usize], u64, bool); 13] = [
+static FOLLOWERS: [(usize, &str, &[usize], u64, bool); 13] = [
     (1, "start", &[], 0, true),
     (2, "start", &[], 0, false),
     (2, "recv", &[], 0, false),
@@ -82,9 +82,12 @@ fn seven_steps(rt: &impl Abort, alloc: Global) -> Result<Graph, Memory> {
         let name = Text::of(alloc, name)?;
         graph.add_service(Service { name, view })?;
     }
-    for (service, word, parents, budget) in STEPS {
+    for &(service, word, parents, budget) in &STEPS {
         let step = step(alloc, service, word, parents, budget)?;
-        assert!(rt; graph.steps() < STEPS_MAX && graph.may_follow(&step), "{word}");
+        assert!(rt;
+            graph.steps() < STEPS_MAX && graph.may_follow(&step),
+            "{word}"
+        );
         graph.add_step(step)?;
     }
     for number in [6, 2] {
@@ -101,7 +104,7 @@ fn graphs_grow_at_their_ends(rt: HostRuntime) -> Result<(), Fail> {
     assert_eq!(rt; graph.service(1).name.as_str(), "d");
     assert!(rt; matches!(graph.service(0).view, View::All));
     assert_eq!(rt; graph.steps(), 7);
-    for (number, (service, word, parents, _budget)) in STEPS.into_iter().enumerate() {
+    for (number, &(service, word, parents, _budget)) in STEPS.iter().enumerate() {
         assert!(rt; number < graph.steps());
         assert_eq!(rt; graph.step(number).service, service, "{word}");
         assert_eq!(rt; graph.step(number).act.parents(), parents, "{word}");
@@ -115,7 +118,7 @@ fn graphs_grow_at_their_ends(rt: HostRuntime) -> Result<(), Fail> {
 #[test]
 fn steps_that_may_not_follow(rt: HostRuntime) -> Result<(), Fail> {
     let graph = seven_steps(&rt, rt.alloc())?;
-    for (service, word, parents, budget, may) in FOLLOWERS {
+    for &(service, word, parents, budget, may) in &FOLLOWERS {
         let step = step(rt.alloc(), service, word, parents, budget)?;
         assert_eq!(rt; graph.may_follow(&step), may, "{word} at {service}");
     }

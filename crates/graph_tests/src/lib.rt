@@ -9,9 +9,9 @@ mod gate_tests;
 #[cfg(test)]
 mod graph_tables;
 #[cfg(test)]
-mod line_tests;
-#[cfg(test)]
 mod growth_tests;
+#[cfg(test)]
+mod line_tests;
 #[cfg(test)]
 mod run_tests;
 #[cfg(test)]

@@ -102,7 +102,7 @@ fn reads_lines(rt: HostRuntime) -> Result<(), Fail> {
 }
 
 /// Lines with bytes that a row can't have, and what they say, if anything.
-const BYTES: [(&[u8], Option<&str>); 3] = [
+static BYTES: [(&[u8], Option<&str>); 3] = [
     (
         b"set 1 0 id x\ty",
         Some(r#"Step { number: 1, act: Set { parent: 0, path: "id", write: "x\ty" } }"#),
@@ -113,7 +113,7 @@ const BYTES: [(&[u8], Option<&str>); 3] = [
 
 #[test]
 fn reads_bytes(rt: HostRuntime) -> Result<(), Fail> {
-    for (line, printed) in BYTES {
+    for &(line, printed) in &BYTES {
         let said = said(rt.alloc(), line)?;
         assert_eq!(rt; said.as_deref(), printed);
     }

@@ -54,7 +54,7 @@ fn run_both<R: Abort + Threads + Sync>(
 }
 
 /// Graphs, each behind the bag of its table, with their reports.
-const GRAPHS: [(&str, &str, &str); 3] = [
+static GRAPHS: [(&str, &str, &str); 3] = [
     ("Request", TRACE, TRACE_REPORT),
     ("Nothing", RECEIVED, RECEIVED_REPORT),
     ("Request", "", ""),
@@ -63,7 +63,7 @@ const GRAPHS: [(&str, &str, &str); 3] = [
 #[test]
 fn graphs_are_run_in_both_ways(rt: HostRuntime) -> Result<(), Fail> {
     let alloc = rt.alloc();
-    for (bag, text, wanted) in GRAPHS {
+    for &(bag, text, wanted) in &GRAPHS {
         let table = table_of(&rt, alloc, bag)?;
         let _lists = run_both(&rt, alloc, &table, text, wanted)?;
     }
@@ -88,7 +88,12 @@ fn wide_graphs_are_run_in_both_ways(rt: HostRuntime) -> Result<(), Fail> {
     let lists = run_both(&rt, alloc, &table, star.as_str(), "")?;
     assert_eq!(rt; lists.len(), 1_001);
     assert!(rt; lists.iter().all(|list| list.list().is_empty()));
-    let join = with_words(alloc, "service n none\nstart 0 n\njoin 1", " 0", PARENTS_MAX)?;
+    let join = with_words(
+        alloc,
+        "service n none\nstart 0 n\njoin 1",
+        " 0",
+        PARENTS_MAX,
+    )?;
     let lists = run_both(&rt, alloc, &table, join.as_str(), "")?;
     assert_eq!(rt; lists.len(), 2);
     assert!(rt; lists.iter().all(|list| list.list().is_empty()));

@@ -37,7 +37,7 @@ join 16 1";
 
 /// What steps give: the number of the step, the digits of the pool's lists, the places of the parents' lists, and the digits
 /// of the list. An id is 5 bytes, and of two the lesser is preferred; of two counts the greater.
-const GIVEN: [(usize, &str, &[usize], &str); 26] = [
+static GIVEN: [(usize, &str, &[usize], &str); 26] = [
     (0, "", &[], "-"),
     (0, "02f80000", &[], "-"),
     (1, "", &[], "02f800050000000005"),
@@ -170,29 +170,52 @@ fn steps_give_lists(rt: HostRuntime) -> Result<(), Fail> {
     let alloc = rt.alloc();
     let table = table_of(&rt, alloc, "Request")?;
     let graph = graph_of(&rt, alloc, &table, STEPS);
-    for (step, pool, places, digits) in GIVEN {
+    for &(step, pool, places, digits) in &GIVEN {
         let pool = pool_of(alloc, pool)?;
-        gives(&rt, alloc, &table, &graph, step, pool.as_slice(), places, digits)?;
+        gives(
+            &rt,
+            alloc,
+            &table,
+            &graph,
+            step,
+            pool.as_slice(),
+            places,
+            digits,
+        )?;
     }
     Ok(())
 }
 
 /// A pool for the most parents: its lists, of which the first stands for all parents but the last; and what the join gives.
-const MOST: [(&str, &str); 2] = [("- -", "-"), ("02f80100 02f80200", "02f8010002f80200")];
+static MOST: [(&str, &str); 2] = [("- -", "-"), ("02f80100 02f80200", "02f8010002f80200")];
 
 #[test]
 fn the_most_parents_are_joined(rt: HostRuntime) -> Result<(), Fail> {
     let alloc = rt.alloc();
     let table = table_of(&rt, alloc, "Nothing")?;
-    let text = with_words(alloc, "service n none\nstart 0 n\njoin 1", " 0", PARENTS_MAX)?;
+    let text = with_words(
+        alloc,
+        "service n none\nstart 0 n\njoin 1",
+        " 0",
+        PARENTS_MAX,
+    )?;
     let graph = graph_of(&rt, alloc, &table, text.as_str());
     let mut places = Vec::new(alloc);
     for parent in 0..PARENTS_MAX {
         places.push(if parent + 1 < PARENTS_MAX { 0 } else { 1 })?;
     }
-    for (pool, digits) in MOST {
+    for &(pool, digits) in &MOST {
         let pool = pool_of(alloc, pool)?;
-        gives(&rt, alloc, &table, &graph, 1, pool.as_slice(), places.as_slice(), digits)?;
+        gives(
+            &rt,
+            alloc,
+            &table,
+            &graph,
+            1,
+            pool.as_slice(),
+            places.as_slice(),
+            digits,
+        )?;
     }
     Ok(())
 }

@@ -32,7 +32,7 @@ show 0
 show 8";
 
 /// The services of that text: their names, and which of the four slots they know.
-const SERVICES: [(&str, [bool; 4]); 4] = [
+static SERVICES: [(&str, [bool; 4]); 4] = [
     ("a", [true, true, true, true]),
     ("b", [false, false, false, false]),
     ("c", [false, true, true, true]),
@@ -40,7 +40,7 @@ const SERVICES: [(&str, [bool; 4]); 4] = [
 ];
 
 /// Its steps: the number of the service where each stands, and its parents.
-const STEPS: [(usize, &[usize]); 10] = [
+static STEPS: [(usize, &[usize]); 10] = [
     (0, &[]),
     (0, &[0]),
     (0, &[1]),
@@ -60,14 +60,18 @@ fn services_and_steps_of_each_form(rt: HostRuntime) -> Result<(), Fail> {
     assert_eq!(rt; graph.services(), SERVICES.len());
     assert_eq!(rt; graph.steps(), STEPS.len());
     assert_eq!(rt; graph.shows(), [8, 0, 8].as_slice());
-    for (number, (name, known)) in SERVICES.into_iter().enumerate() {
+    for (number, &(name, known)) in SERVICES.iter().enumerate() {
         assert!(rt; number < graph.services());
         assert_eq!(rt; graph.service(number).name.as_str(), name);
         for (slot, knows) in known.into_iter().enumerate() {
-            assert_eq!(rt; graph.service(number).view.knows(slot), knows, "{name} {slot}");
+            assert_eq!(rt;
+                graph.service(number).view.knows(slot),
+                knows,
+                "{name} {slot}"
+            );
         }
     }
-    for (number, (service, parents)) in STEPS.into_iter().enumerate() {
+    for (number, &(service, parents)) in STEPS.iter().enumerate() {
         assert!(rt; number < graph.steps());
         assert_eq!(rt; graph.step(number).service, service, "{number}");
         assert_eq!(rt; graph.step(number).act.parents(), parents, "{number}");
@@ -94,7 +98,7 @@ fn what_steps_do(rt: HostRuntime) -> Result<(), Fail> {
 }
 
 /// Texts that say little, with the numbers of their services and steps.
-const SHORT: [(&str, usize, usize); 3] = [
+static SHORT: [(&str, usize, usize); 3] = [
     ("", 0, 0),
     ("\n# x\n\r\n", 0, 0),
     ("service all all", 1, 0),
@@ -103,7 +107,7 @@ const SHORT: [(&str, usize, usize); 3] = [
 #[test]
 fn texts_that_say_little(rt: HostRuntime) -> Result<(), Fail> {
     let table = table_of(&rt, rt.alloc(), "Small")?;
-    for (text, services, steps) in SHORT {
+    for &(text, services, steps) in &SHORT {
         let graph = graph_of(&rt, rt.alloc(), &table, text);
         assert_eq!(rt; graph.services(), services, "{text}");
         assert_eq!(rt; graph.steps(), steps, "{text}");
@@ -159,10 +163,10 @@ BadHex recv 2 a 0g
 BadHex recv 2 a --";
 
 /// A refused line that ends in a word many times: the code, the line, the word, and how many times.
-type Long = (&'static str, &'static str, &'static str, usize);
+type LongRow = (&'static str, &'static str, &'static str, usize);
 
 /// Refused lines behind the same.
-const LONG: [Long; 5] = [
+static LONG: [LongRow; 5] = [
     ("TooManyParents", "join 2", " 0", PARENTS_MAX + 1),
     ("WrongService", "join 2 0 1", " 0", PARENTS_MAX),
     ("NoSuchStep", "join 2 0 2", " 0", PARENTS_MAX),
@@ -202,11 +206,16 @@ fn are_refused(
     alloc: Global,
     front: &str,
     number: usize,
-    rows: &[Long],
+    rows: &[LongRow],
 ) -> Result<(), Fail> {
     let table = table_of(rt, alloc, "Small")?;
-    for (code, line, word, times) in rows {
-        let text = with_words(alloc, format!(in alloc; "{front}{line}")?.as_str(), word, *times)?;
+    for &(code, line, word, times) in rows {
+        let text = with_words(
+            alloc,
+            format!(in alloc; "{front}{line}")?.as_str(),
+            word,
+            *times,
+        )?;
         let fault = fault_of(alloc, &table, text.as_str())?;
         assert_eq!(rt; fault, Some(printed(alloc, number, code)?), "{line}");
     }
@@ -225,7 +234,7 @@ fn long_lines_that_are_refused(rt: HostRuntime) -> Result<(), Fail> {
 }
 
 /// Contexts that are received: the bag, the line of the service, the digits, and the fault, if any.
-const RECEIVED: [(&str, &str, &str, Option<&str>); 9] = [
+static RECEIVED: [(&str, &str, &str, Option<&str>); 9] = [
     ("Small", "service a all", "02f800020007", None),
     (
         "Small",
@@ -280,7 +289,7 @@ const RECEIVED: [(&str, &str, &str, Option<&str>); 9] = [
 #[test]
 fn contexts_that_are_refused(rt: HostRuntime) -> Result<(), Fail> {
     let alloc = rt.alloc();
-    for (bag, service, digits, wanted) in RECEIVED {
+    for &(bag, service, digits, wanted) in &RECEIVED {
         let table = table_of(&rt, alloc, bag)?;
         let name = service.split(' ').nth(1).unwrap_or("");
         let text = format!(in alloc; "{service}\nrecv 0 {name} {digits}\n")?;
@@ -291,7 +300,7 @@ fn contexts_that_are_refused(rt: HostRuntime) -> Result<(), Fail> {
 }
 
 /// Refused lines behind as many steps as there may be: rules that come before that of the number of steps.
-const BEFORE_ROOM: [Long; 5] = [
+static BEFORE_ROOM: [LongRow; 5] = [
     ("NoSuchService", "start 100000 z", "", 0),
     ("NoSuchService", "forward 100000 0 z", "", 0),
     ("NoSuchStep", "branch 100000 100000", "", 0),
@@ -300,7 +309,7 @@ const BEFORE_ROOM: [Long; 5] = [
 ];
 
 /// And rules that come behind it.
-const BEHIND_ROOM: [Long; 3] = [
+static BEHIND_ROOM: [LongRow; 3] = [
     ("TooManySteps", "recv 100000 a 0", "", 0),
     ("TooManySteps", "join 100000", " 0", PARENTS_MAX + 1),
     ("TooManySteps", "recv 100000 a ", "0", DIGITS_MAX + 1),

@@ -1,5 +1,5 @@
 -- Numbers of services, which are found by their names.
-use Rattle.std.proofs.Common.{◌≡◌, ℕ, Bool, true, false, List, [], ◌∷◌, ◌++◌, length, map, position, None, Some, refl, sym, ◌∙◌, ap, subst, arith}
+use Rattle.std.proofs.Common.{◌≡◌, ℕ, Bool, true, false, cond, List, [], ◌∷◌, ◌++◌, length, map, position, Option, None, Some, refl, sym, ◌∙◌, ap, subst, arith}
 use Rattle.std.proofs.lemmas.Bool.{cond-true, cond-false}
 use Rattle.std.proofs.lemmas.Bool.Decides.{nat_tests}
 use Rattle.std.proofs.lemmas.Cmp.{nat_list_eq_equiv}
@@ -34,14 +34,17 @@ place_more names own name new = by (bytes_eq own name) refl
         position_before_last (bytes_eq name) names own (nat_list_eq_equiv.symm name own ∙ e) ∙ sym (cond-false (bytes_eq own name) (Some (length names)) (place_of names name) e)
 
 -- The number of a service that is declared goes into the map.
-pub numbers_grow : (graph : Graph) (own : Service) (numbers grown : BTreeMap (Bor (List ℕ)) ℕ) → AreNumbersOf graph numbers → service_named graph own.name ≡ None
-    → ((name : List ℕ) → get_by (λ key. slice_cmp nat_cmp name key.now) grown
-      ≡ update bytes_eq (λ text. get_by (λ key. slice_cmp nat_cmp text key.now) numbers) own.name (Some (length graph.services)) name)
-    → AreNumbersOf (with_service graph own) grown
-numbers_grow graph own numbers grown before new more name =
+pub numbers_grow : (graph after : Graph) (own : Service) (name : List ℕ) (number : ℕ) (numbers grown : BTreeMap (Bor (List ℕ)) ℕ)
+    → AreNumbersOf graph numbers → own.name ≡ name → number ≡ length graph.services → service_named graph name ≡ None
+    → ((other : List ℕ) → get_by (λ key. slice_cmp nat_cmp other key.now) grown ≡ update bytes_eq (λ text. get_by (λ key. slice_cmp nat_cmp text key.now) numbers) name (Some number) other)
+    → after ≡ with_service graph own → AreNumbersOf after grown
+numbers_grow graph after own name number numbers grown before named count new more is other =
     let long : length (names_of graph) ≡ length graph.services = length-map graph.services (λ (service : Service). service.name) in
     let names : names_of (with_service graph own) ≡ names_of graph ++ own.name ∷ [] = map-append (λ (service : Service). service.name) graph.services (own ∷ []) in
-    let there = place_more (names_of graph) own.name name new in
-    let here : update bytes_eq (λ text. get_by (λ key. slice_cmp nat_cmp text key.now) numbers) own.name (Some (length graph.services)) name
-      ≡ update bytes_eq (place_of (names_of graph)) own.name (Some (length (names_of graph))) name = rw (before name, long) refl in
-    more name ∙ here ∙ sym there ∙ ap (λ names. place_of names name) (sym names)
+    let here : update bytes_eq (λ text. get_by (λ key. slice_cmp nat_cmp text key.now) numbers) name (Some number) other ≡ update bytes_eq (place_of (names_of graph)) name (Some (length (names_of graph))) other =
+    ap (λ (found : Option ℕ). cond (bytes_eq name other) (Some number) found) (before other)
+    ∙ ap (λ (n : ℕ). cond (bytes_eq name other) (Some n) (place_of (names_of graph) other)) (count ∙ sym long) in
+    let there : place_of (names_of graph ++ own.name ∷ []) other ≡ update bytes_eq (place_of (names_of graph)) name (Some (length (names_of graph))) other =
+    subst (λ (text : List ℕ). place_of (names_of graph ++ text ∷ []) other ≡ update bytes_eq (place_of (names_of graph)) name (Some (length (names_of graph))) other) (sym named) (place_more (names_of graph) name other new) in
+    let whole : service_named (with_service graph own) other ≡ place_of (names_of graph ++ own.name ∷ []) other = ap (λ (all : List (List ℕ)). place_of all other) names in
+    more other ∙ here ∙ sym there ∙ sym whole ∙ ap (λ (g : Graph). service_named g other) (sym is)

@@ -84,15 +84,19 @@ impl<'a> Reader<'a> {
         }
     }
 
+    /// The number of the service with this name.
+    fn number(&self, name: &str) -> Option<usize>
+        ensures { result ≡ service_named self.now name.now }
+    {
+        self.numbers.get(name).copied()
+    }
+
     /// The number of a service that a step goes to: it must be declared.
     pub(crate) fn service(&self, name: &str) -> Result<usize, GraphCode>
         ensures ok { IfOk result (λ number. service_named self.now name.now ≡ Some number) }
         ensures err { IfErr result (λ code. (code ≡ GraphCode.NoSuchService) × (service_named self.now name.now ≡ None)) }
     {
-        self.numbers
-            .get(name)
-            .copied()
-            .ok_or(GraphCode::NoSuchService)
+        self.number(name).ok_or(GraphCode::NoSuchService)
     }
 
     /// The name of a new service must not be declared.
@@ -100,10 +104,9 @@ impl<'a> Reader<'a> {
         ensures ok { OnOk result (service_named self.now name.now ≡ None) }
         ensures err { IfErr result (λ code. (code ≡ GraphCode.DuplicateService) × (service_named self.now name.now ≢ None)) }
     {
-        if self.numbers.contains_key(name) {
-            Err(GraphCode::DuplicateService)
-        } else {
-            Ok(())
+        match self.number(name) {
+            None => Ok(()),
+            Some(_) => Err(GraphCode::DuplicateService),
         }
     }
 
