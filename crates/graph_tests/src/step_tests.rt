@@ -1,5 +1,6 @@
 //! The list of a step, from lists that stand anywhere in a pool: the same from both calls.
 
+ghost use Rattle.std.specs.Prelude.{◌≡◌, length};
 ghost use Rattle.trace_model.specs.Graphs.{IsOfTable};
 ghost use Rattle.step_rules.specs.Parents.{AreWithin};
 
@@ -121,10 +122,12 @@ static GIVEN: [(usize, &str, &[usize], &str); 26] = [
     ),
 ];
 
-/// All these are places of the pool.
-fn check_places(rt: &impl Abort, pool: &[Context], places: &[usize])
-    ensures { AreWithin pool.now places.now }
+/// There are as many places as parents, and all are places of the pool.
+fn check_places(rt: &impl Abort, parents: &[usize], pool: &[Context], places: &[usize])
+    ensures many { length places.now ≡ length parents.now }
+    ensures within { AreWithin pool.now places.now }
 {
+    assert!(rt; places.len() == parents.len());
     for place in places {
         assert!(rt; *place < pool.len());
     }
@@ -146,8 +149,7 @@ fn gives<R: Abort + Threads + Sync>(
     assert!(rt; step < graph.steps());
     let own = graph.step(step);
     let parents = own.act.parents();
-    assert!(rt; places.len() == parents.len());
-    check_places(rt, pool, places);
+    check_places(rt, parents, pool, places);
     let beside = run_step(rt, alloc, table, graph, step, pool, places)?;
     let alone = run_step_alone(alloc, table, graph, step, pool, places)?;
     let (beside, alone) = (digits_of(alloc, &beside)?, digits_of(alloc, &alone)?);
