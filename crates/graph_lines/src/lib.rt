@@ -6,8 +6,6 @@ mod laws;
 mod numbers;
 mod reading;
 mod statements;
-#[cfg(test)]
-mod tests;
 mod words;
 
 pub use laws::lines_have_one_form;

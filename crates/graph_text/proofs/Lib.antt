@@ -1,4 +1,4 @@
-mod NameLaws
+mod Numbers
 mod Members
 mod Ranges
 mod ViewPaths

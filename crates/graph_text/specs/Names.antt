@@ -1,7 +1,11 @@
 -- Services by their names, and where steps stand.
-use Rattle.std.specs.Prelude.{ℕ, List, [], ◌∷◌, map, position, Option, None, Some}
+use Rattle.std.specs.Prelude.{◌≡◌, ℕ, List, [], ◌∷◌, map, position, Option, None, Some}
+use Rattle.std.specs.Borrow.{Bor}
+use Rattle.std.specs.BTreeMap.{BTreeMap, get_by}
+use Rattle.std.specs.Cmp.Lexicographic.{slice_cmp}
 use Rattle.std.specs.List.{slice_get}
 use Rattle.std.specs.Option.{option_map}
+use Rattle.std.specs.Ordering.{nat_cmp}
 use Rattle.std.specs.Str.{bytes_eq}
 use Rattle.trace_model.specs.Graphs.{Graph}
 use Rattle.graph_lines.specs.Statements.{NamedAct, Statement, Start, Recv, Set, Branch, Forward, Trim, Join, Service, Step, Show}
@@ -17,6 +21,10 @@ place_of names name = position (bytes_eq name) names
 -- The number of the service with this name.
 abbrev pub service_named : Graph → List ℕ → Option ℕ
 service_named graph name = place_of (names_of graph) name
+
+-- The map has the number of each service by its name, and no other name.
+abbrev pub AreNumbersOf : Graph → BTreeMap (Bor (List ℕ)) ℕ → Type 0
+AreNumbersOf graph numbers = (name : List ℕ) → get_by (λ key. slice_cmp nat_cmp name key.now) numbers ≡ service_named graph name
 
 -- The number of the service at which a step stands.
 abbrev pub service_at : Graph → ℕ → Option ℕ

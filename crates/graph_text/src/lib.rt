@@ -3,17 +3,15 @@
 
 mod faults;
 pub mod laws;
-mod names;
 mod reader;
 mod reading;
 mod received;
 mod steps;
-#[cfg(test)]
-mod tests;
 mod views;
 
 pub use faults::{GraphCode, GraphFault, LineFault};
 pub use reading::read_graph;
+pub use recorded_graph::{Act, Graph, Places, Service, Step};
 
 /// The greatest budget of a trim, in bytes.
 pub const BUDGET_MAX: u64 = 4_294_967_295;

@@ -7,24 +7,24 @@ ghost use Rattle.recorded_graph.specs.Plain.{service_of, step_of};
 ghost use Rattle.graph_text.specs.Names.{service_named, service_at};
 
 use crate::faults::GraphCode;
-use crate::names::ServiceNames;
 use outside::Memory;
 use recorded_graph::{Graph, STEPS_MAX, Service, Step};
 use std::alloc::Global;
+use std::collections::BTreeMap;
 use std::marker::Model;
 
 /// The graph that lines have said so far, with the numbers of its services by name. Contracts see it as the graph.
 #[derive(Drop)]
 pub(crate) struct Reader<'a> {
     graph: Graph,
-    names: ServiceNames<'a>,
+    numbers: BTreeMap<&'a str, usize>,
 }
 
 impl<'a> Model for Reader<'a> {
     ghost use Rattle.std.specs.Prelude.{◌≡◌};
     ghost use Rattle.trace_model.specs.Graphs as model;
     ghost use Rattle.recorded_graph.specs.GraphCode.{graph_code};
-    ghost use Rattle.graph_text.specs.Names.{names_of};
+    ghost use Rattle.graph_text.specs.Names.{AreNumbersOf};
 
     ghost Value = { model.Graph };
 
@@ -32,7 +32,7 @@ impl<'a> Model for Reader<'a> {
 
     ghost view = { λ reader. reader.graph };
 
-    ghost invariant = { λ reader. reader.names ≡ names_of reader.graph };
+    ghost invariant = { λ reader. AreNumbersOf reader.graph reader.numbers };
 }
 
 impl<'a> Reader<'a> {
@@ -42,7 +42,7 @@ impl<'a> Reader<'a> {
     {
         Reader {
             graph: Graph::new(alloc),
-            names: ServiceNames::new(alloc),
+            numbers: BTreeMap::new(alloc),
         }
     }
 
@@ -84,12 +84,19 @@ impl<'a> Reader<'a> {
         }
     }
 
+    /// The number of the service with this name.
+    fn number(&self, name: &str) -> Option<usize>
+        ensures { result ≡ service_named self.now name.now }
+    {
+        self.numbers.get(name).copied()
+    }
+
     /// The number of a service that a step goes to: it must be declared.
     pub(crate) fn service(&self, name: &str) -> Result<usize, GraphCode>
         ensures ok { IfOk result (λ number. service_named self.now name.now ≡ Some number) }
         ensures err { IfErr result (λ code. (code ≡ GraphCode.NoSuchService) × (service_named self.now name.now ≡ None)) }
     {
-        self.names.number(name).ok_or(GraphCode::NoSuchService)
+        self.number(name).ok_or(GraphCode::NoSuchService)
     }
 
     /// The name of a new service must not be declared.
@@ -97,7 +104,7 @@ impl<'a> Reader<'a> {
         ensures ok { OnOk result (service_named self.now name.now ≡ None) }
         ensures err { IfErr result (λ code. (code ≡ GraphCode.DuplicateService) × (service_named self.now name.now ≢ None)) }
     {
-        match self.names.number(name) {
+        match self.number(name) {
             None => Ok(()),
             Some(_) => Err(GraphCode::DuplicateService),
         }
@@ -133,11 +140,11 @@ impl<'a> Reader<'a> {
     {
         let Reader {
             mut graph,
-            mut names,
+            mut numbers,
         } = self;
-        names.add(name)?;
+        numbers.insert(name, graph.services())?;
         graph.add_service(service)?;
-        Ok(Reader { graph, names })
+        Ok(Reader { graph, numbers })
     }
 
     /// The same with a step that may follow those before.
@@ -146,9 +153,9 @@ impl<'a> Reader<'a> {
         requires follows { MayFollow self (step_of step) }
         ensures { IfOk result (λ reader. reader ≡ with_step self.entry (step_of step)) }
     {
-        let Reader { mut graph, names } = self;
+        let Reader { mut graph, numbers } = self;
         graph.add_step(step)?;
-        Ok(Reader { graph, names })
+        Ok(Reader { graph, numbers })
     }
 
     /// The same with a step that is shown.
@@ -156,8 +163,8 @@ impl<'a> Reader<'a> {
         requires { step < length self.steps }
         ensures { IfOk result (λ reader. reader ≡ with_show self.entry step) }
     {
-        let Reader { mut graph, names } = self;
+        let Reader { mut graph, numbers } = self;
         graph.add_show(step)?;
-        Ok(Reader { graph, names })
+        Ok(Reader { graph, numbers })
     }
 }

@@ -5,8 +5,6 @@ mod chunks;
 mod rows;
 mod runs;
 mod steps;
-#[cfg(test)]
-mod tests;
 mod turns;
 
 pub use runs::run_ranks;

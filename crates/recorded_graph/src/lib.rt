@@ -6,8 +6,6 @@ pub mod laws;
 mod places;
 mod sharing;
 mod steps;
-#[cfg(test)]
-mod tests;
 
 pub use graphs::{Graph, STEPS_MAX};
 pub use places::Places;

@@ -1,0 +1,116 @@
+//! Runs of graphs in both ways, step after step and rank after rank: all lists are the same, and so are the reports.
+
+use crate::fixtures::{digits_of, graph_of, star_text, table_of, with_words};
+use crate::graph_tables::{
+    LOAD_REPORT, RECEIVED, RECEIVED_REPORT, TRACE, TRACE_REPORT, mixed_text,
+};
+use atom_list::Context;
+use field_table::Table;
+use graph_report::report;
+use graph_runner::run_all;
+use graph_text::PARENTS_MAX;
+use load_maker::make_load;
+use outside::Open;
+use par_ranks::run_ranks;
+use recorded_graph::STEPS_MAX;
+use std::alloc::Global;
+use std::process::Abort;
+use std::test::Fail;
+use std::thread::Threads;
+
+/// Compares lists as bytes.
+fn are_alike(
+    rt: &impl Abort,
+    alloc: Global,
+    plain: &[Context],
+    ranks: &[Context],
+) -> Result<(), Fail> {
+    assert_eq!(rt; plain.len(), ranks.len());
+    for (number, (one, other)) in plain.iter().zip(ranks).enumerate() {
+        let (one, other) = (digits_of(alloc, one)?, digits_of(alloc, other)?);
+        assert_eq!(rt; one.as_slice(), other.as_slice(), "step {number}");
+    }
+    Ok(())
+}
+
+/// Runs the graph of a text in both ways and compares the lists and the reports. The lists are those of one of the ways.
+fn run_both<R: Abort + Threads + Sync>(
+    rt: &R,
+    alloc: Global,
+    table: &Table,
+    text: &str,
+    wanted: &str,
+) -> Result<Vec<Context>, Fail> {
+    let graph = graph_of(rt, alloc, table, text);
+    let plain = run_all(alloc, table, &graph)?;
+    let ranks = run_ranks(rt, alloc, &Open, table, &graph)?;
+    assert_eq!(rt; plain.len(), graph.steps());
+    are_alike(rt, alloc, plain.as_slice(), ranks.as_slice())?;
+    let one = report(alloc, table, &graph, plain.as_slice())?;
+    let other = report(alloc, table, &graph, ranks.as_slice())?;
+    assert_eq!(rt; one.as_slice(), wanted.as_bytes());
+    assert_eq!(rt; other.as_slice(), wanted.as_bytes());
+    Ok(ranks)
+}
+
+/// Graphs, each behind the bag of its table, with their reports.
+static GRAPHS: [(&str, &str, &str); 3] = [
+    ("Request", TRACE, TRACE_REPORT),
+    ("Nothing", RECEIVED, RECEIVED_REPORT),
+    ("Request", "", ""),
+];
+
+#[test]
+fn graphs_are_run_in_both_ways(rt: HostRuntime) -> Result<(), Fail> {
+    let alloc = rt.alloc();
+    for &(bag, text, wanted) in &GRAPHS {
+        let table = table_of(&rt, alloc, bag)?;
+        let _lists = run_both(&rt, alloc, &table, text, wanted)?;
+    }
+    Ok(())
+}
+
+#[test]
+fn a_load_is_run_in_both_ways(rt: HostRuntime) -> Result<(), Fail> {
+    let alloc = rt.alloc();
+    let (table, text) = make_load(alloc, 1)?;
+    let text = String::from_utf8(text)?;
+    let lists = run_both(&rt, alloc, &table, text.as_str(), LOAD_REPORT)?;
+    assert_eq!(rt; lists.len(), 43);
+    Ok(())
+}
+
+#[test]
+fn wide_graphs_are_run_in_both_ways(rt: HostRuntime) -> Result<(), Fail> {
+    let alloc = rt.alloc();
+    let table = table_of(&rt, alloc, "Nothing")?;
+    let star = star_text(alloc, 1_000)?;
+    let lists = run_both(&rt, alloc, &table, star.as_str(), "")?;
+    assert_eq!(rt; lists.len(), 1_001);
+    assert!(rt; lists.iter().all(|list| list.list().is_empty()));
+    let join = with_words(
+        alloc,
+        "service n none\nstart 0 n\njoin 1",
+        " 0",
+        PARENTS_MAX,
+    )?;
+    let lists = run_both(&rt, alloc, &table, join.as_str(), "")?;
+    assert_eq!(rt; lists.len(), 2);
+    assert!(rt; lists.iter().all(|list| list.list().is_empty()));
+    let mixed = mixed_text(alloc)?;
+    let lists = run_both(&rt, alloc, &table, mixed.as_str(), "")?;
+    assert_eq!(rt; lists.len(), 400);
+    // A join of many parents holds what they received.
+    assert_eq!(rt; lists[84].list().len(), 140);
+    Ok(())
+}
+
+#[test]
+fn the_longest_graph_is_run(rt: HostRuntime) -> Result<(), Fail> {
+    let alloc = rt.alloc();
+    let table = table_of(&rt, alloc, "Nothing")?;
+    let star = star_text(alloc, STEPS_MAX - 1)?;
+    let graph = graph_of(&rt, alloc, &table, star.as_str());
+    assert_eq!(rt; run_all(alloc, &table, &graph)?.len(), STEPS_MAX);
+    Ok(())
+}

@@ -1,0 +1,328 @@
+//! Texts that say a graph, and texts that say none, with the first fault of each.
+
+use crate::fixtures::{graph_of, star_text, table_of, with_words};
+use field_table::Table;
+use graph_text::laws::{lines_are_definite, texts_have_one_graph};
+use graph_text::{Act, BUDGET_MAX, PARENTS_MAX, read_graph};
+use recorded_graph::STEPS_MAX;
+use std::alloc::Global;
+use std::process::Abort;
+use std::test::Fail;
+use text_lines::DIGITS_MAX;
+
+/// A line of each form, with comments, an empty line and a carriage return.
+const EACH_FORM: &str = "# services
+service a all\r
+service b none
+service c only sub.n seen sub sub.n
+
+start 0 a
+set 1 0 id 7
+set 2 1 sub.n \"gw\":2
+branch 3 2
+forward 4 2 b
+trim 5 4 4294967295
+recv 6 c 02F80102f002020001
+recv 7 c -
+join 8 0 3 0
+show 8
+service service only id
+start 9 service
+show 0
+show 8";
+
+/// The services of that text: their names, and which of the four slots they know.
+static SERVICES: [(&str, [bool; 4]); 4] = [
+    ("a", [true, true, true, true]),
+    ("b", [false, false, false, false]),
+    ("c", [false, true, true, true]),
+    ("service", [true, false, false, false]),
+];
+
+/// Its steps: the number of the service where each stands, and its parents.
+static STEPS: [(usize, &[usize]); 10] = [
+    (0, &[]),
+    (0, &[0]),
+    (0, &[1]),
+    (0, &[2]),
+    (1, &[2]),
+    (1, &[4]),
+    (2, &[]),
+    (2, &[]),
+    (0, &[0, 3, 0]),
+    (3, &[]),
+];
+
+#[test]
+fn services_and_steps_of_each_form(rt: HostRuntime) -> Result<(), Fail> {
+    let table = table_of(&rt, rt.alloc(), "Small")?;
+    let graph = graph_of(&rt, rt.alloc(), &table, EACH_FORM);
+    assert_eq!(rt; graph.services(), SERVICES.len());
+    assert_eq!(rt; graph.steps(), STEPS.len());
+    assert_eq!(rt; graph.shows(), [8, 0, 8].as_slice());
+    for (number, &(name, known)) in SERVICES.iter().enumerate() {
+        assert!(rt; number < graph.services());
+        assert_eq!(rt; graph.service(number).name.as_str(), name);
+        for (slot, knows) in known.into_iter().enumerate() {
+            assert_eq!(rt;
+                graph.service(number).view.knows(slot),
+                knows,
+                "{name} {slot}"
+            );
+        }
+    }
+    for (number, &(service, parents)) in STEPS.iter().enumerate() {
+        assert!(rt; number < graph.steps());
+        assert_eq!(rt; graph.step(number).service, service, "{number}");
+        assert_eq!(rt; graph.step(number).act.parents(), parents, "{number}");
+    }
+    lines_are_definite();
+    texts_have_one_graph();
+    Ok(())
+}
+
+#[test]
+fn what_steps_do(rt: HostRuntime) -> Result<(), Fail> {
+    let table = table_of(&rt, rt.alloc(), "Small")?;
+    let graph = graph_of(&rt, rt.alloc(), &table, EACH_FORM);
+    for number in 0..graph.steps() {
+        let is_right = match &graph.step(number).act {
+            Act::Set { slot, .. } => (number, *slot) == (1, 0) || (number, *slot) == (2, 2),
+            Act::Trim { budget, .. } => number == 5 && *budget == BUDGET_MAX,
+            Act::Recv(context) => context.list().len() == if number == 6 { 3 } else { 0 },
+            _ => true,
+        };
+        assert!(rt; is_right, "{number}");
+    }
+    Ok(())
+}
+
+/// Texts that say little, with the numbers of their services and steps.
+static SHORT: [(&str, usize, usize); 3] = [
+    ("", 0, 0),
+    ("\n# x\n\r\n", 0, 0),
+    ("service all all", 1, 0),
+];
+
+#[test]
+fn texts_that_say_little(rt: HostRuntime) -> Result<(), Fail> {
+    let table = table_of(&rt, rt.alloc(), "Small")?;
+    for &(text, services, steps) in &SHORT {
+        let graph = graph_of(&rt, rt.alloc(), &table, text);
+        assert_eq!(rt; graph.services(), services, "{text}");
+        assert_eq!(rt; graph.steps(), steps, "{text}");
+    }
+    Ok(())
+}
+
+/// What stands before a line that is refused.
+const FRONT: &str = "service a all\nservice b only sub\nstart 0 a\nstart 1 b\n";
+
+/// Lines that are refused behind that, each behind its code.
+const REFUSED: &str = "Form hop 2 0
+Form branch 2  0
+Form branch 2 00
+Form branch 2 0 
+Form start 2
+Form start 2 a.b
+Form join 2
+Form forward 2 0 b-1
+Form set 2 0 id 
+Form set 2 0 sub..ok true
+Form service c some
+Form service c only
+Form show 12345678901
+StepNumber branch 3 0
+StepNumber branch 1 9
+StepNumber recv 9 c 0
+NoSuchStep branch 2 2
+NoSuchStep show 2
+NoSuchStep forward 2 2 c
+NoSuchStep join 2 0 1 2
+NoSuchService forward 2 0 c
+NoSuchService start 2 A
+NoSuchService recv 2 c 0
+DuplicateService service a none
+DuplicateService service b only x
+WrongService join 2 0 1
+WrongService join 2 0 1 0
+NoSuchPath set 2 0 idd 7
+NoSuchPath set 2 1 idd 7
+NoSuchPath set 2 0 sub 7
+NoSuchPath set 2 1 id.x 7
+NoSuchPath service c only id sub.x
+NotKnown set 2 1 id 7
+NotKnown set 2 1 seen off
+BadValue set 2 0 id 4294967296
+BadValue set 2 0 id  7
+BadValue set 2 1 sub.n 7
+BudgetRange trim 2 0 0
+BudgetRange trim 2 0 4294967296
+BadHex recv 2 a 0
+BadHex recv 2 a 0g
+BadHex recv 2 a --";
+
+/// A refused line that ends in a word many times: the code, the line, the word, and how many times.
+type LongRow = (&'static str, &'static str, &'static str, usize);
+
+/// Refused lines behind the same.
+static LONG: [LongRow; 5] = [
+    ("TooManyParents", "join 2", " 0", PARENTS_MAX + 1),
+    ("WrongService", "join 2 0 1", " 0", PARENTS_MAX),
+    ("NoSuchStep", "join 2 0 2", " 0", PARENTS_MAX),
+    ("HexTooLong", "recv 2 a ", "00", DIGITS_MAX / 2 + 1),
+    ("HexTooLong", "recv 2 a ", "z", DIGITS_MAX + 1),
+];
+
+/// The fault of a text as it is printed, where it has one.
+fn fault_of(alloc: Global, table: &Table, text: &str) -> Result<Option<String>, Fail> {
+    match read_graph(alloc, table, text.as_bytes()) {
+        Ok(_) => Ok(None),
+        Err(fault) => Ok(Some(format!(in alloc; "{fault:?}")?)),
+    }
+}
+
+/// The fault of a line by a rule, as it is printed.
+fn printed(alloc: Global, line: usize, code: &str) -> Result<String, Fail> {
+    Ok(format!(in alloc; "At {{ line: {line}, code: {code} }}")?)
+}
+
+#[test]
+fn lines_that_are_refused(rt: HostRuntime) -> Result<(), Fail> {
+    let alloc = rt.alloc();
+    let table = table_of(&rt, alloc, "Small")?;
+    for row in REFUSED.split('\n') {
+        let (code, line) = row.split_once(' ').ok_or("a row without a code")?;
+        let text = format!(in alloc; "{FRONT}{line}\nhop\n")?;
+        let fault = fault_of(alloc, &table, text.as_str())?;
+        assert_eq!(rt; fault, Some(printed(alloc, 5, code)?), "{row}");
+    }
+    Ok(())
+}
+
+/// Compares the faults of texts that go on behind the front with a line of each row.
+fn are_refused(
+    rt: &impl Abort,
+    alloc: Global,
+    front: &str,
+    number: usize,
+    rows: &[LongRow],
+) -> Result<(), Fail> {
+    let table = table_of(rt, alloc, "Small")?;
+    for &(code, line, word, times) in rows {
+        let text = with_words(
+            alloc,
+            format!(in alloc; "{front}{line}")?.as_str(),
+            word,
+            *times,
+        )?;
+        let fault = fault_of(alloc, &table, text.as_str())?;
+        assert_eq!(rt; fault, Some(printed(alloc, number, code)?), "{line}");
+    }
+    Ok(())
+}
+
+#[test]
+fn long_lines_that_are_refused(rt: HostRuntime) -> Result<(), Fail> {
+    let alloc = rt.alloc();
+    are_refused(&rt, alloc, FRONT, 5, &LONG)?;
+    let table = table_of(&rt, alloc, "Small")?;
+    let front = format!(in alloc; "{FRONT}join 2")?;
+    let most = with_words(alloc, front.as_str(), " 0", PARENTS_MAX)?;
+    assert!(rt; fault_of(alloc, &table, most.as_str())?.is_none());
+    Ok(())
+}
+
+/// Contexts that are received: the bag, the line of the service, the digits, and the fault, if any.
+static RECEIVED: [(&str, &str, &str, Option<&str>); 9] = [
+    ("Small", "service a all", "02f800020007", None),
+    (
+        "Small",
+        "service a all",
+        "8000",
+        Some("Bytes { line: 2, offset: 0, code: LongForm }"),
+    ),
+    (
+        "Small",
+        "service a all",
+        "0101",
+        Some("Bytes { line: 2, offset: 0, code: BadPrefix }"),
+    ),
+    (
+        "Small",
+        "service a all",
+        "02f177",
+        Some("Bytes { line: 2, offset: 0, code: LevelJump }"),
+    ),
+    (
+        "Small",
+        "service a all",
+        "02f80102f800",
+        Some("Bytes { line: 2, offset: 3, code: OutOfOrder }"),
+    ),
+    (
+        "Small",
+        "service a all",
+        "02f8000100",
+        Some("IllTyped { line: 2, offset: 3 }"),
+    ),
+    (
+        "Small",
+        "service a all",
+        "02f80102f002020005",
+        Some("IllTyped { line: 2, offset: 6 }"),
+    ),
+    (
+        "Small",
+        "service n none",
+        "02f80102f002020005",
+        Some("IllTyped { line: 2, offset: 6 }"),
+    ),
+    (
+        "Request",
+        "service n none",
+        "02f8000400000007",
+        Some("IllTyped { line: 2, offset: 3 }"),
+    ),
+];
+
+#[test]
+fn contexts_that_are_refused(rt: HostRuntime) -> Result<(), Fail> {
+    let alloc = rt.alloc();
+    for &(bag, service, digits, wanted) in &RECEIVED {
+        let table = table_of(&rt, alloc, bag)?;
+        let name = service.split(' ').nth(1).unwrap_or("");
+        let text = format!(in alloc; "{service}\nrecv 0 {name} {digits}\n")?;
+        let fault = fault_of(alloc, &table, text.as_str())?;
+        assert_eq!(rt; fault.as_deref(), wanted, "{service} {digits}");
+    }
+    Ok(())
+}
+
+/// Refused lines behind as many steps as there may be: rules that come before that of the number of steps.
+static BEFORE_ROOM: [LongRow; 5] = [
+    ("NoSuchService", "start 100000 z", "", 0),
+    ("NoSuchService", "forward 100000 0 z", "", 0),
+    ("NoSuchStep", "branch 100000 100000", "", 0),
+    ("BadValue", "set 100000 0 id x", "", 0),
+    ("BudgetRange", "trim 100000 0 0", "", 0),
+];
+
+/// And rules that come behind it.
+static BEHIND_ROOM: [LongRow; 3] = [
+    ("TooManySteps", "recv 100000 a 0", "", 0),
+    ("TooManySteps", "join 100000", " 0", PARENTS_MAX + 1),
+    ("TooManySteps", "recv 100000 a ", "0", DIGITS_MAX + 1),
+];
+
+#[test]
+fn steps_behind_the_most_with_other_faults(rt: HostRuntime) -> Result<(), Fail> {
+    let text = star_text(rt.alloc(), STEPS_MAX - 1)?;
+    are_refused(&rt, rt.alloc(), text.as_str(), STEPS_MAX + 2, &BEFORE_ROOM)
+}
+
+#[test]
+fn steps_behind_the_most(rt: HostRuntime) -> Result<(), Fail> {
+    let text = star_text(rt.alloc(), STEPS_MAX - 1)?;
+    are_refused(&rt, rt.alloc(), text.as_str(), STEPS_MAX + 2, &BEHIND_ROOM)
+}
