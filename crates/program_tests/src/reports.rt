@@ -1,10 +1,4 @@
-//! Definitions, and graphs with the reports of their shown steps.
-
-/// Definitions beside that of a request: each a line with the file's name, a bar, and what the file holds.
-pub static FILES: &str = r#"p.bdl|struct P { string s; int32 n; } bag B { P p = 0; }
-o.bdl|bag In { bool ok = 2; } bag Out { In sub = 1; }
-t.bdl|bag T { bool b = 0; uint32 u = 1; uint64 v = 2; int32 i = 3; int64 j = 4; fixed32 f = 5; fixed64 g = 6; sfixed32 h = 7; sfixed64 k = 8; string s = 9; bytes x = 10; }
-m.bdl|bag In { set<bytes> seen = 0; counter by = 1; taint hit = 2; uint32 low = 3; } bag M { map<int32, In> rows = 0; map<bool, map<string, counter>> counts = 1; In in = 2; set<sfixed32> at = 3; }"#;
+//! Graphs with the reports of their shown steps.
 
 /// Graphs and their reports, with an empty line between them. A graph is one line: the file and the bag, a bar, and the
 /// graph's lines. The reports are those of a program that knows nothing of this one.
@@ -769,4 +763,34 @@ g partial -
 h partial -
 k partial -
 s partial -
-x partial -"#;
+x partial -
+
+q.bdl Req | service gateway all / service auth all / service cart all / service billing all / service search only tags / service stock only hops load / service ads only id debug / service p1 none / service p2 none / service p3 none / service p4 none / service p5 none / start 0 gateway / set 1 0 id 4660 / set 2 1 tags "web" / set 3 2 hops "gw":1 / branch 4 3 / branch 5 3 / branch 6 3 / branch 7 3 / branch 8 3 / branch 9 3 / branch 10 3 / branch 11 3 / forward 12 4 p1 / forward 13 12 auth / set 14 13 hops "auth":1 / set 15 14 tags "eu" / forward 16 15 p1 / forward 17 5 p2 / forward 18 17 cart / set 19 18 load "cart":300 / set 20 19 hops "cart":2 / forward 21 20 p2 / forward 22 6 p3 / forward 23 22 billing / set 24 23 debug on / set 25 24 load "bill":70 / forward 26 25 p3 / forward 27 7 search / set 28 27 tags "q" / set 29 28 tags "web" / forward 30 29 p4 / forward 31 8 stock / set 32 31 hops "stock":4 / set 33 32 load "stock":12 / set 34 33 load "cart":280 / forward 35 34 p5 / forward 36 9 ads / set 37 36 id 4100 / set 38 37 debug on / forward 39 38 p5 / forward 40 10 p4 / forward 41 40 auth / set 42 41 hops "auth":3 / forward 43 42 p4 / set 44 11 hops "gw":2 / forward 45 44 p3 / join 46 26 45 / join 47 30 43 / join 48 35 39 / forward 49 21 p1 / forward 50 46 p1 / forward 51 47 p1 / forward 52 48 p1 / join 53 16 49 50 51 52 / forward 54 53 p2 / trim 55 54 96 / forward 56 55 gateway / forward 57 53 gateway / join 58 56 57 / set 59 58 hops "gw":3 / show 53 / show 55 / show 57 / show 59
+step 53
+bytes 02f80005000000100405000000123402f80103006575020071040077656202f80205f16175746802000102000305f16361727402000203f1677702000102000206f173746f636b02000402f803010002f80405f162696c6c02004605f163617274030081180300812c06f173746f636b02000c
+id exact 4100
+tags exact {"eu","q","web"}
+hops exact 11{0x61757468:3,0x63617274:2,0x6777:2,0x73746f636b:4}
+debug exact on
+load exact {"bill":70,"cart":280,"stock":12}
+step 55
+bytes 02f80005000000100405000000123402f80103006575020071040077656202f80205f16175746802000102000305f16361727402000203f1677702000102000206f173746f636b02000402f803010002f80405f162696c6c02004600
+id exact 4100
+tags exact {"eu","q","web"}
+hops exact 11{0x61757468:3,0x63617274:2,0x6777:2,0x73746f636b:4}
+debug exact on
+load partial {"bill":70}
+step 57
+bytes 02f80005000000100402f80103006575020071040077656202f80205f16175746802000305f16361727402000203f1677702000206f173746f636b02000402f803010002f80405f162696c6c02004605f1636172740300811806f173746f636b02000c
+id exact 4100
+tags exact {"eu","q","web"}
+hops exact 11{0x61757468:3,0x63617274:2,0x6777:2,0x73746f636b:4}
+debug exact on
+load exact {"bill":70,"cart":280,"stock":12}
+step 59
+bytes 02f80005000000100402f80103006575020071040077656202f80205f16175746802000305f16361727402000203f1677702000306f173746f636b02000402f803010002f80405f162696c6c0200460005f1636172740300811806f173746f636b02000c
+id exact 4100
+tags exact {"eu","q","web"}
+hops exact 12{0x61757468:3,0x63617274:2,0x6777:3,0x73746f636b:4}
+debug exact on
+load partial {"bill":70,"cart":280,"stock":12}"#;

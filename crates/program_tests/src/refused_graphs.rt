@@ -1,10 +1,14 @@
-//! Lines of graphs that are refused.
+//! Graphs one of whose lines is refused.
+
+use crate::calls::{FILES, RUN, Row, all_hold, holds};
+use crate::runs::graph;
+use std::test::Fail;
 
 /// The lines before each refused one.
-pub const BEFORE: &str = "service a all / service b only tags / start 0 a / start 1 b";
+const BEFORE: &str = "service a all / service b only tags / start 0 a / start 1 b";
 
 /// Refused fifth lines, each with the line that the program must write.
-pub static REFUSALS: &str = r#"hop 2 0 => input line 5 Form
+static FIFTH_LINES: &str = r#"hop 2 0 => input line 5 Form
 branch 3 0 => input line 5 StepNumber
 branch 2 2 => input line 5 NoSuchStep
 forward 2 0 c => input line 5 NoSuchService
@@ -105,4 +109,94 @@ recv 2 a 02f80102f800 => context line 5 offset 3 OutOfOrder
 recv 2 a 02f177 => context line 5 offset 0 LevelJump
 recv 2 a 02f8000400000007 => context line 5 offset 3 IllTyped
 recv 2 a 02f80302000102f800 => context line 5 offset 6 OutOfOrder
-recv 2 a 02f80102006102f80402f1ff => context line 5 offset 9 IllTyped"#;
+recv 2 a 02f80102006102f80402f1ff => context line 5 offset 9 IllTyped
+set 2 1 idd 7 => input line 5 NoSuchPath"#;
+
+/// Graphs of their own, with their line ends as they stand.
+static GRAPHS: [Row; 11] = [
+    // What a service that knows nothing receives is looked at too.
+    (
+        RUN,
+        "service n none\nrecv 0 n 02f8000400000007\n",
+        3,
+        "context line 2 offset 3 IllTyped\n",
+    ),
+    (
+        RUN,
+        "service a all\nstart 0 a\nset 1 0 load \"x\"",
+        2,
+        "input line 3 BadValue\n",
+    ),
+    (
+        RUN,
+        "service a all\nrecv 0 a 8000",
+        3,
+        "context line 2 offset 0 LongForm\n",
+    ),
+    (
+        RUN,
+        "service a all\nstart 0 a\n\r\n# on\r\nset 1 0 debug on\r\nshow 1\r\n",
+        0,
+        "step 1\nbytes 02f8030100\n\
+         id exact -\ntags exact {}\nhops exact 0{}\ndebug exact on\nload exact {}\n",
+    ),
+    // A carriage return is dropped once, and only at the end of a line.
+    (
+        RUN,
+        "service a all\nstart 0 a\nset 1 0 debug on\r\r\n",
+        2,
+        "input line 3 BadValue\n",
+    ),
+    (
+        RUN,
+        "service a all\nstart 0 a\nshow 0\rshow 0\n",
+        2,
+        "input line 3 Form\n",
+    ),
+    ("runjson q.bdl Req", "hop\n", 2, "input line 1 Form\n"),
+    (RUN, "", 0, ""),
+    // Where the definition is refused, the source stays as it was.
+    (
+        "run q.bdl Nix",
+        "service a all\nstart 0 a\n",
+        1,
+        "definition q.bdl 1:1 NoSuchBag\n",
+    ),
+    (
+        "run z.bdl Req",
+        "service a all\nstart 0 a\n",
+        1,
+        "definition z.bdl 1:1 NoFile\n",
+    ),
+    (
+        "runjson z.bdl Req",
+        "hop\n",
+        1,
+        "definition z.bdl 1:1 NoFile\n",
+    ),
+];
+
+#[test]
+fn refused_lines(rt: HostRuntime) -> Result<(), Fail> {
+    let alloc = rt.alloc();
+    let before = graph(alloc, BEFORE)?;
+    for row in FIFTH_LINES.lines() {
+        let (line, refusal) = row.split_once(" => ").ok_or("a refusal")?;
+        let status = if refusal.starts_with("input") { 2 } else { 3 };
+        let input = format!(in alloc; "{before}{line}")?;
+        let text = format!(in alloc; "{refusal}\n")?;
+        holds(
+            &rt,
+            alloc,
+            FILES,
+            RUN,
+            input.as_bytes(),
+            status,
+            text.as_str(),
+        )?;
+    }
+    all_hold(&rt, alloc, &GRAPHS)?;
+    // A line that isn't UTF-8, behind good ones.
+    let input = b"service a all\nstart 0 a\nset 1 0 tags \"\xff\"\nshow 1\n";
+    holds(&rt, alloc, FILES, RUN, input, 2, "input line 3 Form\n")
+}

@@ -2,10 +2,7 @@
 
 ghost use Rattle.std.specs.Prelude.{◌<◌};
 
-use crate::check_tests::request;
-use crate::decode_tests::streams_over;
-use crate::tests::call;
-use outside::SureLibrary;
+use crate::calls::{RUN, output_of};
 use std::alloc::Global;
 use std::process::Abort;
 use std::test::Fail;
@@ -398,14 +395,8 @@ fn graph_holds<R: Abort + Threads + Sync>(
             .text
             .push_str(format!(in alloc; "show {step}\n")?.as_str())?;
     }
-    let mut library = SureLibrary::new(alloc);
-    library.add("q.bdl", request())?;
-    let streams = streams_over(alloc, graph.text.as_bytes(), &[], &[])?;
-    let came = call(rt, alloc, "run q.bdl Req", &mut library, streams)?;
-    assert_eq!(rt; came.status, 0, "{}", graph.text);
-    let Ok(report) = str::from_utf8(came.out.taken()) else {
-        panic!(rt; "no text")
-    };
+    let output = output_of(rt, alloc, RUN, graph.text.as_str())?;
+    let report = str::from_utf8(output.as_slice())?;
     let mut exact = 0_usize;
     for (number, line) in report.lines().enumerate() {
         // A block has seven lines, the last five of which are those of the slots.
