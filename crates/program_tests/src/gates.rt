@@ -76,51 +76,72 @@ fn steps_of_one_rank_meet(rt: HostRuntime) -> Result<(), Fail> {
     Ok(())
 }
 
-/// A gate that counts the steps that pass it, and adds up their numbers.
+/// A gate that counts the steps that pass it, adds up their numbers, and sees whether one comes behind a step of a higher number.
 #[derive(Drop)]
 struct Counting {
     steps: AtomicUsize,
     numbers: AtomicUsize,
+    last: AtomicUsize,
+    goes_back: AtomicBool,
+}
+
+impl Counting {
+    /// No step has come yet.
+    fn new() -> Counting {
+        Counting {
+            steps: AtomicUsize::new(0),
+            numbers: AtomicUsize::new(0),
+            last: AtomicUsize::new(0),
+            goes_back: AtomicBool::new(false),
+        }
+    }
 }
 
 impl Gate for Counting {
     fn enter(&self, piece: usize) {
         self.steps.fetch_add(1, Ordering::SeqCst);
         self.numbers.fetch_add(piece, Ordering::SeqCst);
+        if piece < self.last.swap(piece, Ordering::SeqCst) {
+            self.goes_back.store(true, Ordering::SeqCst);
+        }
     }
 }
 
-/// Words that run a graph, its lines, and how many steps it has.
-type Row = (&'static str, &'static str, usize);
+/// Words that run a graph, its lines, how many steps it has, the sum of their numbers, and whether a step of a later rank has a
+/// lower number than one of an earlier rank.
+type Row = (&'static str, &'static str, usize, usize, bool);
 
 static ROWS: [Row; 6] = [
-    ("load 1", "", 43),
-    ("load 10", "", 421),
-    ("run q.bdl Req", "service a all\nstart 0 a\n", 1),
+    ("load 1", "", 43, 903, true),
+    ("load 10", "", 421, 88_410, true),
+    ("run q.bdl Req", "service a all\nstart 0 a\n", 1, 0, false),
     (
         "run q.bdl Req",
         "service a all\nstart 0 a\nset 1 0 id 7\nbranch 2 0\njoin 3 1 2\njoin 4 3 1 2 0 3\n",
         5,
+        10,
+        false,
     ),
     (
         "runjson q.bdl Req",
         "service a all\nstart 0 a\nbranch 1 0\njoin 2 1 0\nshow 2\n",
         3,
+        3,
+        false,
     ),
     (
         "runtable t",
         "service a all\nrecv 0 a -\nforward 1 0 a\ntrim 2 1 9\njoin 3 1 2\n",
         4,
+        6,
+        false,
     ),
 ];
 
-/// Each step passes the gate of the call once.
+/// Each step passes the gate of the call once, rank by rank.
 fn all_pass<R: Abort + Threads + Sync>(rt: &R, alloc: Global, row: Row) -> Result<(), Fail> {
-    let (line, input, steps) = row;
-    let counting = Counting {
-        steps: AtomicUsize::new(0),
-        numbers: AtomicUsize::new(0),
-    };
+    let (line, input, steps, numbers, goes_back) = row;
+    let counting = Counting::new();
     let mut objects = Objects::new(alloc, FILES, input.as_bytes())?;
     objects
         .library
@@ -128,12 +149,12 @@ fn all_pass<R: Abort + Threads + Sync>(rt: &R, alloc: Global, row: Row) -> Resul
     let status = call(rt, alloc, &counting, line, &mut objects)?;
     assert_eq!(rt; status, 0, "{line}");
     assert_eq!(rt; counting.steps.load(Ordering::SeqCst), steps, "{line}");
-    let numbers = counting.numbers.load(Ordering::SeqCst);
-    let mut all = 0_usize;
-    for number in 0..steps {
-        all = all.wrapping_add(number);
-    }
-    assert_eq!(rt; numbers, all, "{line}");
+    assert_eq!(rt; counting.numbers.load(Ordering::SeqCst), numbers, "{line}");
+    assert_eq!(rt;
+        counting.goes_back.load(Ordering::SeqCst),
+        goes_back,
+        "{line}"
+    );
     Ok(())
 }
 
