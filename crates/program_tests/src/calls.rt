@@ -52,12 +52,12 @@ pub fn library_of(alloc: Global, files: &str, failing: &[u64]) -> Result<MemoryL
 }
 
 impl Objects {
-    /// Objects with these files and this input, none of which fails. The input is read in several pieces.
+    /// Objects with these files and this input, none of which fails. They take and give a few bytes at a time.
     pub fn new(alloc: Global, files: &str, input: &[u8]) -> Result<Objects, Fail> {
         let content = Vec::from_slice(alloc, input)?;
         Ok(Objects {
             library: library_of(alloc, files, &[])?,
-            source: MemorySource::new(content, input.len() / 5 + 1, Vec::new(alloc)),
+            source: MemorySource::new(content, 61, Vec::new(alloc)),
             out: MemorySink::new(alloc, 1 << 19, 5, Vec::new(alloc))?,
             errs: MemorySink::new(alloc, 256, 11, Vec::new(alloc))?,
         })

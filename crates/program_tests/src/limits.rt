@@ -15,11 +15,11 @@ fn spelled(alloc: Global, long: &Long) -> Result<String, Fail> {
     let (before, piece, copies, behind) = long;
     let mut text = String::from_str(alloc, before)?;
     let is_same = !piece.contains(['@', '%']);
-    for number in 1..*copies + 1 {
+    for copy in 0..*copies {
         if is_same {
             text.push_str(piece)?;
         } else {
-            put_copy(&mut text, piece, number)?;
+            put_copy(&mut text, piece, copy.saturating_add(1))?;
         }
     }
     text.push_str(behind)?;
