@@ -115,29 +115,76 @@ fn words(rt: HostRuntime) -> Result<(), Fail> {
     Ok(())
 }
 
+/// Two values of one field.
+const LINE: &str = "02f800050000000007050000000009\n";
+
+/// Calls: the words, the input, the status, and what they write to the output and to the errors.
+static CALLS: [(&str, &str, u8, &str, &str); 9] = [
+    ("baggage trim 10", LINE, 0, "02f80005000000000700\n", ""),
+    ("baggage trim", LINE, 7, "", "words refused\n"),
+    (
+        "baggage check z.bdl Req",
+        "",
+        1,
+        "",
+        "definition z.bdl 1:1 NoFile\n",
+    ),
+    ("baggage check q.bdl Req", "", 0, "ok 2\n", ""),
+    ("baggage check two.bdl Two", "", 0, "ok 4\n", ""),
+    ("baggage check . Req", "", 4, "", "library failed\n"),
+    (
+        "baggage decode q.bdl Req",
+        LINE,
+        0,
+        "bytes 02f800050000000007050000000009\nid exact 7\ntags exact {}\n",
+        "",
+    ),
+    (
+        "baggage decode q.bdl Req",
+        "02f8000400000007",
+        3,
+        "",
+        "context line 1 offset 3 IllTyped\n",
+    ),
+    (
+        "baggage run q.bdl Req",
+        "service a all\nstart 0 a\nset 1 0 tags \"a\"\nshow 1\n",
+        0,
+        "step 1\nbytes 02f801020061\nid exact -\ntags exact {\"a\"}\n",
+        "",
+    ),
+];
+
 #[test]
 fn the_program_hands_on_its_status(rt: HostRuntime) -> Result<(), Fail> {
     let alloc = rt.alloc();
-    let input: &[u8] = b"02f800050000000007050000000009\n";
-    for (line, status, output, errors) in [
-        ("baggage trim 10", 0, "02f80005000000000700\n", ""),
-        ("baggage trim", 7, "", "words refused\n"),
-        (
-            "baggage check z.bdl Req",
-            1,
-            "",
-            "definition z.bdl 1:1 NoFile\n",
-        ),
-    ] {
+    fs::write(
+        &rt,
+        "q.bdl",
+        "bag Req { fixed32 id = 0; set<string> tags = 1; }",
+    )?;
+    fs::write(
+        &rt,
+        "two.bdl",
+        "import \"q.bdl\"; bag Two { Req a = 0; Req b = 1; }",
+    )?;
+    for (line, input, status, output, errors) in &CALLS {
         let words = words_in(alloc, line)?;
         let (mut out, mut errs) = (Vec::new(alloc), Vec::new(alloc));
-        let answer = run(&rt, alloc, Ok(words), input, &mut out, &mut errs);
-        assert_eq!(rt; answer, status, "{line}");
+        let answer = run(&rt, alloc, Ok(words), input.as_bytes(), &mut out, &mut errs);
+        assert_eq!(rt; answer, *status, "{line}");
         assert_eq!(rt; out.as_slice(), output.as_bytes(), "{line}");
         assert_eq!(rt; errs.as_slice(), errors.as_bytes(), "{line}");
     }
     let (mut out, mut errs) = (Vec::new(alloc), Vec::new(alloc));
-    let answer = run(&rt, alloc, Err(Memory), input, &mut out, &mut errs);
+    let answer = run(
+        &rt,
+        alloc,
+        Err(Memory),
+        LINE.as_bytes(),
+        &mut out,
+        &mut errs,
+    );
     assert_eq!(rt; answer, 6);
     assert!(rt; out.is_empty());
     assert_eq!(rt; errs.as_slice(), b"memory\n".as_slice());

@@ -1,0 +1,167 @@
+//! Gates that the steps of a graph pass.
+
+use crate::calls::{FILES, Objects, RUN, call};
+use outside::Gate;
+use std::alloc::Global;
+use std::process::Abort;
+use std::sync::atomic::{AtomicBool, AtomicUsize, Ordering};
+use std::test::Fail;
+use std::thread::Threads;
+
+/// One of two steps that meet: whether it is here, and whether it saw the other.
+#[derive(Drop)]
+struct Piece {
+    here: AtomicBool,
+    saw: AtomicBool,
+}
+
+impl Piece {
+    /// A step that hasn't come yet.
+    fn new() -> Piece {
+        Piece {
+            here: AtomicBool::new(false),
+            saw: AtomicBool::new(false),
+        }
+    }
+
+    /// Comes, and looks for the other for a while.
+    fn meet(&self, other: &Piece) {
+        self.here.store(true, Ordering::SeqCst);
+        for _ in 0..100_000_000u32 {
+            if other.here.load(Ordering::SeqCst) {
+                self.saw.store(true, Ordering::SeqCst);
+                return;
+            }
+        }
+    }
+}
+
+/// A gate where the steps 1 and 1,000 meet. They do only where both are run at the same time.
+#[derive(Drop)]
+struct Meeting {
+    first: Piece,
+    last: Piece,
+}
+
+impl Gate for Meeting {
+    fn enter(&self, piece: usize) {
+        match piece {
+            1 => self.first.meet(&self.last),
+            1_000 => self.last.meet(&self.first),
+            _ => {}
+        }
+    }
+}
+
+#[test]
+fn steps_of_one_rank_meet(rt: HostRuntime) -> Result<(), Fail> {
+    let alloc = rt.alloc();
+    let mut input = String::from_str(alloc, "service a all\nstart 0 a\n")?;
+    for step in 1..1_001 {
+        input.push_str(format!(in alloc; "branch {step} 0\n")?.as_str())?;
+    }
+    input.push_str("show 1000\n")?;
+    let meeting = Meeting {
+        first: Piece::new(),
+        last: Piece::new(),
+    };
+    let mut objects = Objects::new(alloc, FILES, input.as_bytes())?;
+    let status = call(&rt, alloc, &meeting, RUN, &mut objects)?;
+    assert_eq!(rt; status, 0);
+    let report =
+        b"step 1000\nbytes -\nid exact -\ntags exact {}\nhops exact 0{}\ndebug exact off\nload exact {}\n";
+    assert_eq!(rt; objects.out.taken(), report.as_slice());
+    assert!(rt; meeting.first.saw.load(Ordering::SeqCst));
+    assert!(rt; meeting.last.saw.load(Ordering::SeqCst));
+    Ok(())
+}
+
+/// A gate that counts the steps that pass it, adds up their numbers, and sees whether one comes behind a step of a higher number.
+#[derive(Drop)]
+struct Counting {
+    steps: AtomicUsize,
+    numbers: AtomicUsize,
+    last: AtomicUsize,
+    goes_back: AtomicBool,
+}
+
+impl Counting {
+    /// No step has come yet.
+    fn new() -> Counting {
+        Counting {
+            steps: AtomicUsize::new(0),
+            numbers: AtomicUsize::new(0),
+            last: AtomicUsize::new(0),
+            goes_back: AtomicBool::new(false),
+        }
+    }
+}
+
+impl Gate for Counting {
+    fn enter(&self, piece: usize) {
+        self.steps.fetch_add(1, Ordering::SeqCst);
+        self.numbers.fetch_add(piece, Ordering::SeqCst);
+        if piece < self.last.swap(piece, Ordering::SeqCst) {
+            self.goes_back.store(true, Ordering::SeqCst);
+        }
+    }
+}
+
+/// Words that run a graph, its lines, how many steps it has, the sum of their numbers, and whether a step of a later rank has a
+/// lower number than one of an earlier rank.
+type Row = (&'static str, &'static str, usize, usize, bool);
+
+static ROWS: [Row; 6] = [
+    ("load 1", "", 43, 903, true),
+    ("load 10", "", 421, 88_410, true),
+    ("run q.bdl Req", "service a all\nstart 0 a\n", 1, 0, false),
+    (
+        "run q.bdl Req",
+        "service a all\nstart 0 a\nset 1 0 id 7\nbranch 2 0\njoin 3 1 2\njoin 4 3 1 2 0 3\n",
+        5,
+        10,
+        false,
+    ),
+    (
+        "runjson q.bdl Req",
+        "service a all\nstart 0 a\nbranch 1 0\njoin 2 1 0\nshow 2\n",
+        3,
+        3,
+        false,
+    ),
+    (
+        "runtable t",
+        "service a all\nrecv 0 a -\nforward 1 0 a\ntrim 2 1 9\njoin 3 1 2\n",
+        4,
+        6,
+        false,
+    ),
+];
+
+/// Each step passes the gate of the call once, rank by rank.
+fn all_pass<R: Abort + Threads + Sync>(rt: &R, alloc: Global, row: Row) -> Result<(), Fail> {
+    let (line, input, steps, numbers, goes_back) = row;
+    let counting = Counting::new();
+    let mut objects = Objects::new(alloc, FILES, input.as_bytes())?;
+    objects
+        .library
+        .add("t", b"baggage table 1\n0 0 id scalar fixed32\n")?;
+    let status = call(rt, alloc, &counting, line, &mut objects)?;
+    assert_eq!(rt; status, 0, "{line}");
+    assert_eq!(rt; counting.steps.load(Ordering::SeqCst), steps, "{line}");
+    assert_eq!(rt; counting.numbers.load(Ordering::SeqCst), numbers, "{line}");
+    assert_eq!(rt;
+        counting.goes_back.load(Ordering::SeqCst),
+        goes_back,
+        "{line}"
+    );
+    Ok(())
+}
+
+#[test]
+fn each_step_passes_the_gate(rt: HostRuntime) -> Result<(), Fail> {
+    for row in &ROWS {
+        all_pass(&rt, rt.alloc(), *row)?;
+    }
+    Ok(())
+}

@@ -1,0 +1,29 @@
+//! Tests of the program over objects in memory. Nothing but tests stands here.
+#![tactic(auto)]
+
+#[cfg(test)]
+mod calls;
+#[cfg(test)]
+mod contexts;
+#[cfg(test)]
+mod decodings;
+#[cfg(test)]
+mod definitions;
+#[cfg(test)]
+mod failures;
+#[cfg(test)]
+mod gates;
+#[cfg(test)]
+mod limits;
+#[cfg(test)]
+mod random_graphs;
+#[cfg(test)]
+mod refused_graphs;
+#[cfg(test)]
+mod reports;
+#[cfg(test)]
+mod runs;
+#[cfg(test)]
+mod tables;
+#[cfg(test)]
+mod words;

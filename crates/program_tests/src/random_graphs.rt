@@ -1,0 +1,434 @@
+//! Random graphs, each shown step against plain values that are joined over the steps that reach it.
+
+ghost use Rattle.std.specs.Prelude.{◌<◌};
+
+use crate::calls::{RUN, output_of};
+use std::alloc::Global;
+use std::process::Abort;
+use std::test::Fail;
+use std::thread::Threads;
+
+/// A generator of numbers: SplitMix64 (Steele, Lea, Flood 2014).
+#[derive(Drop)]
+struct Dice {
+    state: u64,
+}
+
+impl Dice {
+    /// The next number.
+    fn next(&mut self) -> u64 {
+        self.state = self.state.wrapping_add(0x9e37_79b9_7f4a_7c15);
+        let mut mixed = self.state;
+        mixed = (mixed ^ (mixed >> 30)).wrapping_mul(0xbf58_476d_1ce4_e5b9);
+        mixed = (mixed ^ (mixed >> 27)).wrapping_mul(0x94d0_49bb_1331_11eb);
+        mixed ^ (mixed >> 31)
+    }
+
+    /// A number below this one, which isn't 0.
+    fn below(&mut self, bound: usize) -> usize
+        requires { 0 < bound }
+        ensures { result < bound }
+    {
+        (self.next() % bound as u64) as usize
+    }
+}
+
+/// What tags, writers and keys are called.
+const NAMES: [&str; 3] = ["a", "b", "c"];
+
+/// The same as writers and as keys are printed.
+const WRITERS: [&str; 3] = ["0x61", "0x62", "0x63"];
+
+const QUOTED: [&str; 3] = ["\"a\"", "\"b\"", "\"c\""];
+
+/// The services: what each is called, and what its line says that it knows.
+const SERVICES: [(&str, &str); 3] = [
+    ("knows", "all"),
+    ("some", "only tags hops"),
+    ("proxy", "none"),
+];
+
+/// What a bag says, as plainly as can be: a place for each name.
+#[derive(Clone, Copy)]
+struct Said {
+    id: Option<usize>,
+    tags: [bool; 3],
+    hops: [Option<usize>; 3],
+    debug: bool,
+    load: [Option<usize>; 3],
+}
+
+/// The bag that says nothing.
+const NOTHING: Said = Said {
+    id: None,
+    tags: [false; 3],
+    hops: [None; 3],
+    debug: false,
+    load: [None; 3],
+};
+
+/// The lesser of two numbers, where there are any.
+fn least(one: Option<usize>, other: Option<usize>) -> Option<usize> {
+    match (one, other) {
+        (Some(one), Some(other)) => Some(one.min(other)),
+        (Some(one), None) => Some(one),
+        (None, other) => other,
+    }
+}
+
+/// The greater of two numbers, where there are any.
+fn greatest(one: Option<usize>, other: Option<usize>) -> Option<usize> {
+    match (one, other) {
+        (Some(one), Some(other)) => Some(one.max(other)),
+        (Some(one), None) => Some(one),
+        (None, other) => other,
+    }
+}
+
+impl Said {
+    /// What both say together.
+    fn join(&self, other: &Said) -> Said {
+        let mut joined = *self;
+        joined.id = least(self.id, other.id);
+        joined.debug = self.debug || other.debug;
+        for at in 0..3 {
+            joined.tags[at] = self.tags[at] || other.tags[at];
+            joined.hops[at] = greatest(self.hops[at], other.hops[at]);
+            joined.load[at] = least(self.load[at], other.load[at]);
+        }
+        joined
+    }
+}
+
+/// A step: its service's place, and what all writes and received contexts that reach it say.
+#[derive(Clone, Copy)]
+struct Step {
+    service: usize,
+    said: Said,
+}
+
+/// A graph in the making.
+#[derive(Drop)]
+struct Graph {
+    text: String,
+    steps: Vec<Step>,
+}
+
+/// A context that is received, by its digits, and what it says. Some have fields that no table names.
+fn received(at: usize) -> (&'static str, Said) {
+    let mut said = NOTHING;
+    let digits = match at {
+        0 => "-",
+        1 => "02f80902004102f80a02f100",
+        2 => {
+            said.id = Some(7);
+            "02f800050000000007050000000009"
+        }
+        3 => {
+            said.tags = [true, true, false];
+            "02f801020061020062"
+        }
+        _ => {
+            said.hops = [None, Some(4), None];
+            said.load = [None, None, Some(5)];
+            "02f80202f16202000302000402f80402f163020005"
+        }
+    };
+    (digits, said)
+}
+
+impl Graph {
+    /// The lines of the services, and a first step at the one that knows all.
+    fn new(alloc: Global) -> Result<Graph, Fail> {
+        let mut text = String::new(alloc);
+        for (name, view) in SERVICES {
+            text.push_str(format!(in alloc; "service {name} {view}\n")?.as_str())?;
+        }
+        let mut graph = Graph {
+            text,
+            steps: Vec::new(alloc),
+        };
+        graph.add("start", "knows", 0, NOTHING)?;
+        Ok(graph)
+    }
+
+    /// A step, with its number.
+    fn random_step(&self, dice: &mut Dice) -> (usize, Step) {
+        let number = dice.below(self.steps.len().max(1));
+        match self.steps.get(number) {
+            Some(step) => (number, *step),
+            None => (
+                0,
+                Step {
+                    service: 0,
+                    said: NOTHING,
+                },
+            ),
+        }
+    }
+
+    /// Adds a step: the first word of its line, what stands behind its number, and what it is.
+    fn add(&mut self, word: &str, rest: &str, service: usize, said: Said) -> Result<(), Fail> {
+        let alloc = *self.text.allocator();
+        let line = format!(in alloc; "{word} {} {rest}\n", self.steps.len())?;
+        self.text.push_str(line.as_str())?;
+        self.steps.push(Step { service, said })?;
+        Ok(())
+    }
+}
+
+/// What is written, as the path and the value that follow a parent's number, and what it says. Services that know some fields
+/// know the first two kinds alone.
+fn random_write(alloc: Global, dice: &mut Dice, knows_all: bool) -> Result<(String, Said), Fail> {
+    let at = dice.below(3);
+    let number = dice.below(9);
+    let name = NAMES[at];
+    let mut said = NOTHING;
+    let text = match dice.below(if knows_all { 5 } else { 2 }) {
+        0 => {
+            said.tags[at] = true;
+            format!(in alloc; "tags \"{name}\"")?
+        }
+        1 => {
+            said.hops[at] = Some(number);
+            format!(in alloc; "hops \"{name}\":{number}")?
+        }
+        2 => {
+            said.id = Some(number);
+            format!(in alloc; "id {number}")?
+        }
+        3 => {
+            said.load[at] = Some(number);
+            format!(in alloc; "load \"{name}\":{number}")?
+        }
+        _ => {
+            said.debug = true;
+            String::from_str(alloc, "debug on")?
+        }
+    };
+    Ok((text, said))
+}
+
+/// Adds a join of up to four steps that stand at the service of the first.
+fn add_join(graph: &mut Graph, alloc: Global, dice: &mut Dice) -> Result<(), Fail> {
+    let mut parents = String::new(alloc);
+    let mut said = NOTHING;
+    let mut service = None;
+    for _ in 0..4 {
+        let (parent, step) = graph.random_step(dice);
+        if service.is_none() || service == Some(step.service) {
+            service = Some(step.service);
+            said = said.join(&step.said);
+            parents.push_str(format!(in alloc; " {parent}")?.as_str())?;
+        }
+    }
+    graph.add("join", parents.trim_start(), service.unwrap_or(0), said)
+}
+
+/// Adds a step of any kind, a trim only where that is asked for.
+fn add_step(graph: &mut Graph, alloc: Global, dice: &mut Dice, trims: bool) -> Result<(), Fail> {
+    let (parent, Step { service, said }) = graph.random_step(dice);
+    match dice.below(if trims { 8 } else { 7 }) {
+        0 => {
+            let (digits, said) = received(dice.below(5));
+            let service = dice.below(3);
+            let rest = format!(in alloc; "{} {digits}", SERVICES[service].0)?;
+            graph.add("recv", rest.as_str(), service, said)
+        }
+        1 => graph.add(
+            "branch",
+            format!(in alloc; "{parent}")?.as_str(),
+            service,
+            said,
+        ),
+        2 => {
+            let service = dice.below(3);
+            let rest = format!(in alloc; "{parent} {}", SERVICES[service].0)?;
+            graph.add("forward", rest.as_str(), service, said)
+        }
+        3 | 4 if service < 2 => {
+            let (text, written) = random_write(alloc, dice, service == 0)?;
+            let rest = format!(in alloc; "{parent} {text}")?;
+            graph.add("set", rest.as_str(), service, said.join(&written))
+        }
+        7 => {
+            let rest = format!(in alloc; "{parent} {}", 1 + dice.below(40))?;
+            graph.add("trim", rest.as_str(), service, said)
+        }
+        _ => add_join(graph, alloc, dice),
+    }
+}
+
+/// The entries of a value's text, between its braces.
+fn entries(text: &str) -> &str {
+    match text.split_once('{') {
+        Some((_, rest)) => rest.strip_suffix('}').unwrap_or(rest),
+        None => "",
+    }
+}
+
+/// The number of an entry with this key, if it is there.
+fn number_at(text: &str, key: &str) -> Option<usize> {
+    for entry in entries(text).split(',') {
+        if let Some((found, number)) = entry.split_once(':') {
+            if found == key {
+                return number.parse().ok();
+            }
+        }
+    }
+    None
+}
+
+/// What the value text of a slot says.
+fn said_by(text: &str, slot: usize) -> Said {
+    let mut said = NOTHING;
+    match slot {
+        0 => said.id = text.parse().ok(),
+        3 => said.debug = text == "on",
+        _ => {}
+    }
+    for at in 0..3 {
+        match slot {
+            1 => said.tags[at] = entries(text).split(',').any(|entry| entry == QUOTED[at]),
+            2 => said.hops[at] = number_at(text, WRITERS[at]),
+            4 => said.load[at] = number_at(text, QUOTED[at]),
+            _ => {}
+        }
+    }
+    said
+}
+
+/// The text of a number, a dash where there is none.
+fn number_text(alloc: Global, number: Option<usize>) -> Result<String, Fail> {
+    match number {
+        Some(number) => Ok(format!(in alloc; "{number}")?),
+        None => Ok(String::from_str(alloc, "-")?),
+    }
+}
+
+/// The text of an entry with its number, where there is one.
+fn entry_text(alloc: Global, key: &str, number: Option<usize>) -> Result<String, Fail> {
+    match number {
+        Some(number) => Ok(format!(in alloc; "{key}:{number}")?),
+        None => Ok(String::new(alloc)),
+    }
+}
+
+/// Braces around the entries of a slot. A name that isn't there has none.
+fn entries_text(alloc: Global, said: &Said, slot: usize) -> Result<String, Fail> {
+    let mut text = String::from_str(alloc, "{")?;
+    for at in 0..3 {
+        let entry = match slot {
+            1 => String::from_str(alloc, if said.tags[at] { QUOTED[at] } else { "" })?,
+            2 => entry_text(alloc, WRITERS[at], said.hops[at])?,
+            _ => entry_text(alloc, QUOTED[at], said.load[at])?,
+        };
+        if text.len() > 1 && !entry.is_empty() {
+            text.push(',')?;
+        }
+        text.push_str(entry.as_str())?;
+    }
+    text.push('}')?;
+    Ok(text)
+}
+
+/// The value text of a slot.
+fn slot_text(alloc: Global, said: &Said, slot: usize) -> Result<String, Fail> {
+    let entries = entries_text(alloc, said, slot)?;
+    match slot {
+        0 => number_text(alloc, said.id),
+        2 => {
+            let mut total = 0_usize;
+            for count in said.hops {
+                total = total.saturating_add(count.unwrap_or(0));
+            }
+            Ok(format!(in alloc; "{total}{entries}")?)
+        }
+        3 => Ok(String::from_str(alloc, if said.debug { "on" } else { "off" })?),
+        _ => Ok(entries),
+    }
+}
+
+/// Compares the line of a slot with what is true of it: an exact value is the truth, and none says more than the truth.
+fn slot_holds<R: Abort>(
+    rt: &R,
+    alloc: Global,
+    line: &str,
+    truth: &Said,
+    slot: usize,
+) -> Result<bool, Fail> {
+    let Some((head, text)) = line.split_once("t ").or(line.split_once("l ")) else {
+        panic!(rt; "{line} has no state")
+    };
+    let said = said_by(text, slot);
+    let whole = slot_text(alloc, truth, slot)?;
+    // A key whose value was cut off is shown with a dash, and says nothing.
+    if !text.contains(":-") {
+        assert_eq!(rt; slot_text(alloc, &said, slot)?.as_str(), text, "{line}");
+    }
+    assert_eq!(rt;
+        slot_text(alloc, &said.join(truth), slot)?.as_str(),
+        whole.as_str(),
+        "{line}"
+    );
+    let is_exact = head.ends_with("exac");
+    if is_exact {
+        assert_eq!(rt; text, whole.as_str(), "{line}");
+    }
+    Ok(is_exact)
+}
+
+/// Runs a random graph, shows all its steps and compares each slot with what is true of it. Answers how many values were
+/// called exact.
+fn graph_holds<R: Abort + Threads + Sync>(
+    rt: &R,
+    alloc: Global,
+    dice: &mut Dice,
+    trims: bool,
+) -> Result<usize, Fail> {
+    let mut graph = Graph::new(alloc)?;
+    for _ in 0..12 {
+        add_step(&mut graph, alloc, dice, trims)?;
+    }
+    for step in 0..graph.steps.len() {
+        graph
+            .text
+            .push_str(format!(in alloc; "show {step}\n")?.as_str())?;
+    }
+    let output = output_of(rt, alloc, RUN, graph.text.as_str())?;
+    let report = str::from_utf8(output.as_slice())?;
+    let mut exact = 0_usize;
+    for (number, line) in report.lines().enumerate() {
+        // A block has seven lines, the last five of which are those of the slots.
+        let (step, at) = (number / 7, number % 7);
+        if at >= 2 && step < graph.steps.len() {
+            let is_exact = slot_holds(rt, alloc, line, &graph.steps[step].said, at - 2)?;
+            exact = exact.saturating_add(usize::from(is_exact));
+        }
+    }
+    assert_eq!(rt; report.lines().count() % 7, 0);
+    assert_eq!(rt; report.lines().count() / 7, graph.steps.len());
+    Ok(exact)
+}
+
+#[test]
+fn random_graphs_show_the_truth(rt: HostRuntime) -> Result<(), Fail> {
+    let mut dice = Dice { state: 20 };
+    for _ in 0..200 {
+        let exact = graph_holds(&rt, rt.alloc(), &mut dice, false)?;
+        assert_eq!(rt; exact, 5 * 13);
+    }
+    Ok(())
+}
+
+#[test]
+fn random_trims_show_no_more_than_the_truth(rt: HostRuntime) -> Result<(), Fail> {
+    let mut dice = Dice { state: 24 };
+    let mut exact = 0_usize;
+    for _ in 0..300 {
+        exact = exact.saturating_add(graph_holds(&rt, rt.alloc(), &mut dice, true)?);
+    }
+    // Some values are whole, and some are cut.
+    assert!(rt; 300 * 13 < exact && exact < 300 * 13 * 5);
+    Ok(())
+}

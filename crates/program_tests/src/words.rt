@@ -1,0 +1,74 @@
+//! Words without a form.
+
+use crate::calls::{FILES, Objects, call};
+use outside::Open;
+use std::test::Fail;
+
+static REFUSED: [&str; 38] = [
+    "",
+    "trim",
+    "trim 0",
+    "trim 4294967296",
+    "trim 18446744073709551617",
+    "trim 10 10",
+    "merge 10",
+    "Merge",
+    "merge merge merge",
+    "trim 010",
+    "trim +10",
+    "trim -1",
+    "trim 1x",
+    "trim ten",
+    "Trim 10",
+    "--help",
+    "load",
+    "load 0",
+    "load 01",
+    "load 1001",
+    "load 1 1",
+    "table q.bdl",
+    "table q.bdl Req Req",
+    "runjson q.bdl",
+    "runjson q.bdl Req Req",
+    "runtable",
+    "runtable t q.bdl",
+    "run q.bdl",
+    "run q.bdl Req Req",
+    "decode q.bdl",
+    "decode q.bdl Req Req",
+    "check",
+    "check f.bdl",
+    "check a b c",
+    "Check f.bdl B",
+    "trim 9 B",
+    "trim merge",
+    "q.bdl Req",
+];
+
+/// The library and the source stay as they were.
+#[test]
+fn words_without_a_form(rt: HostRuntime) -> Result<(), Fail> {
+    let alloc = rt.alloc();
+    for line in &REFUSED {
+        let mut objects = Objects::new(alloc, FILES, b"02f800\n")?;
+        let status = call(&rt, alloc, &Open, line, &mut objects)?;
+        assert_eq!(rt; status, 7, "{line}");
+        assert!(rt; objects.out.taken().is_empty(), "{line}");
+        assert_eq!(rt;
+            objects.errs.taken(),
+            b"words refused\n".as_slice(),
+            "{line}"
+        );
+        assert_eq!(rt;
+            objects.left(alloc).as_slice(),
+            b"02f800\n".as_slice(),
+            "{line}"
+        );
+        let is_unasked = objects
+            .library
+            .asked()
+            .is_some_and(|names| names.is_empty());
+        assert!(rt; is_unasked, "{line}");
+    }
+    Ok(())
+}
