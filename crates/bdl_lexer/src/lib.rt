@@ -106,4 +106,3 @@ pub fn lex(alloc: Global, source: &[u8]) -> Result<Vec<Token>, LexFault>
     }
     Ok(tokens)
 }
-

@@ -62,4 +62,3 @@ pub fn parse(alloc: Global, source: &[u8], tokens: &[Token]) -> Result<Module, P
         Err(FormFault::Memory) => Err(ParseFault::Memory),
     }
 }
-

@@ -1,7 +1,6 @@
 //! Decimal numbers of 64 bits, each the whole of a text.
 #![tactic(auto)]
 
-
 ghost use Rattle.std.specs.Prelude.{◌≡◌, ◌⊎◌, ◌↔◌, ◌^◌, ◌<◌, IsTrue, length, slice_index};
 ghost use Rattle.std.specs.Fmt.{decimal};
 ghost use Rattle.decimal_text.specs.Answers.{Answers};
