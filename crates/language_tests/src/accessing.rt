@@ -152,7 +152,9 @@ fn slots_are_read(rt: HostRuntime) -> Result<(), Fail> {
 fn written(alloc: Global, table: &Table, name: &str, number: u64) -> Result<Vec<u8>, Fail>
     requires { number < 2 ^ 32 }
 {
-    let field = accessor(alloc, table, name)?.ok_or("an accessor")?;
+    let Some(field) = accessor(alloc, table, name)? else {
+        return Err(Fail::from("no slot of this name"));
+    };
     let Shape::Scalar(kind) = field.shape(table) else {
         return Err(Fail::from("no scalar"));
     };

@@ -35,7 +35,7 @@ shape_seen : (kind : ScalarKind) (own shape : Shape) → kind ≡ Fixed32 → sh
 shape_seen kind own shape is e same = sym (scalar_shown Fixed32).0 ∙ ap (λ k. shape_of (variants.Scalar k)) (sym is) ∙ e ∙ same
 
 pub write-requires-clause-fits : goal.write-requires-clause-fits
-write-requires-clause-fits g c =
+write-requires-clause-fits c =
     let nodes = c.args.table.now in
     let v = number_value c.args.number in
     let own = (subst (FindsAccessor nodes c.args.name.now) c.in-Some.is c.in_ok-field.ensures).0 in
