@@ -214,7 +214,7 @@ fn are_refused(
             alloc,
             format!(in alloc; "{front}{line}")?.as_str(),
             word,
-            *times,
+            times,
         )?;
         let fault = fault_of(alloc, &table, text.as_str())?;
         assert_eq!(rt; fault, Some(printed(alloc, number, code)?), "{line}");
