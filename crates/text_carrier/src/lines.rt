@@ -1,6 +1,6 @@
 //! What a line says, before the rules are asked.
 
-ghost use Rattle.std.specs.Prelude.{◌≡◌, ◌≢◌, ◌<◌, ◌++◌, ◌∷◌, ℕ, length, slice_index, None, IfSome, MatchOption};
+ghost use Rattle.std.specs.Prelude.{◌≡◌, ◌≢◌, ◌<◌, ◌++◌, ◌∷◌, ℕ, length, slice_index, IsTrue, ◌↔◌, None, IfSome, MatchOption};
 ghost use Rattle.decimal_text.specs.Answers.{Answers};
 ghost use Rattle.text_carrier.specs.Rules.{HasForm, HasNoForm, HasNoSpace};
 ghost use Rattle.text_carrier.specs.Views.{AreWords, HasNoWords, IsNumberText};
@@ -48,7 +48,9 @@ fn cut_word(text: &[u8]) -> Option<(&[u8], &[u8])>
 }
 
 /// The text is one word.
-fn is_word(text: &[u8]) -> bool {
+fn is_word(text: &[u8]) -> bool
+    ensures { IsTrue result ↔ ((0 < length text.now) × HasNoSpace text.now) }
+{
     !text.is_empty() && space_at(text).is_none()
 }
 
@@ -70,7 +72,11 @@ fn cut_words(text: &[u8]) -> Option<LineWords<'_>>
 fn read_number(text: &[u8]) -> Option<u64>
     ensures { Answers (IsNumberText text.now) result }
 {
-    read_decimal(text).filter(|number| *number < NUMBER_END)
+    let number = read_decimal(text)?;
+    if number >= NUMBER_END {
+        return None;
+    }
+    Some(number)
 }
 
 /// What a line says that has the form; none where it hasn't.
