@@ -2,9 +2,13 @@
 use Rattle.std.proofs.Common.{◌≡◌, ◌⊎◌, inl, inr, ℕ, ◌+◌, ◌-◌, ◌*◌, ◌/◌, ◌%◌, ◌<◌, ◌≤◌, ◌==◌, nat_lt, Bool, true, false, if◌then◌else◌, Result, Ok, List, [], ◌∷◌, ◌++◌, length, replicate, slice_index, codes, refl, sym, ◌∙◌, ap, subst, arith}
 use Rattle.std.specs.Prelude.{◌≢◌}
 use Rattle.std.specs.List.{All}
-use Rattle.std.proofs.lemmas.Bool.{cases_lt, ltb-true, ne_eqb, cond-false}
+use Rattle.std.specs.Option.{unwrap_or}
+use Rattle.std.specs.Result.{result_ok}
+use Rattle.std.specs.Str.{bytes_eq}
+use Rattle.std.proofs.lemmas.Bool.{cases_lt, ltb-true, ne_eqb, cond-false, false_from_ne_true}
 use Rattle.std.proofs.lemmas.List.{get_or_past, length-append, length-replicate}
 use Rattle.std.proofs.lemmas.List.Elements.{All-nil, All-cons, All-append, All-replicate}
+use Rattle.std.proofs.lemmas.Slice.Eq.{bytes_eq-Decides}
 use Rattle.base64.specs.Decode.{Accepts, IsExact}
 use Rattle.base64.specs.Engines.{standard}
 use Rattle.base64.specs.GeneralPurpose.{IsBytes, IsConsistent, IsStrict, decode_of, encode_of, engine_symbols}
@@ -15,6 +19,7 @@ use Rattle.base64.proofs.EngineFacts.{decode_of-encode_of, encode_of-nil}
 use Rattle.base64.proofs.RoundTrip.{length-encode_symbols}
 use Rattle.base64.proofs.Tables.{all_below_at}
 use Rattle.text_carrier.specs.Pieces.{data_text}
+use Rattle.text_carrier.specs.Views.{IsData, data_bytes}
 
 pub consistent : IsConsistent standard
 consistent = refl
@@ -115,3 +120,20 @@ one_data (x ∷ a) (y ∷ b) p q is =
 pub encoded_data : (word bytes : List ℕ) → 0 < length word → word ≡ encode_of standard bytes → word ≡ data_text bytes
 encoded_data word [] some is = absurd (omega (arith, some, ap length (is ∙ encode_of-nil standard)))
 encoded_data word (byte ∷ bytes) some is = is ∙ sym (some_data (byte ∷ bytes) (omega arith))
+
+-- The bytes that a text says are those whose text it is.
+pub bytes_told : (bytes : List ℕ) → IsBytes bytes → data_bytes (data_text bytes) ≡ bytes
+bytes_told [] are = refl
+bytes_told (byte ∷ bytes) are =
+    let all = byte ∷ bytes in
+    let word = data_text all in
+    let dashed : bytes_eq word (codes "-") ≡ false = false_from_ne_true (bytes_eq word (codes "-")) (λ e. no_dash all (omega arith) (sym ((bytes_eq-Decides word (codes "-")).0 e))) in
+    let read = ap (decode_of standard) (some_data all (omega arith)) ∙ decodes all are in
+    cond-false (bytes_eq word (codes "-")) [] (unwrap_or (result_ok (decode_of standard word)) []) dashed ∙ ap (λ (r : Result (List ℕ) DecodeError). unwrap_or (result_ok r) []) read
+
+-- The text of some bytes isn't empty, and says them.
+pub is_data : (word : List ℕ) → IsData word → 0 < length word
+is_data word (bytes, are, is) = subst (λ w. 0 < length w) (sym is) (data_some bytes)
+
+pub decoded_bytes : (word bytes : List ℕ) → IsBytes bytes → word ≡ data_text bytes → bytes ≡ data_bytes word
+decoded_bytes word bytes are is = sym (ap data_bytes is ∙ bytes_told bytes are)

@@ -1,13 +1,17 @@
--- What the code keeps and answers, as what it stands for.
-use Rattle.std.specs.Prelude.{◌≡◌, ◌≢◌, ℕ, ◌<◌, List, [], ◌∷◌, codes, length, Option, Some, None}
+-- What the code keeps and answers, and what it stands for.
+use Rattle.std.specs.Prelude.{◌≡◌, ◌≢◌, ℕ, ◌<◌, if◌then◌else◌, List, [], ◌∷◌, codes, length, Option, Some, None}
 use Rattle.std.specs.BTreeMap.{get}
 use Rattle.std.specs.Fmt.{decimal}
-use Rattle.std.specs.List.{Contains, join_with_byte}
-use Rattle.std.specs.Option.{option_map}
+use Rattle.std.specs.List.{Contains, flat_map, join_with_byte, slice_index_or}
+use Rattle.std.specs.Option.{option_map, unwrap_or}
 use Rattle.std.specs.Ordering.{nat_cmp}
-use Rattle.base64.specs.GeneralPurpose.{IsBytes}
+use Rattle.std.specs.Result.{result_ok}
+use Rattle.std.specs.Str.{bytes_eq}
+use Rattle.base64.specs.Engines.{standard}
+use Rattle.base64.specs.GeneralPurpose.{IsBytes, decode_of}
 use Rattle.text_lines.specs.Lines.{Line}
 use Rattle.text_lines.specs.Readings.{AllSay, IsFirstBad, IsFirstOf}
+use Rattle.text_carrier.specs.declared.TheConstants.{CARRIED_MAX}
 use Rattle.text_carrier.specs.declared.faults.CarryCode.{CarryCode}
 use Rattle.text_carrier.specs.declared.faults.CarryCode.TheVariants.{Form, PieceRange, BadBase64, OtherCount, Clash}
 use Rattle.text_carrier.specs.declared.faults.CarryFault.{CarryFault}
@@ -18,7 +22,7 @@ use Rattle.text_carrier.specs.declared.faults.Refusal.TheVariants.{Code, Memory}
 use Rattle.text_carrier.specs.declared.pieces.Pieces.{Pieces}
 use Rattle.text_carrier.specs.Pieces.{Piece, data_text}
 use Rattle.text_carrier.specs.Rules.{HasNoSpace, Breaks, rules, IsBad, piece_lines}
-use Rattle.text_carrier.specs.Collected.{HasPlace}
+use Rattle.text_carrier.specs.Collected.{HasPlace, IsFirstMissing, count_of}
 
 -- The name of a rule, as it is printed.
 abbrev pub code_name : CarryCode → List ℕ
@@ -83,9 +87,40 @@ IsTextAt pieces place None = HasPlace pieces place → ⊥
 pub record Keeps (pieces : List Piece) (kept : Pieces) : Type 0 where
   pub count : kept.count ≡ first_count pieces
   pub texts : (place : ℕ) → IsTextAt pieces place (option_map (λ text. text.now) (get nat_cmp kept.texts place))
+  pub are_bytes : (piece : Piece) → Contains pieces piece → IsBytes piece.bytes
 
 -- The first bad line of these has this number and breaks this rule, or memory is wanting.
 abbrev pub IsLineFault : List Line → CarryFault → Type 0
 IsLineFault lines (At line code) = IsFirstBad piece_lines lines line code
 IsLineFault lines faults.Memory = Unit {0}
 IsLineFault lines other = ⊥
+
+-- These are the texts of all pieces, in the order of their numbers.
+pub record AreTextsOf (pieces : List Piece) (texts : List (List ℕ)) : Type 0 where
+  pub as_many : length texts ≡ count_of pieces
+  pub each : (place : ℕ) → place < length texts → IsTextAt pieces place (Some (slice_index_or texts place []))
+
+-- There is no piece, or one is missing, or memory is wanting.
+abbrev pub IsOrderFault : List Piece → CarryFault → Type 0
+IsOrderFault pieces faults.NoLine = pieces ≡ []
+IsOrderFault pieces (faults.Missing place) = (pieces ≢ []) × IsFirstMissing pieces place
+IsOrderFault pieces faults.Memory = Unit {0}
+IsOrderFault pieces other = ⊥
+
+-- The bytes whose text a word is: none for a dash, and else those of its base64.
+abbrev pub data_bytes : List ℕ → List ℕ
+data_bytes word = if bytes_eq word (codes "-") then [] else unwrap_or (result_ok (decode_of standard word)) []
+
+-- The bytes of some words, one after another.
+abbrev pub all_bytes : List (List ℕ) → List ℕ
+all_bytes words = flat_map data_bytes words
+
+-- The word is the text of some bytes.
+abbrev pub IsData : List ℕ → Type 0
+IsData word = (bytes : List ℕ) × IsBytes bytes × (word ≡ data_text bytes)
+
+-- The bytes of the words are too many, or memory is wanting.
+abbrev pub IsJoinFault : List (List ℕ) → CarryFault → Type 0
+IsJoinFault words faults.TooManyBytes = CARRIED_MAX < length (all_bytes words)
+IsJoinFault words faults.Memory = Unit {0}
+IsJoinFault words other = ⊥

@@ -1,6 +1,7 @@
 //! Why lines give no bytes.
 
 use outside::Memory;
+use std::alloc::{AllocError, AllocFailed};
 use std::fmt;
 
 /// The rule that a line breaks. At one line the first of these counts.
@@ -75,6 +76,28 @@ impl From<Memory> for CarryFault {
     ghost from_gives = { λ _ fault. fault ≡ faults.Memory };
 
     fn from(_want: Memory) -> CarryFault {
+        CarryFault::Memory
+    }
+}
+
+impl From<AllocError> for CarryFault {
+    ghost use Rattle.std.specs.Prelude.{◌≡◌};
+    ghost use Rattle.text_carrier.specs.declared.faults.CarryFault.TheVariants as faults;
+
+    ghost from_gives = { λ _ fault. fault ≡ faults.Memory };
+
+    fn from(_error: AllocError) -> CarryFault {
+        CarryFault::Memory
+    }
+}
+
+impl<T: Drop> From<AllocFailed<T>> for CarryFault {
+    ghost use Rattle.std.specs.Prelude.{◌≡◌};
+    ghost use Rattle.text_carrier.specs.declared.faults.CarryFault.TheVariants as faults;
+
+    ghost from_gives = { λ _ fault. fault ≡ faults.Memory };
+
+    fn from(_error: AllocFailed<T>) -> CarryFault {
         CarryFault::Memory
     }
 }

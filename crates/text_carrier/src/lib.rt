@@ -2,15 +2,14 @@
 #![tactic(auto)]
 
 mod carrying;
-
+mod collecting;
 mod data;
 mod faults;
-
 mod lines;
 mod pieces;
 
 pub use carrying::carry;
-
+pub use collecting::collect;
 pub use faults::{CarryCode, CarryFault};
 
 /// The least bytes of a piece that isn't the last.
