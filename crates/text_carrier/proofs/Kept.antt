@@ -22,7 +22,7 @@ use Rattle.text_carrier.specs.Collected.{HasPlace, count_of}
 use Rattle.text_carrier.specs.Views.{first_count, IsTextAt, Keeps}
 
 -- Texts that can't differ are the same.
-same_text : (a b : List ℕ) → (a ≢ b → ⊥) → a ≡ b
+pub same_text : (a b : List ℕ) → (a ≢ b → ⊥) → a ≡ b
 same_text a b h = by (bytes_eq a b) refl
   where
     by : (t : Bool) → bytes_eq a b ≡ t → a ≡ b

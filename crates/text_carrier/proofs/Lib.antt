@@ -1,3 +1,7 @@
+mod Cutting
+mod Definite
+mod Joined
 mod Kept
+mod OneWay
 mod Spaces
 mod Standard

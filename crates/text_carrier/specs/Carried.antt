@@ -8,7 +8,7 @@ use Rattle.text_carrier.specs.Pieces.{Piece, piece_line}
 
 -- How many pieces of this width some bytes have: no bytes have one piece.
 abbrev pub piece_count : ℕ → List ℕ → ℕ
-piece_count width bytes = max 1 (div_ceil (length bytes) width)
+piece_count width bytes = max (div_ceil (length bytes) width) 1
 
 -- The piece of this number: so many bytes, and in the last one the rest.
 abbrev pub piece_at : ℕ → List ℕ → ℕ → Piece

@@ -5,6 +5,7 @@ mod carrying;
 mod collecting;
 mod data;
 mod faults;
+pub mod laws;
 mod lines;
 mod pieces;
 
