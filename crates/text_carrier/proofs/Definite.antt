@@ -1,5 +1,5 @@
 -- A line says one piece or breaks one rule first, never both.
-use Rattle.std.proofs.Common.{◌≡◌, ◌⊎◌, inl, inr, ℕ, List, sym, ◌∙◌, subst}
+use Rattle.std.proofs.Common.{◌≡◌, inl, inr, ℕ, List, sym, ◌∙◌, subst}
 use Rattle.std.proofs.lemmas.Fmt.{decimal_injective}
 use Rattle.text_lines.specs.Readings.{IsDefinite, IsFirstOf, NoneOf}
 use Rattle.text_lines.proofs.ReadingLaws.{first_of_one, first_of_none}
@@ -10,12 +10,12 @@ use Rattle.text_carrier.proofs.Spaces.{form_words, one_words, small}
 use Rattle.text_carrier.proofs.Standard.{one_data}
 
 -- What a line says, before the rules are asked.
-record AreOne (place count : ℕ) (word : List ℕ) (p c : ℕ) (w : List ℕ) : Type 0 where
-  place_is : place ≡ p
-  count_is : count ≡ c
-  word_is : word ≡ w
+pub record AreOne (place count : ℕ) (word : List ℕ) (p c : ℕ) (w : List ℕ) : Type 0 where
+  pub place_is : place ≡ p
+  pub count_is : count ≡ c
+  pub word_is : word ≡ w
 
-one_form : (text : List ℕ) (place count : ℕ) (word : List ℕ) (p c : ℕ) (w : List ℕ) → HasForm text place count word → HasForm text p c w → AreOne place count word p c w
+pub one_form : (text : List ℕ) (place count : ℕ) (word : List ℕ) (p c : ℕ) (w : List ℕ) → HasForm text place count word → HasForm text p c w → AreOne place count word p c w
 one_form text place count word p c w form other =
     let same = one_words text _ _ word _ _ w (form_words text place count word form) (form_words text p c w other) in
     record {

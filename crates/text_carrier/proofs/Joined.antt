@@ -1,8 +1,7 @@
 -- The texts of all pieces, in order, and the bytes that they say.
-use Rattle.std.proofs.Common.{◌≡◌, ◌⊎◌, inl, inr, ℕ, ◌+◌, ◌<◌, ◌≤◌, Option, None, Some, Result, Ok, Err, List, [], ◌∷◌, ◌++◌, length, map, take, refl, sym, ◌∙◌, ap, subst, arith}
-use Rattle.std.specs.Prelude.{◌≢◌}
+use Rattle.std.proofs.Common.{◌≡◌, ℕ, ◌+◌, ◌<◌, ◌≤◌, Option, None, Some, Result, Ok, Err, List, [], ◌∷◌, ◌++◌, length, map, take, refl, sym, ◌∙◌, ap, subst, arith}
 use Rattle.std.specs.Borrow.{Bor}
-use Rattle.std.specs.List.{All, concat, flat_map, slice_get, slice_index_or}
+use Rattle.std.specs.List.{All, flat_map, slice_index_or}
 use Rattle.std.specs.Option.{IsSome, option_map}
 use Rattle.std.specs.Result.{IfOk}
 use Rattle.std.proofs.lemmas.List.{get_or-map, get_or_default, length-map, map_push, take_more, take-map, flat_map_more}
@@ -13,13 +12,12 @@ use Rattle.std.proofs.lemmas.Option.{slice_get_within, get_or_from_slice_get}
 use Rattle.text_lines.specs.Lines.{Line}
 use Rattle.text_lines.specs.Readings.{AllSay}
 use Rattle.text_lines.proofs.ReadingLaws.{all_say-length, next_bad}
-use Rattle.text_carrier.specs.declared.TheConstants.{CARRIED_MAX}
 use Rattle.text_carrier.specs.declared.faults.CarryFault.{CarryFault}
 use Rattle.text_carrier.specs.declared.faults.CarryFault.TheVariants as faults
 use Rattle.text_carrier.specs.declared.faults.Refusal.{Refusal}
 use Rattle.text_carrier.specs.declared.faults.Refusal.TheVariants as refusals
 use Rattle.text_carrier.specs.declared.pieces.Pieces.{Pieces}
-use Rattle.text_carrier.specs.Pieces.{Piece, data_text}
+use Rattle.text_carrier.specs.Pieces.{Piece}
 use Rattle.text_carrier.specs.Rules.{piece_lines}
 use Rattle.text_carrier.specs.Collected.{AreWhole, Collects, SaySome}
 use Rattle.text_carrier.specs.Views.{AreTextsOf, IsData, IsDecoded, IsJoinFault, IsLineFault, IsOrderFault, IsRefused, Keeps, all_bytes, data_bytes, fault_at}

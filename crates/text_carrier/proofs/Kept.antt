@@ -1,5 +1,5 @@
 -- What is kept of the pieces that lines have said.
-use Rattle.std.proofs.Common.{◌≡◌, ◌⊎◌, inl, inr, ℕ, ◌+◌, ◌<◌, Bool, true, false, Option, None, Some, List, [], ◌∷◌, ◌++◌, length, map, refl, sym, ◌∙◌, ap, subst, arith}
+use Rattle.std.proofs.Common.{◌≡◌, inl, inr, ℕ, ◌+◌, ◌<◌, Bool, true, false, Option, None, Some, List, [], ◌∷◌, ◌++◌, length, refl, sym, ◌∙◌, ap, subst, arith}
 use Rattle.std.specs.Prelude.{◌≢◌}
 use Rattle.std.specs.Borrow.{Bor}
 use Rattle.std.specs.BTreeMap.{BTreeMap, Updates, get}
@@ -18,7 +18,7 @@ use Rattle.text_lines.specs.Readings.{NoneOf}
 use Rattle.text_carrier.specs.declared.pieces.Pieces.{Pieces}
 use Rattle.text_carrier.specs.Pieces.{Piece, data_text}
 use Rattle.text_carrier.specs.Rules.{Breaks, IsOtherCount, rules}
-use Rattle.text_carrier.specs.Collected.{HasPlace, count_of}
+use Rattle.text_carrier.specs.Collected.{count_of}
 use Rattle.text_carrier.specs.Views.{first_count, IsTextAt, Keeps}
 
 -- Texts that can't differ are the same.

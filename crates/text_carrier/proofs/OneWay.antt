@@ -1,7 +1,7 @@
 -- Lines collect to one answer.
 use Rattle.std.proofs.Common.{◌≡◌, ◌⊎◌, inl, inr, ℕ, ◌<◌, ◌≤◌, Result, Ok, Err, List, [], ◌∷◌, ◌++◌, length, get_or, refl, sym, ◌∙◌, ap, subst, append_assoc, arith}
 use Rattle.std.specs.Prelude.{◌≢◌}
-use Rattle.std.specs.List.{Contains, concat, slice_get, slice_index_or}
+use Rattle.std.specs.List.{Contains, concat}
 use Rattle.std.proofs.lemmas.Bool.{cases_order}
 use Rattle.std.proofs.lemmas.List.{append-nil, same_lists}
 use Rattle.std.proofs.lemmas.List.Elements.{Contains-push_cases}
@@ -9,14 +9,14 @@ use Rattle.std.proofs.lemmas.Option.{slice_get-get_or}
 use Rattle.base64.specs.GeneralPurpose.{IsBytes}
 use Rattle.text_lines.specs.Lines.{Line}
 use Rattle.text_lines.specs.Readings.{AllSay, IsFirstBad}
-use Rattle.text_lines.proofs.ReadingLaws.{all_say-length, all_say_one, first_bad_one, good_not_bad, none_bad}
+use Rattle.text_lines.proofs.ReadingLaws.{all_say_one, first_bad_one, good_not_bad, none_bad}
 use Rattle.text_carrier.specs.declared.TheConstants.{CARRIED_MAX}
 use Rattle.text_carrier.specs.declared.faults.CarryCode.{CarryCode}
 use Rattle.text_carrier.specs.declared.faults.CarryFault.{CarryFault}
 use Rattle.text_carrier.specs.declared.faults.CarryFault.TheVariants.{At, NoLine, Missing, TooManyBytes, Memory}
 use Rattle.text_carrier.specs.Pieces.{Piece, data_text}
 use Rattle.text_carrier.specs.Rules.{IsGood, piece_lines}
-use Rattle.text_carrier.specs.Collected.{AreWhole, Collects, HasPlace, IsFirstMissing, SaySome}
+use Rattle.text_carrier.specs.Collected.{AreWhole, Collects, IsFirstMissing, SaySome}
 use Rattle.text_carrier.proofs.Definite.{is_definite}
 use Rattle.text_carrier.proofs.Kept.{same_text}
 use Rattle.text_carrier.proofs.Standard.{one_data}

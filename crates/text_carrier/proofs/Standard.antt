@@ -1,6 +1,5 @@
 -- What is known of the base64 of the standard alphabet, with padding: it is consistent and strict, and none of its bytes is a space, a line feed or a carriage return.
-use Rattle.std.proofs.Common.{◌≡◌, ◌⊎◌, inl, inr, ℕ, ◌+◌, ◌-◌, ◌*◌, ◌/◌, ◌%◌, ◌<◌, ◌≤◌, ◌==◌, nat_lt, Bool, true, false, if◌then◌else◌, Result, Ok, List, [], ◌∷◌, ◌++◌, length, replicate, slice_index, codes, refl, sym, ◌∙◌, ap, subst, arith}
-use Rattle.std.specs.Prelude.{◌≢◌}
+use Rattle.std.proofs.Common.{◌≡◌, ◌⊎◌, inl, inr, ℕ, ◌+◌, ◌*◌, ◌/◌, ◌%◌, ◌<◌, ◌≤◌, ◌==◌, nat_lt, true, false, Result, Ok, List, [], ◌∷◌, length, replicate, slice_index, codes, refl, sym, ◌∙◌, ap, subst, arith}
 use Rattle.std.specs.List.{All}
 use Rattle.std.specs.Option.{unwrap_or}
 use Rattle.std.specs.Result.{result_ok}
@@ -9,10 +8,9 @@ use Rattle.std.proofs.lemmas.Bool.{cases_lt, ltb-true, ne_eqb, cond-false, false
 use Rattle.std.proofs.lemmas.List.{get_or_past, length-append, length-replicate}
 use Rattle.std.proofs.lemmas.List.Elements.{All-nil, All-cons, All-append, All-replicate}
 use Rattle.std.proofs.lemmas.Slice.Eq.{bytes_eq-Decides}
-use Rattle.base64.specs.Decode.{Accepts, IsExact}
 use Rattle.base64.specs.Engines.{standard}
 use Rattle.base64.specs.GeneralPurpose.{IsBytes, IsConsistent, IsStrict, decode_of, encode_of, engine_symbols}
-use Rattle.base64.specs.Rfc4648.{encode_group, encode_two, encode_one, encode_symbols, padding_len, unpadded_len}
+use Rattle.base64.specs.Rfc4648.{encode_group, encode_symbols, padding_len, unpadded_len}
 use Rattle.base64.specs.Tables.{all_below}
 use Rattle.base64.specs.declared.decode.DecodeError.{DecodeError}
 use Rattle.base64.proofs.EngineFacts.{decode_of-encode_of, encode_of-nil}

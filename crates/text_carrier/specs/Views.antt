@@ -10,7 +10,7 @@ use Rattle.std.specs.Str.{bytes_eq}
 use Rattle.base64.specs.Engines.{standard}
 use Rattle.base64.specs.GeneralPurpose.{IsBytes, decode_of}
 use Rattle.text_lines.specs.Lines.{Line}
-use Rattle.text_lines.specs.Readings.{AllSay, IsFirstBad, IsFirstOf}
+use Rattle.text_lines.specs.Readings.{IsFirstBad, IsFirstOf}
 use Rattle.text_carrier.specs.declared.TheConstants.{CARRIED_MAX}
 use Rattle.text_carrier.specs.declared.faults.CarryCode.{CarryCode}
 use Rattle.text_carrier.specs.declared.faults.CarryCode.TheVariants.{Form, PieceRange, BadBase64, OtherCount, Clash}

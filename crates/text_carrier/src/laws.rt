@@ -1,10 +1,12 @@
 //! Laws of the lines, each the contract of a function that does nothing.
 
-ghost use Rattle.std.specs.Prelude.{◌≡◌, ◌⊎◌, ℕ, List, Result, Err};
-ghost use Rattle.text_lines.specs.Lines.{Line};
+ghost use Rattle.std.specs.Prelude.{◌≡◌, ◌≢◌, ◌⊎◌, ◌≤◌, ℕ, [], List, Result, Ok, Err, length};
+ghost use Rattle.std.specs.List.{Contains};
+ghost use Rattle.text_lines.specs.Lines.{Line, lines_of};
 ghost use Rattle.text_lines.specs.Readings.{IsDefinite};
 ghost use Rattle.text_carrier.specs.declared.faults.CarryFault.{CarryFault};
 ghost use Rattle.text_carrier.specs.declared.faults.CarryFault.TheVariants as faults;
+ghost use Rattle.text_carrier.specs.Carried.{AreAll, AreSome, IsCarried, IsFirstLost, carried_lines, text_of};
 ghost use Rattle.text_carrier.specs.Collected.{Collects};
 ghost use Rattle.text_carrier.specs.Rules.{piece_lines};
 
@@ -17,4 +19,24 @@ pub fn lines_are_definite()
 pub fn lines_collect_one_way()
     ensures { (lines : List Line) (a b : Result (List ℕ) CarryFault) → Collects lines a → Collects lines b
         → (a ≡ b) ⊎ ((a ≡ Err faults.Memory) ⊎ (b ≡ Err faults.Memory)) }
+{}
+
+/// Each line of the pieces of some bytes has at most 416 bytes.
+pub fn carried_lines_are_short()
+    ensures { (width : ℕ) (bytes line : List ℕ) → IsCarried width bytes → Contains (carried_lines width bytes) line
+        → length line ≤ 416 }
+{}
+
+/// The lines of all pieces of some bytes, in any order and each as often as one likes, collect to the bytes.
+pub fn carried_lines_come_back()
+    ensures { (width : ℕ) (bytes : List ℕ) (sent : List (List ℕ)) → IsCarried width bytes
+        → AreSome width bytes sent → AreAll width bytes sent → Collects (lines_of (text_of sent)) (Ok bytes) }
+{}
+
+/// One or more of the lines of some bytes, of which one is missing, are refused, and the least number is told whose line
+/// is missing.
+pub fn lost_lines_are_told()
+    ensures { (width : ℕ) (bytes : List ℕ) (sent : List (List ℕ)) (line : List ℕ) → IsCarried width bytes
+        → AreSome width bytes sent → sent ≢ [] → Contains (carried_lines width bytes) line → (Contains sent line → ⊥)
+        → (place : ℕ) × IsFirstLost width bytes sent place × Collects (lines_of (text_of sent)) (Err (faults.Missing place)) }
 {}

@@ -24,6 +24,6 @@ loop-line-preserved c =
     let (piece, good, more) = c.in_default.ensures.ok said keeps in (
       said ++ piece ∷ [],
       subst (λ (lines : List Line). AllSay piece_lines [] lines (said ++ piece ∷ [])) (sym (map_push line_value c.loop-line.yielded c.in-Some.line))
-      (all_say_more piece_lines (map line_value c.loop-line.yielded) said (line_value c.in-Some.line) piece all good),
+          (all_say_more piece_lines (map line_value c.loop-line.yielded) said (line_value c.in-Some.line) piece all good),
       more,
     )

@@ -1,4 +1,4 @@
-use Rattle.std.proofs.Common.{◌≡◌, true, sym, subst, ◌∙◌, length}
+use Rattle.std.proofs.Common.{◌≡◌, true, sym, subst, length}
 use Rattle.std.specs.Prelude.{◌<◌}
 use Rattle.text_carrier.specs.Rules.{HasNoSpace}
 use Rattle.text_carrier.proofs.Spaces.{no_second, no_third, same_words}

@@ -1,4 +1,3 @@
-use Rattle.std.proofs.Common.{sym, ◌∙◌}
 use Rattle.text_carrier.proofs.Spaces.{form_words, one_words}
 use Rattle.text_carrier.proofs.lines.read_line.Goals as goal
 

@@ -1,4 +1,4 @@
-use Rattle.std.proofs.Common.{◌≡◌, ◌++◌, ◌∷◌, [], List, ℕ, length, map, Some, sym, ◌∙◌, ap, subst, arith}
+use Rattle.std.proofs.Common.{[], List, ℕ, length, map, Some, sym, ◌∙◌, ap, subst, arith}
 use Rattle.std.specs.List.{slice_index_or}
 use Rattle.std.proofs.lemmas.List.{map_push, length_push, length-map}
 use Rattle.text_carrier.specs.Views.{IsTextAt}
@@ -33,8 +33,10 @@ loop-piece-preserved c =
 pub returns-clause-ok : goal.returns-clause-ok
 returns-clause-ok c = λ said keeps.
     let told = count_told said c.in-Some.count (sym c.in-Some.is ∙ keeps.count) in
-    let long = length-map c.loop-piece.texts.items (λ text. text.now) in
-    (told.0, record {
-      as_many = omega (arith, long, told.1, c.loop-piece.invariant.many, c.loop-piece-test.false);
-      each = λ place less. c.loop-piece.invariant.each said keeps place (omega (arith, less, long, c.loop-piece.invariant.many));
-    })
+    let long = length-map c.loop-piece.texts.items (λ text. text.now) in (
+      told.0,
+      record {
+        as_many = omega (arith, long, told.1, c.loop-piece.invariant.many, c.loop-piece-test.false);
+        each = λ place less. c.loop-piece.invariant.each said keeps place (omega (arith, less, long, c.loop-piece.invariant.many));
+      },
+    )
