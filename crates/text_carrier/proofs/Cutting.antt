@@ -13,13 +13,6 @@ use Rattle.text_carrier.specs.Carried.{piece_at, piece_count, text_of}
 
 -- ---- how many pieces
 
--- The pieces before one that is cut are within the bytes.
-pub starts_within : (len width place : ℕ) → place < max (div_ceil len width) 1 → place * width ≤ len
-starts_within len width place less =
-    let few : place ≤ len / width = omega arith in
-    let start = mul-le-mul_right {m = place} {n = len / width} width few in
-    omega (arith, start, div-mul-le_self len width)
-
 -- All pieces together reach the end.
 pub reaches_end : (len width : ℕ) → 0 < width → len ≤ max (div_ceil len width) 1 * width
 reaches_end len width some =

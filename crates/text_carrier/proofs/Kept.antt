@@ -53,10 +53,6 @@ pub count_told : (said : List Piece) (count : ℕ) → Some count ≡ first_coun
 count_told [] count is = absurd (cc is)
 count_told (piece ∷ more) count is = (λ e. cc e, cc is)
 
-pub count_untold : (said : List Piece) → None ≡ first_count said → said ≡ []
-count_untold [] is = refl
-count_untold (piece ∷ more) is = absurd (cc is)
-
 -- ---- texts
 
 -- A piece of another number changes nothing at this one.

@@ -1,5 +1,5 @@
 -- What the code keeps and answers, and what it stands for.
-use Rattle.std.specs.Prelude.{◌≡◌, ◌≢◌, ℕ, ◌<◌, if◌then◌else◌, List, [], ◌∷◌, codes, length, Option, Some, None}
+use Rattle.std.specs.Prelude.{◌≡◌, ◌≢◌, ℕ, ◌^◌, ◌<◌, if◌then◌else◌, List, [], ◌∷◌, codes, length, Option, Some, None}
 use Rattle.std.specs.BTreeMap.{get}
 use Rattle.std.specs.Fmt.{decimal}
 use Rattle.std.specs.List.{Contains, flat_map, join_with_byte, slice_index_or}
@@ -55,7 +55,7 @@ HasNoWords text = (place count word : List ℕ) → AreWords text place count wo
 
 -- The text is that of a number with at most seven digits.
 abbrev pub IsNumberText : List ℕ → ℕ → Type 0
-IsNumberText text number = (number < 10000000) × (text ≡ decimal number)
+IsNumberText text number = (number < 10 ^ 7) × (text ≡ decimal number)
 
 -- A line that has the form is refused behind these pieces: it breaks this rule first, or memory is wanting for it.
 abbrev pub IsPieceRefused : List Piece → ℕ → ℕ → List ℕ → Refusal → Type 0
