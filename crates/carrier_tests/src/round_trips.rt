@@ -5,10 +5,10 @@ use outside::Memory;
 use std::alloc::Global;
 use std::test::Fail;
 use text_carrier::laws::{
-    carried_lines_are_short, carried_lines_come_back, lines_are_definite, lines_collect_one_way,
-    lost_lines_are_told,
+    carried_lines_are_short, carried_lines_come_back, encodings_are_plain, lines_are_definite,
+    lines_collect_one_way, lost_lines_are_told,
 };
-use text_carrier::{CARRIED_MAX, CarryFault, WIDTH_MAX, WIDTH_MIN, carry, collect};
+use text_carrier::{CARRIED_MAX, CarryFault, WIDTH_MAX, WIDTH_MIN, carry, carry_and_collect, collect};
 use text_lines::lines_of;
 
 /// So many bytes, which don't repeat soon.
@@ -54,7 +54,7 @@ fn gives(alloc: Global, text: &[u8], bytes: &[u8]) -> Result<bool, Memory> {
 fn without(alloc: Global, text: &[u8], lost: u64) -> Result<Vec<u8>, Memory> {
     let mut rest = Vec::new(alloc);
     for line in lines_of(text) {
-        if line.number != lost + 1 {
+        if line.number != lost.saturating_add(1) {
             rest.extend_from_slice(line.text)?;
             rest.push(b'\n')?;
         }
@@ -86,6 +86,8 @@ fn comes_back(rt: HostRuntime) -> Result<(), Fail> {
         assert!(rt; bytes.len() <= CARRIED_MAX);
         let text = carry(alloc, bytes.as_slice(), *width)?;
         assert!(rt; gives(alloc, text.as_slice(), bytes.as_slice())?, "at {width} {count}");
+        let back = carry_and_collect(alloc, bytes.as_slice(), *width);
+        assert!(rt; matches!(back, Ok(back) if back.as_slice() == bytes.as_slice()), "at {width} {count}");
         let other = shuffled(alloc, text.as_slice(), *step)?;
         assert!(rt; gives(alloc, other.as_slice(), bytes.as_slice())?, "at {width} {count} shuffled");
     }
@@ -155,6 +157,7 @@ fn collects_the_most(rt: HostRuntime) -> Result<(), Fail> {
 
 #[test]
 fn laws_are_there(_rt: HostRuntime) {
+    encodings_are_plain();
     lines_are_definite();
     lines_collect_one_way();
     carried_lines_are_short();

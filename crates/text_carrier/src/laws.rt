@@ -2,6 +2,8 @@
 
 ghost use Rattle.std.specs.Prelude.{◌≡◌, ◌≢◌, ◌⊎◌, ◌≤◌, ℕ, [], List, Result, Ok, Err, length};
 ghost use Rattle.std.specs.List.{Contains};
+ghost use Rattle.base64.specs.Engines.{standard};
+ghost use Rattle.base64.specs.GeneralPurpose.{IsConsistent, IsStrict, encode_of};
 ghost use Rattle.text_lines.specs.Lines.{Line, lines_of};
 ghost use Rattle.text_lines.specs.Readings.{IsDefinite};
 ghost use Rattle.text_carrier.specs.declared.faults.CarryFault.{CarryFault};
@@ -9,6 +11,15 @@ ghost use Rattle.text_carrier.specs.declared.faults.CarryFault.TheVariants as fa
 ghost use Rattle.text_carrier.specs.Carried.{AreAll, AreSome, IsCarried, IsFirstLost, carried_lines, text_of};
 ghost use Rattle.text_carrier.specs.Collected.{Collects};
 ghost use Rattle.text_carrier.specs.Rules.{piece_lines};
+
+/// An encoding of the standard alphabet with padding decodes to its bytes, and nothing else decodes; none of its bytes is
+/// a space, a line feed or a carriage return.
+pub fn encodings_are_plain()
+    ensures consistent { IsConsistent standard }
+    ensures strict { IsStrict standard }
+    ensures plain { (bytes : List ℕ) (byte : ℕ) → Contains (encode_of standard bytes) byte
+        → (byte ≢ 32) × (byte ≢ 10) × (byte ≢ 13) }
+{}
 
 /// A line says one piece or breaks one rule first, never both.
 pub fn lines_are_definite()

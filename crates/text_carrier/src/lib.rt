@@ -8,10 +8,12 @@ mod faults;
 pub mod laws;
 mod lines;
 mod pieces;
+mod round_trip;
 
 pub use carrying::carry;
 pub use collecting::collect;
 pub use faults::{CarryCode, CarryFault};
+pub use round_trip::carry_and_collect;
 
 /// The least bytes of a piece that isn't the last.
 pub const WIDTH_MIN: usize = 4;
