@@ -1,0 +1,166 @@
+//! Bytes as lines and back: in another order, with repeats, with a line lost, and at the limits.
+
+use base64::engine::general_purpose::STANDARD;
+use outside::Memory;
+use std::alloc::Global;
+use std::test::Fail;
+use text_carrier::laws::{
+    carried_lines_are_short, carried_lines_come_back, encodings_are_plain, lines_are_definite,
+    lines_collect_one_way, lost_lines_are_told,
+};
+use text_carrier::{CARRIED_MAX, CarryFault, WIDTH_MAX, WIDTH_MIN, carry, carry_and_collect, collect};
+use text_lines::lines_of;
+
+/// So many bytes, which don't repeat soon.
+fn some_bytes(alloc: Global, count: usize) -> Result<Vec<u8>, Memory> {
+    let mut bytes = Vec::with_capacity(alloc, count)?;
+    let mut state: u32 = 1;
+    for _ in 0..count {
+        state = state.wrapping_mul(1_664_525).wrapping_add(1_013_904_223);
+        bytes.push((state >> 24) as u8)?;
+    }
+    Ok(bytes)
+}
+
+/// The lines of a text, those of the odd ones twice, in another order: each behind the one that stands `step` lines before
+/// it, round the end.
+fn shuffled(alloc: Global, text: &[u8], step: usize) -> Result<Vec<u8>, Memory> {
+    let mut lines = Vec::new(alloc);
+    for line in lines_of(text) {
+        lines.push(line.text)?;
+    }
+    let mut other = Vec::new(alloc);
+    let mut at = 0usize;
+    for turn in 0..lines.len() {
+        at = at.wrapping_add(step) % lines.len();
+        for _ in 0..1 + turn % 2 {
+            other.extend_from_slice(lines.as_slice()[at])?;
+            other.push(b'\n')?;
+        }
+    }
+    Ok(other)
+}
+
+/// Whether a text collects to these bytes.
+fn gives(alloc: Global, text: &[u8], bytes: &[u8]) -> Result<bool, Memory> {
+    match collect(alloc, text) {
+        Ok(back) => Ok(back.as_slice() == bytes),
+        Err(CarryFault::Memory) => Err(Memory),
+        Err(_) => Ok(false),
+    }
+}
+
+/// The lines of a text but for one.
+fn without(alloc: Global, text: &[u8], lost: u64) -> Result<Vec<u8>, Memory> {
+    let mut rest = Vec::new(alloc);
+    for line in lines_of(text) {
+        if line.number != lost.saturating_add(1) {
+            rest.extend_from_slice(line.text)?;
+            rest.push(b'\n')?;
+        }
+    }
+    Ok(rest)
+}
+
+/// Widths and numbers of bytes, with a number that has no common factor with that of the pieces.
+static SIZES: [(usize, usize, usize); 11] = [
+    (4, 0, 1),
+    (4, 1, 1),
+    (4, 4, 1),
+    (4, 5, 1),
+    (4, 48, 5),
+    (5, 49, 7),
+    (7, 1000, 5),
+    (100, 300, 2),
+    (299, 900, 3),
+    (300, 300, 1),
+    (300, 1201, 3),
+];
+
+#[test]
+fn comes_back(rt: HostRuntime) -> Result<(), Fail> {
+    let alloc = rt.alloc();
+    for (width, count, step) in &SIZES {
+        assert!(rt; WIDTH_MIN <= *width && *width <= WIDTH_MAX && *count <= CARRIED_MAX);
+        let bytes = some_bytes(alloc, *count)?;
+        assert!(rt; bytes.len() <= CARRIED_MAX);
+        let text = carry(alloc, bytes.as_slice(), *width)?;
+        assert!(rt; gives(alloc, text.as_slice(), bytes.as_slice())?, "at {width} {count}");
+        let back = carry_and_collect(alloc, bytes.as_slice(), *width);
+        assert!(rt; matches!(back, Ok(back) if back.as_slice() == bytes.as_slice()), "at {width} {count}");
+        let other = shuffled(alloc, text.as_slice(), *step)?;
+        assert!(rt; gives(alloc, other.as_slice(), bytes.as_slice())?, "at {width} {count} shuffled");
+    }
+    Ok(())
+}
+
+#[test]
+fn tells_a_lost_line(rt: HostRuntime) -> Result<(), Fail> {
+    let alloc = rt.alloc();
+    let bytes = some_bytes(alloc, 1000)?;
+    assert!(rt; bytes.len() <= CARRIED_MAX);
+    let text = carry(alloc, bytes.as_slice(), 10)?;
+    for lost in 0..100 {
+        let rest = without(alloc, text.as_slice(), lost)?;
+        assert!(rt;
+            matches!(collect(alloc, rest.as_slice()), Err(CarryFault::Missing { piece }) if piece == lost),
+            "at {lost}"
+        );
+    }
+    Ok(())
+}
+
+#[test]
+fn carries_the_most(rt: HostRuntime) -> Result<(), Fail> {
+    let alloc = rt.alloc();
+    let bytes = some_bytes(alloc, CARRIED_MAX)?;
+    assert!(rt; bytes.len() <= CARRIED_MAX);
+    let text = carry(alloc, bytes.as_slice(), WIDTH_MIN)?;
+    assert_eq!(rt; text.len(), 6_442_490);
+    let other = shuffled(alloc, text.as_slice(), 100_003)?;
+    assert!(rt; gives(alloc, other.as_slice(), bytes.as_slice())?);
+    Ok(())
+}
+
+/// Appends the line of a piece of the first of some bytes.
+fn put_line(alloc: Global, front: &str, bytes: &[u8], into: &mut Vec<u8>) -> Result<(), Memory> {
+    into.extend_from_slice(front.as_bytes())?;
+    into.extend_from_slice(STANDARD.encode(alloc, bytes)?.as_bytes())?;
+    into.push(b'\n')?;
+    Ok(())
+}
+
+/// Numbers of bytes of two lines, and whether all of them are collected. Equal lines are one piece.
+static PAIRS: [(&str, usize, &str, usize, bool); 5] = [
+    ("p 0 1 ", 1_048_576, "p 0 1 ", 1_048_576, true),
+    ("p 0 1 ", 1_048_577, "p 0 1 ", 1_048_577, false),
+    ("p 0 2 ", 1_048_575, "p 1 2 ", 1, true),
+    ("p 0 2 ", 1_048_576, "p 1 2 ", 1, false),
+    ("p 1 2 ", 1_048_576, "p 0 2 ", 1, false),
+];
+
+#[test]
+fn collects_the_most(rt: HostRuntime) -> Result<(), Fail> {
+    let alloc = rt.alloc();
+    let bytes = some_bytes(alloc, CARRIED_MAX + 1)?;
+    for (one, first, other, second, collected) in &PAIRS {
+        assert!(rt; *first <= bytes.len() && *second <= bytes.len());
+        let mut text = Vec::new(alloc);
+        put_line(alloc, one, &bytes[..*first], &mut text)?;
+        put_line(alloc, other, &bytes[..*second], &mut text)?;
+        let answer = collect(alloc, text.as_slice());
+        assert!(rt; matches!(answer, Ok(_)) == *collected);
+        assert!(rt; matches!(answer, Err(CarryFault::TooManyBytes)) != *collected);
+    }
+    Ok(())
+}
+
+#[test]
+fn laws_are_there(_rt: HostRuntime) {
+    encodings_are_plain();
+    lines_are_definite();
+    lines_collect_one_way();
+    carried_lines_are_short();
+    carried_lines_come_back();
+    lost_lines_are_told();
+}

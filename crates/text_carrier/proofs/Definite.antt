@@ -1,0 +1,55 @@
+-- A line says one piece or breaks one rule first, never both.
+use Rattle.std.proofs.Common.{◌≡◌, inl, inr, ℕ, List, sym, ◌∙◌, subst}
+use Rattle.std.proofs.lemmas.Fmt.{decimal_injective}
+use Rattle.text_lines.specs.Readings.{IsDefinite, IsFirstOf, NoneOf}
+use Rattle.text_lines.proofs.ReadingLaws.{first_of_one, first_of_none}
+use Rattle.text_carrier.specs.declared.faults.CarryCode.{CarryCode}
+use Rattle.text_carrier.specs.Pieces.{Piece, data_text}
+use Rattle.text_carrier.specs.Rules.{Breaks, HasForm, IsBad, IsGood, piece_lines, rules}
+use Rattle.text_carrier.proofs.Spaces.{form_words, one_words, small}
+use Rattle.text_carrier.proofs.Standard.{one_data}
+
+-- What a line says, before the rules are asked.
+pub record AreOne (place count : ℕ) (word : List ℕ) (p c : ℕ) (w : List ℕ) : Type 0 where
+  pub place_is : place ≡ p
+  pub count_is : count ≡ c
+  pub word_is : word ≡ w
+
+pub one_form : (text : List ℕ) (place count : ℕ) (word : List ℕ) (p c : ℕ) (w : List ℕ) → HasForm text place count word → HasForm text p c w → AreOne place count word p c w
+one_form text place count word p c w form other =
+    let same = one_words text _ _ word _ _ w (form_words text place count word form) (form_words text p c w other) in
+    record {
+      place_is = decimal_injective place p (small place form.place_few) (small p other.place_few) same.place_is;
+      count_is = decimal_injective count c (small count form.count_few) (small c other.count_few) same.count_is;
+      word_is = same.word_is;
+    }
+
+one_piece : (earlier : List Piece) (text : List ℕ) (a b : Piece) → IsGood earlier text a → IsGood earlier text b → a ≡ b
+one_piece earlier text a b p q =
+    let same = one_form text a.place a.count (data_text a.bytes) b.place b.count (data_text b.bytes) p.0 q.0 in
+    let bytes = one_data a.bytes b.bytes p.1 q.1 same.word_is in
+    λ i. record { place = same.place_is i; count = same.count_is i; bytes = bytes i }
+
+-- A fact of what a line says is one of what it says in another telling.
+moved : (P : ℕ → ℕ → List ℕ → Type 0) (place count : ℕ) (word : List ℕ) (p c : ℕ) (w : List ℕ) → AreOne place count word p c w → P place count word → P p c w
+moved P place count word p c w same holds =
+    subst (λ n. P n c w) same.place_is (subst (λ n. P place n w) same.count_is (subst (λ t. P place count t) same.word_is holds))
+
+one_fault : (earlier : List Piece) (text : List ℕ) (c d : CarryCode) → IsBad earlier text c → IsBad earlier text d → c ≡ d
+one_fault earlier text c d (inl f) (inl g) = f.1 ∙ sym g.1
+one_fault earlier text c d (inl f) (inr (place, count, word, form, first)) = absurd (f.0 place count word form)
+one_fault earlier text c d (inr (place, count, word, form, first)) (inl g) = absurd (g.0 place count word form)
+one_fault earlier text c d (inr (place, count, word, form, first)) (inr (p, n, w, other, next)) =
+    first_of_one (Breaks earlier p n w) rules c d
+    (moved (λ x y z. IsFirstOf (Breaks earlier x y z) rules c) place count word p n w (one_form text place count word p n w form other) first) next
+
+not_both : (earlier : List Piece) (text : List ℕ) (piece : Piece) (c : CarryCode) → IsGood earlier text piece → IsBad earlier text c → ⊥
+not_both earlier text piece c good (inl f) = f.0 piece.place piece.count (data_text piece.bytes) good.0
+not_both earlier text piece c good (inr (place, count, word, form, first)) =
+    first_of_none (Breaks earlier place count word) rules c
+    (moved (λ x y z. NoneOf (Breaks earlier x y z) rules) piece.place piece.count (data_text piece.bytes) place count word
+    (one_form text piece.place piece.count (data_text piece.bytes) place count word good.0 form) good.2)
+    first
+
+pub is_definite : IsDefinite piece_lines
+is_definite = record { one_said = one_piece; one_fault = one_fault; not_both = not_both }

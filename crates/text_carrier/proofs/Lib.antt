@@ -1,0 +1,10 @@
+mod Cutting
+mod Definite
+mod Joined
+mod Kept
+mod LineBytes
+mod OneWay
+mod Placed
+mod Sent
+mod Spaces
+mod Standard

@@ -1,0 +1,5 @@
+pub mod Pieces
+pub mod Carried
+pub mod Rules
+pub mod Collected
+pub mod Views

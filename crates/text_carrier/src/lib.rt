@@ -1,0 +1,28 @@
+//! Bytes as lines of text: cut into numbered pieces, a line for each, and read back from lines in any order.
+#![tactic(auto)]
+
+mod carrying;
+mod collecting;
+mod data;
+mod faults;
+pub mod laws;
+mod lines;
+mod pieces;
+mod round_trip;
+
+pub use carrying::carry;
+pub use collecting::collect;
+pub use faults::{CarryCode, CarryFault};
+pub use round_trip::carry_and_collect;
+
+/// The least bytes of a piece that isn't the last.
+pub const WIDTH_MIN: usize = 4;
+
+/// The most bytes of a piece that is carried.
+pub const WIDTH_MAX: usize = 300;
+
+/// The most bytes that are carried, and that are collected.
+pub const CARRIED_MAX: usize = 1_048_576;
+
+/// The most pieces.
+pub const PIECES_MAX: u64 = 262_144;
