@@ -28,7 +28,6 @@ use Rattle.text_carrier.specs.Carried.{carried_text}
 use Rattle.text_carrier.specs.Collected.{Collects}
 use Rattle.text_carrier.specs.declared.faults.CarryFault.{CarryFault}
 use Rattle.text_carrier.specs.declared.faults.CarryFault.TheVariants as pieces
-use Rattle.text_carrier.proofs.OneWay.{one_collected}
 use Rattle.text_lines.specs.declared.TheConstants.{INPUT_MAX}
 use Rattle.text_lines.specs.Lines.{Line, lines_of}
 use Rattle.text_lines.specs.Readings.{Reading, IsDefinite, AllSay, IsFirstBad}
@@ -215,43 +214,44 @@ some_fault a b e = cc e
 never_both : (bytes : List ℕ) (fault : CarryFault) → ◌≡◌ {A = Result (List ℕ) CarryFault} (Ok bytes) (Err fault) → ⊥
 never_both bytes fault e = cc e
 
--- Lines of pieces say bytes once, are refused once, and never both.
-same_bytes : (lines : List Line) (a b : List ℕ) → Collects lines (Ok a) → Collects lines (Ok b) → a ≡ b
-same_bytes lines a b says say = elim (one_collected lines (Ok a) (Ok b) says say) [
-  | inl same ↦ some_bytes a b same
-  | inr wanting ↦ elim wanting [ inl first ↦ absurd (never_both a pieces.Memory first) | inr second ↦ absurd (never_both b pieces.Memory second) ]
-]
+module _ (laws : Laws) where
+  -- Lines of pieces say bytes once, are refused once, and never both.
+  same_bytes : (lines : List Line) (a b : List ℕ) → Collects lines (Ok a) → Collects lines (Ok b) → a ≡ b
+  same_bytes lines a b says say = elim ((laws.one_collected) lines (Ok a) (Ok b) says say) [
+    | inl same ↦ some_bytes a b same
+    | inr wanting ↦ elim wanting [ inl first ↦ absurd (never_both a pieces.Memory first) | inr second ↦ absurd (never_both b pieces.Memory second) ]
+  ]
 
-same_refusal : (lines : List Line) (a b : CarryFault) → (a ≡ pieces.Memory → ⊥) → (b ≡ pieces.Memory → ⊥) → Collects lines (Err a) → Collects lines (Err b) → a ≡ b
-same_refusal lines a b found also refuses refuse = elim (one_collected lines (Err a) (Err b) refuses refuse) [
-  | inl same ↦ some_fault a b same
-  | inr wanting ↦ elim wanting [ inl first ↦ absurd (found (some_fault a pieces.Memory first)) | inr second ↦ absurd (also (some_fault b pieces.Memory second)) ]
-]
+  same_refusal : (lines : List Line) (a b : CarryFault) → (a ≡ pieces.Memory → ⊥) → (b ≡ pieces.Memory → ⊥) → Collects lines (Err a) → Collects lines (Err b) → a ≡ b
+  same_refusal lines a b found also refuses refuse = elim ((laws.one_collected) lines (Err a) (Err b) refuses refuse) [
+    | inl same ↦ some_fault a b same
+    | inr wanting ↦ elim wanting [ inl first ↦ absurd (found (some_fault a pieces.Memory first)) | inr second ↦ absurd (also (some_fault b pieces.Memory second)) ]
+  ]
 
-said_not_refused_pieces : (lines : List Line) (bytes : List ℕ) (fault : CarryFault) → (fault ≡ pieces.Memory → ⊥) → Collects lines (Ok bytes) → Collects lines (Err fault) → ⊥
-said_not_refused_pieces lines bytes fault found says refuses = elim (one_collected lines (Ok bytes) (Err fault) says refuses) [
-  | inl same ↦ never_both bytes fault same
-  | inr wanting ↦ elim wanting [ inl first ↦ never_both bytes pieces.Memory first | inr second ↦ found (some_fault fault pieces.Memory second) ]
-]
+  said_not_refused_pieces : (lines : List Line) (bytes : List ℕ) (fault : CarryFault) → (fault ≡ pieces.Memory → ⊥) → Collects lines (Ok bytes) → Collects lines (Err fault) → ⊥
+  said_not_refused_pieces lines bytes fault found says refuses = elim ((laws.one_collected) lines (Ok bytes) (Err fault) says refuses) [
+    | inl same ↦ never_both bytes fault same
+    | inr wanting ↦ elim wanting [ inl first ↦ never_both bytes pieces.Memory first | inr second ↦ found (some_fault fault pieces.Memory second) ]
+  ]
 
--- Lines that say the bytes of a context aren't refused.
-collected_not_refused : (lines : List Line) (bytes : List ℕ) (refusal : Refusal) → Collects lines (Ok bytes) → AreOfContext bytes → CollectsLines lines (Err refusal) → ⊥
-collected_not_refused lines bytes refusal says of (inl (fault, found, refuses, is)) = said_not_refused_pieces lines bytes fault found says refuses
-collected_not_refused lines bytes refusal says (list, of) (inr (others, offset, code, say, first, is)) =
-    (has_one_context bytes).either list offset (byte_code_of code) of (subst (λ b. IsFirstContextFault b offset (byte_code_of code)) (same_bytes lines others bytes say says) first)
+  -- Lines that say the bytes of a context aren't refused.
+  collected_not_refused : (lines : List Line) (bytes : List ℕ) (refusal : Refusal) → Collects lines (Ok bytes) → AreOfContext bytes → CollectsLines lines (Err refusal) → ⊥
+  collected_not_refused lines bytes refusal says of (inl (fault, found, refuses, is)) = said_not_refused_pieces lines bytes fault found says refuses
+  collected_not_refused lines bytes refusal says (list, of) (inr (others, offset, code, say, first, is)) =
+      (has_one_context bytes).either list offset (byte_code_of code) of (subst (λ b. IsFirstContextFault b offset (byte_code_of code)) (same_bytes lines others bytes say says) first)
 
-collects_lines_one : (lines : List Line) (a b : Outcome) → CollectsLines lines a → CollectsLines lines b → a ≡ b
-collects_lines_one lines (Ok x) (Ok y) (bytes, says, of, x_is) (others, say, also, y_is) = let same = same_bytes lines bytes others says say in cc (x_is, y_is, same)
-collects_lines_one lines (Ok x) (Err s) (bytes, says, of, is) refused = absurd (collected_not_refused lines bytes s says of refused)
-collects_lines_one lines (Err r) (Ok y) refused (bytes, says, of, is) = absurd (collected_not_refused lines bytes r says of refused)
-collects_lines_one lines (Err r) (Err s) (inl (fault, found, refuses, r_is)) (inl (other, also, refuse, s_is)) =
-    let same = same_refusal lines fault other found also refuses refuse in cc (r_is, s_is, same)
-collects_lines_one lines (Err r) (Err s) (inl (fault, found, refuses, r_is)) (inr (bytes, offset, code, says, first, s_is)) = absurd (said_not_refused_pieces lines bytes fault found says refuses)
-collects_lines_one lines (Err r) (Err s) (inr (bytes, offset, code, says, first, r_is)) (inl (fault, found, refuses, s_is)) = absurd (said_not_refused_pieces lines bytes fault found says refuses)
-collects_lines_one lines (Err r) (Err s) (inr (bytes, i, c, says, first, r_is)) (inr (others, j, d, say, other, s_is)) =
-    let same = (has_one_context bytes).fault i j (byte_code_of c) (byte_code_of d) first (subst (λ b. IsFirstContextFault b j (byte_code_of d)) (same_bytes lines others bytes say says) other) in
-    let fault = same_fault (Bytes i c) (Bytes j d) i j c d refl refl same.0 same.1 in
-    cc (r_is, s_is, fault)
+  collects_lines_one : (lines : List Line) (a b : Outcome) → CollectsLines lines a → CollectsLines lines b → a ≡ b
+  collects_lines_one lines (Ok x) (Ok y) (bytes, says, of, x_is) (others, say, also, y_is) = let same = same_bytes lines bytes others says say in cc (x_is, y_is, same)
+  collects_lines_one lines (Ok x) (Err s) (bytes, says, of, is) refused = absurd (collected_not_refused lines bytes s says of refused)
+  collects_lines_one lines (Err r) (Ok y) refused (bytes, says, of, is) = absurd (collected_not_refused lines bytes r says of refused)
+  collects_lines_one lines (Err r) (Err s) (inl (fault, found, refuses, r_is)) (inl (other, also, refuse, s_is)) =
+      let same = same_refusal lines fault other found also refuses refuse in cc (r_is, s_is, same)
+  collects_lines_one lines (Err r) (Err s) (inl (fault, found, refuses, r_is)) (inr (bytes, offset, code, says, first, s_is)) = absurd (said_not_refused_pieces lines bytes fault found says refuses)
+  collects_lines_one lines (Err r) (Err s) (inr (bytes, offset, code, says, first, r_is)) (inl (fault, found, refuses, s_is)) = absurd (said_not_refused_pieces lines bytes fault found says refuses)
+  collects_lines_one lines (Err r) (Err s) (inr (bytes, i, c, says, first, r_is)) (inr (others, j, d, say, other, s_is)) =
+      let same = (has_one_context bytes).fault i j (byte_code_of c) (byte_code_of d) first (subst (λ b. IsFirstContextFault b j (byte_code_of d)) (same_bytes lines others bytes say says) other) in
+      let fault = same_fault (Bytes i c) (Bytes j d) i j c d refl refl same.0 same.1 in
+      cc (r_is, s_is, fault)
 
 -- ---- graphs
 
@@ -311,15 +311,15 @@ same_table laws origin files held other table found told is same known =
     ok_table found table (laws.gives_one origin held (Ok found) (Ok table) (subst (λ h. TableGives origin h (Ok found)) one known) is)
 
 -- Lines come to one outcome by themselves.
-filters_lines_one : (filter : Filter) (lines : List Line) (a b : Outcome) → FiltersLines filter lines a → FiltersLines filter lines b → a ≡ b
-filters_lines_one (trimming budget) = reads_one_one list_lines list_lines_definite (λ list output. output ≡ trimmed_line budget list) (trims_one budget)
-filters_lines_one merging = reads_lines_one merged_lines merged_lines_definite IsMergeOf merged_one
-filters_lines_one (carrying width) = reads_one_one byte_lines byte_lines_definite (λ bytes output. output ≡ carried_text width bytes) (carries_one width)
-filters_lines_one collecting = collects_lines_one
+filters_lines_one : Laws → (filter : Filter) (lines : List Line) (a b : Outcome) → FiltersLines filter lines a → FiltersLines filter lines b → a ≡ b
+filters_lines_one laws (trimming budget) = reads_one_one list_lines list_lines_definite (λ list output. output ≡ trimmed_line budget list) (trims_one budget)
+filters_lines_one laws merging = reads_lines_one merged_lines merged_lines_definite IsMergeOf merged_one
+filters_lines_one laws (carrying width) = reads_one_one byte_lines byte_lines_definite (λ bytes output. output ≡ carried_text width bytes) (carries_one width)
+filters_lines_one laws collecting = collects_lines_one laws
 
 -- An input gives one outcome.
 pub input_gives_one : Laws → (task : Task) (files : Option Holding) → GivesOne (InputGives task files)
-input_gives_one laws (alone filter) files = within_one (FiltersLines filter) (filters_lines_one filter)
+input_gives_one laws (alone filter) files = within_one (FiltersLines filter) (filters_lines_one laws filter)
 input_gives_one laws (load rounds) files = λ input a b f g. absurd f
 input_gives_one laws (build product origin) files = λ input a b f g. absurd f
 input_gives_one laws (under purpose origin) files = λ input a b (held, told, table, is, gave) (other, same, found, known, given).

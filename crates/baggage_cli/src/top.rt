@@ -49,6 +49,7 @@ use report_json::laws::lists_have_one_json_report;
 use report_text::laws::lists_have_one_block;
 use std::alloc::Global;
 use std::thread::Threads;
+use text_carrier::laws::lines_collect_one_way;
 use table_text::laws::{printed_texts_have_no_fault, texts_have_one_fault, texts_have_one_table};
 use trace_model::laws::{graphs_have_one_run, shown_values_are_honest};
 
@@ -65,6 +66,7 @@ fn tell_laws()
     printed_texts_have_no_fault();
     texts_have_one_fault();
     lists_have_one_block();
+    lines_collect_one_way();
     lines_are_definite();
     texts_give_recorded_graphs();
     graphs_have_one_run();
