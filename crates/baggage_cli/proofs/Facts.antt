@@ -32,7 +32,7 @@ use Rattle.baggage_cli.specs.Commands.{Origin, compiled, Product, Form, as_json,
 use Rattle.baggage_cli.specs.declared.merging.TheConstants.{LINES_MAX}
 use Rattle.baggage_cli.specs.declared.refusals.InputCode.TheVariants.{TooLong, Form as Excess, TooManyLines}
 use Rattle.baggage_cli.specs.declared.refusals.InputFault.{InputFault}
-use Rattle.baggage_cli.specs.declared.refusals.InputFault.TheVariants.{Code, Hex, Graph, Bytes, IllTyped}
+use Rattle.baggage_cli.specs.declared.refusals.InputFault.TheVariants.{Code, Hex, Graph, Piece, Missing, Bytes, IllTyped}
 use Rattle.baggage_cli.specs.declared.refusals.Notice.TheVariants.{LibraryFailed, SourceFailed, Memory}
 use Rattle.baggage_cli.specs.declared.refusals.Refusal.{Refusal}
 use Rattle.baggage_cli.specs.declared.refusals.Refusal.TheVariants.{Input}
@@ -61,6 +61,8 @@ input_status_some : (fault : InputFault) (n : ℕ) → n ≡ input_status fault 
 input_status_some (Code code) n is = inl is
 input_status_some (Hex code) n is = inl is
 input_status_some (Graph code) n is = inl is
+input_status_some (Piece code) n is = inl is
+input_status_some (Missing piece) n is = inl is
 input_status_some (Bytes offset code) n is = inr is
 input_status_some (IllTyped offset) n is = inr is
 

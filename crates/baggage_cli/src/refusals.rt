@@ -232,7 +232,9 @@ impl InputFault {
             InputFault::Hex(code) => Ok(format!(in alloc; "input line {line} {code}\n")?),
             InputFault::Graph(code) => Ok(format!(in alloc; "input line {line} {code}\n")?),
             InputFault::Piece(code) => Ok(format!(in alloc; "input line {line} {code}\n")?),
-            InputFault::Missing { piece } => Ok(format!(in alloc; "input line {line} Missing {piece}\n")?),
+            InputFault::Missing { piece } => Ok(format!(in alloc;
+                "input line {line} Missing {piece}\n"
+            )?),
             InputFault::Bytes { offset, code } => Ok(format!(in alloc;
                 "context line {line} offset {offset} {code}\n"
             )?),

@@ -49,8 +49,8 @@ use report_json::laws::lists_have_one_json_report;
 use report_text::laws::lists_have_one_block;
 use std::alloc::Global;
 use std::thread::Threads;
-use text_carrier::laws::lines_collect_one_way;
 use table_text::laws::{printed_texts_have_no_fault, texts_have_one_fault, texts_have_one_table};
+use text_carrier::laws::lines_collect_one_way;
 use trace_model::laws::{graphs_have_one_run, shown_values_are_honest};
 
 /// Tells that a definition has one table or one first fault, a list one block, and a text one graph or one first fault; and
