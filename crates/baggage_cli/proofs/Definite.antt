@@ -4,7 +4,7 @@ use Rattle.std.proofs.lemmas.Bool.{cases_lt}
 use Rattle.context_model.specs.Atoms.{Atom}
 use Rattle.context_model.specs.ByteCodes.{ByteCode as PlainCode}
 use Rattle.context_model.specs.ByteCodes as plain
-use Rattle.context_model.specs.ContextFault.{IsContextOf}
+use Rattle.context_model.specs.ContextFault.{IsContextOf, IsFirstContextFault}
 use Rattle.context_model.proofs.Frames.{reads_one_way}
 use Rattle.context_model.proofs.ContextFronts.{has_one_context}
 use Rattle.context_model.proofs.MergedLaws.{has_one_merge}
@@ -24,17 +24,23 @@ use Rattle.graph_text.specs.Additions.{graph_of}
 use Rattle.graph_text.specs.GraphLines.{LinesAreDefinite}
 use Rattle.trace_model.specs.Graphs.{Graph}
 use Rattle.trace_model.specs.Runs.{Lists}
+use Rattle.text_carrier.specs.Carried.{carried_text}
+use Rattle.text_carrier.specs.Collected.{Collects}
+use Rattle.text_carrier.specs.declared.faults.CarryFault.{CarryFault}
+use Rattle.text_carrier.specs.declared.faults.CarryFault.TheVariants as pieces
 use Rattle.text_lines.specs.declared.TheConstants.{INPUT_MAX}
 use Rattle.text_lines.specs.Lines.{Line, lines_of}
 use Rattle.text_lines.specs.Readings.{Reading, IsDefinite, AllSay, IsFirstBad}
 use Rattle.text_lines.proofs.HexLaws.{hex_lines_definite}
 use Rattle.text_lines.proofs.ReadingLaws.{all_say_one, first_bad_one, good_not_bad, none_bad, at_most_definite, all_say-at_most}
-use Rattle.baggage_cli.specs.Commands.{Origin, Form, as_lines, as_json, Purpose, decoding, running, Filter, trimming, merging, Task, alone, load, build, under}
+use Rattle.baggage_cli.specs.Commands.{Origin, Form, as_lines, as_json, Purpose, decoding, running, Filter, trimming, merging, carrying, collecting, Task, alone, load, build, under}
 use Rattle.baggage_cli.specs.declared.merging.TheConstants.{LINES_MAX}
 use Rattle.baggage_cli.specs.declared.refusals.InputCode.TheVariants.{Form as Excess, TooManyLines}
 use Rattle.baggage_cli.specs.declared.refusals.InputFault.{InputFault}
 use Rattle.baggage_cli.specs.declared.refusals.InputFault.TheVariants.{Code, Hex, Bytes}
 use Rattle.baggage_cli.specs.declared.refusals.Refusal.{Refusal}
+use Rattle.baggage_cli.specs.Carrying.{AreOfContext, own_bytes, byte_lines}
+use Rattle.baggage_cli.specs.Collecting.{CollectsLines}
 use Rattle.baggage_cli.specs.Decoding.{DecodesLines}
 use Rattle.baggage_cli.specs.Filters.{FiltersLines}
 use Rattle.baggage_cli.specs.Laws.{TableLaws, GraphLaws, Laws}
@@ -108,6 +114,16 @@ typed_bytes_definite table = record {
 typed_lines_definite : (table : Nodes) → IsDefinite (typed_lines table)
 typed_lines_definite table = hex_lines_definite Hex (typed_bytes table) (typed_bytes_definite table)
 
+own_bytes_definite : IsDefinite own_bytes
+own_bytes_definite = record {
+  one_said = λ earlier bytes a b f g. f.0 ∙ sym g.0;
+  one_fault = λ earlier bytes f g. context_bytes_definite.one_fault [] bytes f g;
+  not_both = λ earlier bytes said fault f. context_bytes_definite.not_both [] bytes (f.1.0) fault f.1.1;
+}
+
+byte_lines_definite : IsDefinite byte_lines
+byte_lines_definite = hex_lines_definite Hex own_bytes own_bytes_definite
+
 only_one_definite : {A : Type 0} (reading : Reading A InputFault) → IsDefinite reading → IsDefinite (only_one reading)
 only_one_definite reading definite = at_most_definite 1 (Code Excess) reading definite
 
@@ -172,6 +188,9 @@ reads_one_one reading definite gives one lines a b (inr f) (inl g) = absurd (no_
 reads_one_one reading definite gives one lines a b (inr f) (inr g) =
     reads_lines_one (only_one reading) (only_one_definite reading definite) (GivesOnly gives) (only_given gives one) lines a b f g
 
+carries_one : (width : ℕ) (bytes : List ℕ) (x y : List ℕ) → x ≡ carried_text width bytes → y ≡ carried_text width bytes → x ≡ y
+carries_one width bytes x y x_is y_is = x_is ∙ sym y_is
+
 trims_one : (budget : ℕ) (list : List Atom) (x y : List ℕ) → x ≡ trimmed_line budget list → y ≡ trimmed_line budget list → x ≡ y
 trims_one budget list x y x_is y_is = x_is ∙ sym y_is
 
@@ -183,6 +202,56 @@ within_one gives one input a b (inl f) (inl g) = f.1 ∙ sym g.1
 within_one gives one input a b (inl f) (inr g) = absurd (let long = f.0 in let short = g.0 in omega arith)
 within_one gives one input a b (inr f) (inl g) = absurd (let long = g.0 in let short = f.0 in omega arith)
 within_one gives one input a b (inr f) (inr g) = one (lines_of input) a b f.1 g.1
+
+-- ---- pieces
+
+some_bytes : (a b : List ℕ) → ◌≡◌ {A = Result (List ℕ) CarryFault} (Ok a) (Ok b) → a ≡ b
+some_bytes a b e = cc e
+
+some_fault : (a b : CarryFault) → ◌≡◌ {A = Result (List ℕ) CarryFault} (Err a) (Err b) → a ≡ b
+some_fault a b e = cc e
+
+never_both : (bytes : List ℕ) (fault : CarryFault) → ◌≡◌ {A = Result (List ℕ) CarryFault} (Ok bytes) (Err fault) → ⊥
+never_both bytes fault e = cc e
+
+module _ (laws : Laws) where
+  -- Lines of pieces say bytes once, are refused once, and never both.
+  same_bytes : (lines : List Line) (a b : List ℕ) → Collects lines (Ok a) → Collects lines (Ok b) → a ≡ b
+  same_bytes lines a b says say = elim ((laws.one_collected) lines (Ok a) (Ok b) says say) [
+    | inl same ↦ some_bytes a b same
+    | inr wanting ↦ elim wanting [ inl first ↦ absurd (never_both a pieces.Memory first) | inr second ↦ absurd (never_both b pieces.Memory second) ]
+  ]
+
+  same_refusal : (lines : List Line) (a b : CarryFault) → (a ≡ pieces.Memory → ⊥) → (b ≡ pieces.Memory → ⊥) → Collects lines (Err a) → Collects lines (Err b) → a ≡ b
+  same_refusal lines a b found also refuses refuse = elim ((laws.one_collected) lines (Err a) (Err b) refuses refuse) [
+    | inl same ↦ some_fault a b same
+    | inr wanting ↦ elim wanting [ inl first ↦ absurd (found (some_fault a pieces.Memory first)) | inr second ↦ absurd (also (some_fault b pieces.Memory second)) ]
+  ]
+
+  said_not_refused_pieces : (lines : List Line) (bytes : List ℕ) (fault : CarryFault) → (fault ≡ pieces.Memory → ⊥) → Collects lines (Ok bytes) → Collects lines (Err fault) → ⊥
+  said_not_refused_pieces lines bytes fault found says refuses = elim ((laws.one_collected) lines (Ok bytes) (Err fault) says refuses) [
+    | inl same ↦ never_both bytes fault same
+    | inr wanting ↦ elim wanting [ inl first ↦ never_both bytes pieces.Memory first | inr second ↦ found (some_fault fault pieces.Memory second) ]
+  ]
+
+  -- Lines that say the bytes of a context aren't refused.
+  collected_not_refused : (lines : List Line) (bytes : List ℕ) (refusal : Refusal) → Collects lines (Ok bytes) → AreOfContext bytes → CollectsLines lines (Err refusal) → ⊥
+  collected_not_refused lines bytes refusal says of (inl (fault, found, refuses, is)) = said_not_refused_pieces lines bytes fault found says refuses
+  collected_not_refused lines bytes refusal says (list, of) (inr (others, offset, code, say, first, is)) =
+      (has_one_context bytes).either list offset (byte_code_of code) of (subst (λ b. IsFirstContextFault b offset (byte_code_of code)) (same_bytes lines others bytes say says) first)
+
+  collects_lines_one : (lines : List Line) (a b : Outcome) → CollectsLines lines a → CollectsLines lines b → a ≡ b
+  collects_lines_one lines (Ok x) (Ok y) (bytes, says, of, x_is) (others, say, also, y_is) = let same = same_bytes lines bytes others says say in cc (x_is, y_is, same)
+  collects_lines_one lines (Ok x) (Err s) (bytes, says, of, is) refused = absurd (collected_not_refused lines bytes s says of refused)
+  collects_lines_one lines (Err r) (Ok y) refused (bytes, says, of, is) = absurd (collected_not_refused lines bytes r says of refused)
+  collects_lines_one lines (Err r) (Err s) (inl (fault, found, refuses, r_is)) (inl (other, also, refuse, s_is)) =
+      let same = same_refusal lines fault other found also refuses refuse in cc (r_is, s_is, same)
+  collects_lines_one lines (Err r) (Err s) (inl (fault, found, refuses, r_is)) (inr (bytes, offset, code, says, first, s_is)) = absurd (said_not_refused_pieces lines bytes fault found says refuses)
+  collects_lines_one lines (Err r) (Err s) (inr (bytes, offset, code, says, first, r_is)) (inl (fault, found, refuses, s_is)) = absurd (said_not_refused_pieces lines bytes fault found says refuses)
+  collects_lines_one lines (Err r) (Err s) (inr (bytes, i, c, says, first, r_is)) (inr (others, j, d, say, other, s_is)) =
+      let same = (has_one_context bytes).fault i j (byte_code_of c) (byte_code_of d) first (subst (λ b. IsFirstContextFault b j (byte_code_of d)) (same_bytes lines others bytes say says) other) in
+      let fault = same_fault (Bytes i c) (Bytes j d) i j c d refl refl same.0 same.1 in
+      cc (r_is, s_is, fault)
 
 -- ---- graphs
 
@@ -242,13 +311,15 @@ same_table laws origin files held other table found told is same known =
     ok_table found table (laws.gives_one origin held (Ok found) (Ok table) (subst (λ h. TableGives origin h (Ok found)) one known) is)
 
 -- Lines come to one outcome by themselves.
-filters_lines_one : (filter : Filter) (lines : List Line) (a b : Outcome) → FiltersLines filter lines a → FiltersLines filter lines b → a ≡ b
-filters_lines_one (trimming budget) = reads_one_one list_lines list_lines_definite (λ list output. output ≡ trimmed_line budget list) (trims_one budget)
-filters_lines_one merging = reads_lines_one merged_lines merged_lines_definite IsMergeOf merged_one
+filters_lines_one : Laws → (filter : Filter) (lines : List Line) (a b : Outcome) → FiltersLines filter lines a → FiltersLines filter lines b → a ≡ b
+filters_lines_one laws (trimming budget) = reads_one_one list_lines list_lines_definite (λ list output. output ≡ trimmed_line budget list) (trims_one budget)
+filters_lines_one laws merging = reads_lines_one merged_lines merged_lines_definite IsMergeOf merged_one
+filters_lines_one laws (carrying width) = reads_one_one byte_lines byte_lines_definite (λ bytes output. output ≡ carried_text width bytes) (carries_one width)
+filters_lines_one laws collecting = collects_lines_one laws
 
 -- An input gives one outcome.
 pub input_gives_one : Laws → (task : Task) (files : Option Holding) → GivesOne (InputGives task files)
-input_gives_one laws (alone filter) files = within_one (FiltersLines filter) (filters_lines_one filter)
+input_gives_one laws (alone filter) files = within_one (FiltersLines filter) (filters_lines_one laws filter)
 input_gives_one laws (load rounds) files = λ input a b f g. absurd f
 input_gives_one laws (build product origin) files = λ input a b f g. absurd f
 input_gives_one laws (under purpose origin) files = λ input a b (held, told, table, is, gave) (other, same, found, known, given).

@@ -2,21 +2,23 @@
 use Rattle.std.proofs.Common.{◌≡◌, ◌⊎◌, inl, inr, ℕ, List, Option, Some, None, Result, Ok, Err, refl, ◌∙◌, ap, subst}
 use Rattle.bag_model.specs.Shapes.{Nodes}
 use Rattle.bdl_load.specs.Loading.{Holding}
+use Rattle.text_carrier.specs.declared.faults.CarryFault.{CarryFault}
+use Rattle.text_carrier.specs.declared.faults.CarryFault.TheVariants as pieces
 use Rattle.text_lines.specs.Lines.{Line, lines_of}
-use Rattle.baggage_cli.specs.declared.refusals.InputCode.TheVariants.{TooLong, NoLine}
+use Rattle.baggage_cli.specs.declared.refusals.InputCode.TheVariants.{TooLong, NoLine, TooManyBytes}
 use Rattle.baggage_cli.specs.declared.refusals.InputFault.{InputFault}
-use Rattle.baggage_cli.specs.declared.refusals.InputFault.TheVariants.{Code}
+use Rattle.baggage_cli.specs.declared.refusals.InputFault.TheVariants.{Code, Piece, Missing, Bytes}
 use Rattle.baggage_cli.specs.declared.refusals.Notice.TheVariants.{LibraryFailed, SourceFailed, Memory}
 use Rattle.baggage_cli.specs.declared.refusals.Refusal.{Refusal}
 use Rattle.baggage_cli.specs.declared.refusals.Refusal.TheVariants.{Input, Plain}
 use Rattle.baggage_cli.specs.Building.{product_text}
-use Rattle.baggage_cli.specs.Commands.{Origin, compiled, printed, Product, decoding, running, Filter, trimming, merging, Task, alone, load, build, under, ReadsSource, FetchesFiles, TakesTable}
+use Rattle.baggage_cli.specs.Commands.{Origin, compiled, printed, Product, decoding, running, Filter, trimming, merging, carrying, collecting, Task, alone, load, build, under, ReadsSource, FetchesFiles, TakesTable}
 use Rattle.baggage_cli.specs.Delivery.{Delivers}
 use Rattle.baggage_cli.specs.Filters.{FiltersLines, FilterGives}
 use Rattle.baggage_cli.specs.Loading.{IsLoadOutput, LoadGives}
 use Rattle.baggage_cli.specs.Outcomes.{Outcome}
 use Rattle.baggage_cli.specs.Reading.{IsRead, Reads}
-use Rattle.baggage_cli.specs.Refusals.{status_of, line_of, input_status, input_line, notice_line}
+use Rattle.baggage_cli.specs.Refusals.{status_of, line_of, input_status, input_line, notice_line, piece_refusal}
 use Rattle.baggage_cli.specs.Scene.{Scene, IsSame, HasFailed, Takes}
 use Rattle.baggage_cli.specs.Tables.{IsUnprinted, TableGives, CameFrom, Obtains}
 use Rattle.baggage_cli.specs.Top.{Answers}
@@ -78,10 +80,22 @@ refusal_delivered scene answer outcome refusal is delivers = by (subst (λ o. De
 
 -- ---- tasks that read the source
 
+-- What is wrong with lines of pieces is told of a line of the input.
+of_pieces : (fault : CarryFault) → (fault ≡ pieces.Memory → ⊥) → (number : ℕ) × (its : InputFault) × (piece_refusal fault ≡ Input number its)
+of_pieces (pieces.At line code) found = (line, Piece code, refl)
+of_pieces pieces.NoLine found = (0, Code NoLine, refl)
+of_pieces (pieces.Missing piece) found = (0, Missing piece, refl)
+of_pieces pieces.TooManyBytes found = (0, Code TooManyBytes, refl)
+of_pieces pieces.Memory found = absurd (found refl)
+
 refuses_lines : (filter : Filter) (lines : List Line) (refusal : Refusal) → FiltersLines filter lines (Err refusal) → (number : ℕ) × (fault : InputFault) × (refusal ≡ Input number fault)
 refuses_lines (trimming budget) lines refusal (inl none) = (0, Code NoLine, cc (none.1))
 refuses_lines (trimming budget) lines refusal (inr (number, fault, bad, is)) = (number, fault, is)
 refuses_lines merging lines refusal (number, fault, bad, is) = (number, fault, is)
+refuses_lines (carrying width) lines refusal (inl none) = (0, Code NoLine, cc (none.1))
+refuses_lines (carrying width) lines refusal (inr (number, fault, bad, is)) = (number, fault, is)
+refuses_lines collecting lines refusal (inl (fault, found, collects, is)) = let (number, its, same) = of_pieces fault found in (number, its, is ∙ same)
+refuses_lines collecting lines refusal (inr (bytes, offset, code, collects, first, is)) = (0, Bytes offset code, is)
 
 refuses_input : (task : Task) (scene : Scene) (input : List ℕ) (refusal : Refusal) → Gives task scene input (Err refusal) → (number : ℕ) × (fault : InputFault) × (refusal ≡ Input number fault)
 refuses_input (alone filter) scene input refusal (inl long) = (0, Code TooLong, cc (long.1))

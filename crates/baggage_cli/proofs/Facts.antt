@@ -24,12 +24,15 @@ use Rattle.text_lines.specs.HexLines.{hex_line}
 use Rattle.text_lines.specs.Lines.{Line, lines_of}
 use Rattle.text_lines.specs.Readings.{Reading, AllSay}
 use Rattle.text_lines.proofs.ReadingLaws.{at_most-all_say, at_most-few}
+use Rattle.text_carrier.specs.Carried.{carried_text}
 use Rattle.baggage_cli.specs.Building.{product_text}
-use Rattle.baggage_cli.specs.Commands.{Origin, compiled, Product, Form, as_json, Purpose, decoding, running, trimming, Task, alone, trim, merge, load, build, under, decode, run_json, ReadsSource, FetchesFiles, TakesTable}
+use Rattle.baggage_cli.specs.Carrying.{byte_lines}
+use Rattle.baggage_cli.specs.Collecting.{CollectsLines}
+use Rattle.baggage_cli.specs.Commands.{Origin, compiled, Product, Form, as_json, Purpose, decoding, running, trimming, carrying, Task, alone, trim, merge, carry, collect, load, build, under, decode, run_json, ReadsSource, FetchesFiles, TakesTable}
 use Rattle.baggage_cli.specs.declared.merging.TheConstants.{LINES_MAX}
 use Rattle.baggage_cli.specs.declared.refusals.InputCode.TheVariants.{TooLong, Form as Excess, TooManyLines}
 use Rattle.baggage_cli.specs.declared.refusals.InputFault.{InputFault}
-use Rattle.baggage_cli.specs.declared.refusals.InputFault.TheVariants.{Code, Hex, Graph, Bytes, IllTyped}
+use Rattle.baggage_cli.specs.declared.refusals.InputFault.TheVariants.{Code, Hex, Graph, Piece, Missing, Bytes, IllTyped}
 use Rattle.baggage_cli.specs.declared.refusals.Notice.TheVariants.{LibraryFailed, SourceFailed, Memory}
 use Rattle.baggage_cli.specs.declared.refusals.Refusal.{Refusal}
 use Rattle.baggage_cli.specs.declared.refusals.Refusal.TheVariants.{Input}
@@ -43,7 +46,7 @@ use Rattle.baggage_cli.specs.Loading.{load_heading, IsLoadOutput}
 use Rattle.baggage_cli.specs.Running.{IsReportAs, ShowsTruth}
 use Rattle.baggage_cli.specs.Scene.{Change, Scene, scene_of, IsSame, IsSteady, HasFailed, Takes, HasNoFault}
 use Rattle.baggage_cli.specs.Tables.{TableGives, AsksNames}
-use Rattle.baggage_cli.specs.Top.{TellsFiles, TellsAll, InputGives, Comes, Answers, SaysList, SaysContexts, IsRefusedFor, FailsSink, IsFailure}
+use Rattle.baggage_cli.specs.Top.{TellsFiles, TellsAll, InputGives, Comes, Answers, SaysList, SaysContexts, SaysBytes, SaysPieces, IsRefusedFor, FailsSink, IsFailure}
 use Rattle.baggage_cli.specs.Top.IsRefusedFor.{by_files, by_input}
 use Rattle.baggage_cli.specs.Trimming.{trimmed_line}
 use Rattle.baggage_cli.specs.Under.{LinesGive, InputUnder, SaysTyped}
@@ -58,6 +61,8 @@ input_status_some : (fault : InputFault) (n : ℕ) → n ≡ input_status fault 
 input_status_some (Code code) n is = inl is
 input_status_some (Hex code) n is = inl is
 input_status_some (Graph code) n is = inl is
+input_status_some (Piece code) n is = inl is
+input_status_some (Missing piece) n is = inl is
 input_status_some (Bytes offset code) n is = inr is
 input_status_some (IllTyped offset) n is = inr is
 
@@ -193,6 +198,29 @@ merge_appends input scene answer answers told zero =
     let same = told_input scene.source input done.input told done.read in
     let (lists, merged, says, merges, is) = contexts_merged input done.output (subst (λ i. Within MergesLines i (Ok done.output)) (sym same) done.gave) in
     (lists, merged, says, merges, subst (Appends scene.out.before scene.out.after) is done.out.0)
+
+-- Where the answer is 0, the one line of the input says the bytes of a context, and the lines of their pieces were written.
+pub carry_appends : (width : ℕ) (input : List ℕ) (scene : Scene) (answer : ℕ) → Answers (Some (carry width)) scene answer → scene.source.before ≡ Some input → answer ≡ 0
+    → (bytes : List ℕ) × SaysBytes input bytes × Appends scene.out.before scene.out.after (carried_text width bytes)
+carry_appends width input scene answer answers told zero =
+    let done = read_done (carry width) scene answer (ending (carry width) scene answer answers) tt zero in
+    let same = told_input scene.source input done.input told done.read in
+    let (bytes, says, is) = one_said byte_lines (λ b output. output ≡ carried_text width b) input done.output (subst (λ i. FilterGives (carrying width) i (Ok done.output)) (sym same) done.gave) in
+    (bytes, says, subst (Appends scene.out.before scene.out.after) is done.out.0)
+
+-- What lines of pieces gave are the bytes that they say.
+bytes_collected : (input output : List ℕ) → Within CollectsLines input (Ok output) → (bytes : List ℕ) × SaysPieces input bytes × (output ≡ hex_line bytes)
+bytes_collected input output (inl long) = absurd (ok_no_err output _ long.1)
+bytes_collected input output (inr (short, (bytes, says, of, is))) = (bytes, (short, says, of), is)
+
+-- Where the answer is 0, the lines of the input say all pieces of the bytes of a context, and their line was written.
+pub collect_appends : (input : List ℕ) (scene : Scene) (answer : ℕ) → Answers (Some collect) scene answer → scene.source.before ≡ Some input → answer ≡ 0
+    → (bytes : List ℕ) × SaysPieces input bytes × Appends scene.out.before scene.out.after (hex_line bytes)
+collect_appends input scene answer answers told zero =
+    let done = read_done collect scene answer (ending collect scene answer answers) tt zero in
+    let same = told_input scene.source input done.input told done.read in
+    let (bytes, says, is) = bytes_collected input done.output (subst (λ i. Within CollectsLines i (Ok done.output)) (sym same) done.gave) in
+    (bytes, says, subst (Appends scene.out.before scene.out.after) is done.out.0)
 
 -- Where the answer is 0, the input gave what was written, under a table that the told files give.
 record GaveUnder (purpose : Purpose) (origin : Origin) (held : Holding) (input : List ℕ) (scene : Scene) : Type 0 where

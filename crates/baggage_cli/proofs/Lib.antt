@@ -9,6 +9,7 @@ pub mod Obtained
 pub mod TableLaws
 pub mod Printed
 pub mod ThreeWords
+pub mod HexLengths
 pub mod Delivered
 pub mod Definite
 pub mod Endings

@@ -1,13 +1,14 @@
 -- What the words of a command line ask for.
-use Rattle.std.specs.Prelude.{◌≡◌, ℕ, ◌^◌, ◌==◌, ◌&&◌, not, List, [], ◌∷◌, length, nat_lt, slice_index, if◌then◌else◌, codes, bytes_eq, Option, Some, None, option_and_then, ◌≤◌}
+use Rattle.std.specs.Prelude.{◌≡◌, ℕ, ◌^◌, ◌==◌, ◌&&◌, ◌||◌, not, List, [], ◌∷◌, length, nat_lt, slice_index, if◌then◌else◌, codes, bytes_eq, Option, Some, None, option_and_then, ◌≤◌}
 use Rattle.std.specs.Option.{option_map}
 use Rattle.std.specs.Int.NonZero.{non_zero_u32_get}
 use Rattle.std.specs.Str.{all_ascii_digits}
 use Rattle.std.specs.Str.Parse.{digits_value}
+use Rattle.text_carrier.specs.declared.TheConstants.{WIDTH_MIN, WIDTH_MAX}
 use Rattle.baggage_cli.specs.declared.commands.Command as code_commands
 use Rattle.baggage_cli.specs.declared.commands.Command.TheVariants as code
 use Rattle.baggage_cli.specs.declared.commands.Filter.{Filter as CodeFilter}
-use Rattle.baggage_cli.specs.declared.commands.Filter.TheVariants.{Trim, Merge}
+use Rattle.baggage_cli.specs.declared.commands.Filter.TheVariants.{Trim, Merge, Carry, Collect}
 use Rattle.baggage_cli.specs.declared.commands.Origin as code_origins
 use Rattle.baggage_cli.specs.declared.commands.Origin.TheVariants.{Bag, Printed}
 use Rattle.baggage_cli.specs.declared.commands.Product.{Product as CodeProduct}
@@ -39,10 +40,13 @@ pub data Purpose : Type 0 where
   decoding : Purpose
   running : Form → Purpose
 
--- What is made of an input by itself: a list is cut to a budget, or contexts are merged.
+-- What is made of an input by itself: a list is cut to a budget, contexts are merged, or the bytes of a context become lines of
+-- pieces of so many bytes, or are put together from such lines.
 pub data Filter : Type 0 where
   trimming : ℕ → Filter
   merging : Filter
+  carrying : ℕ → Filter
+  collecting : Filter
 
 -- What is to be done: something is made of an input by itself, the load of so many rounds is run, and something is made of a
 -- table, or of an input under one.
@@ -52,12 +56,18 @@ pub data Task : Type 0 where
   build : Product → Origin → Task
   under : Purpose → Origin → Task
 
--- A list is cut to a budget, or contexts are merged.
+-- A list is cut to a budget, contexts are merged, and a context goes into lines of text and comes back from them.
 abbrev pub trim : ℕ → Task
 trim budget = alone (trimming budget)
 
 abbrev pub merge : Task
 merge = alone merging
+
+abbrev pub carry : ℕ → Task
+carry width = alone (carrying width)
+
+abbrev pub collect : Task
+collect = alone collecting
 
 -- The slots of a bag are counted, its table is printed, a context is decoded under the table, or a graph is run under it and
 -- its report printed as lines or as JSON; or a graph is run under a printed table.
@@ -84,6 +94,8 @@ run_table file = under (running as_lines) (printed file)
 abbrev pub filter_of : CodeFilter → Filter
 filter_of (Trim budget) = trimming (non_zero_u32_get budget)
 filter_of Merge = merging
+filter_of (Carry width) = carrying width
+filter_of Collect = collecting
 
 abbrev pub origin_of : code_origins.Origin → Origin
 origin_of (Bag file bag) = compiled file.now bag.now
@@ -122,6 +134,10 @@ number_of word =
 abbrev pub rounds_of : List ℕ → Option ℕ
 rounds_of word = option_and_then (λ rounds. if nat_lt ROUNDS_MAX rounds then None else Some rounds) (number_of word)
 
+-- Such a number, where it may be the width of a piece.
+abbrev pub width_of : List ℕ → Option ℕ
+width_of word = option_and_then (λ width. if nat_lt width WIDTH_MIN || nat_lt WIDTH_MAX width then None else Some width) (number_of word)
+
 -- What the words ask for, by their first one and their number; `None` where they have no form.
 unfoldable pub command_of : List (List ℕ) → Option Task
 command_of (name ∷ file ∷ bag ∷ []) =
@@ -133,10 +149,14 @@ command_of (name ∷ file ∷ bag ∷ []) =
     else None
 command_of (name ∷ word ∷ []) =
     if bytes_eq name (codes "trim") then option_map trim (number_of word)
+    else if bytes_eq name (codes "carry") then option_map carry (width_of word)
     else if bytes_eq name (codes "load") then option_map load (rounds_of word)
     else if bytes_eq name (codes "runtable") then Some (run_table word)
     else None
-command_of (name ∷ []) = if bytes_eq name (codes "merge") then Some merge else None
+command_of (name ∷ []) =
+    if bytes_eq name (codes "merge") then Some merge
+    else if bytes_eq name (codes "collect") then Some collect
+    else None
 command_of words = None
 
 -- ---- what a task needs
@@ -162,9 +182,16 @@ TakesTable (load rounds) origin = ⊥
 TakesTable (build product own) origin = own ≡ origin
 TakesTable (under purpose own) origin = own ≡ origin
 
--- A load has at least one round, and not too many.
+-- A piece has at least so many bytes, and not too many.
+abbrev pub HasWidth : Filter → Type 0
+HasWidth (trimming budget) = Unit {0}
+HasWidth merging = Unit {0}
+HasWidth (carrying width) = (WIDTH_MIN ≤ width) × (width ≤ WIDTH_MAX)
+HasWidth collecting = Unit {0}
+
+-- The numbers of a task are within their limits: a load has at least one round, and not too many.
 abbrev pub IsInRange : Task → Type 0
-IsInRange (alone filter) = Unit {0}
+IsInRange (alone filter) = HasWidth filter
 IsInRange (load rounds) = (1 ≤ rounds) × (rounds ≤ ROUNDS_MAX)
 IsInRange (build product origin) = Unit {0}
 IsInRange (under purpose origin) = Unit {0}

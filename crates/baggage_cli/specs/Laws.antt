@@ -4,6 +4,7 @@ use Rattle.bag_model.specs.Shapes.{Nodes}
 use Rattle.bag_model.specs.Tables.{IsTable}
 use Rattle.bdl_load.specs.Loading.{Holding}
 use Rattle.report_text.specs.Blocks.{HasOneBlock}
+use Rattle.text_carrier.specs.Collected.{CollectOneWay}
 use Rattle.trace_model.specs.Graphs.{Graph, IsRecorded}
 use Rattle.trace_model.specs.Runs.{HasOneRun}
 use Rattle.trace_model.specs.Shown.{ShownIsHonest}
@@ -32,8 +33,9 @@ pub record GraphLaws : Type 0 where
   pub one_json_report : HasOneJsonReport
   pub honest : ShownIsHonest
 
--- All of them. A list has one block.
+-- All of them. A list has one block, and lines of pieces one answer.
 pub record Laws : Type 0 where
+  pub one_collected : CollectOneWay
   pub tables : TableLaws
   pub one_block : HasOneBlock
   pub graphs : GraphLaws

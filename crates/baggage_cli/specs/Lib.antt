@@ -5,6 +5,8 @@ pub mod Outcomes
 pub mod Reading
 pub mod Trimming
 pub mod Merging
+pub mod Carrying
+pub mod Collecting
 pub mod Filters
 pub mod Tables
 pub mod Building

@@ -14,10 +14,13 @@ use Rattle.table_text.specs.FaultNames.{table_code_name}
 use Rattle.graph_text.specs.CodeNames.{graph_code_name}
 use Rattle.graph_text.specs.declared.faults.GraphFault.{GraphFault}
 use Rattle.graph_text.specs.declared.faults.GraphFault.TheVariants as graphs
+use Rattle.text_carrier.specs.Views.{code_name as carry_code_name}
+use Rattle.text_carrier.specs.declared.faults.CarryFault.{CarryFault}
+use Rattle.text_carrier.specs.declared.faults.CarryFault.TheVariants as pieces
 use Rattle.baggage_cli.specs.declared.refusals.InputCode.{InputCode}
-use Rattle.baggage_cli.specs.declared.refusals.InputCode.TheVariants.{TooLong, NoLine, Form, TooManyLines}
+use Rattle.baggage_cli.specs.declared.refusals.InputCode.TheVariants.{TooLong, NoLine, Form, TooManyLines, TooManyBytes}
 use Rattle.baggage_cli.specs.declared.refusals.InputFault.{InputFault}
-use Rattle.baggage_cli.specs.declared.refusals.InputFault.TheVariants.{Code, Hex, Graph, Bytes, IllTyped}
+use Rattle.baggage_cli.specs.declared.refusals.InputFault.TheVariants.{Code, Hex, Graph, Piece, Missing, Bytes, IllTyped}
 use Rattle.baggage_cli.specs.declared.refusals.Notice.{Notice}
 use Rattle.baggage_cli.specs.declared.refusals.Notice.TheVariants.{LibraryFailed, SourceFailed, SinkFailed, Memory, WordsRefused}
 use Rattle.baggage_cli.specs.declared.refusals.Refusal.{Refusal}
@@ -29,12 +32,15 @@ input_name TooLong = codes "TooLong"
 input_name NoLine = codes "NoLine"
 input_name Form = codes "Form"
 input_name TooManyLines = codes "TooManyLines"
+input_name TooManyBytes = codes "TooManyBytes"
 
 -- The status of what is wrong with an input or a line of it.
 abbrev pub input_status : InputFault → ℕ
 input_status (Code code) = 2
 input_status (Hex code) = 2
 input_status (Graph code) = 2
+input_status (Piece code) = 2
+input_status (Missing piece) = 2
 input_status (Bytes offset code) = 3
 input_status (IllTyped offset) = 3
 
@@ -43,6 +49,8 @@ abbrev pub input_line : ℕ → InputFault → List ℕ
 input_line line (Code code) = codes "input line " ++ (decimal line ++ (codes " " ++ (input_name code ++ 10 ∷ [])))
 input_line line (Hex code) = codes "input line " ++ (decimal line ++ (codes " " ++ (hex_name code ++ 10 ∷ [])))
 input_line line (Graph code) = codes "input line " ++ (decimal line ++ (codes " " ++ (graph_code_name code ++ 10 ∷ [])))
+input_line line (Piece code) = codes "input line " ++ (decimal line ++ (codes " " ++ (carry_code_name code ++ 10 ∷ [])))
+input_line line (Missing piece) = codes "input line " ++ (decimal line ++ (codes " Missing " ++ (decimal piece ++ 10 ∷ [])))
 input_line line (Bytes offset code) =
     codes "context line "
     ++ (decimal line ++ (codes " offset " ++ (decimal offset ++ (codes " " ++ (code_name (byte_code_of code) ++ 10 ∷ [])))))
@@ -106,3 +114,11 @@ graph_refusal (graphs.At line code) = Input line (Graph code)
 graph_refusal (graphs.Bytes line offset code) = Input line (Bytes offset code)
 graph_refusal (graphs.IllTyped line offset) = Input line (IllTyped offset)
 graph_refusal graphs.Memory = Plain Memory
+
+-- The refusal of lines of pieces that have this fault.
+abbrev pub piece_refusal : CarryFault → Refusal
+piece_refusal (pieces.At line code) = Input line (Piece code)
+piece_refusal pieces.NoLine = Input 0 (Code NoLine)
+piece_refusal (pieces.Missing piece) = Input 0 (Missing piece)
+piece_refusal pieces.TooManyBytes = Input 0 (Code TooManyBytes)
+piece_refusal pieces.Memory = Plain Memory

@@ -10,6 +10,8 @@ use Rattle.baggage_cli.specs.declared.merging.TheConstants.{LINES_MAX}
 use Rattle.baggage_cli.specs.declared.refusals.Notice.TheVariants.{SinkFailed, WordsRefused}
 use Rattle.baggage_cli.specs.declared.refusals.Refusal.{Refusal}
 use Rattle.baggage_cli.specs.Building.{BuildsProduct}
+use Rattle.text_carrier.specs.Collected.{Collects}
+use Rattle.baggage_cli.specs.Carrying.{AreOfContext, byte_lines}
 use Rattle.baggage_cli.specs.Commands.{Task, Origin, ReadsSource, FetchesFiles, TakesTable, alone, load, build, under}
 use Rattle.baggage_cli.specs.Delivery.{Notifies, Delivers}
 use Rattle.baggage_cli.specs.Filters.{FilterGives}
@@ -63,6 +65,14 @@ SaysList input list = (length input ≤ INPUT_MAX) × AllSay list_lines [] (line
 abbrev pub SaysContexts : List ℕ → List (List Atom) → Type 0
 SaysContexts input lists =
     (length input ≤ INPUT_MAX) × AllSay context_lines [] (lines_of input) lists × (length lists ≤ LINES_MAX)
+
+-- An input that isn't too long has one line, which says these bytes of a context.
+abbrev pub SaysBytes : List ℕ → List ℕ → Type 0
+SaysBytes input bytes = (length input ≤ INPUT_MAX) × AllSay byte_lines [] (lines_of input) (bytes ∷ [])
+
+-- The lines of an input that isn't too long say all pieces of these bytes, which are those of a context.
+abbrev pub SaysPieces : List ℕ → List ℕ → Type 0
+SaysPieces input bytes = (length input ≤ INPUT_MAX) × Collects (lines_of input) (Ok bytes) × AreOfContext bytes
 
 -- The objects that the task uses tell what they hold.
 abbrev pub TellsAll : Task → Option Holding → Option (List ℕ) → Type 0

@@ -6,6 +6,7 @@ ghost use Rattle.baggage_cli.specs.Commands as spec;
 
 use outside::Words;
 use std::num::NonZeroU32;
+use text_carrier::{WIDTH_MAX, WIDTH_MIN};
 
 /// The most rounds of a load.
 pub const ROUNDS_MAX: u32 = 1_000;
@@ -53,6 +54,10 @@ pub enum Filter {
     Trim { budget: NonZeroU32 },
     /// The merge of the contexts of all lines.
     Merge,
+    /// The one line's context as lines of pieces of so many bytes.
+    Carry { width: u32 },
+    /// The context whose pieces the lines say.
+    Collect,
 }
 
 /// A command with what it is asked for. The names stay in the words, so it takes no memory.
@@ -96,6 +101,7 @@ fn bare_command(name: &str) -> Option<Command<'static>>
 {
     match name {
         "merge" => Some(Command::Alone(Filter::Merge)),
+        "collect" => Some(Command::Alone(Filter::Collect)),
         _ => None,
     }
 }
@@ -107,6 +113,18 @@ fn trim_command(word: &str) -> Option<Command<'static>>
 {
     let budget = NonZeroU32::new(read_number(word)?)?;
     Some(Command::Alone(Filter::Trim { budget }))
+}
+
+/// The command that carries a context in pieces of so many bytes as this word says.
+fn carry_command(word: &str) -> Option<Command<'static>>
+    ensures task { option_map spec.task_of result ≡ option_map spec.carry (spec.width_of word.now) }
+    ensures range { IfSome result (λ command. spec.IsInRange (spec.task_of command)) }
+{
+    let width = read_number(word)?;
+    if (width as usize) < WIDTH_MIN || WIDTH_MAX < width as usize {
+        return None;
+    }
+    Some(Command::Alone(Filter::Carry { width }))
 }
 
 /// The command that runs the load of so many rounds as this word says.
@@ -129,6 +147,7 @@ fn numbered_command<'a>(name: &str, word: &'a str) -> Option<Command<'a>>
 {
     match name {
         "trim" => trim_command(word),
+        "carry" => carry_command(word),
         "load" => load_command(word),
         "runtable" => Some(Command::Read {
             purpose: Purpose::Run(Form::Text),

@@ -2,6 +2,8 @@
 #![tactic(auto)]
 
 mod building;
+mod carrying;
+mod collecting;
 mod commands;
 mod decoding;
 mod delivery;

@@ -1,8 +1,10 @@
 //! An input, and what its lines say.
 
-ghost use Rattle.std.specs.Prelude.{◌≡◌, [], ◌∷◌, OnOk, IfOk, IfErr};
+ghost use Rattle.std.specs.Prelude.{◌≡◌, ◌≤◌, [], ◌∷◌, length, OnOk, IfOk, IfErr};
 ghost use Rattle.baggage_cli.specs.Scene.{change};
+ghost use Rattle.baggage_cli.specs.Carrying.{byte_lines};
 ghost use Rattle.baggage_cli.specs.Reading.{ReadsInput, HasNoLine, HasExcess, IsNoHex, RefusesLine, list_lines, context_lines};
+ghost use Rattle.text_carrier.specs.declared.TheConstants.{CARRIED_MAX};
 ghost use Rattle.text_lines.specs.HexLines.{IsHexOf};
 ghost use Rattle.text_lines.specs.Lines.{line_value};
 
@@ -11,7 +13,7 @@ use atom_list::{AtomList, Context};
 use outside::{ReadFault, Source, read_all};
 use std::alloc::Global;
 use text_lines::{HexFault, INPUT_MAX, Line, Lines, hex_bytes};
-use wire_bytes::{ByteCode, ContextFault, WireFault, read_context_owned, read_owned};
+use wire_bytes::{ByteCode, ContextFault, WireFault, read_context, read_context_owned, read_owned};
 
 /// Reads the source to its end.
 pub fn read_input<S: Source>(alloc: Global, source: &mut S) -> Result<Vec<u8>, Refusal>
@@ -88,6 +90,24 @@ pub fn line_list(alloc: Global, line: &Line<'_>) -> Result<AtomList, Refusal>
             },
         }),
         Err(WireFault::Memory) => Err(Refusal::Plain(Notice::Memory)),
+    }
+}
+
+/// The bytes of the context that a line says, as they stand there.
+pub fn context_bytes(alloc: Global, line: &Line<'_>) -> Result<Vec<u8>, Refusal>
+    ensures ok { IfOk result (λ bytes. byte_lines.says [] line.now.text.now bytes.items) }
+    ensures few { IfOk result (λ bytes. length bytes.items ≤ CARRIED_MAX) }
+    ensures err { IfErr result (λ refusal.
+        RefusesLine byte_lines (line.now.number, line.now.text.now) refusal) }
+{
+    let bytes = line_bytes(alloc, line)?;
+    match read_context(alloc, bytes.as_slice()) {
+        Ok(_) => Ok(bytes),
+        Err(ContextFault::At { offset, code }) => Err(Refusal::Input {
+            line: line.number,
+            fault: InputFault::Bytes { offset, code },
+        }),
+        Err(ContextFault::Memory) => Err(Refusal::Plain(Notice::Memory)),
     }
 }
 

@@ -9,6 +9,7 @@ use outside::{Memory, Text};
 use std::alloc::{AllocFailed, Global};
 use std::fmt;
 use table_text::TableCode;
+use text_carrier::{CarryCode, CarryFault};
 use text_lines::HexCode;
 use wire_bytes::ByteCode;
 
@@ -23,6 +24,8 @@ pub enum InputCode {
     Form,
     /// The line is one more than a command reads.
     TooManyLines,
+    /// The pieces that the lines say have more bytes in all than a command puts together.
+    TooManyBytes,
 }
 
 /// What is wrong with an input or a line of it.
@@ -34,6 +37,10 @@ pub enum InputFault {
     Hex(HexCode),
     /// The line breaks this rule of a graph.
     Graph(GraphCode),
+    /// The line breaks this rule of a piece.
+    Piece(CarryCode),
+    /// No line says the piece of this number, the least of those that are missing.
+    Missing { piece: u64 },
     /// The bytes of the line, or those that it receives, aren't those of a list or a context.
     Bytes { offset: usize, code: ByteCode },
     /// The atom behind so many of these bytes is no spelling of a value of the type that a table gives it.
@@ -92,6 +99,7 @@ impl fmt::Display for InputCode {
             InputCode::NoLine => write!(f, "NoLine"),
             InputCode::Form => write!(f, "Form"),
             InputCode::TooManyLines => write!(f, "TooManyLines"),
+            InputCode::TooManyBytes => write!(f, "TooManyBytes"),
         }
     }
 }
@@ -170,6 +178,35 @@ impl From<GraphFault> for Refusal {
     }
 }
 
+impl From<CarryFault> for Refusal {
+    ghost use Rattle.std.specs.Prelude.{◌≡◌};
+    ghost use Rattle.baggage_cli.specs.Refusals.{piece_refusal};
+
+    ghost from_gives = { λ fault refusal. refusal ≡ piece_refusal fault };
+
+    fn from(fault: CarryFault) -> Refusal {
+        match fault {
+            CarryFault::At { line, code } => Refusal::Input {
+                line,
+                fault: InputFault::Piece(code),
+            },
+            CarryFault::NoLine => Refusal::Input {
+                line: 0,
+                fault: InputFault::Code(InputCode::NoLine),
+            },
+            CarryFault::Missing { piece } => Refusal::Input {
+                line: 0,
+                fault: InputFault::Missing { piece },
+            },
+            CarryFault::TooManyBytes => Refusal::Input {
+                line: 0,
+                fault: InputFault::Code(InputCode::TooManyBytes),
+            },
+            CarryFault::Memory => Refusal::Plain(Notice::Memory),
+        }
+    }
+}
+
 impl InputFault {
     /// The status that the program ends with.
     pub fn status(self) -> u8
@@ -179,6 +216,8 @@ impl InputFault {
             InputFault::Code(_) => 2,
             InputFault::Hex(_) => 2,
             InputFault::Graph(_) => 2,
+            InputFault::Piece(_) => 2,
+            InputFault::Missing { .. } => 2,
             InputFault::Bytes { .. } => 3,
             InputFault::IllTyped { .. } => 3,
         }
@@ -192,6 +231,10 @@ impl InputFault {
             InputFault::Code(code) => Ok(format!(in alloc; "input line {line} {code}\n")?),
             InputFault::Hex(code) => Ok(format!(in alloc; "input line {line} {code}\n")?),
             InputFault::Graph(code) => Ok(format!(in alloc; "input line {line} {code}\n")?),
+            InputFault::Piece(code) => Ok(format!(in alloc; "input line {line} {code}\n")?),
+            InputFault::Missing { piece } => Ok(format!(in alloc;
+                "input line {line} Missing {piece}\n"
+            )?),
             InputFault::Bytes { offset, code } => Ok(format!(in alloc;
                 "context line {line} offset {offset} {code}\n"
             )?),

@@ -18,9 +18,10 @@ ghost use Rattle.report_json.specs.JsonReports.{IsJsonReport};
 ghost use Rattle.load_maker.specs.Loads.{load_table, load_text};
 ghost use Rattle.table_text.specs.TableTexts.{table_text};
 ghost use Rattle.graph_text.specs.GraphLines.{IsGraphOf};
+ghost use Rattle.text_carrier.specs.Carried.{carried_text};
 ghost use Rattle.text_lines.specs.declared.TheConstants.{INPUT_MAX};
 ghost use Rattle.text_lines.specs.HexLines.{hex_line};
-ghost use Rattle.baggage_cli.specs.Commands.{Task, Origin, task_of, command_of, trim, merge, load, check, print, decode, run, run_json, run_table, ReadsSource, FetchesFiles, TakesTable, IsInRange};
+ghost use Rattle.baggage_cli.specs.Commands.{Task, Origin, task_of, command_of, trim, merge, carry, collect, load, check, print, decode, run, run_json, run_table, ReadsSource, FetchesFiles, TakesTable, IsInRange};
 ghost use Rattle.baggage_cli.specs.Refusals.{input_status, input_line, notice_line, line_of};
 ghost use Rattle.baggage_cli.specs.Scene.{change, scene_of, HasNoFault};
 ghost use Rattle.baggage_cli.specs.Laws.{Laws};
@@ -30,7 +31,7 @@ ghost use Rattle.baggage_cli.specs.Building.{ok_line};
 ghost use Rattle.baggage_cli.specs.Loading.{load_heading};
 ghost use Rattle.baggage_cli.specs.Running.{ShowsTruth};
 ghost use Rattle.baggage_cli.specs.Tables.{IsPrinted, TableGives, AsksNames};
-ghost use Rattle.baggage_cli.specs.Top.{TellsFiles, TellsAll, InputGives, Comes, Answers, SaysList, SaysContexts, IsRefusedFor, FailsSink, IsFailure};
+ghost use Rattle.baggage_cli.specs.Top.{TellsFiles, TellsAll, InputGives, Comes, Answers, SaysList, SaysContexts, SaysBytes, SaysPieces, IsRefusedFor, FailsSink, IsFailure};
 ghost use Rattle.baggage_cli.specs.Under.{SaysTyped};
 
 use crate::building::build;
@@ -49,6 +50,7 @@ use report_text::laws::lists_have_one_block;
 use std::alloc::Global;
 use std::thread::Threads;
 use table_text::laws::{printed_texts_have_no_fault, texts_have_one_fault, texts_have_one_table};
+use text_carrier::laws::lines_collect_one_way;
 use trace_model::laws::{graphs_have_one_run, shown_values_are_honest};
 
 /// Tells that a definition has one table or one first fault, a list one block, and a text one graph or one first fault; and
@@ -64,6 +66,7 @@ fn tell_laws()
     printed_texts_have_no_fault();
     texts_have_one_fault();
     lists_have_one_block();
+    lines_collect_one_way();
     lines_are_definite();
     texts_give_recorded_graphs();
     graphs_have_one_run();
@@ -130,6 +133,8 @@ fn answer_words<R: Threads + Sync, G: Gate, L: Library, S: Source, K: Sink, E: S
 /// |---|---|---|
 /// | `trim N` | one line of hexadecimal digits, the bytes of a list of atoms | the line of the list cut to `N` bytes |
 /// | `merge` | up to 4,096 lines, each the bytes of a context | the line of their merge, a dash where there is none |
+/// | `carry W` | one line, the bytes of a context | a numbered line of base64 for each `W` of its bytes |
+/// | `collect` | such lines, in any order and with repeats | the line of the context that they carry |
 /// | `check FILE BAG` | the definition of that file with all that it imports | `ok S`, with the number of the bag's slots |
 /// | `table FILE BAG` | the same | the text of the bag's table |
 /// | `decode FILE BAG` | the same, then one line of a context that is typed under the table | the context's block |
@@ -169,6 +174,14 @@ pub fn baggage_top<R: Threads + Sync, G: Gate, L: Library, S: Source, K: Sink, E
         → (lists : List (List (List ℕ))) × (merged : List (List ℕ))
         × SaysContexts input lists × IsMerged lists merged
         × Appends (K.written out.old) (K.written out.new) (hex_line (bytes_of merged)) }
+    ensures carry { (width : ℕ) (input : List ℕ)
+        → command_of words.now ≡ Some (carry width) → S.left source.old ≡ Some input → result ≡ 0
+        → (bytes : List ℕ) × SaysBytes input bytes
+        × Appends (K.written out.old) (K.written out.new) (carried_text width bytes) }
+    ensures collect { (input : List ℕ)
+        → command_of words.now ≡ Some collect → S.left source.old ≡ Some input → result ≡ 0
+        → (bytes : List ℕ) × SaysPieces input bytes
+        × Appends (K.written out.old) (K.written out.new) (hex_line bytes) }
     ensures check { (file bag : List ℕ) (held : Holding)
         → command_of words.now ≡ Some (check file bag) → L.files library.old ≡ Some held → result ≡ 0
         → (table : Nodes) × IsTableOf held file bag table

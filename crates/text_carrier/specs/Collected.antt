@@ -1,5 +1,5 @@
 -- What all lines say: bytes, or what is wrong.
-use Rattle.std.specs.Prelude.{◌≡◌, ◌≢◌, ℕ, ◌<◌, ◌≤◌, List, [], ◌∷◌, length, Some, Result, Ok, Err}
+use Rattle.std.specs.Prelude.{◌≡◌, ◌≢◌, ◌⊎◌, ℕ, ◌<◌, ◌≤◌, List, [], ◌∷◌, length, Some, Result, Ok, Err}
 use Rattle.std.specs.List.{Contains, concat, slice_get}
 use Rattle.text_lines.specs.Lines.{Line}
 use Rattle.text_lines.specs.Readings.{AllSay, IsFirstBad}
@@ -50,3 +50,8 @@ Collects lines (Err (Missing piece)) =
 Collects lines (Err TooManyBytes) =
     (pieces : List Piece) × (bytes : List ℕ) × SaySome lines pieces × AreWhole pieces bytes × (CARRIED_MAX < length bytes)
 Collects lines (Err Memory) = Unit {0}
+
+-- Lines collect to one answer, but for want of memory.
+abbrev pub CollectOneWay : Type 0
+CollectOneWay = (lines : List Line) (a b : Result (List ℕ) CarryFault) → Collects lines a → Collects lines b
+    → (a ≡ b) ⊎ ((a ≡ Err Memory) ⊎ (b ≡ Err Memory))

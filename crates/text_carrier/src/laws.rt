@@ -1,15 +1,14 @@
 //! Laws of the lines, each the contract of a function that does nothing.
 
-ghost use Rattle.std.specs.Prelude.{◌≡◌, ◌≢◌, ◌⊎◌, ◌≤◌, ℕ, [], List, Result, Ok, Err, length};
+ghost use Rattle.std.specs.Prelude.{◌≢◌, ◌≤◌, ℕ, [], List, Ok, Err, length};
 ghost use Rattle.std.specs.List.{Contains};
 ghost use Rattle.base64.specs.Engines.{standard};
 ghost use Rattle.base64.specs.GeneralPurpose.{IsConsistent, IsStrict, encode_of};
-ghost use Rattle.text_lines.specs.Lines.{Line, lines_of};
+ghost use Rattle.text_lines.specs.Lines.{lines_of};
 ghost use Rattle.text_lines.specs.Readings.{IsDefinite};
-ghost use Rattle.text_carrier.specs.declared.faults.CarryFault.{CarryFault};
 ghost use Rattle.text_carrier.specs.declared.faults.CarryFault.TheVariants as faults;
 ghost use Rattle.text_carrier.specs.Carried.{AreAll, AreSome, IsCarried, IsFirstLost, carried_lines, text_of};
-ghost use Rattle.text_carrier.specs.Collected.{Collects};
+ghost use Rattle.text_carrier.specs.Collected.{CollectOneWay, Collects};
 ghost use Rattle.text_carrier.specs.Rules.{piece_lines};
 
 /// An encoding of the standard alphabet with padding decodes to its bytes, and nothing else decodes; none of its bytes is
@@ -28,8 +27,7 @@ pub fn lines_are_definite()
 
 /// Lines collect to one answer, but for want of memory.
 pub fn lines_collect_one_way()
-    ensures { (lines : List Line) (a b : Result (List ℕ) CarryFault) → Collects lines a → Collects lines b
-        → (a ≡ b) ⊎ ((a ≡ Err faults.Memory) ⊎ (b ≡ Err faults.Memory)) }
+    ensures { CollectOneWay }
 {}
 
 /// Each line of the pieces of some bytes has at most 416 bytes.

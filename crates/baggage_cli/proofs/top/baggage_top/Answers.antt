@@ -1,7 +1,7 @@
 use Rattle.baggage_cli.specs.Commands.{compiled, printed, slot_line, whole_text, as_lines}
 use Rattle.baggage_cli.specs.Scene.{change, scene_of}
 use Rattle.baggage_cli.proofs.Calls.{files_kept, counts_kept, steady_call, unread_call, quiet_call, sink_call, words_call, unasked_call, untouched_call}
-use Rattle.baggage_cli.proofs.Facts.{trim_appends, merge_appends, decode_appends, run_appends, run_json_appends, load_appends, build_appends, has_asked, ended_source, left_told, table_told, refusal_told, input_told, bad_told, failed_told, memory_told, completes, part_told, unfetched_files, unread_input}
+use Rattle.baggage_cli.proofs.Facts.{trim_appends, merge_appends, carry_appends, collect_appends, decode_appends, run_appends, run_json_appends, load_appends, build_appends, has_asked, ended_source, left_told, table_told, refusal_told, input_told, bad_told, failed_told, memory_told, completes, part_told, unfetched_files, unread_input}
 use Rattle.baggage_cli.proofs.top.baggage_top.Goals as goal
 
 pub returns-clause-trim : goal.returns-clause-trim
@@ -9,6 +9,12 @@ returns-clause-trim g c = λ budget input is told done. trim_appends budget inpu
 
 pub returns-clause-merge : goal.returns-clause-merge
 returns-clause-merge g c = λ input is told done. merge_appends input _ c.answer_words.result (rw is at c.answer_words.ensures) told done
+
+pub returns-clause-carry : goal.returns-clause-carry
+returns-clause-carry g c = λ width input is told done. carry_appends width input _ c.answer_words.result (rw is at c.answer_words.ensures) told done
+
+pub returns-clause-collect : goal.returns-clause-collect
+returns-clause-collect g c = λ input is told done. collect_appends input _ c.answer_words.result (rw is at c.answer_words.ensures) told done
 
 pub returns-clause-check : goal.returns-clause-check
 returns-clause-check g c =

@@ -7,6 +7,7 @@ returns c = record {
     gives_one = files_give_one c.texts_have_one_table.ensures c.printed_texts_have_no_fault.ensures c.texts_have_one_fault.ensures c.tables_are_unique.ensures c.tables_exclude_faults.ensures c.faults_are_unique.ensures;
     is_table = files_give_tables c.definitions_give_tables.ensures;
   };
+  one_collected = c.lines_collect_one_way.ensures;
   one_block = c.lists_have_one_block.ensures;
   graphs = record {
     definite = c.lines_are_definite.ensures;
