@@ -17,7 +17,7 @@ use Rattle.baggage_cli.specs.declared.commands.Form.{Form as CodeForm}
 use Rattle.baggage_cli.specs.declared.commands.Form.TheVariants.{Text, Json}
 use Rattle.baggage_cli.specs.declared.commands.Purpose.{Purpose as CodePurpose}
 use Rattle.baggage_cli.specs.declared.commands.Purpose.TheVariants.{Decode, Run}
-use Rattle.baggage_cli.specs.declared.commands.TheConstants.{ROUNDS_MAX}
+use Rattle.load_maker.specs.declared.TheConstants.{ROUNDS_MAX}
 
 -- Where a table comes from: it is that of the bag of this name, in the definition whose root is this file, or the one whose
 -- text this file holds.

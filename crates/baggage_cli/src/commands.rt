@@ -4,12 +4,10 @@ ghost use Rattle.std.specs.Prelude.{◌≡◌, [], ◌∷◌, IfSome};
 ghost use Rattle.std.specs.Option.{option_map};
 ghost use Rattle.baggage_cli.specs.Commands as spec;
 
+use load_maker::ROUNDS_MAX;
 use outside::Words;
 use std::num::NonZeroU32;
 use text_carrier::{WIDTH_MAX, WIDTH_MIN};
-
-/// The most rounds of a load.
-pub const ROUNDS_MAX: u32 = 1_000;
 
 /// Where a table comes from.
 #[derive(Clone, Copy, Debug)]

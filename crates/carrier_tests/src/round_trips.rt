@@ -8,7 +8,9 @@ use text_carrier::laws::{
     carried_lines_are_short, carried_lines_come_back, encodings_are_plain, lines_are_definite,
     lines_collect_one_way, lost_lines_are_told,
 };
-use text_carrier::{CARRIED_MAX, CarryFault, WIDTH_MAX, WIDTH_MIN, carry, carry_and_collect, collect};
+use text_carrier::{
+    CARRIED_MAX, CarryFault, WIDTH_MAX, WIDTH_MIN, carry, carry_and_collect, collect,
+};
 use text_lines::lines_of;
 
 /// So many bytes, which don't repeat soon.
@@ -85,11 +87,20 @@ fn comes_back(rt: HostRuntime) -> Result<(), Fail> {
         let bytes = some_bytes(alloc, *count)?;
         assert!(rt; bytes.len() <= CARRIED_MAX);
         let text = carry(alloc, bytes.as_slice(), *width)?;
-        assert!(rt; gives(alloc, text.as_slice(), bytes.as_slice())?, "at {width} {count}");
+        assert!(rt;
+            gives(alloc, text.as_slice(), bytes.as_slice())?,
+            "at {width} {count}"
+        );
         let back = carry_and_collect(alloc, bytes.as_slice(), *width);
-        assert!(rt; matches!(back, Ok(back) if back.as_slice() == bytes.as_slice()), "at {width} {count}");
+        assert!(rt;
+            matches!(back, Ok(back) if back.as_slice() == bytes.as_slice()),
+            "at {width} {count}"
+        );
         let other = shuffled(alloc, text.as_slice(), *step)?;
-        assert!(rt; gives(alloc, other.as_slice(), bytes.as_slice())?, "at {width} {count} shuffled");
+        assert!(rt;
+            gives(alloc, other.as_slice(), bytes.as_slice())?,
+            "at {width} {count} shuffled"
+        );
     }
     Ok(())
 }
