@@ -34,8 +34,14 @@ fn collected(alloc: Global, text: &[u8]) -> Result<Vec<u8>, Memory> {
 
 /// Texts, and what each collects to.
 static TEXTS: [(&str, &str); 98] = [
-    ("p 0 3 AvgABQ==|p 1 3 AAAAAA==|p 2 3 Bw==|", "02f800050000000007"),
-    ("p 2 3 Bw==|p 0 3 AvgABQ==|p 2 3 Bw==|p 1 3 AAAAAA==|", "02f800050000000007"),
+    (
+        "p 0 3 AvgABQ==|p 1 3 AAAAAA==|p 2 3 Bw==|",
+        "02f800050000000007",
+    ),
+    (
+        "p 2 3 Bw==|p 0 3 AvgABQ==|p 2 3 Bw==|p 1 3 AAAAAA==|",
+        "02f800050000000007",
+    ),
     ("p 2 3 Bw==|p 0 3 AvgABQ==|p 2 3 Bw==|", "Missing 1"),
     ("p 1 3 AAAAAB==|", "1 BadBase64"),
     ("p 3 3 Bw==|", "1 PieceRange"),
@@ -128,7 +134,10 @@ static TEXTS: [(&str, &str); 98] = [
     ("p 0 3 -|p 1 3 -|p 2 3 -", "-"),
     ("p 0 3 AQ==|p 1 3 -|p 2 3 Ag==", "0102"),
     ("p 1 2 BQ==|p 0 2 AQIDBA==", "0102030405"),
-    ("p 10 11 Cw==|p 0 11 AA==|p 1 11 AQ==|p 2 11 Ag==|p 3 11 Aw==|p 4 11 BA==|p 5 11 BQ==|p 6 11 Bg==|p 7 11 Bw==|p 8 11 CA==|p 9 11 CQ==|", "000102030405060708090b"),
+    (
+        "p 10 11 Cw==|p 0 11 AA==|p 1 11 AQ==|p 2 11 Ag==|p 3 11 Aw==|p 4 11 BA==|p 5 11 BQ==|p 6 11 Bg==|p 7 11 Bw==|p 8 11 CA==|p 9 11 CQ==|",
+        "000102030405060708090b",
+    ),
     ("p 1 2 AQ==|p 1 2 AQ==", "Missing 0"),
     ("p 0 2 AQ==|p 0 2 AQ==", "Missing 1"),
     ("p 3 5 -|p 0 5 -|p 1 5 -|p 4 5 -", "Missing 2"),
@@ -146,7 +155,11 @@ fn collects_and_refuses(rt: HostRuntime) -> Result<(), Fail> {
 
 /// Widths, digits of bytes, and their lines.
 static CARRIED: [(usize, &str, &str); 9] = [
-    (4, "02f800050000000007", "p 0 3 AvgABQ==|p 1 3 AAAAAA==|p 2 3 Bw==|"),
+    (
+        4,
+        "02f800050000000007",
+        "p 0 3 AvgABQ==|p 1 3 AAAAAA==|p 2 3 Bw==|",
+    ),
     (8, "02f800050000000007", "p 0 2 AvgABQAAAAA=|p 1 2 Bw==|"),
     (9, "02f800050000000007", "p 0 1 AvgABQAAAAAH|"),
     (300, "02f800050000000007", "p 0 1 AvgABQAAAAAH|"),
@@ -154,7 +167,11 @@ static CARRIED: [(usize, &str, &str); 9] = [
     (300, "-", "p 0 1 -|"),
     (4, "01020304", "p 0 1 AQIDBA==|"),
     (4, "0102030405", "p 0 2 AQIDBA==|p 1 2 BQ==|"),
-    (5, "fbefbefbefbefbefbefbefbefbefbe", "p 0 3 ++++++8=|p 1 3 vvvvvvs=|p 2 3 7777774=|"),
+    (
+        5,
+        "fbefbefbefbefbefbefbefbefbefbe",
+        "p 0 3 ++++++8=|p 1 3 vvvvvvs=|p 2 3 7777774=|",
+    ),
 ];
 
 #[test]
@@ -167,7 +184,10 @@ fn carries(rt: HostRuntime) -> Result<(), Fail> {
         };
         assert!(rt; bytes.len() <= 1000);
         let text = carry(alloc, bytes.as_slice(), *width)?;
-        assert!(rt; text.as_slice() == fed(alloc, lines)?.as_slice(), "at {width} {digits}");
+        assert!(rt;
+            text.as_slice() == fed(alloc, lines)?.as_slice(),
+            "at {width} {digits}"
+        );
     }
     Ok(())
 }
