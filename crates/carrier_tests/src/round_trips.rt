@@ -43,12 +43,11 @@ fn shuffled(alloc: Global, text: &[u8], step: usize) -> Result<Vec<u8>, Memory> 
     Ok(other)
 }
 
-/// Whether a text collects to these bytes.
-fn gives(alloc: Global, text: &[u8], bytes: &[u8]) -> Result<bool, Memory> {
-    match collect(alloc, text) {
-        Ok(back) => Ok(back.as_slice() == bytes),
-        Err(CarryFault::Memory) => Err(Memory),
-        Err(_) => Ok(false),
+/// Whether the answer is these bytes.
+fn gives(answer: &Result<Vec<u8>, CarryFault>, bytes: &[u8]) -> bool {
+    match answer {
+        Ok(back) => back.as_slice() == bytes,
+        Err(_) => false,
     }
 }
 
@@ -83,22 +82,16 @@ static SIZES: [(usize, usize, usize); 11] = [
 fn comes_back(rt: HostRuntime) -> Result<(), Fail> {
     let alloc = rt.alloc();
     for (width, count, step) in &SIZES {
-        assert!(rt; WIDTH_MIN <= *width && *width <= WIDTH_MAX && *count <= CARRIED_MAX);
+        assert!(rt; WIDTH_MIN <= *width && *width <= WIDTH_MAX);
         let bytes = some_bytes(alloc, *count)?;
         assert!(rt; bytes.len() <= CARRIED_MAX);
-        let text = carry(alloc, bytes.as_slice(), *width)?;
-        assert!(rt;
-            gives(alloc, text.as_slice(), bytes.as_slice())?,
-            "at {width} {count}"
-        );
         let back = carry_and_collect(alloc, bytes.as_slice(), *width);
-        assert!(rt;
-            matches!(back, Ok(back) if back.as_slice() == bytes.as_slice()),
-            "at {width} {count}"
-        );
+        assert!(rt; gives(&back, bytes.as_slice()), "at {width} {count}");
+        let text = carry(alloc, bytes.as_slice(), *width)?;
         let other = shuffled(alloc, text.as_slice(), *step)?;
+        let back = collect(alloc, other.as_slice());
         assert!(rt;
-            gives(alloc, other.as_slice(), bytes.as_slice())?,
+            gives(&back, bytes.as_slice()),
             "at {width} {count} shuffled"
         );
     }
@@ -129,7 +122,8 @@ fn carries_the_most(rt: HostRuntime) -> Result<(), Fail> {
     let text = carry(alloc, bytes.as_slice(), WIDTH_MIN)?;
     assert_eq!(rt; text.len(), 6_442_490);
     let other = shuffled(alloc, text.as_slice(), 100_003)?;
-    assert!(rt; gives(alloc, other.as_slice(), bytes.as_slice())?);
+    let back = collect(alloc, other.as_slice());
+    assert!(rt; gives(&back, bytes.as_slice()));
     Ok(())
 }
 
