@@ -88,7 +88,7 @@ fn meets<R: Abort + Threads + Sync>(
     let meeting = Meeting::of(first, last);
     let lists = run_ranks(rt, alloc, &meeting, &table, &graph)?;
     assert!(rt; meeting.took_place());
-    assert_eq!(rt; lists.len(), last + 1);
+    assert_eq!(rt; lists.len().checked_sub(1), Some(last));
     assert!(rt; lists.iter().all(|list| list.list().len() == atoms));
     Ok(())
 }

@@ -197,14 +197,14 @@ pub fn mixed_text(alloc: Global) -> Result<String, Fail> {
 }
 
 /// A graph where two steps receive the same context, of so many headers with three data each, and so many steps join them.
-pub fn joins_text(alloc: Global, headers: u8, count: usize) -> Result<String, Fail> {
+pub fn joins_text(alloc: Global, headers: u8, count: u8) -> Result<String, Fail> {
     let mut digits = String::new(alloc);
     for number in 0..headers {
         digits.push_str(format!(in alloc; "02f8{number:02x}020000020001020002")?.as_str())?;
     }
     let mut text = format!(in alloc; "service a all\nrecv 0 a {digits}\nrecv 1 a {digits}\n")?;
     for number in 0..count {
-        let own = number + 2;
+        let own = u32::from(number) + 2;
         text.push_str(format!(in alloc; "join {own} 0 1\n")?.as_str())?;
     }
     Ok(text)

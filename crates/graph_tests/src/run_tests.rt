@@ -45,6 +45,7 @@ fn run_both<R: Abort + Threads + Sync>(
     let plain = run_all(alloc, table, &graph)?;
     let ranks = run_ranks(rt, alloc, &Open, table, &graph)?;
     assert_eq!(rt; plain.len(), graph.steps());
+    assert_eq!(rt; ranks.len(), graph.steps());
     are_alike(rt, alloc, plain.as_slice(), ranks.as_slice())?;
     let one = report(alloc, table, &graph, plain.as_slice())?;
     let other = report(alloc, table, &graph, ranks.as_slice())?;
