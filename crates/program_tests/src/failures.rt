@@ -25,6 +25,9 @@ t|baggage table 1
 /// Two values of one field.
 const LINE: &str = "02f800050000000007050000000009\n";
 
+/// A context of nine bytes as one piece.
+const PIECE: &str = "p 0 1 AvgABQAAAAAH\n";
+
 /// A graph of one step.
 const GRAPH: &str = "service a all\nstart 0 a\nshow 0\n";
 
@@ -45,10 +48,12 @@ enum Object {
 /// a call of its own.
 type Taking = (&'static str, &'static str, Object, u64);
 
-static TAKINGS: [Taking; 19] = [
+static TAKINGS: [Taking; 21] = [
     ("trim 10", LINE, Object::Source, 32),
     ("trim 9", LINE, Object::Source, 32),
     ("merge", LINE, Object::Source, 32),
+    ("carry 4", LINE, Object::Source, 32),
+    ("collect", PIECE, Object::Source, 20),
     ("decode q.bdl Req", "-\n", Object::Source, 3),
     ("run q.bdl Req", GRAPH, Object::Source, 32),
     ("runjson q.bdl Req", GRAPH, Object::Source, 32),
@@ -71,7 +76,7 @@ static TAKINGS: [Taking; 19] = [
 /// program would write to it.
 type Giving = (&'static str, &'static str, Object, &'static str);
 
-static GIVINGS: [Giving; 14] = [
+static GIVINGS: [Giving; 18] = [
     ("trim 10", LINE, Object::Output, "02f80005000000000700\n"),
     (
         "merge",
@@ -79,6 +84,8 @@ static GIVINGS: [Giving; 14] = [
         Object::Output,
         "02f800050000000007050000000009\n",
     ),
+    ("carry 14", LINE, Object::Output, "p 0 2 AvgABQAAAAAHBQA"),
+    ("collect", PIECE, Object::Output, "02f800050000000007\n"),
     ("check q.bdl Req", "", Object::Output, "ok 5\n"),
     ("decode q.bdl Req", "-\n", Object::Output, BLOCK),
     (
@@ -108,6 +115,13 @@ static GIVINGS: [Giving; 14] = [
         "context line 1 offset 0 CutLength\n",
     ),
     ("merge", "0", Object::Errors, "input line 1 BadHex\n"),
+    ("carry 4", "", Object::Errors, "input line 0 NoLine\n"),
+    (
+        "collect",
+        "p 1 2 AA==",
+        Object::Errors,
+        "input line 0 Missing 0\n",
+    ),
     (
         "check q.bdl Nix",
         "",

@@ -16,6 +16,8 @@ mod gates;
 #[cfg(test)]
 mod limits;
 #[cfg(test)]
+mod pieces;
+#[cfg(test)]
 mod random_graphs;
 #[cfg(test)]
 mod refused_graphs;

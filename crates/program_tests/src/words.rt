@@ -4,7 +4,7 @@ use crate::calls::{FILES, Objects, call};
 use outside::Open;
 use std::test::Fail;
 
-static REFUSED: [&str; 38] = [
+static REFUSED: [&str; 48] = [
     "",
     "trim",
     "trim 0",
@@ -43,6 +43,16 @@ static REFUSED: [&str; 38] = [
     "trim 9 B",
     "trim merge",
     "q.bdl Req",
+    "carry",
+    "carry 3",
+    "carry 301",
+    "carry 04",
+    "carry +4",
+    "carry four",
+    "carry 4 4",
+    "carry 4294967300",
+    "collect x",
+    "Collect",
 ];
 
 /// The library and the source stay as they were.
