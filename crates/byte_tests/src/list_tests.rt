@@ -22,28 +22,50 @@ static CUTS: [(&str, &str, usize, &str); 3] = [
     ("f800 0001 f801", "02f80002000102f801", 2, "f800 0001 -"),
 ];
 
+/// That a list is cut as this, and that its copy isn't.
+fn expect_cut(
+    rt: &impl Abort,
+    alloc: Global,
+    atoms: &str,
+    keep: usize,
+    left: &str,
+) -> Result<(), Fail> {
+    let mut list = list_of(rt, alloc, atoms)?;
+    let copy = list.copy()?;
+    cut(rt, &mut list, keep);
+    expect_atoms(rt, alloc, &list, left)?;
+    expect_atoms(rt, alloc, &list.copy()?, left)?;
+    assert!(rt; list.framed().is_none(), "{atoms}");
+    drop(list);
+    expect_atoms(rt, alloc, &copy, atoms)
+}
+
+/// That a context is cut as its list, and that its copy isn't.
+fn expect_context_cut(
+    rt: &impl Abort,
+    alloc: Global,
+    atoms: &str,
+    keep: usize,
+    left: &str,
+) -> Result<(), Fail> {
+    let mut context = context_of(rt, alloc, atoms)?;
+    let copy = context.copy()?;
+    assert!(rt; keep < context.list().len());
+    context.cut_to_marker(keep);
+    expect_atoms(rt, alloc, context.list(), left)?;
+    expect_atoms(rt, alloc, &copy.into_list(), atoms)
+}
+
 #[test]
 fn lists(rt: HostRuntime) -> Result<(), Fail> {
     let alloc = rt.alloc();
     expect_atoms(&rt, alloc, &AtomList::new(alloc), "")?;
     for (atoms, bytes, keep, left) in &CUTS {
-        let mut list = list_of(&rt, alloc, atoms)?;
-        let copy = list.copy()?;
-        assert!(rt; list.framed().is_some(), "{atoms}");
-        expect_bytes(&rt, alloc, list.framed().unwrap_or(b""), bytes)?;
-        cut(&rt, &mut list, *keep);
-        expect_atoms(&rt, alloc, &list, left)?;
-        expect_atoms(&rt, alloc, &list.copy()?, left)?;
-        assert!(rt; list.framed().is_none(), "{atoms}");
-        drop(list);
-        expect_atoms(&rt, alloc, &copy, atoms)?;
-        // a context is cut as its list
-        let mut context = context_of(&rt, alloc, atoms)?;
-        let copy = context.copy()?;
-        assert!(rt; *keep < context.list().len());
-        context.cut_to_marker(*keep);
-        expect_atoms(&rt, alloc, context.list(), left)?;
-        expect_atoms(&rt, alloc, &copy.into_list(), atoms)?;
+        let list = list_of(&rt, alloc, atoms)?;
+        let framed = list.framed().ok_or("the bytes don't stand in the buffer")?;
+        expect_bytes(&rt, alloc, framed, bytes)?;
+        expect_cut(&rt, alloc, atoms, *keep, left)?;
+        expect_context_cut(&rt, alloc, atoms, *keep, left)?;
     }
     Ok(())
 }
@@ -92,22 +114,28 @@ fn run_of(
 }
 
 #[test]
-fn lists_of_other_lists(rt: HostRuntime) -> Result<(), Fail> {
+fn runs_of_lists(rt: HostRuntime) -> Result<(), Fail> {
     let alloc = rt.alloc();
     let mut origin = list_of(&rt, alloc, "f800 0061 0062 -")?;
     assert_eq!(rt; origin.room(), Some(10 + 2 * 4));
     expect_atoms(&rt, alloc, &run_of(&rt, alloc, &origin, 1, 3)?, "0061 0062")?;
+    cut(&rt, &mut origin, 2);
+    assert_eq!(rt; origin.room(), Some(6 + 2 * 2 + 3));
+    expect_atoms(&rt, alloc, &run_of(&rt, alloc, &origin, 1, 3)?, "0061 -")
+}
+
+#[test]
+fn lists_of_other_lists(rt: HostRuntime) -> Result<(), Fail> {
+    let alloc = rt.alloc();
+    let mut origin = list_of(&rt, alloc, "f800 0061 0062 -")?;
     let copy = origin.copy()?;
     cut(&rt, &mut origin, 2);
-    expect_atoms(&rt, alloc, &run_of(&rt, alloc, &origin, 1, 3)?, "0061 -")?;
-    assert_eq!(rt; origin.room(), Some(6 + 2 * 2 + 3));
     expect_atoms(&rt, alloc, &rest_of(alloc, &origin)?, "f800 0061 -")?;
     drop(origin);
     let rest = rest_of(alloc, &copy)?;
     drop(copy);
-    expect_atoms(&rt, alloc, &rest, "f800 0061 0062 -")?;
     assert!(rt; rest.framed() == Some(b"\x02\xf8\x00\x02\0a\x02\0b\0"));
-    Ok(())
+    expect_atoms(&rt, alloc, &rest, "f800 0061 0062 -")
 }
 
 #[test]

@@ -53,23 +53,23 @@ fn merges_two(rt: HostRuntime) -> Result<(), Fail> {
     Ok(())
 }
 
+/// The list of atoms of one byte below 120: those that three divides, those that are even or below 20, or both.
+fn wide_list(alloc: Global, thirds: bool, evens: bool) -> Result<AtomList, Memory> {
+    let mut list = AtomList::new(alloc);
+    for byte in 0..120u8 {
+        if (thirds && byte % 3 == 0) || (evens && (byte % 2 == 0 || byte < 20)) {
+            list.push(&[byte])?;
+        }
+    }
+    Ok(list)
+}
+
 #[test]
 fn merges_wide_lists(rt: HostRuntime) -> Result<(), Fail> {
     let alloc = rt.alloc();
-    let mut thirds = AtomList::new(alloc);
-    let mut evens = AtomList::new(alloc);
-    let mut either = AtomList::new(alloc);
-    for byte in 0..120u8 {
-        if byte % 3 == 0 {
-            thirds.push(&[byte])?;
-        }
-        if byte % 2 == 0 || byte < 20 {
-            evens.push(&[byte])?;
-        }
-        if byte % 3 == 0 || byte % 2 == 0 || byte < 20 {
-            either.push(&[byte])?;
-        }
-    }
+    let thirds = wide_list(alloc, true, false)?;
+    let evens = wide_list(alloc, false, true)?;
+    let either = wide_list(alloc, true, true)?;
     let merged = merge_lists(alloc, &thirds, &evens)?;
     assert_eq!(rt; merged.len(), either.len());
     for at in 0..either.len() {

@@ -8,33 +8,33 @@ use wire_bytes::{
     read_context_owned, read_owned, size, write,
 };
 
-/// Lengths of atoms, and how many bytes each takes with its length.
-static LENGTHS: [(usize, u128); 7] = [
-    (0, 1),
-    (1, 2),
-    (127, 128),
-    (128, 130),
-    (16_383, 16_385),
-    (16_384, 16_387),
-    (65_535, 65_538),
+/// Lengths of atoms, how many bytes each takes with its length, and how many with a marker behind it.
+static LENGTHS: [(usize, u128, u128); 7] = [
+    (0, 1, 2),
+    (1, 2, 3),
+    (127, 128, 129),
+    (128, 130, 131),
+    (16_383, 16_385, 16_386),
+    (16_384, 16_387, 16_388),
+    (65_535, 65_538, 65_539),
 ];
 
 #[test]
 fn lists_at_the_limits(rt: HostRuntime) -> Result<(), Fail> {
     let alloc = rt.alloc();
-    for (len, framed) in &LENGTHS {
-        let (len, framed) = (*len, *framed);
+    for (len, framed, whole) in &LENGTHS {
+        let (len, framed, whole) = (*len, *framed, *whole);
         let atom = vec![in alloc; 0u8; len]?;
         assert!(rt; atom.len() <= LENGTH_MAX);
         let mut list = AtomList::new(alloc);
         list.push(&atom)?;
         list.push(&[])?;
         assert_eq!(rt; frame_len(&atom) as u128, framed, "{len}");
-        assert_eq!(rt; size(&list), framed + 1, "{len}");
+        assert_eq!(rt; size(&list), whole, "{len}");
         assert!(rt; 1 <= list.len());
         assert_eq!(rt; offset(&list, 1), framed, "{len}");
         let bytes = write(alloc, &list)?;
-        assert_eq!(rt; bytes.len() as u128, framed + 1, "{len}");
+        assert_eq!(rt; bytes.len() as u128, whole, "{len}");
         let again = read(alloc, &bytes)?;
         assert_eq!(rt; again.len(), 2, "{len}");
         assert!(rt; again.get(0).is_some_and(|atom| atom.len() == len), "{len}");
