@@ -150,7 +150,49 @@ static MERGES: [(&str, &str, &str); 3] = [
     ),
 ];
 
-/// What is read of a merge is the join of what is read of its parts, and of its normal form what is read of the merge.
+/// What is read of a context's normal form is what is read of the context, and so are the states of its slots.
+fn normal_form_agrees(
+    rt: &impl Abort,
+    alloc: Global,
+    table: &Table,
+    context: &Context,
+) -> Result<(), Fail> {
+    if check_typed(table, context).is_err() {
+        panic!(rt; "ill-typed");
+    }
+    let (kept, read) = normal_and_read(alloc, table, &View::All, context)?;
+    let own = bag_text(alloc, table, &read)?;
+    assert_eq!(rt; bag_text(alloc, table, &kept)?, own);
+    for slot in 0..table.slots() {
+        let (kept, own) = normal_and_states(alloc, table, &View::All, context, slot)?;
+        assert_eq!(rt; kept, own);
+        assert_eq!(rt; own, state_of(table, context, slot));
+    }
+    Ok(())
+}
+
+/// What is read of a merge is the join of what is read of its parts.
+fn merge_agrees(
+    rt: &impl Abort,
+    alloc: Global,
+    table: &Table,
+    one: &Context,
+    other: &Context,
+    text: &'static str,
+) -> Result<(), Fail> {
+    if check_typed(table, one).is_err() || check_typed(table, other).is_err() {
+        panic!(rt; "ill-typed: {text}");
+    }
+    let (read, joined) = merge_and_read(alloc, table, one, other)?;
+    assert_eq!(rt; bag_text(alloc, table, &read)?.as_slice(), text.as_bytes());
+    assert_eq!(rt;
+        bag_text(alloc, table, &joined)?.as_slice(),
+        text.as_bytes()
+    );
+    Ok(())
+}
+
+/// That both hold of the contexts of a row.
 fn readings_agree(
     rt: &impl Abort,
     alloc: Global,
@@ -160,24 +202,9 @@ fn readings_agree(
     let (one, other, text) = *row;
     let one = context_of(rt, alloc, one)?;
     let other = context_of(rt, alloc, other)?;
-    if check_typed(table, &one).is_err() || check_typed(table, &other).is_err() {
-        panic!(rt; "ill-typed: {text}");
-    }
-    let (read, joined) = merge_and_read(alloc, table, &one, &other)?;
-    assert_eq!(rt; bag_text(alloc, table, &read)?.as_slice(), text.as_bytes());
-    assert_eq!(rt;
-        bag_text(alloc, table, &joined)?.as_slice(),
-        text.as_bytes()
-    );
-    let (kept, read) = normal_and_read(alloc, table, &View::All, &other)?;
-    let own = bag_text(alloc, table, &read)?;
-    assert_eq!(rt; bag_text(alloc, table, &kept)?, own);
-    for slot in 0..table.slots() {
-        let (kept, own) = normal_and_states(alloc, table, &View::All, &one, slot)?;
-        assert_eq!(rt; kept, own);
-        assert_eq!(rt; own, state_of(table, &one, slot));
-    }
-    Ok(())
+    merge_agrees(rt, alloc, table, &one, &other, text)?;
+    normal_form_agrees(rt, alloc, table, &one)?;
+    normal_form_agrees(rt, alloc, table, &other)
 }
 
 #[test]
