@@ -67,7 +67,7 @@ fn services_and_steps_of_each_form(rt: HostRuntime) -> Result<(), Fail> {
             assert_eq!(rt;
                 graph.service(number).view.knows(slot),
                 knows,
-                "{name} {slot}"
+                "{number} {slot}"
             );
         }
     }

@@ -85,6 +85,7 @@ fn holds(rt: &impl Abort, alloc: Global, row: Row) -> Result<(), Fail> {
     assert!(rt; rounds != 1 || text.as_slice() == ONE_ROUND.as_bytes());
     let graph = graph_of(rt, alloc, &table, &text);
     assert_eq!(rt; graph.steps(), steps, "{rounds}");
+    assert!(rt; 1 <= steps);
     assert_eq!(rt; graph.shows(), [steps - 1].as_slice(), "{rounds}");
     Ok(())
 }

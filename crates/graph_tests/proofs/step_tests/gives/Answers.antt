@@ -3,7 +3,7 @@ use Rattle.graph_tests.proofs.Places.{places_of}
 use Rattle.graph_tests.proofs.step_tests.gives.Goals as goal
 
 pub run_step-requires-clause-places : goal.run_step-requires-clause-places
-run_step-requires-clause-places g c =
+run_step-requires-clause-places g c κs lives =
     places_of c.args.graph.now c.args.step (step_of c.step-own.result.now) c.parents-parents.result.now c.args.places.now c.args.pool.now c.step-own.ensures c.parents-parents.ensures
     c.check_places.ensures.many c.check_places.ensures.within
 
