@@ -1,21 +1,23 @@
 /* Stands before a program (LD_PRELOAD) and refuses memory: the Nth request alone (REFUSE=N), or all requests from the Nth on
-   (REFUSE_FROM=N). Requests are counted from the start of main on. Where COUNT names a file, their number is written there. */
+   (REFUSE_FROM=N). Requests are counted from the start of main on. Where COUNT names a file, they are counted there: eight
+   bytes, the lowest first, which stay however the program ends. */
 typedef unsigned long size_t;
-typedef long ssize_t;
 
 extern void *dlsym(void *handle, const char *name);
 extern char *getenv(const char *name);
 extern int *__errno_location(void);
 extern int open(const char *path, int flags, ...);
-extern ssize_t write(int file, const void *bytes, size_t count);
+extern int ftruncate(int file, long length);
+extern void *mmap(void *address, size_t length, int protection, int flags, int file, long offset);
 extern int close(int file);
 
-enum { NEXT = -1, OUT_OF_MEMORY = 12, WRITE_NEW = 01 | 0100 | 01000 };
+enum { NEXT = -1, OUT_OF_MEMORY = 12, NEW_FILE = 02 | 0100 | 01000, READ_AND_WRITE = 3, SHARED = 1 };
 
 static void *(*next_malloc)(size_t);
 static void *(*next_realloc)(void *, size_t);
 static void *(*next_calloc)(size_t, size_t);
-static long seen, alone, from;
+static long own, alone, from;
+static long *seen = &own;
 static int counts;
 
 /* What the loader asks for before the next calloc is known. */
@@ -30,7 +32,7 @@ static long number_in(const char *text) {
 
 static int is_refused(void) {
     if (!counts) return 0;
-    long number = __atomic_add_fetch(&seen, 1, __ATOMIC_SEQ_CST);
+    long number = __atomic_add_fetch(seen, 1, __ATOMIC_SEQ_CST);
     if (!(alone && number == alone) && !(from && number >= from)) return 0;
     *__errno_location() = OUT_OF_MEMORY;
     return 1;
@@ -62,23 +64,18 @@ void *calloc(size_t count, size_t size) {
     return is_refused() ? 0 : next_calloc(count, size);
 }
 
+static void count_in(const char *path) {
+    int file = open(path, NEW_FILE, 0600);
+    if (file < 0 || ftruncate(file, sizeof own)) return;
+    void *shared = mmap(0, sizeof own, READ_AND_WRITE, SHARED, file, 0);
+    if (shared != (void *)-1L) seen = shared;
+    close(file);
+}
+
 __attribute__((constructor)) static void begin(void) {
     find_next();
     alone = number_in(getenv("REFUSE"));
     from = number_in(getenv("REFUSE_FROM"));
+    if (getenv("COUNT")) count_in(getenv("COUNT"));
     counts = 1;
-}
-
-__attribute__((destructor)) static void end(void) {
-    counts = 0;
-    const char *path = getenv("COUNT");
-    if (!path) return;
-    char digits[24];
-    int at = sizeof digits;
-    long number = seen;
-    do digits[--at] = '0' + number % 10; while ((number /= 10) > 0);
-    int file = open(path, WRITE_NEW, 0600);
-    if (file < 0) return;
-    write(file, digits + at, sizeof digits - at);
-    close(file);
 }
