@@ -138,6 +138,7 @@ fn lists_of_other_lists(rt: HostRuntime) -> Result<(), Fail> {
     expect_atoms(&rt, alloc, &rest, "f800 0061 0062 -")
 }
 
+/// What is noted of frames is tried by the readers of wire_bytes.
 #[test]
 fn lists_that_are_found(rt: HostRuntime) -> Result<(), Fail> {
     let alloc = rt.alloc();
@@ -145,13 +146,6 @@ fn lists_that_are_found(rt: HostRuntime) -> Result<(), Fail> {
     assert_eq!(rt; scan.offset(), 0);
     assert_eq!(rt; scan.rest(), b"\x80\0".as_slice());
     expect_atoms(&rt, alloc, &scan.finish()?, "")?;
-    let mut scan = Scan::over(alloc, b"\x02\xf8\0\0\x07".as_slice().to_vec(alloc)?)?;
-    scan.note(1, 2)?;
-    assert_eq!(rt; scan.offset(), 3);
-    assert_eq!(rt; scan.rest(), b"\0\x07".as_slice());
-    scan.note(1, 0)?;
-    assert_eq!(rt; scan.rest(), b"\x07".as_slice());
-    expect_atoms(&rt, alloc, &scan.finish()?, "f800 -")?;
     Ok(())
 }
 
