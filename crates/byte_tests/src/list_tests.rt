@@ -3,7 +3,7 @@
 ghost use Rattle.std.specs.Prelude.{◌≡◌, ◌<◌, ℕ, List, ◌∷◌, IsTrue, Some, slice_get};
 
 use crate::atom_texts::{bytes_of, context_of, expect_atoms, expect_bytes, list_of};
-use atom_list::{AtomList, Builder, Context, Scan, ShapeFault};
+use atom_list::{AtomList, Builder, Context, ShapeFault};
 use outside::Memory;
 use std::alloc::Global;
 use std::process::Abort;
@@ -136,17 +136,6 @@ fn lists_of_other_lists(rt: HostRuntime) -> Result<(), Fail> {
     drop(copy);
     assert!(rt; rest.framed() == Some(b"\x02\xf8\x00\x02\0a\x02\0b\0"));
     expect_atoms(&rt, alloc, &rest, "f800 0061 0062 -")
-}
-
-/// What is noted of frames is tried by the readers of wire_bytes.
-#[test]
-fn lists_that_are_found(rt: HostRuntime) -> Result<(), Fail> {
-    let alloc = rt.alloc();
-    let mut scan = Scan::over(alloc, b"\x80\0".as_slice().to_vec(alloc)?)?;
-    assert_eq!(rt; scan.offset(), 0);
-    assert_eq!(rt; scan.rest(), b"\x80\0".as_slice());
-    expect_atoms(&rt, alloc, &scan.finish()?, "")?;
-    Ok(())
 }
 
 /// Contexts, how many atoms stand before their first marker, numbers of fields one in another, and whether the innermost
