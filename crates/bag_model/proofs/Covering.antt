@@ -8,13 +8,15 @@ use Rattle.context_model.specs.Kinds.Kind.{Indexed, Keyed}
 use Rattle.context_model.specs.Varints.{unsigned_varint}
 use Rattle.context_model.proofs.OrderLaws.{atoms_total}
 use Rattle.context_model.proofs.MergeLaws.{EachPair-at, EachPair-from, IsIn-keys_of}
-use Rattle.bag_model.specs.Scalars.{ScalarKind, ScalarValue, scalar_cmp, IsScalarOf, spelling}
+use Rattle.bag_model.specs.declared.Pick.{Pick}
+use Rattle.bag_model.specs.declared.Pick.TheVariants.{Least, Greatest}
+use Rattle.bag_model.specs.Scalars.{ScalarKind, ScalarValue, scalar_cmp, pick_cmp, IsScalarOf, spelling}
 use Rattle.bag_model.specs.Shapes.{Shape, Nodes, Taint, Scalar, Set, Counter, Map, Bag, no_node, node}
 use Rattle.bag_model.specs.Values.{Value, Values, Taint, Scalar, Set, Counter, Map, Bag, no_value, value, pairs}
 use Rattle.bag_model.specs.Readings.{datum_path, key_path, node_path, HasScalar, HasCount, IsGreatest, Reads, ReadsEach}
 use Rattle.bag_model.specs.Typed.{IsCount, IsTyped, AreTyped}
-use Rattle.bag_model.specs.Normal.{Keeping, EachDatum, LeastDatum, GreatestDatum, GivesWay}
-use Rattle.bag_model.proofs.ScalarOrder.{scalar_total}
+use Rattle.bag_model.specs.Normal.{Keeping, EachDatum, LeastDatum, GreatestDatum, kept_by, GivesWay}
+use Rattle.bag_model.proofs.ScalarOrder.{pick_total}
 use Rattle.bag_model.proofs.SpellingOrder.{spelling-order}
 use Rattle.bag_model.proofs.NumberCodes.{unsigned_code}
 use Rattle.bag_model.proofs.Codes.{code_order}
@@ -31,7 +33,7 @@ CoversData keep P Q q =
 abbrev mutual
   pub Covers : Shape → (Path → Type 0) → (Path → Type 0) → Path → Type 0
   Covers Taint P Q q = CoversData EachDatum P Q q
-  Covers (Scalar kind) P Q q = CoversData LeastDatum P Q q
+  Covers (Scalar pick kind) P Q q = CoversData (kept_by pick) P Q q
   Covers (Set kind) P Q q = CoversData EachDatum P Q q
   Covers Counter P Q q = (w : List ℕ) → (P (key_path q w) ↔ Q (key_path q w)) × CoversData GreatestDatum P Q (key_path q w)
   Covers (Map kind shape) P Q q = (key : List ℕ) → (P (key_path q key) ↔ Q (key_path q key)) × Covers shape P Q (key_path q key)
@@ -49,7 +51,7 @@ data_alike keep P Q q s = ((λ x i. s.0 [] 0 x i), λ x i. (x, s.1 [] 0 x i, inl
 mutual
   pub Covers-alike : (shape : Shape) (P Q : Path → Type 0) (q : Path) → SameBelow q P Q → Covers shape P Q q
   Covers-alike Taint P Q q s = data_alike EachDatum P Q q s
-  Covers-alike (Scalar kind) P Q q s = data_alike LeastDatum P Q q s
+  Covers-alike (Scalar pick kind) P Q q s = data_alike (kept_by pick) P Q q s
   Covers-alike (Set kind) P Q q s = data_alike EachDatum P Q q s
   Covers-alike Counter P Q q s = λ w. ((key_there P Q q s w, key_back P Q q s w), data_alike GreatestDatum P Q (key_path q w) (same_step q (atom_of (Keyed (length q) w)) P Q s))
   Covers-alike (Map kind shape) P Q q s = λ key. ((key_there P Q q s key, key_back P Q q s key), Covers-alike shape P Q (key_path q key) (same_step q (atom_of (Keyed (length q) key)) P Q s))
@@ -81,7 +83,7 @@ data_onwards keep P Q S q f g = ((λ x i. g.0 x (f.0 x i)), λ x i. by x (g.1 x 
 mutual
   pub Covers-onwards : (shape : Shape) (P Q S : Path → Type 0) (q : Path) → Covers shape P Q q → Covers shape Q S q → Covers shape P S q
   Covers-onwards Taint P Q S q f g = data_onwards EachDatum P Q S q f g
-  Covers-onwards (Scalar kind) P Q S q f g = data_onwards LeastDatum P Q S q f g
+  Covers-onwards (Scalar pick kind) P Q S q f g = data_onwards (kept_by pick) P Q S q f g
   Covers-onwards (Set kind) P Q S q f g = data_onwards EachDatum P Q S q f g
   Covers-onwards Counter P Q S q f g = λ w. let a = f w in let b = g w in ((λ i. b.0.0 (a.0.0 i), λ i. a.0.1 (b.0.1 i)), data_onwards GreatestDatum P Q S (key_path q w) a.1 b.1)
   Covers-onwards (Map kind shape) P Q S q f g = λ key. let a = f key in let b = g key in ((λ i. b.0.0 (a.0.0 i), λ i. a.0.1 (b.0.1 i)), Covers-onwards shape P Q S (key_path q key) a.1 b.1)
@@ -97,7 +99,7 @@ data_any keep I F G q f = ((λ x i. (i.0, (f i.0).0 x i.1)), λ x i. let y = (f 
 mutual
   pub Covers-any : (shape : Shape) (I : Type 0) (F G : I → Path → Type 0) (q : Path) → ((i : I) → Covers shape (F i) (G i) q) → Covers shape (AnyOf F) (AnyOf G) q
   Covers-any Taint I F G q f = data_any EachDatum I F G q f
-  Covers-any (Scalar kind) I F G q f = data_any LeastDatum I F G q f
+  Covers-any (Scalar pick kind) I F G q f = data_any (kept_by pick) I F G q f
   Covers-any (Set kind) I F G q f = data_any EachDatum I F G q f
   Covers-any Counter I F G q f = λ w. ((λ i. (i.0, (f i.0 w).0.0 i.1), λ i. (i.0, (f i.0 w).0.1 i.1)), data_any GreatestDatum I F G (key_path q w) (λ i. (f i w).1))
   Covers-any (Map kind shape) I F G q f = λ key. ((λ i. (i.0, (f i.0 key).0.0 i.1), λ i. (i.0, (f i.0 key).0.1 i.1)), Covers-any shape I F G (key_path q key) (λ i. (f i key).1))
@@ -113,21 +115,26 @@ mutual
 lesser_value : (kind : ScalarKind) (u w : ScalarValue) → IsScalarOf kind u → IsScalarOf kind w → atom_cmp (spelling kind u) (spelling kind w) ≡ Less → scalar_cmp u w ≡ Less
 lesser_value kind u w f g l = sym (spelling-order kind u w f g) ∙ l
 
-covers_scalar : (kind : ScalarKind) (P Q : Path → Type 0) (q : Path) (v : Value) → IsTyped (Scalar kind) Q q → CoversData LeastDatum P Q q → Reads (Scalar kind) P q v → Reads (Scalar kind) Q q v
-covers_scalar kind P Q q (Scalar None) t c r = λ w h. let y = c.1 (spelling kind w) h.1 in none y.0 y.1
+-- a value whose spelling another one's gives way to comes before it
+first_value : (pick : Pick) (kind : ScalarKind) (u w : ScalarValue) → IsScalarOf kind u → IsScalarOf kind w → GivesWay (kept_by pick) (spelling kind w) (spelling kind u) → pick_cmp pick u w ≡ Less
+first_value Least kind u w f g way = lesser_value kind u w f g way
+first_value Greatest kind u w f g way = lesser_value kind w u g f way
+
+covers_scalar : (pick : Pick) (kind : ScalarKind) (P Q : Path → Type 0) (q : Path) (v : Value) → IsTyped (Scalar pick kind) Q q → CoversData (kept_by pick) P Q q → Reads (Scalar pick kind) P q v → Reads (Scalar pick kind) Q q v
+covers_scalar pick kind P Q q (Scalar own None) t c r = (r.0, λ w h. let y = c.1 (spelling kind w) h.1 in none y.0 y.1)
   where
     none : (x : List ℕ) → P (datum_path q x) → ⊥
-    none x i = let s = t x (c.0 x i) in r s.0 (s.1, subst (λ b. P (datum_path q b)) s.2 i)
-covers_scalar kind P Q q (Scalar (Some v)) t c r = ((r.0.0, c.0 (spelling kind v) r.0.1), λ w h l. by w h l (c.1 (spelling kind w) h.1))
+    none x i = let s = t x (c.0 x i) in r.1 s.0 (s.1, subst (λ b. P (datum_path q b)) s.2 i)
+covers_scalar pick kind P Q q (Scalar own (Some v)) t c r = (r.0, ((r.1.0.0, c.0 (spelling kind v) r.1.0.1), λ w h l. by w h l (c.1 (spelling kind w) h.1)))
   where
-    by : (w : ScalarValue) → HasScalar kind Q q w → scalar_cmp w v ≡ Less
-        → (y : List ℕ) × P (datum_path q y) × ((y ≡ spelling kind w) ⊎ GivesWay LeastDatum (spelling kind w) y) → ⊥
+    by : (w : ScalarValue) → HasScalar kind Q q w → pick_cmp pick w v ≡ Less
+        → (y : List ℕ) × P (datum_path q y) × ((y ≡ spelling kind w) ⊎ GivesWay (kept_by pick) (spelling kind w) y) → ⊥
     by w h l y = elim y.2 [
-      | inl e ↦ r.1 w (h.0, subst (λ b. P (datum_path q b)) e y.1) l
+      | inl e ↦ r.1.1 w (h.0, subst (λ b. P (datum_path q b)) e y.1) l
       | inr g ↦ (let s = t y.0 (c.0 y.0 y.1) in
-          r.1 s.0 (s.1, subst (λ b. P (datum_path q b)) s.2 y.1) (scalar_total.trans s.0 w v (lesser_value kind s.0 w s.1 h.0 (subst (λ b. atom_cmp b (spelling kind w) ≡ Less) s.2 g)) l))
+          r.1.1 s.0 (s.1, subst (λ b. P (datum_path q b)) s.2 y.1) ((pick_total pick).trans s.0 w v (first_value pick kind s.0 w s.1 h.0 (subst (GivesWay (kept_by pick) (spelling kind w)) s.2 g)) l))
     ]
-covers_scalar kind P Q q v t c r = absurd r
+covers_scalar pick kind P Q q v t c r = absurd r
 
 -- each datum stays
 each_there : (P Q : Path → Type 0) (q : Path) → CoversData EachDatum P Q q → (x : List ℕ) → Q (datum_path q x) → P (datum_path q x)
@@ -186,7 +193,7 @@ mutual
   -- What typed paths say is said by the paths that cover them.
   pub Reads-covers : (shape : Shape) (P Q : Path → Type 0) (q : Path) (v : Value) → IsTyped shape Q q → Covers shape P Q q → Reads shape P q v → Reads shape Q q v
   Reads-covers Taint P Q q v t c r = covers_taint P Q q v c r
-  Reads-covers (Scalar kind) P Q q v t c r = covers_scalar kind P Q q v t c r
+  Reads-covers (Scalar pick kind) P Q q v t c r = covers_scalar pick kind P Q q v t c r
   Reads-covers (Set kind) P Q q v t c r = covers_set kind P Q q v c r
   Reads-covers Counter P Q q v t c r = covers_counter P Q q v t c r
   Reads-covers (Map kind shape) P Q q v t c r = covers_map kind shape P Q q v t c (λ key u a b d. Reads-covers shape P Q (key_path q key) u a b d) r

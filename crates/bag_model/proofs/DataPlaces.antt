@@ -11,7 +11,7 @@ use Rattle.bag_model.specs.Tables.{IsShape, AreFields, levels, levels_under}
 use Rattle.bag_model.specs.Slots.{SlotAt, slots_in, slots_of, within}
 use Rattle.bag_model.specs.Readings.{datum_path, key_path, node_path}
 use Rattle.bag_model.specs.Encodings.{IsUsed, AreUsed}
-use Rattle.bag_model.specs.Normal.{Keeping, EachDatum, LeastDatum, GreatestDatum, HoldsData, SomeHoldsData, GivesWay}
+use Rattle.bag_model.specs.Normal.{Keeping, EachDatum, LeastDatum, GreatestDatum, HoldsData, SomeHoldsData, GivesWay, kept_by}
 use Rattle.bag_model.proofs.PathsApart.{key_one-below}
 use Rattle.bag_model.proofs.Finite.{bytes_at, bytes_at-there, bytes_at-back, in_append}
 use Rattle.bag_model.proofs.Existence.{Among}
@@ -25,7 +25,7 @@ mutual
   -- Data are read at the path of the field or below it.
   pub HoldsData-below : (shape : Shape) (q : Path) (keep : Keeping) (p : Path) → HoldsData shape q keep p → (r : Path) × (p ≡ q ++ r)
   HoldsData-below Taint q keep p h = ([], h.1 ∙ sym (append-nil q))
-  HoldsData-below (Scalar kind) q keep p h = ([], h.1 ∙ sym (append-nil q))
+  HoldsData-below (Scalar pick kind) q keep p h = ([], h.1 ∙ sym (append-nil q))
   HoldsData-below (Set kind) q keep p h = ([], h.1 ∙ sym (append-nil q))
   HoldsData-below Counter q keep p h = (atom_of (Keyed (length q) h.1.0) ∷ [], h.1.1)
   HoldsData-below (Map kind shape) q keep p h =
@@ -48,7 +48,7 @@ mutual
   -- Each place has one rule.
   pub HoldsData-one : (shape : Shape) (q p : Path) (k l : Keeping) → IsShape shape → HoldsData shape q k p → HoldsData shape q l p → k ≡ l
   HoldsData-one Taint q p k l w f g = f.0 ∙ sym g.0
-  HoldsData-one (Scalar kind) q p k l w f g = f.0 ∙ sym g.0
+  HoldsData-one (Scalar pick kind) q p k l w f g = f.0 ∙ sym g.0
   HoldsData-one (Set kind) q p k l w f g = f.0 ∙ sym g.0
   HoldsData-one Counter q p k l w f g = f.0 ∙ sym g.0
   HoldsData-one (Map kind shape) q p k l w f g =
@@ -72,7 +72,7 @@ mutual
 mutual
   pub HoldsData-used : (shape : Shape) (q : Path) (keep : Keeping) (p : Path) (x : List ℕ) → HoldsData shape q keep p → IsUsed shape q (datum_path p x)
   HoldsData-used Taint q keep p x h = (x, ap (λ v. datum_path v x) h.1)
-  HoldsData-used (Scalar kind) q keep p x h = (x, ap (λ v. datum_path v x) h.1)
+  HoldsData-used (Scalar pick kind) q keep p x h = (x, ap (λ v. datum_path v x) h.1)
   HoldsData-used (Set kind) q keep p x h = (x, ap (λ v. datum_path v x) h.1)
   HoldsData-used Counter q keep p x h = (h.1.0, inr (x, ap (λ v. datum_path v x) h.1.1))
   HoldsData-used (Map kind shape) q keep p x h = (h.0, inr (HoldsData-used shape (key_path q h.0) keep p x h.1))
@@ -94,7 +94,7 @@ own_place shape q slot keep p (inr none) h = elim none [ ]
 mutual
   pub slot_place : (shape : Shape) (q : Path) (slot : SlotAt) (keep : Keeping) (p : Path) → IsIn slot (slots_in shape) → HoldsData slot.shape (slot_path q slot) keep p → HoldsData shape q keep p
   slot_place Taint q slot keep p i h = own_place Taint q slot keep p i h
-  slot_place (Scalar kind) q slot keep p i h = own_place (Scalar kind) q slot keep p i h
+  slot_place (Scalar pick kind) q slot keep p i h = own_place (Scalar pick kind) q slot keep p i h
   slot_place (Set kind) q slot keep p i h = own_place (Set kind) q slot keep p i h
   slot_place Counter q slot keep p i h = own_place Counter q slot keep p i h
   slot_place (Map kind shape) q slot keep p i h = own_place (Map kind shape) q slot keep p i h
@@ -194,7 +194,7 @@ mutual
   pub Covers-places : (shape : Shape) (P Q : Path → Type 0) (q : Path) → length q + levels_under shape ≤ 16 → SameKeys P Q
       → ((keep : Keeping) (p : Path) → HoldsData shape q keep p → CoversData keep P Q p) → Covers shape P Q q
   Covers-places Taint P Q q l s f = f EachDatum q (refl, refl)
-  Covers-places (Scalar kind) P Q q l s f = f LeastDatum q (refl, refl)
+  Covers-places (Scalar pick kind) P Q q l s f = f (kept_by pick) q (refl, refl)
   Covers-places (Set kind) P Q q l s f = f EachDatum q (refl, refl)
   Covers-places Counter P Q q l s f = λ w. (s q (length q) w (omega (arith, l)), f GreatestDatum (key_path q w) (refl, (w, refl)))
   Covers-places (Map kind shape) P Q q l s f = λ key. (

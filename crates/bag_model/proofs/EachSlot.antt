@@ -108,7 +108,7 @@ mutual
   -- What is read of a field is, slot by slot, what is read of its slots.
   pub Reads-slots : (shape : Shape) (P : Path → Type 0) (q : Path) (v : Value) (i : ℕ) → Reads shape P q v → EachSlot (ReadsSlot P q) i (slots_in shape) (slot_values_in shape v)
   Reads-slots Taint P q v i r = own_slot Taint P q v i r
-  Reads-slots (Scalar kind) P q v i r = own_slot (Scalar kind) P q v i r
+  Reads-slots (Scalar pick kind) P q v i r = own_slot (Scalar pick kind) P q v i r
   Reads-slots (Set kind) P q v i r = own_slot (Set kind) P q v i r
   Reads-slots Counter P q v i r = own_slot Counter P q v i r
   Reads-slots (Map kind shape) P q v i r = own_slot (Map kind shape) P q v i r
@@ -128,7 +128,7 @@ mutual
 mutual
   pub slot_values_in-length : (shape : Shape) (v : Value) → IsOfShape shape v → length (slots_in shape) ≡ length (slot_values_in shape v)
   slot_values_in-length Taint v p = refl
-  slot_values_in-length (Scalar kind) v p = refl
+  slot_values_in-length (Scalar pick kind) v p = refl
   slot_values_in-length (Set kind) v p = refl
   slot_values_in-length Counter v p = refl
   slot_values_in-length (Map kind shape) v p = refl
@@ -146,7 +146,7 @@ mutual
   -- And back, of values of the shapes.
   pub Reads-whole : (shape : Shape) (P : Path → Type 0) (q : Path) (v : Value) (i : ℕ) → IsOfShape shape v → EachSlot (ReadsSlot P q) i (slots_in shape) (slot_values_in shape v) → Reads shape P q v
   Reads-whole Taint P q v i p r = own_back Taint P q v i r
-  Reads-whole (Scalar kind) P q v i p r = own_back (Scalar kind) P q v i r
+  Reads-whole (Scalar pick kind) P q v i p r = own_back (Scalar pick kind) P q v i r
   Reads-whole (Set kind) P q v i p r = own_back (Set kind) P q v i r
   Reads-whole Counter P q v i p r = own_back Counter P q v i r
   Reads-whole (Map kind shape) P q v i p r = own_back (Map kind shape) P q v i r
@@ -182,7 +182,7 @@ AtBottom k slot v = v ≡ bottom slot.shape
 mutual
   bottom_slots : (shape : Shape) (i : ℕ) → EachSlot AtBottom i (slots_in shape) (slot_values_in shape (bottom shape))
   bottom_slots Taint i = (refl, tt)
-  bottom_slots (Scalar kind) i = (refl, tt)
+  bottom_slots (Scalar pick kind) i = (refl, tt)
   bottom_slots (Set kind) i = (refl, tt)
   bottom_slots Counter i = (refl, tt)
   bottom_slots (Map kind shape) i = (refl, tt)
@@ -215,7 +215,7 @@ own_only shape place v i l = (((λ e. refl), λ n. absurd (n (omega (arith, l)))
 mutual
   only_slots_in : (shape : Shape) (place : ℕ) (v : Value) (i : ℕ) → place < slot_count shape → EachSlot (IsOnly (i + place) v) i (slots_in shape) (slot_values_in shape (only_in shape place v))
   only_slots_in Taint place v i l = own_only Taint place v i l
-  only_slots_in (Scalar kind) place v i l = own_only (Scalar kind) place v i l
+  only_slots_in (Scalar pick kind) place v i l = own_only (Scalar pick kind) place v i l
   only_slots_in (Set kind) place v i l = own_only (Set kind) place v i l
   only_slots_in Counter place v i l = own_only Counter place v i l
   only_slots_in (Map kind shape) place v i l = own_only (Map kind shape) place v i l
@@ -268,7 +268,7 @@ one_shape shape (suc place) at v e p = absurd (cc e)
 mutual
   only_shape : (shape : Shape) (place : ℕ) (at : SlotAt) (v : Value) → slice_get (slots_in shape) place ≡ Some at → IsOfShape at.shape v → IsOfShape shape (only_in shape place v)
   only_shape Taint place at v e p = one_shape Taint place at v e p
-  only_shape (Scalar kind) place at v e p = one_shape (Scalar kind) place at v e p
+  only_shape (Scalar pick kind) place at v e p = one_shape (Scalar pick kind) place at v e p
   only_shape (Set kind) place at v e p = one_shape (Set kind) place at v e p
   only_shape Counter place at v e p = one_shape Counter place at v e p
   only_shape (Map kind shape) place at v e p = one_shape (Map kind shape) place at v e p

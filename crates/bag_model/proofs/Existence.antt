@@ -11,12 +11,12 @@ use Rattle.context_model.proofs.OrderLaws.{atoms_total, atoms_anti}
 use Rattle.context_model.proofs.GreedyElements.{IsIn-greedy}
 use Rattle.context_model.proofs.Rising.{Rises-greedy}
 use Rattle.context_model.proofs.VarintLaws.{unsigned_varint-injective}
-use Rattle.bag_model.specs.Scalars.{ScalarKind, ScalarValue, scalar_cmp, IsScalarOf, spelling}
+use Rattle.bag_model.specs.Scalars.{ScalarKind, ScalarValue, scalar_cmp, IsScalarOf, spelling, pick_cmp}
 use Rattle.bag_model.specs.Shapes.{Shape, Nodes, Taint, Scalar, Set, Counter, Map, Bag, no_node, node}
 use Rattle.bag_model.specs.Values.{Value, Values, Taint, Scalar, Set, Counter, Map, Bag, no_value, value}
 use Rattle.bag_model.specs.Readings.{datum_path, key_path, node_path, HasScalar, IsFirst, IsGreatest, HasKey, Reads, ReadsEach}
 use Rattle.bag_model.specs.Typed.{IsSpelling, IsCount, IsTyped, AreTyped, TypedListsSay}
-use Rattle.bag_model.proofs.ScalarOrder.{scalar_total, scalar_exact}
+use Rattle.bag_model.proofs.ScalarOrder.{scalar_total, scalar_exact, pick_total}
 use Rattle.bag_model.proofs.SpellingOrder.{spelling-one}
 use Rattle.bag_model.proofs.PairLaws.{entries_from, pairs-entries}
 use Rattle.bag_model.proofs.Finite.{bytes_at, bytes_at-there, bytes_at-back}
@@ -248,7 +248,7 @@ mutual
   -- Typed paths say a value.
   pub Reads-exists : (shape : Shape) (ps : List Path) (q : Path) → IsTyped shape (Among ps) q → (v : Value) × Reads shape (Among ps) q v
   Reads-exists Taint ps q t = some_taint ps q
-  Reads-exists (Scalar kind) ps q t = let o = first_there ps q scalar_cmp scalar_total kind t in (Scalar o.0, o.1)
+  Reads-exists (Scalar pick kind) ps q t = let o = first_there ps q (pick_cmp pick) (pick_total pick) kind t in (Scalar pick o.0, (refl, o.1))
   Reads-exists (Set kind) ps q t = let s = scalars_there ps q kind t in (Set kind s.items, (refl, s.rises, s.are))
   Reads-exists Counter ps q t = some_counter ps q t
   Reads-exists (Map kind shape) ps q t = some_map ps q kind shape t (λ key typed. Reads-exists shape ps (key_path q key) typed)

@@ -1,10 +1,10 @@
 -- What the table doesn't name: an encoding has nothing of it, and it is never read.
-use Rattle.std.proofs.Common.{inl, inr, ◌↔◌, ℕ, List, [], Option, Some, None, refl}
+use Rattle.std.proofs.Common.{inl, inr, ◌↔◌, ℕ, List, [], Option, Some, None, refl, Ordering}
 use Rattle.context_model.specs.Atoms.{Atom}
 use Rattle.context_model.specs.Orders.{Path}
 use Rattle.context_model.specs.Varints.{unsigned_varint}
 use Rattle.context_model.proofs.MergeLaws.{EachPair-at, EachPair-from}
-use Rattle.bag_model.specs.Scalars.{ScalarKind, ScalarValue, scalar_cmp, spelling}
+use Rattle.bag_model.specs.Scalars.{ScalarKind, ScalarValue, scalar_cmp, spelling, pick_cmp}
 use Rattle.bag_model.specs.Shapes.{Shape, Nodes, Taint, Scalar, Set, Counter, Map, Bag, no_node, node}
 use Rattle.bag_model.specs.Values.{Value, Values, Taint, Scalar, Set, Counter, Map, Bag, no_value, value, pairs}
 use Rattle.bag_model.specs.Readings.{datum_path, key_path, node_path, HasScalar, IsFirst, IsGreatest, Reads, ReadsEach, PathsOf, SaysValues}
@@ -16,8 +16,8 @@ mutual
   pub InLayout-used : (shape : Shape) (q : Path) (v : Value) (p : Path) → InLayout shape q v p → IsUsed shape q p
   InLayout-used Taint q (Taint on) p l = ([], l.1)
   InLayout-used Taint q v p l = absurd l
-  InLayout-used (Scalar kind) q (Scalar (Some v)) p l = (spelling kind v, l)
-  InLayout-used (Scalar kind) q v p l = absurd l
+  InLayout-used (Scalar pick kind) q (Scalar own (Some v)) p l = (spelling kind v, l)
+  InLayout-used (Scalar pick kind) q v p l = absurd l
   InLayout-used (Set kind) q (Set own vs) p l = (spelling kind l.0, l.2)
   InLayout-used (Set kind) q v p l = absurd l
   InLayout-used Counter q (Counter counts) p l = (l.0, elim l.3 [ inl e ↦ inl e | inr e ↦ inr (unsigned_varint l.1, e) ])
@@ -47,9 +47,9 @@ SameOf U P Q = (p : Path) → U p → P p ↔ Q p
 scalar_same : (kind : ScalarKind) (P Q : Path → Type 0) (q : Path) → ((x : List ℕ) → P (datum_path q x) ↔ Q (datum_path q x)) → (v : ScalarValue) → HasScalar kind P q v ↔ HasScalar kind Q q v
 scalar_same kind P Q q s v = ((λ h. (h.0, (s (spelling kind v)).0 h.1)), λ h. (h.0, (s (spelling kind v)).1 h.1))
 
-first_same : (kind : ScalarKind) (P Q : Path → Type 0) (q : Path) → ((x : List ℕ) → P (datum_path q x) ↔ Q (datum_path q x)) → (o : Option ScalarValue) → IsFirst scalar_cmp kind P q o → IsFirst scalar_cmp kind Q q o
-first_same kind P Q q s None f = λ w h. f w ((scalar_same kind P Q q s w).1 h)
-first_same kind P Q q s (Some v) f = ((scalar_same kind P Q q s v).0 f.0, λ w h. f.1 w ((scalar_same kind P Q q s w).1 h))
+first_same : (R : ScalarValue → ScalarValue → Ordering) (kind : ScalarKind) (P Q : Path → Type 0) (q : Path) → ((x : List ℕ) → P (datum_path q x) ↔ Q (datum_path q x)) → (o : Option ScalarValue) → IsFirst R kind P q o → IsFirst R kind Q q o
+first_same R kind P Q q s None f = λ w h. f w ((scalar_same kind P Q q s w).1 h)
+first_same R kind P Q q s (Some v) f = ((scalar_same kind P Q q s v).0 f.0, λ w h. f.1 w ((scalar_same kind P Q q s w).1 h))
 
 greatest_same : (P Q : Path → Type 0) (q : Path) → ((x : List ℕ) → P (datum_path q x) ↔ Q (datum_path q x)) → (n : ℕ) → IsGreatest P q n → IsGreatest Q q n
 greatest_same P Q q s n g = (elim g.0 [ inl h ↦ inl (h.0, (s (unsigned_varint n)).0 h.1) | inr e ↦ inr e ], λ m h. g.1 m (h.0, (s (unsigned_varint m)).1 h.1))
@@ -59,8 +59,8 @@ mutual
   Reads-used Taint P Q q (Taint on) s r =
       ((λ t. let d = r.0 t in (d.0, (s (datum_path q d.0) (d.0, refl)).0 d.1)), λ d. r.1 (d.0, (s (datum_path q d.0) (d.0, refl)).1 d.1))
   Reads-used Taint P Q q v s r = absurd r
-  Reads-used (Scalar kind) P Q q (Scalar o) s r = first_same kind P Q q (λ x. s (datum_path q x) (x, refl)) o r
-  Reads-used (Scalar kind) P Q q v s r = absurd r
+  Reads-used (Scalar pick kind) P Q q (Scalar own o) s r = (r.0, first_same (pick_cmp pick) kind P Q q (λ x. s (datum_path q x) (x, refl)) o r.1)
+  Reads-used (Scalar pick kind) P Q q v s r = absurd r
   Reads-used (Set kind) P Q q (Set own vs) s r = (
     r.0,
     r.1,

@@ -50,7 +50,7 @@ only_one shape a b (inr none) j = elim none [ ]
 mutual
   slot_apart : (shape : Shape) (q : Path) (a b : SlotAt) (r : Path) → IsShape shape → IsIn a (slots_in shape) → IsIn b (slots_in shape) → slot_path q b ≡ slot_path q a ++ r → b ≡ a
   slot_apart Taint q a b r w i j e = only_one Taint a b i j
-  slot_apart (Scalar kind) q a b r w i j e = only_one (Scalar kind) a b i j
+  slot_apart (Scalar pick kind) q a b r w i j e = only_one (Scalar pick kind) a b i j
   slot_apart (Set kind) q a b r w i j e = only_one (Set kind) a b i j
   slot_apart Counter q a b r w i j e = only_one Counter a b i j
   slot_apart (Map kind shape) q a b r w i j e = only_one (Map kind shape) a b i j

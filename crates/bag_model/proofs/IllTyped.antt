@@ -17,7 +17,7 @@ mutual
   -- What misspells stands below the path of the field.
   pub Misspells-below : (shape : Shape) (q p : Path) → Misspells shape q p → StandsBelow q p
   Misspells-below Taint q p m = (0 ∷ m.0, [], m.1)
-  Misspells-below (Scalar kind) q p m = (0 ∷ m.0, [], m.1)
+  Misspells-below (Scalar pick kind) q p m = (0 ∷ m.0, [], m.1)
   Misspells-below (Set kind) q p m = (0 ∷ m.0, [], m.1)
   Misspells-below Counter q p m = below_one q p (atom_of (Keyed (length q) m.0)) (0 ∷ m.1, [], m.2)
   Misspells-below (Map kind shape) q p m =
@@ -32,7 +32,7 @@ mutual
 mutual
   pub IsTyped-spelled : (shape : Shape) (P : Path → Type 0) (q p : Path) → HasKeyHeaders P → IsTyped shape P q → P p → Misspells shape q p → ⊥
   IsTyped-spelled Taint P q p h t i m = m.2 (t m.0 (subst P m.1 i))
-  IsTyped-spelled (Scalar kind) P q p h t i m = m.2 (t m.0 (subst P m.1 i))
+  IsTyped-spelled (Scalar pick kind) P q p h t i m = m.2 (t m.0 (subst P m.1 i))
   IsTyped-spelled (Set kind) P q p h t i m = m.2 (t m.0 (subst P m.1 i))
   IsTyped-spelled Counter P q p h t i m = let j = subst P m.2 i in m.3 (t m.0 m.1 (h q m.0 (0 ∷ m.1) [] j) j)
   IsTyped-spelled (Map kind shape) P q p h t i m = by m.1 (λ d. IsTyped-spelled shape P (key_path q m.0) p h (typed_key d) i d)
@@ -60,7 +60,7 @@ told (inr no_a) f = absurd (f no_a)
 mutual
   pub IsTyped-from : (shape : Shape) (P : Path → Type 0) (q : Path) → ((p : Path) → P p → Misspells shape q p → ⊥) → IsTyped shape P q
   IsTyped-from Taint P q f = λ payload i. told (nothing_or_not payload) (λ n. f (datum_path q payload) i (payload, refl, n))
-  IsTyped-from (Scalar kind) P q f = λ payload i. told (spelling_or_not kind payload) (λ n. f (datum_path q payload) i (payload, refl, n))
+  IsTyped-from (Scalar pick kind) P q f = λ payload i. told (spelling_or_not kind payload) (λ n. f (datum_path q payload) i (payload, refl, n))
   IsTyped-from (Set kind) P q f = λ payload i. told (spelling_or_not kind payload) (λ n. f (datum_path q payload) i (payload, refl, n))
   IsTyped-from Counter P q f = λ w payload i j. told (count_or_not payload) (λ n. f (datum_path (key_path q w) payload) j (w, payload, refl, n))
   IsTyped-from (Map kind shape) P q f = λ key i. (

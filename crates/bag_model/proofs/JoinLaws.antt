@@ -9,10 +9,10 @@ use Rattle.context_model.proofs.GreedyLaws.{greedy-comm, greedy-assoc, greedy-id
 use Rattle.context_model.proofs.GreedyElements.{All-greedy}
 use Rattle.context_model.proofs.Rising.{Rises-greedy}
 use Rattle.context_model.proofs.MergeLaws.{with-comm, with-assoc, with-idem, with-from, From, EachPair-from, IsAt-unique}
-use Rattle.bag_model.specs.Scalars.{ScalarValue, scalar_cmp, IsScalarOf}
+use Rattle.bag_model.specs.Scalars.{ScalarValue, scalar_cmp, pick_cmp, IsScalarOf}
 use Rattle.bag_model.specs.Values.{Value, Entries, Values, Taint, Scalar, Set, Counter, Map, Bag, no_entry, entry, no_value, value, pairs}
 use Rattle.bag_model.specs.Joins.{join, join_entries, join_values, IsBottom, AreBottom, Alike, AlikeEntries, AreAlike, Proper, AreProperEntries, AreProper}
-use Rattle.bag_model.proofs.ScalarOrder.{scalar_total, scalar_exact}
+use Rattle.bag_model.proofs.ScalarOrder.{scalar_total, scalar_exact, pick_total, pick_exact}
 use Rattle.bag_model.proofs.FirstLaws.{first-comm, first-assoc, first-idem}
 use Rattle.bag_model.proofs.PairLaws.{Rises-merged, EachPair-merged, pairs-injective, pairs-join}
 
@@ -59,8 +59,11 @@ mutual
   comm : (x y : Value) → Alike x y → join x y ≡ join y x
   comm (Taint a) (Taint b) r = ap Taint (or-comm a b)
   comm (Taint a) y r = absurd r
-  comm (Scalar a) (Scalar b) r = ap Scalar (first-comm scalar_cmp scalar_total scalar_exact a b)
-  comm (Scalar a) y r = absurd r
+  comm (Scalar s a) (Scalar t b) r =
+      let e : first_of (pick_cmp s) a b ≡ first_of (pick_cmp s) b a = first-comm (pick_cmp s) (pick_total s) (pick_exact s) a b in
+      let same : first_of (pick_cmp s) b a ≡ first_of (pick_cmp t) b a = ap (λ pick. first_of (pick_cmp pick) b a) r in
+      λ i. Scalar (r i) ((e ∙ same) i)
+  comm (Scalar s a) y r = absurd r
   comm (Set k a) (Set l b) r = let e : greedy_merge scalar_cmp a b ≡ greedy_merge scalar_cmp b a = greedy-comm scalar_cmp scalar_total a b (λ x y i j tie. scalar_exact x y tie) in λ i. Set (r i) (e i)
   comm (Set k a) y r = absurd r
   comm (Counter a) (Counter b) r = ap Counter (with-comm atom_cmp atoms_total max a b (λ k j v w s t tie. (atoms_anti k j tie, omega arith)))
@@ -95,9 +98,12 @@ mutual
   assoc (Taint a) (Taint b) (Taint c) r s t = ap Taint (or-assoc a b c)
   assoc (Taint a) (Taint b) z r s t = absurd s
   assoc (Taint a) y z r s t = absurd r
-  assoc (Scalar a) (Scalar b) (Scalar c) r s t = ap Scalar (first-assoc scalar_cmp scalar_total a b c)
-  assoc (Scalar a) (Scalar b) z r s t = absurd s
-  assoc (Scalar a) y z r s t = absurd r
+  assoc (Scalar k a) (Scalar l b) (Scalar m c) r s t =
+      let e : first_of (pick_cmp k) (first_of (pick_cmp k) a b) c ≡ first_of (pick_cmp k) a (first_of (pick_cmp k) b c) = first-assoc (pick_cmp k) (pick_total k) a b c in
+      let same : first_of (pick_cmp k) b c ≡ first_of (pick_cmp l) b c = ap (λ pick. first_of (pick_cmp pick) b c) r in
+      ap (Scalar k) (e ∙ ap (first_of (pick_cmp k) a) same)
+  assoc (Scalar k a) (Scalar l b) z r s t = absurd s
+  assoc (Scalar k a) y z r s t = absurd r
   assoc (Set k a) (Set l b) (Set m c) r s t = ap (Set k) (greedy-assoc scalar_cmp scalar_total a b c)
   assoc (Set k a) (Set l b) z r s t = absurd s
   assoc (Set k a) y z r s t = absurd r
@@ -144,7 +150,7 @@ mutual
 mutual
   idem : (x : Value) → join x x ≡ x
   idem (Taint a) = ap Taint (or-idem a)
-  idem (Scalar a) = ap Scalar (first-idem scalar_cmp scalar_total a)
+  idem (Scalar k a) = ap (Scalar k) (first-idem (pick_cmp k) (pick_total k) a)
   idem (Set k a) = ap (Set k) (greedy-idem scalar_cmp scalar_total a)
   idem (Counter a) = ap Counter (with-idem atom_cmp atoms_total max a (EachPair-from (λ k v. max v v ≡ v) a (λ k v at. omega arith)))
   idem (Map a) = ap Map (pairs-injective (join_entries a a) a (pairs-join a a ∙ with-idem scalar_cmp scalar_total join (pairs a) (idem_each a)))
@@ -162,8 +168,8 @@ mutual
   bottom_joined : (b x : Value) → Alike b x → IsBottom b → join b x ≡ x
   bottom_joined (Taint a) (Taint b) r e = ap (λ t. Taint (t || b)) e
   bottom_joined (Taint a) x r e = absurd r
-  bottom_joined (Scalar a) (Scalar b) r e = ap (λ o. Scalar (first_of scalar_cmp o b)) e
-  bottom_joined (Scalar a) x r e = absurd r
+  bottom_joined (Scalar k a) (Scalar l b) r e = λ i. Scalar (r i) (first_of (pick_cmp k) (e i) b)
+  bottom_joined (Scalar k a) x r e = absurd r
   bottom_joined (Set k a) (Set l b) r e = λ i. Set (r i) (greedy_merge scalar_cmp (e i) b)
   bottom_joined (Set k a) x r e = absurd r
   bottom_joined (Counter a) (Counter b) r e = ap (λ l. Counter (merge_with atom_cmp max l b)) e
@@ -187,7 +193,7 @@ mutual
 mutual
   self : (x : Value) → Proper x → Alike x x
   self (Taint a) p = tt
-  self (Scalar a) p = tt
+  self (Scalar k a) p = refl
   self (Set k a) p = refl
   self (Counter a) p = tt
   self (Map a) p = self_entries a a p.1 (λ k v w s t. IsAt-unique scalar_cmp scalar_total (pairs a) k v w p.0 s t)
@@ -206,8 +212,8 @@ mutual
   back : (x y : Value) → Alike x y → Alike y x
   back (Taint a) (Taint b) r = tt
   back (Taint a) y r = absurd r
-  back (Scalar a) (Scalar b) r = tt
-  back (Scalar a) y r = absurd r
+  back (Scalar k a) (Scalar l b) r = sym r
+  back (Scalar k a) y r = absurd r
   back (Set k a) (Set l b) r = sym r
   back (Set k a) y r = absurd r
   back (Counter a) (Counter b) r = tt
@@ -233,9 +239,9 @@ mutual
   joined (Taint a) (Taint b) (Taint c) r s t = tt
   joined (Taint a) (Taint b) z r s t = absurd s
   joined (Taint a) y z r s t = absurd r
-  joined (Scalar a) (Scalar b) (Scalar c) r s t = tt
-  joined (Scalar a) (Scalar b) z r s t = absurd s
-  joined (Scalar a) y z r s t = absurd r
+  joined (Scalar k a) (Scalar l b) (Scalar m c) r s t = t
+  joined (Scalar k a) (Scalar l b) z r s t = absurd s
+  joined (Scalar k a) y z r s t = absurd r
   joined (Set k a) (Set l b) (Set m c) r s t = t
   joined (Set k a) (Set l b) z r s t = absurd s
   joined (Set k a) y z r s t = absurd r
@@ -284,8 +290,8 @@ mutual
   proper : (x y : Value) → Proper x → Proper y → Alike x y → Proper (join x y)
   proper (Taint a) (Taint b) p q r = tt
   proper (Taint a) y p q r = absurd r
-  proper (Scalar a) (Scalar b) p q r = tt
-  proper (Scalar a) y p q r = absurd r
+  proper (Scalar k a) (Scalar l b) p q r = tt
+  proper (Scalar k a) y p q r = absurd r
   proper (Set k a) (Set l b) p q r = (
     Rises-greedy scalar_cmp scalar_total a b p.0 q.0,
     All-greedy scalar_cmp scalar_total scalar_exact (IsScalarOf k) a b p.1 (subst (λ m. AllByRecursion (IsScalarOf m) b) (sym r) q.1),

@@ -13,7 +13,8 @@ use Rattle.context_model.proofs.MergeLaws.{EachPair-at, EachPair-from, IsIn-keys
 use Rattle.context_model.proofs.Meets.{HasValue, value_of_key}
 use Rattle.context_model.proofs.MergedLaws.{same_end, HasPaths-unique}
 use Rattle.context_model.proofs.VarintLaws.{unsigned_varint-injective}
-use Rattle.bag_model.specs.Scalars.{ScalarKind, ScalarValue, scalar_cmp, IsScalarOf, spelling}
+use Rattle.bag_model.specs.declared.Pick.{Pick}
+use Rattle.bag_model.specs.Scalars.{ScalarKind, ScalarValue, scalar_cmp, IsScalarOf, spelling, pick_cmp}
 use Rattle.bag_model.specs.Shapes.{Shape, Nodes, Field, fields, Taint, Scalar, Set, Counter, Map, Bag, no_node, node}
 use Rattle.bag_model.specs.Tables.{IsShape, AreFields}
 use Rattle.bag_model.specs.Values.{Value, Entries, Values, Taint, Scalar, Set, Counter, Map, Bag, no_value, value, pairs, IsOfShape, AreOfShapes}
@@ -21,7 +22,7 @@ use Rattle.bag_model.specs.Joins.{IsBottom, AreBottom}
 use Rattle.bag_model.specs.Readings.{datum_path, key_path, node_path, HasScalar, HasCount, IsGreatest, HasKey, Reads, ReadsEach, PathsOf}
 use Rattle.bag_model.specs.Typed.{IsSpelling, IsTyped, AreTyped}
 use Rattle.bag_model.specs.Encodings.{InLayout, InLayouts, IsEncoding, EncodingsReadBack}
-use Rattle.bag_model.proofs.ScalarOrder.{scalar_total}
+use Rattle.bag_model.proofs.ScalarOrder.{scalar_total, pick_total}
 use Rattle.bag_model.proofs.SpellingOrder.{spelling-one}
 use Rattle.bag_model.proofs.PathSets.{SameBelow, same_step, same_onwards, StandsBelow, below_one}
 use Rattle.bag_model.proofs.PathsApart.{datum_one, key_one, key_one-below, node_one-below, longer, nothing_more, first_atom}
@@ -35,8 +36,8 @@ mutual
   pub InLayout-below : (shape : Shape) (q : Path) (v : Value) (p : Path) → InLayout shape q v p → StandsBelow q p
   InLayout-below Taint q (Taint on) p l = (0 ∷ [], [], l.1)
   InLayout-below Taint q v p l = absurd l
-  InLayout-below (Scalar kind) q (Scalar (Some v)) p l = (0 ∷ spelling kind v, [], l)
-  InLayout-below (Scalar kind) q v p l = absurd l
+  InLayout-below (Scalar pick kind) q (Scalar own (Some v)) p l = (0 ∷ spelling kind v, [], l)
+  InLayout-below (Scalar pick kind) q v p l = absurd l
   InLayout-below (Set kind) q (Set own vs) p l = (0 ∷ spelling kind l.0, [], l.2)
   InLayout-below (Set kind) q v p l = absurd l
   InLayout-below Counter q (Counter counts) p l =
@@ -66,8 +67,8 @@ mutual
   pub InLayout-bottom : (shape : Shape) (q : Path) (v : Value) (p : Path) → IsBottom v → InLayout shape q v p → ⊥
   InLayout-bottom Taint q (Taint on) p b l = let clash : true ≡ false = sym l.0 ∙ b in cc
   InLayout-bottom Taint q v p b l = absurd l
-  InLayout-bottom (Scalar kind) q (Scalar (Some v)) p b l = cc b
-  InLayout-bottom (Scalar kind) q v p b l = absurd l
+  InLayout-bottom (Scalar pick kind) q (Scalar own (Some v)) p b l = cc b
+  InLayout-bottom (Scalar pick kind) q v p b l = absurd l
   InLayout-bottom (Set kind) q (Set own vs) p b l = subst (IsIn l.0) b l.1
   InLayout-bottom (Set kind) q v p b l = absurd l
   InLayout-bottom Counter q (Counter counts) p b l = subst (IsAt l.0 l.1) b l.2
@@ -218,17 +219,17 @@ layout_taint : (P : Path → Type 0) (q : Path) (v : Value) → IsOfShape Taint 
 layout_taint P q (Taint on) p s = ((λ t. ([], s.1 [] 0 [] (t, refl))), λ d. (s.0 [] 0 d.0 d.1).0)
 layout_taint P q v p s = absurd p
 
-layout_scalar : (kind : ScalarKind) (P : Path → Type 0) (q : Path) (v : Value) → IsOfShape (Scalar kind) v → SameBelow q P (InLayout (Scalar kind) q v) → Reads (Scalar kind) P q v
-layout_scalar kind P q (Scalar None) p s = λ w h. s.0 [] 0 (spelling kind w) h.1
-layout_scalar kind P q (Scalar (Some v)) p s = ((p, s.1 [] 0 (spelling kind v) refl), λ w h l. by w h l)
+layout_scalar : (pick : Pick) (kind : ScalarKind) (P : Path → Type 0) (q : Path) (v : Value) → IsOfShape (Scalar pick kind) v → SameBelow q P (InLayout (Scalar pick kind) q v) → Reads (Scalar pick kind) P q v
+layout_scalar pick kind P q (Scalar own None) p s = (p, λ w h. s.0 [] 0 (spelling kind w) h.1)
+layout_scalar pick kind P q (Scalar own (Some v)) p s = (p.0, ((p.1, s.1 [] 0 (spelling kind v) refl), λ w h l. by w h l))
   where
-    by : (w : ScalarValue) → HasScalar kind P q w → scalar_cmp w v ≡ Less → ⊥
+    by : (w : ScalarValue) → HasScalar kind P q w → pick_cmp pick w v ≡ Less → ⊥
     by w h l =
-        let same : w ≡ v = spelling-one kind w v h.0 p (datum_one q (spelling kind w) (spelling kind v) (s.0 [] 0 (spelling kind w) h.1)) in
-        let tie : scalar_cmp w v ≡ Equal = ap (λ x. scalar_cmp x v) same ∙ tied_itself scalar_total v in
+        let same : w ≡ v = spelling-one kind w v h.0 p.1 (datum_one q (spelling kind w) (spelling kind v) (s.0 [] 0 (spelling kind w) h.1)) in
+        let tie : pick_cmp pick w v ≡ Equal = ap (λ x. pick_cmp pick x v) same ∙ tied_itself (pick_total pick) v in
         let clash : Less ≡ Equal = sym l ∙ tie in
         cc
-layout_scalar kind P q v p s = absurd p
+layout_scalar pick kind P q v p s = absurd p
 
 layout_set : (kind : ScalarKind) (P : Path → Type 0) (q : Path) (v : Value) → IsOfShape (Set kind) v → SameBelow q P (InLayout (Set kind) q v) → Reads (Set kind) P q v
 layout_set kind P q (Set own vs) p s = (p.0, p.1, λ v. ((λ i. (fits v i, s.1 [] 0 (spelling kind v) (v, i, refl))), λ h. back v h (s.0 [] 0 (spelling kind v) h.1)))
@@ -285,7 +286,7 @@ mutual
   -- Paths that are those of a layout, below the path of the field, say the value.
   pub Reads-layout : (shape : Shape) (P : Path → Type 0) (q : Path) (v : Value) → IsShape shape → IsOfShape shape v → SameBelow q P (InLayout shape q v) → Reads shape P q v
   Reads-layout Taint P q v w p s = layout_taint P q v p s
-  Reads-layout (Scalar kind) P q v w p s = layout_scalar kind P q v p s
+  Reads-layout (Scalar pick kind) P q v w p s = layout_scalar pick kind P q v p s
   Reads-layout (Set kind) P q v w p s = layout_set kind P q v p s
   Reads-layout Counter P q v w p s = layout_counter P q v p s
   Reads-layout (Map kind shape) P q v w p s = layout_map kind shape P q v p s (λ key u t d. Reads-layout shape P (key_path q key) u w.1 t d)
@@ -330,10 +331,10 @@ typed_counter P q (Counter counts) p s = λ w payload i j.
     (c.0, EachPair-at (λ w n. n < 2 ^ 64) counts w c.0 p.1 c.1, c.2)
 typed_counter P q v p s = absurd p
 
-typed_scalar : (kind : ScalarKind) (P : Path → Type 0) (q : Path) (v : Value) → IsOfShape (Scalar kind) v → SameBelow q P (InLayout (Scalar kind) q v) → IsTyped (Scalar kind) P q
-typed_scalar kind P q (Scalar None) p s = λ payload i. absurd (s.0 [] 0 payload i)
-typed_scalar kind P q (Scalar (Some v)) p s = λ payload i. (v, p, datum_one q payload (spelling kind v) (s.0 [] 0 payload i))
-typed_scalar kind P q v p s = absurd p
+typed_scalar : (pick : Pick) (kind : ScalarKind) (P : Path → Type 0) (q : Path) (v : Value) → IsOfShape (Scalar pick kind) v → SameBelow q P (InLayout (Scalar pick kind) q v) → IsTyped (Scalar pick kind) P q
+typed_scalar pick kind P q (Scalar own None) p s = λ payload i. absurd (s.0 [] 0 payload i)
+typed_scalar pick kind P q (Scalar own (Some v)) p s = λ payload i. (v, p.1, datum_one q payload (spelling kind v) (s.0 [] 0 payload i))
+typed_scalar pick kind P q v p s = absurd p
 
 typed_set : (kind : ScalarKind) (P : Path → Type 0) (q : Path) (v : Value) → IsOfShape (Set kind) v → SameBelow q P (InLayout (Set kind) q v) → IsTyped (Set kind) P q
 typed_set kind P q (Set own vs) p s = λ payload i. let l = s.0 [] 0 payload i in (l.0, All-at (IsScalarOf kind) vs l.0 p.2 l.1, datum_one q payload (spelling kind l.0) l.2)
@@ -346,7 +347,7 @@ typed_taint P q v p s = absurd p
 mutual
   pub IsTyped-layout : (shape : Shape) (P : Path → Type 0) (q : Path) (v : Value) → IsShape shape → IsOfShape shape v → SameBelow q P (InLayout shape q v) → IsTyped shape P q
   IsTyped-layout Taint P q v w p s = typed_taint P q v p s
-  IsTyped-layout (Scalar kind) P q v w p s = typed_scalar kind P q v p s
+  IsTyped-layout (Scalar pick kind) P q v w p s = typed_scalar pick kind P q v p s
   IsTyped-layout (Set kind) P q v w p s = typed_set kind P q v p s
   IsTyped-layout Counter P q v w p s = typed_counter P q v p s
   IsTyped-layout (Map kind shape) P q v w p s = typed_map kind shape P q v p s (λ key u t d. IsTyped-layout shape P (key_path q key) u w.1 t d)

@@ -116,7 +116,7 @@ mutual
   clear_in own [] before shape h inside = tt
   clear_in (Bag nodes) (name ∷ names) before shape h inside = clear_from nodes name names before shape h inside
   clear_in Taint (name ∷ names) before shape h inside = absurd inside
-  clear_in (Scalar kind) (name ∷ names) before shape h inside = absurd inside
+  clear_in (Scalar pick kind) (name ∷ names) before shape h inside = absurd inside
   clear_in (Set kind) (name ∷ names) before shape h inside = absurd inside
   clear_in Counter (name ∷ names) before shape h inside = absurd inside
   clear_in (Map key value) (name ∷ names) before shape h inside = absurd inside
@@ -137,7 +137,7 @@ mutual
   front_in own [] before shape (m ∷ ms) inside b = absurd b
   front_in (Bag nodes) (name ∷ names) before shape (m ∷ ms) inside b = front_from nodes name names before shape m ms inside b
   front_in Taint (name ∷ names) before shape (m ∷ ms) inside b = absurd inside
-  front_in (Scalar kind) (name ∷ names) before shape (m ∷ ms) inside b = absurd inside
+  front_in (Scalar pick kind) (name ∷ names) before shape (m ∷ ms) inside b = absurd inside
   front_in (Set kind) (name ∷ names) before shape (m ∷ ms) inside b = absurd inside
   front_in Counter (name ∷ names) before shape (m ∷ ms) inside b = absurd inside
   front_in (Map key value) (name ∷ names) before shape (m ∷ ms) inside b = absurd inside
@@ -205,7 +205,7 @@ mutual
   tells_in own [] before shape h inside place slot at = tells_all own before shape place slot inside.0 inside.1 at
   tells_in (Bag nodes) (name ∷ names) before shape h inside place slot at = tells_from nodes name names before shape h inside place slot at
   tells_in Taint (name ∷ names) before shape h inside place slot at = absurd inside
-  tells_in (Scalar kind) (name ∷ names) before shape h inside place slot at = absurd inside
+  tells_in (Scalar pick kind) (name ∷ names) before shape h inside place slot at = absurd inside
   tells_in (Set kind) (name ∷ names) before shape h inside place slot at = absurd inside
   tells_in Counter (name ∷ names) before shape h inside place slot at = absurd inside
   tells_in (Map key value) (name ∷ names) before shape h inside place slot at = absurd inside
@@ -214,7 +214,7 @@ mutual
 
 one_slot : (shape : Shape) → IsNoBag shape → slot_count shape ≡ 1
 one_slot Taint h = refl
-one_slot (Scalar kind) h = refl
+one_slot (Scalar pick kind) h = refl
 one_slot (Set kind) h = refl
 one_slot Counter h = refl
 one_slot (Map key value) h = refl

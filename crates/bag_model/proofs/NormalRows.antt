@@ -5,6 +5,7 @@ use Rattle.context_model.specs.Orders.{Path, atom_cmp, IsIn}
 use Rattle.context_model.specs.Paths.{paths, path_at}
 use Rattle.context_model.specs.Varints.{unsigned_varint, unsigned_form, unsigned_tail}
 use Rattle.context_model.proofs.MergedLaws.{same_end}
+use Rattle.bag_model.specs.declared.Pick.TheVariants.{Least, Greatest}
 use Rattle.bag_model.specs.Scalars.{ScalarKind, ScalarValue, Uint64, Unsigned}
 use Rattle.bag_model.specs.Shapes.{Nodes, Scalar, no_node, node}
 use Rattle.bag_model.specs.Values.{Taint, Scalar, Set, Counter, Map, no_entry, entry}
@@ -26,7 +27,7 @@ the n = ScalarValue.One (Unsigned n)
 -- ---- normal form
 
 abbrev row_nodes : Nodes
-row_nodes = node [] 0 (Scalar number) no_node
+row_nodes = node [] 0 (Scalar Least number) no_node
 
 abbrev header : Atom
 header = 248 ∷ 0 ∷ []
@@ -43,7 +44,7 @@ goes_nine : IsSuperseded row_nodes All (PathsOf row_list) (path_at row_list 3)
 unfolding unsigned_varint unsigned_form unsigned_tail
 goes_nine = record {
   slot = 0;
-  at = record { names = [] ∷ []; numbers = 0 ∷ []; shape = Scalar number };
+  at = record { names = [] ∷ []; numbers = 0 ∷ []; shape = Scalar Least number };
   knows = tt;
   there = refl;
   place = header ∷ [];
@@ -101,10 +102,14 @@ row_marker_between = record { gone = 3 ∷ []; rises = tt; exact = λ place. (th
 pub row_taints : join (Taint false) (Taint true) ≡ Taint true
 row_taints = refl
 
-pub row_scalars : join (Scalar (Some (the 9))) (Scalar (Some (the 7))) ≡ Scalar (Some (the 7))
+pub row_scalars : join (Scalar Least (Some (the 9))) (Scalar Least (Some (the 7))) ≡ Scalar Least (Some (the 7))
 row_scalars = refl
 
-pub row_absent : join (Scalar None) (Scalar (Some (the 7))) ≡ Scalar (Some (the 7))
+-- Where the greatest stays it is 9, and 7 gives way to it.
+pub row_greatest : join (Scalar Greatest (Some (the 7))) (Scalar Greatest (Some (the 9))) ≡ Scalar Greatest (Some (the 9))
+row_greatest = refl
+
+pub row_absent : join (Scalar Least None) (Scalar Least (Some (the 7))) ≡ Scalar Least (Some (the 7))
 row_absent = refl
 
 pub row_sets : join (Set number (the 1 ∷ the 3 ∷ [])) (Set number (the 2 ∷ the 3 ∷ [])) ≡ Set number (the 1 ∷ the 2 ∷ the 3 ∷ [])
@@ -115,8 +120,8 @@ pub row_counters : join (Counter ((97 ∷ [], 3) ∷ [])) (Counter ((97 ∷ [], 
 row_counters = refl
 
 -- A key of both has the join of its values, and a key whose value is bottom stays.
-pub row_maps : join (Map (entry (the 6) (Scalar None) no_entry)) (Map (entry (the 5) (Scalar None) (entry (the 6) (Scalar (Some (the 9))) no_entry)))
-    ≡ Map (entry (the 5) (Scalar None) (entry (the 6) (Scalar (Some (the 9))) no_entry))
+pub row_maps : join (Map (entry (the 6) (Scalar Least None) no_entry)) (Map (entry (the 5) (Scalar Least None) (entry (the 6) (Scalar Least (Some (the 9))) no_entry)))
+    ≡ Map (entry (the 5) (Scalar Least None) (entry (the 6) (Scalar Least (Some (the 9))) no_entry))
 row_maps = refl
 
 -- ---- views

@@ -1,5 +1,5 @@
 -- Values of one shape: they are alike and proper, their join is of the shape, and so is what is read.
-use Rattle.std.proofs.Common.{◌≡◌, inl, inr, ℕ, ◌^◌, ◌<◌, max, [], ◌∷◌, ◌++◌, append_assoc, Option, Some, None, Less, Equal, Greater, refl, sym, ap, ◌∙◌, subst, arith}
+use Rattle.std.proofs.Common.{◌≡◌, inl, inr, ℕ, ◌^◌, ◌<◌, max, [], ◌∷◌, ◌++◌, append_assoc, Option, Some, None, Less, Equal, Greater, refl, sym, ap, ◌∙◌, subst, arith, Ordering}
 use Rattle.std.specs.List.{AllByRecursion}
 use Rattle.context_model.specs.Orders.{Path, atom_cmp, Rises, by_order}
 use Rattle.context_model.specs.Merge.{first_of}
@@ -8,7 +8,8 @@ use Rattle.context_model.proofs.OrderLaws.{atoms_total, atoms_anti}
 use Rattle.context_model.proofs.GreedyElements.{All-from, All-greedy}
 use Rattle.context_model.proofs.Rising.{Rises-greedy}
 use Rattle.context_model.proofs.MergeLaws.{EachPair-at, EachPair-from, IsIn-keys_of}
-use Rattle.bag_model.specs.Scalars.{ScalarKind, ScalarValue, scalar_cmp, IsScalarOf, spelling}
+use Rattle.bag_model.specs.declared.Pick.{Pick}
+use Rattle.bag_model.specs.Scalars.{ScalarKind, ScalarValue, scalar_cmp, IsScalarOf, spelling, pick_cmp}
 use Rattle.bag_model.specs.Shapes.{Shape, Nodes, Taint, Scalar, Set, Counter, Map, Bag, no_node, node}
 use Rattle.bag_model.specs.Values.{Value, Values, Taint, Scalar, Set, Counter, Map, Bag, no_value, value, pairs, bottom, bottoms, IsOfShape, AreOfShapes}
 use Rattle.bag_model.specs.Joins.{join, join_values, IsBottom, AreBottom, Alike, AreAlike, Proper, AreProper}
@@ -21,15 +22,24 @@ use Rattle.bag_model.proofs.JoinLaws.{AlikeEntries-from, AreProperEntries-from, 
 abbrev pub IsEntryOf : ScalarKind → Shape → ScalarValue → Value → Type 0
 IsEntryOf kind shape key v = IsScalarOf kind key × IsOfShape shape v
 
+-- a scalar of a shape keeps the value that the shape says
+of_pick : (pick : Pick) (kind : ScalarKind) (own : Pick) (o : Option ScalarValue) → IsOfShape (Scalar pick kind) (Scalar own o) → own ≡ pick
+of_pick pick kind own None p = p
+of_pick pick kind own (Some v) p = p.0
+
+of_own : (pick : Pick) (kind : ScalarKind) (own other : Pick) (o : Option ScalarValue) → own ≡ pick → IsOfShape (Scalar pick kind) (Scalar other o) → IsOfShape (Scalar pick kind) (Scalar own o)
+of_own pick kind own other None e p = e
+of_own pick kind own other (Some v) e p = (e, p.1)
+
 mutual
   -- Two values of one shape are alike.
   pub Alike-shape : (shape : Shape) (x y : Value) → IsOfShape shape x → IsOfShape shape y → Alike x y
   Alike-shape Taint (Taint a) (Taint b) p q = tt
   Alike-shape Taint (Taint a) y p q = absurd q
   Alike-shape Taint x y p q = absurd p
-  Alike-shape (Scalar kind) (Scalar a) (Scalar b) p q = tt
-  Alike-shape (Scalar kind) (Scalar a) y p q = absurd q
-  Alike-shape (Scalar kind) x y p q = absurd p
+  Alike-shape (Scalar pick kind) (Scalar k a) (Scalar l b) p q = of_pick pick kind k a p ∙ sym (of_pick pick kind l b q)
+  Alike-shape (Scalar pick kind) (Scalar k a) y p q = absurd q
+  Alike-shape (Scalar pick kind) x y p q = absurd p
   Alike-shape (Set kind) (Set k a) (Set l b) p q = p.0 ∙ sym q.0
   Alike-shape (Set kind) (Set k a) y p q = absurd q
   Alike-shape (Set kind) x y p q = absurd p
@@ -57,8 +67,8 @@ mutual
   pub Proper-shape : (shape : Shape) (x : Value) → IsOfShape shape x → Proper x
   Proper-shape Taint (Taint a) p = tt
   Proper-shape Taint x p = absurd p
-  Proper-shape (Scalar kind) (Scalar a) p = tt
-  Proper-shape (Scalar kind) x p = absurd p
+  Proper-shape (Scalar pick kind) (Scalar k a) p = tt
+  Proper-shape (Scalar pick kind) x p = absurd p
   Proper-shape (Set kind) (Set k a) p = (p.1, subst (λ l. AllByRecursion (IsScalarOf l) a) (sym p.0) p.2)
   Proper-shape (Set kind) x p = absurd p
   Proper-shape Counter (Counter a) p = p
@@ -75,10 +85,11 @@ mutual
   AreProper-shapes (node name number shape nodes) no_value p = absurd p
 
 -- the first of two scalars of a kind
-first_kind : (kind : ScalarKind) (a b : Option ScalarValue) → IsOfShape (Scalar kind) (Scalar a) → IsOfShape (Scalar kind) (Scalar b) → IsOfShape (Scalar kind) (Scalar (first_of scalar_cmp a b))
-first_kind kind None b p q = q
-first_kind kind (Some v) None p q = p
-first_kind kind (Some v) (Some w) p q = elim (scalar_cmp v w) as (λ r. IsOfShape (Scalar kind) (Scalar (by_order r (Some v) (Some v) (Some w)))) [ Less ↦ p | Equal ↦ p | Greater ↦ q ]
+first_kind : (R : ScalarValue → ScalarValue → Ordering) (pick own : Pick) (kind : ScalarKind) (a b : Option ScalarValue) → IsOfShape (Scalar pick kind) (Scalar own a) → IsOfShape (Scalar pick kind) (Scalar own b)
+    → IsOfShape (Scalar pick kind) (Scalar own (first_of R a b))
+first_kind R pick own kind None b p q = q
+first_kind R pick own kind (Some v) None p q = p
+first_kind R pick own kind (Some v) (Some w) p q = elim (R v w) as (λ r. IsOfShape (Scalar pick kind) (Scalar own (by_order r (Some v) (Some v) (Some w)))) [ Less ↦ p | Equal ↦ p | Greater ↦ q ]
 
 mutual
   -- The join of two values of a shape is of the shape.
@@ -86,9 +97,10 @@ mutual
   IsOfShape-join Taint (Taint a) (Taint b) p q = tt
   IsOfShape-join Taint (Taint a) y p q = absurd q
   IsOfShape-join Taint x y p q = absurd p
-  IsOfShape-join (Scalar kind) (Scalar a) (Scalar b) p q = first_kind kind a b p q
-  IsOfShape-join (Scalar kind) (Scalar a) y p q = absurd q
-  IsOfShape-join (Scalar kind) x y p q = absurd p
+  IsOfShape-join (Scalar pick kind) (Scalar k a) (Scalar l b) p q =
+      first_kind (pick_cmp k) pick k kind a b p (of_own pick kind k l b (of_pick pick kind k a p) q)
+  IsOfShape-join (Scalar pick kind) (Scalar k a) y p q = absurd q
+  IsOfShape-join (Scalar pick kind) x y p q = absurd p
   IsOfShape-join (Set kind) (Set k a) (Set l b) p q =
       (p.0, Rises-greedy scalar_cmp scalar_total a b p.1 q.1, All-greedy scalar_cmp scalar_total scalar_exact (IsScalarOf kind) a b p.2 q.2)
   IsOfShape-join (Set kind) (Set k a) y p q = absurd q
@@ -120,7 +132,7 @@ mutual
   -- Bottom is of its shape.
   pub IsOfShape-bottom : (shape : Shape) → IsOfShape shape (bottom shape)
   IsOfShape-bottom Taint = tt
-  IsOfShape-bottom (Scalar kind) = tt
+  IsOfShape-bottom (Scalar pick kind) = refl
   IsOfShape-bottom (Set kind) = (refl, tt, tt)
   IsOfShape-bottom Counter = (tt, tt)
   IsOfShape-bottom (Map kind shape) = (tt, tt)
@@ -134,7 +146,7 @@ mutual
   -- It says nothing.
   pub IsBottom-bottom : (shape : Shape) → IsBottom (bottom shape)
   IsBottom-bottom Taint = refl
-  IsBottom-bottom (Scalar kind) = refl
+  IsBottom-bottom (Scalar pick kind) = refl
   IsBottom-bottom (Set kind) = refl
   IsBottom-bottom Counter = refl
   IsBottom-bottom (Map kind shape) = refl
@@ -149,8 +161,8 @@ mutual
   pub bottom-one : (shape : Shape) (x : Value) → IsOfShape shape x → IsBottom x → x ≡ bottom shape
   bottom-one Taint (Taint a) p e = ap Taint e
   bottom-one Taint x p e = absurd p
-  bottom-one (Scalar kind) (Scalar a) p e = ap Scalar e
-  bottom-one (Scalar kind) x p e = absurd p
+  bottom-one (Scalar pick kind) (Scalar k a) p e = let f = of_pick pick kind k a p in λ i. Scalar (f i) (e i)
+  bottom-one (Scalar pick kind) x p e = absurd p
   bottom-one (Set kind) (Set k a) p e = λ i. Set (p.0 i) (e i)
   bottom-one (Set kind) x p e = absurd p
   bottom-one Counter (Counter a) p e = ap Counter e
@@ -171,16 +183,16 @@ mutual
 read_count : (P : Path → Type 0) (q : Path) (n : ℕ) → IsGreatest P q n → n < 2 ^ 64
 read_count P q n g = elim g.0 [ inl h ↦ h.0 | inr e ↦ omega arith ]
 
-read_scalar : (kind : ScalarKind) (P : Path → Type 0) (q : Path) (o : Option ScalarValue) → IsFirst scalar_cmp kind P q o → IsOfShape (Scalar kind) (Scalar o)
-read_scalar kind P q None f = tt
-read_scalar kind P q (Some v) f = f.0.0
+read_scalar : (pick own : Pick) (kind : ScalarKind) (P : Path → Type 0) (q : Path) (o : Option ScalarValue) → own ≡ pick → IsFirst (pick_cmp pick) kind P q o → IsOfShape (Scalar pick kind) (Scalar own o)
+read_scalar pick own kind P q None e f = e
+read_scalar pick own kind P q (Some v) e f = (e, f.0.0)
 
 mutual
   pub Reads-shape : (shape : Shape) (P : Path → Type 0) (q : Path) (v : Value) → Reads shape P q v → IsOfShape shape v
   Reads-shape Taint P q (Taint a) r = tt
   Reads-shape Taint P q v r = absurd r
-  Reads-shape (Scalar kind) P q (Scalar o) r = read_scalar kind P q o r
-  Reads-shape (Scalar kind) P q v r = absurd r
+  Reads-shape (Scalar pick kind) P q (Scalar own o) r = read_scalar pick own kind P q o r.0 r.1
+  Reads-shape (Scalar pick kind) P q v r = absurd r
   Reads-shape (Set kind) P q (Set k a) r = (r.0, r.1, All-from (IsScalarOf kind) a (λ v i. ((r.2 v).0 i).0))
   Reads-shape (Set kind) P q v r = absurd r
   Reads-shape Counter P q (Counter a) r =
@@ -205,7 +217,7 @@ mutual
   -- Where nothing stands below a path bottom is read.
   pub Reads-none : (shape : Shape) (P : Path → Type 0) (q : Path) → ((r : Path) → P (q ++ r) → ⊥) → Reads shape P q (bottom shape)
   Reads-none Taint P q none = ((λ t. absurd (cc t)), λ d. absurd (none (_ ∷ []) d.1))
-  Reads-none (Scalar kind) P q none = λ w h. none (_ ∷ []) h.1
+  Reads-none (Scalar pick kind) P q none = (refl, λ w h. none (_ ∷ []) h.1)
   Reads-none (Set kind) P q none = (refl, tt, λ v. ((λ i. absurd i), λ h. none (_ ∷ []) h.1))
   Reads-none Counter P q none = (tt, (λ w. ((λ i. absurd i), λ h. none (_ ∷ []) h)), tt)
   Reads-none (Map kind shape) P q none = (tt, (λ k. ((λ i. absurd i), λ h. none (_ ∷ []) h.1)), tt)

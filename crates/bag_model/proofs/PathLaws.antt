@@ -158,7 +158,7 @@ mutual
   within_bound own [] before shape h = omega (arith, h.0, ap slot_count h.1)
   within_bound (Bag nodes) (name ∷ names) before shape h = reached_bound nodes name names before shape h
   within_bound Taint (name ∷ names) before shape h = absurd h
-  within_bound (Scalar kind) (name ∷ names) before shape h = absurd h
+  within_bound (Scalar pick kind) (name ∷ names) before shape h = absurd h
   within_bound (Set kind) (name ∷ names) before shape h = absurd h
   within_bound Counter (name ∷ names) before shape h = absurd h
   within_bound (Map key value) (name ∷ names) before shape h = absurd h

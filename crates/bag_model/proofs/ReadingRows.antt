@@ -6,6 +6,7 @@ use Rattle.context_model.specs.Orders.{Path, IsIn}
 use Rattle.context_model.specs.Paths.{paths}
 use Rattle.context_model.specs.Varints.{unsigned_varint, unsigned_form, unsigned_tail}
 use Rattle.context_model.proofs.VarintLaws.{unsigned_varint-injective}
+use Rattle.bag_model.specs.declared.Pick.TheVariants.{Least}
 use Rattle.bag_model.specs.Scalars.{ScalarKind, ScalarValue, Uint64, Unsigned, scalar_cmp, IsScalarOf, spelling}
 use Rattle.bag_model.specs.Shapes.{Nodes, Taint, Scalar, Counter, Map, no_node, node}
 use Rattle.bag_model.specs.Values.{Values, Taint, Scalar, Counter, Map, no_entry, entry, no_value, value}
@@ -21,7 +22,7 @@ the n = ScalarValue.One (Unsigned n)
 
 -- The fields 0 to 4.
 abbrev row_nodes : Nodes
-row_nodes = node [] 0 (Scalar number) (node [] 1 Counter (node [] 2 Taint (node [] 3 (Map number (Scalar number)) no_node)))
+row_nodes = node [] 0 (Scalar Least number) (node [] 1 Counter (node [] 2 Taint (node [] 3 (Map number (Scalar Least number)) no_node)))
 
 -- 9 and 7 for the scalar, 3 and 5 for the writer `a`, and 6 as a key.
 abbrev row_list : List Atom
@@ -32,7 +33,7 @@ row_list =
 
 abbrev row_values : Values
 row_values =
-    value (Scalar (Some (the 7))) (value (Counter ((97 ∷ [], 5) ∷ [])) (value (Taint false) (value (Map (entry (the 6) (Scalar None) no_entry)) no_value)))
+    value (Scalar Least (Some (the 7))) (value (Counter ((97 ∷ [], 5) ∷ [])) (value (Taint false) (value (Map (entry (the 6) (Scalar Least None) no_entry)) no_value)))
 
 abbrev row_paths : Path → Type 0
 row_paths = PathsOf row_list
@@ -41,9 +42,9 @@ abbrev at : ℕ → Path
 at n = node_path [] n
 
 -- 7 is the lesser of the two data.
-row_scalar : Reads (Scalar number) row_paths (at 0) (Scalar (Some (the 7)))
+row_scalar : Reads (Scalar Least number) row_paths (at 0) (Scalar Least (Some (the 7)))
 unfolding unsigned_varint unsigned_form unsigned_tail
-row_scalar = ((omega arith, inr (inl refl)), λ w h l. by w h.0 l (bytes_at-back 0 (at 0) (paths row_list) (spelling number w) h.1))
+row_scalar = (refl, ((omega arith, inr (inl refl)), λ w h l. by w h.0 l (bytes_at-back 0 (at 0) (paths row_list) (spelling number w) h.1)))
   where
     by : (w : ScalarValue) → IsScalarOf number w → scalar_cmp w (the 7) ≡ Less → IsIn (spelling number w) ((7 ∷ []) ∷ (9 ∷ []) ∷ []) → ⊥
     by w f l (inl e) = let same : w ≡ the 7 = spelling-one number w (the 7) f (omega arith) e in let clash : Equal ≡ Less = ap (λ v. scalar_cmp v (the 7)) (sym same) ∙ l in cc
@@ -74,12 +75,12 @@ unfolding unsigned_varint unsigned_form unsigned_tail
 row_taint = ((λ t. absurd (cc t)), λ d. absurd (bytes_at-back 0 (at 2) (paths row_list) d.0 d.1))
 
 -- A key with nothing under it is there, and its scalar is absent.
-row_map : Reads (Map number (Scalar number)) row_paths (at 3) (Map (entry (the 6) (Scalar None) no_entry))
+row_map : Reads (Map number (Scalar Least number)) row_paths (at 3) (Map (entry (the 6) (Scalar Least None) no_entry))
 unfolding unsigned_varint unsigned_form unsigned_tail
 row_map = (
   tt,
   λ k. ((λ i. there k i), λ h. back k h.0 (bytes_at-back 241 (at 3) (paths row_list) (spelling number k) h.1)),
-  ((λ w h. absurd (bytes_at-back 0 (key_path (at 3) (spelling number (the 6))) (paths row_list) (spelling number w) h.1)), tt),
+  ((refl, λ w h. absurd (bytes_at-back 0 (key_path (at 3) (spelling number (the 6))) (paths row_list) (spelling number w) h.1)), tt),
 )
   where
     there : (k : ScalarValue) → IsIn k (the 6 ∷ []) → HasKey number row_paths (at 3) k

@@ -5,8 +5,10 @@ use Rattle.std.specs.Prelude.{unsigned_abs}
 use Rattle.std.specs.Cmp.{IsTotalOrder}
 use Rattle.std.specs.Cmp.Lexicographic.{slice_cmp}
 use Rattle.std.specs.FinMap.{IsAntisymmetric, nat_cmp-IsAntisymmetric, int_cmp-IsAntisymmetric, slice_cmp-IsAntisymmetric}
-use Rattle.std.proofs.lemmas.Cmp.{on_total, then_total, lists_total, nat_cmp_total, int_cmp_total, nat_list_cmp_total}
-use Rattle.bag_model.specs.Scalars.{Plain, Truth, Signed, Unsigned, Text, Octets, ScalarValue, plain_rank, plain_number, plain_bytes, plain_cmp, scalar_rank, scalar_fields, scalar_cmp}
+use Rattle.std.proofs.lemmas.Cmp.{back_total, on_total, then_total, lists_total, nat_cmp_total, int_cmp_total, nat_list_cmp_total}
+use Rattle.bag_model.specs.declared.Pick.{Pick}
+use Rattle.bag_model.specs.declared.Pick.TheVariants.{Least, Greatest}
+use Rattle.bag_model.specs.Scalars.{Plain, Truth, Signed, Unsigned, Text, Octets, ScalarValue, plain_rank, plain_number, plain_bytes, plain_cmp, scalar_rank, scalar_fields, scalar_cmp, pick_cmp}
 use Rattle.bag_model.proofs.Codes.{then-first, then-second, bytes_exact}
 
 pub plain_total : IsTotalOrder plain_cmp
@@ -65,3 +67,13 @@ scalar_exact v w e =
     let one_rank : scalar_rank v ≡ scalar_rank w = nat_cmp-IsAntisymmetric (scalar_rank v) (scalar_rank w) (then-first ranks fields e) in
     let one_list : scalar_fields v ≡ scalar_fields w = slice_cmp-IsAntisymmetric plain_exact (scalar_fields v) (scalar_fields w) (then-second ranks fields e) in
     sym (scalar_back v) ∙ (λ i. scalar_from (one_rank i) (one_list i)) ∙ scalar_back w
+
+-- ---- the same of the order in which the value that stays comes first
+
+pub pick_total : (pick : Pick) → IsTotalOrder (pick_cmp pick)
+pick_total Least = scalar_total
+pick_total Greatest = back_total scalar_total
+
+pub pick_exact : (pick : Pick) → IsAntisymmetric (pick_cmp pick)
+pick_exact Least v w e = scalar_exact v w e
+pick_exact Greatest v w e = sym (scalar_exact w v e)

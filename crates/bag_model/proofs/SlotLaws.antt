@@ -86,7 +86,7 @@ mutual
   slots_in_few : (shape : Shape) → slot_count shape ≤ 1 + nodes_under shape
   slots_in_few (Bag nodes) = omega (arith, slots_few nodes)
   slots_in_few Taint = omega arith
-  slots_in_few (Scalar kind) = omega arith
+  slots_in_few (Scalar pick kind) = omega arith
   slots_in_few (Set kind) = omega arith
   slots_in_few Counter = omega arith
   slots_in_few (Map key value) = omega arith

@@ -70,7 +70,7 @@ mutual
   inside_upto : (own : Shape) (k : ℕ) (at : SlotAt) → slice_get (slots_in own) k ≡ Some at → length at.numbers ≤ levels_under own
   inside_upto (Bag nodes) k at e = (some_upto nodes k at e).1
   inside_upto Taint k at e = alone_few Taint k at e
-  inside_upto (Scalar kind) k at e = alone_few (Scalar kind) k at e
+  inside_upto (Scalar pick kind) k at e = alone_few (Scalar pick kind) k at e
   inside_upto (Set kind) k at e = alone_few (Set kind) k at e
   inside_upto Counter k at e = omega (arith, alone_few Counter k at e)
   inside_upto (Map key value) k at e = omega (arith, alone_few (Map key value) k at e)

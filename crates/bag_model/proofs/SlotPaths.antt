@@ -68,7 +68,7 @@ mutual
       let r = slot_leads nodes place slot at in
       record { within = subst (λ (names : List (List ℕ)). IsWithin (Bag nodes) names place slot.shape) (sym r.is) r.reached; no_bag = r.no_bag }
   inside_leads Taint place slot at = one_slot Taint place slot (λ nodes e. cc e) at
-  inside_leads (Scalar kind) place slot at = one_slot (Scalar kind) place slot (λ nodes e. cc e) at
+  inside_leads (Scalar pick kind) place slot at = one_slot (Scalar pick kind) place slot (λ nodes e. cc e) at
   inside_leads (Set kind) place slot at = one_slot (Set kind) place slot (λ nodes e. cc e) at
   inside_leads Counter place slot at = one_slot Counter place slot (λ nodes e. cc e) at
   inside_leads (Map key value) place slot at = one_slot (Map key value) place slot (λ nodes e. cc e) at
@@ -106,13 +106,13 @@ mutual
   inside_slot : (own : Shape) (names : List (List ℕ)) (before : ℕ) (shape : Shape) → IsWithin own names before shape → IsNoBag shape → HasSlot (slots_in own) names before
   inside_slot (Bag nodes) [] before shape h no_bag = absurd (no_bag nodes h.1)
   inside_slot Taint [] before shape h no_bag = single Taint before h.0
-  inside_slot (Scalar kind) [] before shape h no_bag = single (Scalar kind) before h.0
+  inside_slot (Scalar pick kind) [] before shape h no_bag = single (Scalar pick kind) before h.0
   inside_slot (Set kind) [] before shape h no_bag = single (Set kind) before h.0
   inside_slot Counter [] before shape h no_bag = single Counter before h.0
   inside_slot (Map key value) [] before shape h no_bag = single (Map key value) before h.0
   inside_slot (Bag nodes) (name ∷ names) before shape h no_bag = reached_slot nodes name names before shape h no_bag
   inside_slot Taint (name ∷ names) before shape h no_bag = absurd h
-  inside_slot (Scalar kind) (name ∷ names) before shape h no_bag = absurd h
+  inside_slot (Scalar pick kind) (name ∷ names) before shape h no_bag = absurd h
   inside_slot (Set kind) (name ∷ names) before shape h no_bag = absurd h
   inside_slot Counter (name ∷ names) before shape h no_bag = absurd h
   inside_slot (Map key value) (name ∷ names) before shape h no_bag = absurd h

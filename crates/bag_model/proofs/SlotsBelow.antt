@@ -50,8 +50,8 @@ mutual
   pub slot_levels : (shape : Shape) (slot : SlotAt) → IsIn slot (slots_in shape) → length slot.numbers ≤ levels_under shape
   slot_levels Taint slot (inl e) = let f : slot.numbers ≡ [] = ap (λ (x : SlotAt). x.numbers) e in subst (λ l. length l ≤ 0) (sym f) (omega arith)
   slot_levels Taint slot (inr none) = elim none [ ]
-  slot_levels (Scalar kind) slot (inl e) = let f : slot.numbers ≡ [] = ap (λ (x : SlotAt). x.numbers) e in subst (λ l. length l ≤ 0) (sym f) (omega arith)
-  slot_levels (Scalar kind) slot (inr none) = elim none [ ]
+  slot_levels (Scalar pick kind) slot (inl e) = let f : slot.numbers ≡ [] = ap (λ (x : SlotAt). x.numbers) e in subst (λ l. length l ≤ 0) (sym f) (omega arith)
+  slot_levels (Scalar pick kind) slot (inr none) = elim none [ ]
   slot_levels (Set kind) slot (inl e) = let f : slot.numbers ≡ [] = ap (λ (x : SlotAt). x.numbers) e in subst (λ l. length l ≤ 0) (sym f) (omega arith)
   slot_levels (Set kind) slot (inr none) = elim none [ ]
   slot_levels Counter slot (inl e) = let f : slot.numbers ≡ [] = ap (λ (x : SlotAt). x.numbers) e in subst (λ l. length l ≤ 1) (sym f) (omega arith)

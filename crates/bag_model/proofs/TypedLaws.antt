@@ -12,7 +12,7 @@ use Rattle.bag_model.proofs.PathSets.{AnyOf, FewerBelow, HasKeyHeaders, fewer_st
 mutual
   pub IsTyped-fewer : (shape : Shape) (P Q : Path → Type 0) (q : Path) → FewerBelow q P Q → IsTyped shape Q q → IsTyped shape P q
   IsTyped-fewer Taint P Q q f t = λ payload i. t payload (f [] 0 payload i)
-  IsTyped-fewer (Scalar kind) P Q q f t = λ payload i. t payload (f [] 0 payload i)
+  IsTyped-fewer (Scalar pick kind) P Q q f t = λ payload i. t payload (f [] 0 payload i)
   IsTyped-fewer (Set kind) P Q q f t = λ payload i. t payload (f [] 0 payload i)
   IsTyped-fewer Counter P Q q f t = λ w payload i j.
       t w payload (f [] (249 - 8 * length q) w i) (fewer_step q (atom_of (Keyed (length q) w)) P Q f [] 0 payload j)
@@ -39,7 +39,7 @@ mutual
   pub IsTyped-any : (shape : Shape) (I : Type 0) (F : I → Path → Type 0) (q : Path) → ((i : I) → HasKeyHeaders (F i))
       → ((i : I) → HasBelow (F i) q → IsTyped shape (F i) q) → IsTyped shape (AnyOf F) q
   IsTyped-any Taint I F q h t = λ payload i. t i.0 (0 ∷ payload, [], i.1) payload i.1
-  IsTyped-any (Scalar kind) I F q h t = λ payload i. t i.0 (0 ∷ payload, [], i.1) payload i.1
+  IsTyped-any (Scalar pick kind) I F q h t = λ payload i. t i.0 (0 ∷ payload, [], i.1) payload i.1
   IsTyped-any (Set kind) I F q h t = λ payload i. t i.0 (0 ∷ payload, [], i.1) payload i.1
   IsTyped-any Counter I F q h t = λ w payload i j.
       let key : F j.0 (key_path q w) = h j.0 q w (0 ∷ payload) [] j.1 in

@@ -12,12 +12,13 @@ use Rattle.context_model.proofs.OrderLaws.{atoms_total, atoms_anti}
 use Rattle.context_model.proofs.GreedyElements.{IsIn-greedy}
 use Rattle.context_model.proofs.MergeLaws.{EachPair-at, EachPair-from}
 use Rattle.context_model.proofs.Rising.{Rises-greedy}
-use Rattle.bag_model.specs.Scalars.{ScalarKind, ScalarValue, scalar_cmp, spelling}
+use Rattle.bag_model.specs.declared.Pick.{Pick}
+use Rattle.bag_model.specs.Scalars.{ScalarKind, ScalarValue, scalar_cmp, spelling, pick_cmp}
 use Rattle.bag_model.specs.Shapes.{Shape, Nodes, Taint, Scalar, Set, Counter, Map, Bag, no_node, node}
 use Rattle.bag_model.specs.Values.{Value, Values, Taint, Scalar, Set, Counter, Map, Bag, no_value, value, pairs}
 use Rattle.bag_model.specs.Joins.{join, join_values}
 use Rattle.bag_model.specs.Readings.{datum_path, key_path, node_path, HasScalar, IsFirst, HasCount, IsGreatest, HasKey, Reads, ReadsEach}
-use Rattle.bag_model.proofs.ScalarOrder.{scalar_total, scalar_exact}
+use Rattle.bag_model.proofs.ScalarOrder.{scalar_total, scalar_exact, pick_total}
 use Rattle.bag_model.proofs.PathSets.{Both, SameBelow, HasKeyHeaders, same_step, same_first, same_second}
 use Rattle.bag_model.proofs.PairLaws.{Rises-merged, keys-merged, EachPair-merged, pairs-join}
 
@@ -59,9 +60,9 @@ module _ (P Q : Path → Type 0) (q : Path) (s : SameBelow q P Q) where
   alike_taint (Taint on) r = ((λ t. let d = r.0 t in (d.0, datum_there d.0 d.1)), λ d. r.1 (d.0, datum_back d.0 d.1))
   alike_taint other r = absurd r
 
-  alike_scalar : (kind : ScalarKind) (v : Value) → Reads (Scalar kind) P q v → Reads (Scalar kind) Q q v
-  alike_scalar kind (Scalar o) r = IsFirst-alike scalar_cmp kind o r
-  alike_scalar kind other r = absurd r
+  alike_scalar : (pick : Pick) (kind : ScalarKind) (v : Value) → Reads (Scalar pick kind) P q v → Reads (Scalar pick kind) Q q v
+  alike_scalar pick kind (Scalar own o) r = (r.0, IsFirst-alike (pick_cmp pick) kind o r.1)
+  alike_scalar pick kind other r = absurd r
 
   alike_set : (kind : ScalarKind) (v : Value) → Reads (Set kind) P q v → Reads (Set kind) Q q v
   alike_set kind (Set own vs) r = (r.0, r.1, λ v. ((λ i. scalar_there kind v ((r.2 v).0 i)), λ h. (r.2 v).1 (scalar_back kind v h)))
@@ -89,7 +90,7 @@ mutual
   -- Two sets that are the same below a path read the same there.
   pub Reads-alike : (shape : Shape) (P Q : Path → Type 0) (q : Path) (v : Value) → SameBelow q P Q → Reads shape P q v → Reads shape Q q v
   Reads-alike Taint P Q q v s r = alike_taint P Q q s v r
-  Reads-alike (Scalar kind) P Q q v s r = alike_scalar P Q q s kind v r
+  Reads-alike (Scalar pick kind) P Q q v s r = alike_scalar P Q q s pick kind v r
   Reads-alike (Set kind) P Q q v s r = alike_set P Q q s kind v r
   Reads-alike Counter P Q q v s r = alike_counter P Q q s (λ key n g. IsGreatest-alike P Q (key_path q key) (below_key P Q q s key) n g) v r
   Reads-alike (Map kind shape) P Q q v s r = alike_map P Q q s kind shape (λ key w t. Reads-alike shape P Q (key_path q key) w (below_key P Q q s key) t) v r
@@ -162,10 +163,14 @@ union_taint P Q q (Taint a) (Taint b) r s = (there a b r.0 s.0, λ d. back a b (
 union_taint P Q q (Taint a) w r s = absurd s
 union_taint P Q q v w r s = absurd r
 
-union_scalar : (kind : ScalarKind) (P Q : Path → Type 0) (q : Path) (v w : Value) → Reads (Scalar kind) P q v → Reads (Scalar kind) Q q w → Reads (Scalar kind) (Both P Q) q (join v w)
-union_scalar kind P Q q (Scalar a) (Scalar b) r s = IsFirst-union scalar_cmp scalar_total kind P Q q a b r s
-union_scalar kind P Q q (Scalar a) w r s = absurd s
-union_scalar kind P Q q v w r s = absurd r
+union_scalar : (pick : Pick) (kind : ScalarKind) (P Q : Path → Type 0) (q : Path) (v w : Value) → Reads (Scalar pick kind) P q v → Reads (Scalar pick kind) Q q w → Reads (Scalar pick kind) (Both P Q) q (join v w)
+union_scalar pick kind P Q q (Scalar k a) (Scalar l b) r s = (
+  r.0,
+  subst (λ p. IsFirst (pick_cmp p) kind (Both P Q) q (first_of (pick_cmp k) a b)) r.0
+      (IsFirst-union (pick_cmp k) (pick_total k) kind P Q q a b (subst (λ p. IsFirst (pick_cmp p) kind P q a) (sym r.0) r.1) (subst (λ p. IsFirst (pick_cmp p) kind Q q b) (sym r.0) s.1)),
+)
+union_scalar pick kind P Q q (Scalar k a) w r s = absurd s
+union_scalar pick kind P Q q v w r s = absurd r
 
 union_set : (kind : ScalarKind) (P Q : Path → Type 0) (q : Path) (v w : Value) → Reads (Set kind) P q v → Reads (Set kind) Q q w → Reads (Set kind) (Both P Q) q (join v w)
 union_set kind P Q q (Set k a) (Set l b) r s = (
@@ -236,7 +241,7 @@ mutual
   pub Reads-union : (shape : Shape) (P Q : Path → Type 0) (q : Path) (v w : Value) → HasKeyHeaders P → HasKeyHeaders Q
       → Reads shape P q v → Reads shape Q q w → Reads shape (Both P Q) q (join v w)
   Reads-union Taint P Q q v w h g r s = union_taint P Q q v w r s
-  Reads-union (Scalar kind) P Q q v w h g r s = union_scalar kind P Q q v w r s
+  Reads-union (Scalar pick kind) P Q q v w h g r s = union_scalar pick kind P Q q v w r s
   Reads-union (Set kind) P Q q v w h g r s = union_set kind P Q q v w r s
   Reads-union Counter P Q q v w h g r s = union_counter P Q q v w h g r s
   Reads-union (Map kind shape) P Q q v w h g r s = union_map kind shape P Q q v w h g (λ key x y t u. Reads-union shape P Q (key_path q key) x y h g t u) r s

@@ -7,11 +7,12 @@ use Rattle.context_model.specs.Orders.{Path, atom_cmp}
 use Rattle.context_model.specs.KeyedMerge.{keys_of}
 use Rattle.context_model.proofs.OrderLaws.{atoms_total}
 use Rattle.context_model.proofs.GreedyElements.{Rises-unique}
-use Rattle.bag_model.specs.Scalars.{ScalarKind, ScalarValue, scalar_cmp, spelling}
+use Rattle.bag_model.specs.declared.Pick.{Pick}
+use Rattle.bag_model.specs.Scalars.{ScalarKind, ScalarValue, scalar_cmp, spelling, pick_cmp}
 use Rattle.bag_model.specs.Shapes.{Shape, Nodes, Taint, Scalar, Set, Counter, Map, Bag, no_node, node}
 use Rattle.bag_model.specs.Values.{Value, Values, Taint, Scalar, Set, Counter, Map, Bag, no_value, value, pairs}
 use Rattle.bag_model.specs.Readings.{key_path, node_path, IsFirst, IsGreatest, Reads, ReadsEach}
-use Rattle.bag_model.proofs.ScalarOrder.{scalar_total, scalar_exact}
+use Rattle.bag_model.proofs.ScalarOrder.{scalar_total, scalar_exact, pick_total, pick_exact}
 use Rattle.bag_model.proofs.PairLaws.{pairs_one, pairs-injective}
 
 module _ (R : ScalarValue → ScalarValue → Ordering) (total : IsTotalOrder R) (anti : IsAntisymmetric R) (kind : ScalarKind) (P : Path → Type 0) (q : Path) where
@@ -44,10 +45,13 @@ one_taint P q (Taint a) (Taint b) r s = ap Taint (by a b (λ t. s.1 (r.0 t)) (λ
 one_taint P q (Taint a) w r s = absurd s
 one_taint P q v w r s = absurd r
 
-one_scalar : (kind : ScalarKind) (P : Path → Type 0) (q : Path) (v w : Value) → Reads (Scalar kind) P q v → Reads (Scalar kind) P q w → v ≡ w
-one_scalar kind P q (Scalar a) (Scalar b) r s = ap Scalar (IsFirst-unique scalar_cmp scalar_total scalar_exact kind P q a b r s)
-one_scalar kind P q (Scalar a) w r s = absurd s
-one_scalar kind P q v w r s = absurd r
+one_scalar : (pick : Pick) (kind : ScalarKind) (P : Path → Type 0) (q : Path) (v w : Value) → Reads (Scalar pick kind) P q v → Reads (Scalar pick kind) P q w → v ≡ w
+one_scalar pick kind P q (Scalar k a) (Scalar l b) r s =
+    let picks : k ≡ l = r.0 ∙ sym s.0 in
+    let items : a ≡ b = IsFirst-unique (pick_cmp pick) (pick_total pick) (pick_exact pick) kind P q a b r.1 s.1 in
+    λ i. Scalar (picks i) (items i)
+one_scalar pick kind P q (Scalar k a) w r s = absurd s
+one_scalar pick kind P q v w r s = absurd r
 
 one_set : (kind : ScalarKind) (P : Path → Type 0) (q : Path) (v w : Value) → Reads (Set kind) P q v → Reads (Set kind) P q w → v ≡ w
 one_set kind P q (Set k a) (Set l b) r s =
@@ -76,7 +80,7 @@ one_map kind shape P q v w below r s = absurd r
 mutual
   pub Reads-unique : (shape : Shape) (P : Path → Type 0) (q : Path) (v w : Value) → Reads shape P q v → Reads shape P q w → v ≡ w
   Reads-unique Taint P q v w r s = one_taint P q v w r s
-  Reads-unique (Scalar kind) P q v w r s = one_scalar kind P q v w r s
+  Reads-unique (Scalar pick kind) P q v w r s = one_scalar pick kind P q v w r s
   Reads-unique (Set kind) P q v w r s = one_set kind P q v w r s
   Reads-unique Counter P q v w r s = one_counter P q v w r s
   Reads-unique (Map kind shape) P q v w r s = one_map kind shape P q v w (λ key x y t u. Reads-unique shape P (key_path q key) x y t u) r s

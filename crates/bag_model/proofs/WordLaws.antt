@@ -5,7 +5,7 @@ use Rattle.std.specs.Option.{is_some}
 use Rattle.std.specs.Str.{bytes_eq}
 use Rattle.std.proofs.lemmas.Slice.Eq.{bytes_eq-Decides}
 use Rattle.bag_model.specs.Scalars.{Boolean, Int32, Int64, Sint32, Sint64, Uint32, Uint64, Fixed32, Fixed64, Sfixed32, Sfixed64, Str, Bytes}
-use Rattle.bag_model.specs.Words.{Reserved, Import, Bag, Struct, Set, Map, Counter, Taint, Float, Double, ScalarWord, reserved_text, all_reserved, reserved_words, reserved_among, reserved_of}
+use Rattle.bag_model.specs.Words.{Reserved, Import, Bag, Struct, Set, Greatest, Map, Counter, Taint, Float, Double, ScalarWord, reserved_text, all_reserved, reserved_words, reserved_among, reserved_of}
 
 -- Each reserved word is the one with its text.
 pub reserved_back : (word : Reserved) → reserved_of (reserved_text word) ≡ Some word
@@ -14,6 +14,7 @@ reserved_back Import = refl
 reserved_back Bag = refl
 reserved_back Struct = refl
 reserved_back Set = refl
+reserved_back Greatest = refl
 reserved_back Map = refl
 reserved_back Counter = refl
 reserved_back Taint = refl

@@ -20,9 +20,9 @@ abbrev mutual
   pub InLayout : Shape → Path → Value → Path → Type 0
   InLayout Taint q (Taint on) p = IsTrue on × (p ≡ datum_path q [])
   InLayout Taint q other p = ⊥
-  InLayout (Scalar kind) q (Scalar None) p = ⊥
-  InLayout (Scalar kind) q (Scalar (Some v)) p = p ≡ datum_path q (spelling kind v)
-  InLayout (Scalar kind) q other p = ⊥
+  InLayout (Scalar pick kind) q (Scalar own None) p = ⊥
+  InLayout (Scalar pick kind) q (Scalar own (Some v)) p = p ≡ datum_path q (spelling kind v)
+  InLayout (Scalar pick kind) q other p = ⊥
   InLayout (Set kind) q (Set own vs) p =
       (v : ScalarValue) × IsIn v vs × (p ≡ datum_path q (spelling kind v))
   InLayout (Set kind) q other p = ⊥
@@ -75,7 +75,7 @@ pub record EncodingsReadBack : Type 0 where
 abbrev mutual
   pub IsUsed : Shape → Path → Path → Type 0
   IsUsed Taint q p = (payload : List ℕ) × (p ≡ datum_path q payload)
-  IsUsed (Scalar kind) q p = (payload : List ℕ) × (p ≡ datum_path q payload)
+  IsUsed (Scalar pick kind) q p = (payload : List ℕ) × (p ≡ datum_path q payload)
   IsUsed (Set kind) q p = (payload : List ℕ) × (p ≡ datum_path q payload)
   IsUsed Counter q p =
       (writer : List ℕ)

@@ -1,9 +1,11 @@
 -- The join of two values in terms of what they hold: the union of both.
 use Rattle.std.specs.Prelude.{◌≡◌, ◌⊎◌, ◌↔◌, ℕ, max, Bool, true, Option, Some, None, List, length, slice_get}
+use Rattle.std.specs.declared.cmp.Ordering.{Ordering}
 use Rattle.std.specs.declared.cmp.Ordering.TheVariants.{Less}
 use Rattle.context_model.specs.Orders.{atom_cmp, IsIn, Rises}
 use Rattle.context_model.specs.KeyedMerge.{keys_of, IsUnion}
-use Rattle.bag_model.specs.Scalars.{ScalarKind, ScalarValue, scalar_cmp}
+use Rattle.bag_model.specs.declared.Pick.{Pick}
+use Rattle.bag_model.specs.Scalars.{ScalarKind, ScalarValue, scalar_cmp, pick_cmp}
 use Rattle.bag_model.specs.Shapes.{Shape}
 use Rattle.bag_model.specs.Values.{Value, Entries, Values, Taint, Scalar, Set, Counter, Map, Bag, pairs, values_list, bottom, IsOfShape}
 use Rattle.bag_model.specs.Joins.{join, IsBottom, AreAlike, Proper}
@@ -12,11 +14,11 @@ use Rattle.bag_model.specs.Joins.{join, IsBottom, AreAlike, Proper}
 abbrev pub IsEither : Bool → Bool → Bool → Type 0
 IsEither a b both = (both ≡ true) ↔ ((a ≡ true) ⊎ (b ≡ true))
 
--- The first of two scalars: one of both, and none of both is less; none where there is none.
-abbrev pub IsFirstOfTwo : Option ScalarValue → Option ScalarValue → Option ScalarValue → Type 0
-IsFirstOfTwo a b None = (a ≡ None) × (b ≡ None)
-IsFirstOfTwo a b (Some v) =
-    ((a ≡ Some v) ⊎ (b ≡ Some v)) × ((w : ScalarValue) → (a ≡ Some w) ⊎ (b ≡ Some w) → scalar_cmp w v ≡ Less → ⊥)
+-- The first of two scalars in the order R: one of both, and none of both is before it; none where there is none.
+abbrev pub IsFirstOfTwo : (ScalarValue → ScalarValue → Ordering) → Option ScalarValue → Option ScalarValue → Option ScalarValue → Type 0
+IsFirstOfTwo R a b None = (a ≡ None) × (b ≡ None)
+IsFirstOfTwo R a b (Some v) =
+    ((a ≡ Some v) ⊎ (b ≡ Some v)) × ((w : ScalarValue) → (a ≡ Some w) ⊎ (b ≡ Some w) → R w v ≡ Less → ⊥)
 
 -- The scalars of both, in order.
 abbrev pub IsSetUnion : List ScalarValue → List ScalarValue → List ScalarValue → Type 0
@@ -39,7 +41,8 @@ pub record AreJoinedEach (a b both : Values) : Type 0 where
 -- The join of two values holds what both hold, whatever their variant.
 pub record JoinsAreUnions : Type 0 where
   pub taints : (a b : Bool) → (both : Bool) × (join (Taint a) (Taint b) ≡ Taint both) × IsEither a b both
-  pub scalars : (a b : Option ScalarValue) → (both : Option ScalarValue) × (join (Scalar a) (Scalar b) ≡ Scalar both) × IsFirstOfTwo a b both
+  pub scalars : (pick : Pick) (a b : Option ScalarValue)
+      → (both : Option ScalarValue) × (join (Scalar pick a) (Scalar pick b) ≡ Scalar pick both) × IsFirstOfTwo (pick_cmp pick) a b both
   pub sets : (kind : ScalarKind) (a b : List ScalarValue) → Proper (Set kind a) → Proper (Set kind b)
       → (both : List ScalarValue) × (join (Set kind a) (Set kind b) ≡ Set kind both) × IsSetUnion a b both
   pub counters : (a b : List (List ℕ × ℕ)) → Proper (Counter a) → Proper (Counter b)

@@ -4,7 +4,7 @@ use Rattle.std.specs.List.{AllByRecursion}
 use Rattle.context_model.specs.Orders.{atom_cmp, Rises, by_order}
 use Rattle.context_model.specs.Merge.{greedy_merge, first_of}
 use Rattle.context_model.specs.KeyedMerge.{merge_with, keys_of, IsAt}
-use Rattle.bag_model.specs.Scalars.{ScalarValue, scalar_cmp, IsScalarOf}
+use Rattle.bag_model.specs.Scalars.{ScalarValue, scalar_cmp, pick_cmp, IsScalarOf}
 use Rattle.bag_model.specs.Values.{Value, Entries, Values, Taint, Scalar, Set, Counter, Map, Bag, no_entry, entry, no_value, value, pairs, AreCounts}
 
 -- The join of a key's entry and entries behind it with other entries, where with_own is the join of the key's value with
@@ -18,14 +18,14 @@ entries_onto key v es with_own rest (entry other w fs) =
     (entry key (with_own w) (rest fs))
     (entry other w (entries_onto key v es with_own rest fs))
 
--- Taints by or; of two scalars the one that comes first; sets by union; counters with the greater count of each writer;
+-- Taints by or; of two scalars the one that stays; sets by union; counters with the greater count of each writer;
 -- maps with the keys of both, and at a key of both the join of its values; bags field by field.
 abbrev mutual
   pub join : Value → Value → Value
   join (Taint a) (Taint b) = Taint (a || b)
   join (Taint a) other = Taint a
-  join (Scalar a) (Scalar b) = Scalar (first_of scalar_cmp a b)
-  join (Scalar a) other = Scalar a
+  join (Scalar pick a) (Scalar other b) = Scalar pick (first_of (pick_cmp pick) a b)
+  join (Scalar pick a) other = Scalar pick a
   join (Set kind a) (Set other b) = Set kind (greedy_merge scalar_cmp a b)
   join (Set kind a) other = Set kind a
   join (Counter a) (Counter b) = Counter (merge_with atom_cmp max a b)
@@ -52,7 +52,7 @@ IsValueBelow v w = join v w ≡ w
 abbrev mutual
   pub IsBottom : Value → Type 0
   IsBottom (Taint on) = on ≡ false
-  IsBottom (Scalar v) = v ≡ None
+  IsBottom (Scalar pick v) = v ≡ None
   IsBottom (Set kind vs) = vs ≡ []
   IsBottom (Counter counts) = counts ≡ []
   IsBottom (Map es) = es ≡ no_entry
@@ -62,14 +62,14 @@ abbrev mutual
   AreBottom no_value = Unit {0}
   AreBottom (value v vs) = IsBottom v × AreBottom vs
 
--- Two values can be joined: they are of one variant, two sets of one kind, the values of two maps at a key of both and
+-- Two values can be joined: they are of one variant, two scalars keep the same value, two sets are of one kind, the values of two maps at a key of both and
 -- those of two bags field by field.
 abbrev mutual
   pub Alike : Value → Value → Type 0
   Alike (Taint a) (Taint b) = Unit {0}
   Alike (Taint a) other = ⊥
-  Alike (Scalar a) (Scalar b) = Unit {0}
-  Alike (Scalar a) other = ⊥
+  Alike (Scalar pick a) (Scalar other b) = pick ≡ other
+  Alike (Scalar pick a) other = ⊥
   Alike (Set kind a) (Set other b) = kind ≡ other
   Alike (Set kind a) other = ⊥
   Alike (Counter a) (Counter b) = Unit {0}
@@ -95,7 +95,7 @@ abbrev mutual
 abbrev mutual
   pub Proper : Value → Type 0
   Proper (Taint on) = Unit {0}
-  Proper (Scalar v) = Unit {0}
+  Proper (Scalar pick v) = Unit {0}
   Proper (Set kind vs) = Rises scalar_cmp vs × AllByRecursion (IsScalarOf kind) vs
   Proper (Counter counts) = AreCounts counts
   Proper (Map es) = Rises scalar_cmp (keys_of (pairs es)) × AreProperEntries es

@@ -7,6 +7,8 @@ use Rattle.context_model.specs.Orders.{Path, atom_cmp, IsIn, Rises}
 use Rattle.context_model.specs.Paths.{path_at}
 use Rattle.context_model.specs.Ended.{field_path}
 use Rattle.context_model.specs.WithoutData.{without}
+use Rattle.bag_model.specs.declared.Pick.{Pick}
+use Rattle.bag_model.specs.declared.Pick.TheVariants.{Least, Greatest}
 use Rattle.bag_model.specs.Shapes.{Shape, Nodes, Taint, Scalar, Set, Counter, Map, Bag, no_node, node}
 use Rattle.bag_model.specs.Slots.{SlotAt, slots_of}
 use Rattle.bag_model.specs.Views.{View, Knows}
@@ -16,11 +18,16 @@ use Rattle.bag_model.specs.Readings.{datum_path, key_path, node_path, PathsOf}
 pub data Keeping : Type 0 where
   EachDatum LeastDatum GreatestDatum : Keeping
 
+-- Of a scalar's data normal form keeps the one that stays.
+abbrev pub kept_by : Pick → Keeping
+kept_by Least = LeastDatum
+kept_by Greatest = GreatestDatum
+
 -- Data are read at p for a field of this shape at q, and normal form keeps these of them.
 abbrev mutual
   pub HoldsData : Shape → Path → Keeping → Path → Type 0
   HoldsData Taint q keep p = (keep ≡ EachDatum) × (p ≡ q)
-  HoldsData (Scalar kind) q keep p = (keep ≡ LeastDatum) × (p ≡ q)
+  HoldsData (Scalar pick kind) q keep p = (keep ≡ kept_by pick) × (p ≡ q)
   HoldsData (Set kind) q keep p = (keep ≡ EachDatum) × (p ≡ q)
   HoldsData Counter q keep p =
       (keep ≡ GreatestDatum) × ((writer : List ℕ) × (p ≡ key_path q writer))

@@ -9,7 +9,7 @@ use Rattle.context_model.specs.Orders.{Path, atom_cmp, IsIn, Rises}
 use Rattle.context_model.specs.Paths.{paths}
 use Rattle.context_model.specs.KeyedMerge.{keys_of, EachPair}
 use Rattle.context_model.specs.Varints.{unsigned_varint}
-use Rattle.bag_model.specs.Scalars.{ScalarKind, ScalarValue, scalar_cmp, IsScalarOf, spelling}
+use Rattle.bag_model.specs.Scalars.{ScalarKind, ScalarValue, scalar_cmp, pick_cmp, IsScalarOf, spelling}
 use Rattle.bag_model.specs.Shapes.{Shape, Nodes, Taint, Scalar, Set, Counter, Map, Bag, no_node, node}
 use Rattle.bag_model.specs.Values.{Value, Values, Taint, Scalar, Set, Counter, Map, Bag, no_value, value, pairs}
 
@@ -49,14 +49,14 @@ abbrev pub HasKey : ScalarKind → (Path → Type 0) → Path → ScalarValue �
 HasKey kind P q key = IsScalarOf kind key × P (key_path q (spelling kind key))
 
 -- The paths P say this value of a field of this shape whose own path is q. A taint is on where there is a datum, a scalar
--- is the first of its data, and a set has the values of its data. A counter has a writer for each key, with the greatest
+-- is the one of its data that stays, and a set has the values of its data. A counter has a writer for each key, with the greatest
 -- count there, and a map has each key, with the value that is said there. A bag has what is said of each field.
 abbrev mutual
   pub Reads : Shape → (Path → Type 0) → Path → Value → Type 0
   Reads Taint P q (Taint on) = IsTrue on ↔ ((payload : List ℕ) × P (datum_path q payload))
   Reads Taint P q other = ⊥
-  Reads (Scalar kind) P q (Scalar v) = IsFirst scalar_cmp kind P q v
-  Reads (Scalar kind) P q other = ⊥
+  Reads (Scalar pick kind) P q (Scalar own v) = (own ≡ pick) × IsFirst (pick_cmp pick) kind P q v
+  Reads (Scalar pick kind) P q other = ⊥
   Reads (Set kind) P q (Set own vs) =
       (own ≡ kind)
       × Rises scalar_cmp vs

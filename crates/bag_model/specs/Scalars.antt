@@ -2,10 +2,12 @@
 use Rattle.std.specs.Prelude.{ℕ, zero, suc, ℤ, pos, negsuc, ◌+◌, ◌-◌, ◌^◌, ◌<◌, Bool, true, false, if◌then◌else◌, List, [], ◌∷◌, ◌++◌, IsUtf8, FitsSigned}
 use Rattle.std.specs.Int.{w32, w64}
 use Rattle.std.specs.List.{flat_map}
-use Rattle.std.specs.Ordering.{nat_cmp, int_cmp, on, then_cmp}
+use Rattle.std.specs.Ordering.{nat_cmp, int_cmp, on, then_cmp, flip_args}
 use Rattle.std.specs.declared.cmp.Ordering.{Ordering}
 use Rattle.std.specs.Cmp.Lexicographic.{slice_cmp}
 use Rattle.context_model.specs.Varints.{big_endian, unsigned_varint, signed_varint}
+use Rattle.bag_model.specs.declared.Pick.{Pick}
+use Rattle.bag_model.specs.declared.Pick.TheVariants.{Least, Greatest}
 
 -- The scalar words of a definition.
 pub data Word : Type 0 where
@@ -123,6 +125,11 @@ scalar_fields (Packed vs) = vs
 -- Structs field by field, after the values that are no structs.
 abbrev pub scalar_cmp : ScalarValue → ScalarValue → Ordering
 scalar_cmp = then_cmp (on scalar_rank nat_cmp) (on scalar_fields (slice_cmp plain_cmp))
+
+-- The order in which the value that stays comes first: the least, or the greatest.
+abbrev pub pick_cmp : Pick → ScalarValue → ScalarValue → Ordering
+pick_cmp Least = scalar_cmp
+pick_cmp Greatest = flip_args scalar_cmp
 
 -- ---- spellings
 

@@ -2,6 +2,8 @@
 use Rattle.std.specs.Prelude.{◌≡◌, ℕ, List, ◌⊎◌, ◌==◌, if◌then◌else◌}
 use Rattle.std.specs.Coded.{Coded, code_by, coded⊎, coded_ℕ, coded_list}
 use Rattle.std.proofs.Common.{refl, inl, inr, ap, subst, sym}
+use Rattle.bag_model.specs.declared.Pick.{Pick}
+use Rattle.bag_model.specs.declared.Pick.TheVariants.{Least, Greatest}
 use Rattle.bag_model.specs.Scalars.{Word, ScalarKind, Boolean, Int32, Int64, Sint32, Sint64, Uint32, Uint64, Fixed32, Fixed64, Sfixed32, Sfixed64, Str, Bytes, One, Packed}
 use Rattle.bag_model.specs.Shapes.{Shape, Nodes, Taint, Scalar, Set, Counter, Map, Bag, no_node, node}
 use base.Stored.{Gv, gnil, gnum, gcons}
@@ -60,13 +62,27 @@ kind_undone (Packed words) = refl
 abbrev pub kind_code : Coded ScalarKind
 kind_code = code_by (Word ⊎ List Word) (coded⊎ word_code (coded_list word_code)) kind_parts kind_back kind_undone
 
+abbrev pub pick_number : Pick → ℕ
+pick_number Least = 0
+pick_number Greatest = 1
+
+abbrev pub pick_back : ℕ → Pick
+pick_back n = if n == 0 then Least else Greatest
+
+pub pick_undone : (pick : Pick) → pick_back (pick_number pick) ≡ pick
+pick_undone Least = refl
+pick_undone Greatest = refl
+
+abbrev pub pick_code : Coded Pick
+pick_code = code_by ℕ coded_ℕ pick_number pick_back pick_undone
+
 abbrev pub name_code : Coded (List ℕ)
 name_code = coded_list coded_ℕ
 
 abbrev mutual
   pub shape_gv : Shape → Gv
   shape_gv Taint = gcons (gnum 0) gnil
-  shape_gv (Scalar kind) = gcons (gnum 1) (kind_code.code kind)
+  shape_gv (Scalar pick kind) = gcons (gnum 1) (gcons (pick_code.code pick) (kind_code.code kind))
   shape_gv (Set kind) = gcons (gnum 2) (kind_code.code kind)
   shape_gv Counter = gcons (gnum 3) gnil
   shape_gv (Map key value) = gcons (gnum 4) (gcons (kind_code.code key) (shape_gv value))
@@ -99,37 +115,37 @@ IsCons (gcons a b) = Unit {0}
 mutual
   pub shape_inj : (x y : Shape) → shape_gv x ≡ shape_gv y → x ≡ y
   shape_inj Taint Taint p = refl
-  shape_inj Taint (Scalar j) p = absurd (cc p)
+  shape_inj Taint (Scalar b j) p = absurd (cc p)
   shape_inj Taint (Set j) p = absurd (cc p)
   shape_inj Taint Counter p = absurd (cc p)
   shape_inj Taint (Map j t) p = absurd (cc p)
   shape_inj Taint (Bag j) p = absurd (cc p)
-  shape_inj (Scalar k) Taint p = absurd (cc p)
-  shape_inj (Scalar k) (Scalar j) p = ap Scalar (kind_code.inj k j (ap right p))
-  shape_inj (Scalar k) (Set j) p = absurd (cc p)
-  shape_inj (Scalar k) Counter p = absurd (cc p)
-  shape_inj (Scalar k) (Map j t) p = absurd (cc p)
-  shape_inj (Scalar k) (Bag j) p = absurd (cc p)
+  shape_inj (Scalar a k) Taint p = absurd (cc p)
+  shape_inj (Scalar a k) (Scalar b j) p = λ i. Scalar (pick_code.inj a b (ap (λ g. left (right g)) p) i) (kind_code.inj k j (ap (λ g. right (right g)) p) i)
+  shape_inj (Scalar a k) (Set j) p = absurd (cc p)
+  shape_inj (Scalar a k) Counter p = absurd (cc p)
+  shape_inj (Scalar a k) (Map j t) p = absurd (cc p)
+  shape_inj (Scalar a k) (Bag j) p = absurd (cc p)
   shape_inj (Set k) Taint p = absurd (cc p)
-  shape_inj (Set k) (Scalar j) p = absurd (cc p)
+  shape_inj (Set k) (Scalar b j) p = absurd (cc p)
   shape_inj (Set k) (Set j) p = ap Set (kind_code.inj k j (ap right p))
   shape_inj (Set k) Counter p = absurd (cc p)
   shape_inj (Set k) (Map j t) p = absurd (cc p)
   shape_inj (Set k) (Bag j) p = absurd (cc p)
   shape_inj Counter Taint p = absurd (cc p)
-  shape_inj Counter (Scalar j) p = absurd (cc p)
+  shape_inj Counter (Scalar b j) p = absurd (cc p)
   shape_inj Counter (Set j) p = absurd (cc p)
   shape_inj Counter Counter p = refl
   shape_inj Counter (Map j t) p = absurd (cc p)
   shape_inj Counter (Bag j) p = absurd (cc p)
   shape_inj (Map k s) Taint p = absurd (cc p)
-  shape_inj (Map k s) (Scalar j) p = absurd (cc p)
+  shape_inj (Map k s) (Scalar b j) p = absurd (cc p)
   shape_inj (Map k s) (Set j) p = absurd (cc p)
   shape_inj (Map k s) Counter p = absurd (cc p)
   shape_inj (Map k s) (Map j t) p = λ i. Map (kind_code.inj k j (ap (λ g. left (right g)) p) i) (shape_inj s t (ap (λ g. right (right g)) p) i)
   shape_inj (Map k s) (Bag j) p = absurd (cc p)
   shape_inj (Bag k) Taint p = absurd (cc p)
-  shape_inj (Bag k) (Scalar j) p = absurd (cc p)
+  shape_inj (Bag k) (Scalar b j) p = absurd (cc p)
   shape_inj (Bag k) (Set j) p = absurd (cc p)
   shape_inj (Bag k) Counter p = absurd (cc p)
   shape_inj (Bag k) (Map j t) p = absurd (cc p)

@@ -1,12 +1,13 @@
 -- Shapes of fields, and the fields of a bag.
 use Rattle.std.specs.Prelude.{ℕ, List, [], ◌∷◌}
+use Rattle.bag_model.specs.declared.Pick.{Pick}
 use Rattle.bag_model.specs.Scalars.{ScalarKind}
 
--- A field is a taint, a scalar, a set of scalars, a counter, a map to one shape, or a bag of fields.
+-- A field is a taint, a scalar of which the least or the greatest value stays, a set of scalars, a counter, a map to one shape, or a bag of fields.
 mutual
   pub data Shape : Type 0 where
     Taint : Shape
-    Scalar : ScalarKind → Shape
+    Scalar : Pick → ScalarKind → Shape
     Set : ScalarKind → Shape
     Counter : Shape
     Map : ScalarKind → Shape → Shape

@@ -6,7 +6,7 @@ abbrev mutual
   -- One for the shape, one more for a map's keys, and what is inside.
   pub shape_size : Shape → ℕ
   shape_size Taint = 1
-  shape_size (Scalar kind) = 1
+  shape_size (Scalar pick kind) = 1
   shape_size (Set kind) = 1
   shape_size Counter = 1
   shape_size (Map key value) = 2 + shape_size value

@@ -12,7 +12,7 @@ use Rattle.bag_model.specs.Readings.{PathsOf, Reads, SaysValues}
 abbrev mutual
   pub slot_values_in : Shape → Value → List Value
   slot_values_in Taint v = v ∷ []
-  slot_values_in (Scalar kind) v = v ∷ []
+  slot_values_in (Scalar pick kind) v = v ∷ []
   slot_values_in (Set kind) v = v ∷ []
   slot_values_in Counter v = v ∷ []
   slot_values_in (Map key shape) v = v ∷ []
@@ -30,7 +30,7 @@ abbrev mutual
 abbrev mutual
   pub only_in : Shape → ℕ → Value → Value
   only_in Taint slot v = v
-  only_in (Scalar kind) slot v = v
+  only_in (Scalar pick kind) slot v = v
   only_in (Set kind) slot v = v
   only_in Counter slot v = v
   only_in (Map key shape) slot v = v

@@ -19,7 +19,7 @@ abbrev mutual
   pub slots_in : Shape → List SlotAt
   slots_in (Bag nodes) = slots_of nodes
   slots_in Taint = record { names = []; numbers = []; shape = Taint } ∷ []
-  slots_in (Scalar kind) = record { names = []; numbers = []; shape = Scalar kind } ∷ []
+  slots_in (Scalar pick kind) = record { names = []; numbers = []; shape = Scalar pick kind } ∷ []
   slots_in (Set kind) = record { names = []; numbers = []; shape = Set kind } ∷ []
   slots_in Counter = record { names = []; numbers = []; shape = Counter } ∷ []
   slots_in (Map key value) = record { names = []; numbers = []; shape = Map key value } ∷ []
@@ -60,7 +60,7 @@ abbrev mutual
   IsWithin own [] before shape = (before ≡ 0) × (shape ≡ own)
   IsWithin (Bag nodes) (name ∷ names) before shape = IsReached nodes name names before shape
   IsWithin Taint (name ∷ names) before shape = ⊥
-  IsWithin (Scalar kind) (name ∷ names) before shape = ⊥
+  IsWithin (Scalar pick kind) (name ∷ names) before shape = ⊥
   IsWithin (Set kind) (name ∷ names) before shape = ⊥
   IsWithin Counter (name ∷ names) before shape = ⊥
   IsWithin (Map key value) (name ∷ names) before shape = ⊥

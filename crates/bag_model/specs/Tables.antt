@@ -20,7 +20,7 @@ IsKeyKind (scalars.ScalarKind.Packed words) = ⊥
 abbrev mutual
   pub IsShape : Shape → Type 0
   IsShape Taint = Unit {0}
-  IsShape (Scalar kind) = IsScalarKind kind
+  IsShape (Scalar pick kind) = IsScalarKind kind
   IsShape (Set kind) = IsScalarKind kind
   IsShape Counter = Unit {0}
   IsShape (Map key value) = IsKeyKind key × IsShape value
@@ -37,7 +37,7 @@ abbrev mutual
 abbrev mutual
   pub levels_under : Shape → ℕ
   levels_under Taint = 0
-  levels_under (Scalar kind) = 0
+  levels_under (Scalar pick kind) = 0
   levels_under (Set kind) = 0
   levels_under Counter = 1
   levels_under (Map key value) = 1 + levels_under value
@@ -52,7 +52,7 @@ abbrev mutual
 abbrev mutual
   pub nodes_under : Shape → ℕ
   nodes_under Taint = 0
-  nodes_under (Scalar kind) = 0
+  nodes_under (Scalar pick kind) = 0
   nodes_under (Set kind) = 0
   nodes_under Counter = 0
   nodes_under (Map key value) = nodes_under value

@@ -22,7 +22,7 @@ IsCount bytes = (n : ℕ) × (n < 2 ^ 64) × (bytes ≡ unsigned_varint n)
 abbrev mutual
   pub IsTyped : Shape → (Path → Type 0) → Path → Type 0
   IsTyped Taint P q = (payload : List ℕ) → P (datum_path q payload) → payload ≡ []
-  IsTyped (Scalar kind) P q =
+  IsTyped (Scalar pick kind) P q =
       (payload : List ℕ) → P (datum_path q payload) → IsSpelling kind payload
   IsTyped (Set kind) P q =
       (payload : List ℕ) → P (datum_path q payload) → IsSpelling kind payload
@@ -44,7 +44,7 @@ abbrev mutual
 abbrev mutual
   pub Misspells : Shape → Path → Path → Type 0
   Misspells Taint q p = (payload : List ℕ) × (p ≡ datum_path q payload) × (payload ≢ [])
-  Misspells (Scalar kind) q p =
+  Misspells (Scalar pick kind) q p =
       (payload : List ℕ) × (p ≡ datum_path q payload) × ¬ (IsSpelling kind payload)
   Misspells (Set kind) q p =
       (payload : List ℕ) × (p ≡ datum_path q payload) × ¬ (IsSpelling kind payload)

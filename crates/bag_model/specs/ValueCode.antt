@@ -5,7 +5,7 @@ use Rattle.std.specs.Coded.{Coded, code_by, coded⊎, coded×, coded_ℕ, coded_
 use Rattle.std.proofs.Common.{refl, inl, inr, ap}
 use Rattle.bag_model.specs.Scalars.{Plain, Truth, Signed, Unsigned, Text, Octets, ScalarValue}
 use Rattle.bag_model.specs.Values.{Value, Entries, Values, Taint, Scalar, Set, Counter, Map, Bag, no_entry, entry, no_value, value}
-use Rattle.bag_model.specs.ShapeCode.{kind_code, name_code, left, right, number_in}
+use Rattle.bag_model.specs.ShapeCode.{pick_code, kind_code, name_code, left, right, number_in}
 use base.Stored.{Gv, gnil, gnum, gcons}
 
 abbrev pub plain_parts : Plain → Bool ⊎ (ℤ ⊎ (ℕ ⊎ (List ℕ ⊎ List ℕ)))
@@ -64,7 +64,7 @@ counts_code = coded_list (coded× name_code coded_ℕ)
 abbrev mutual
   pub value_gv : Value → Gv
   value_gv (Taint on) = gcons (gnum 0) (coded_bool.code on)
-  value_gv (Scalar v) = gcons (gnum 1) (option_code.code v)
+  value_gv (Scalar pick v) = gcons (gnum 1) (gcons (pick_code.code pick) (option_code.code v))
   value_gv (Set kind vs) = gcons (gnum 2) (gcons (kind_code.code kind) (scalars_code.code vs))
   value_gv (Counter counts) = gcons (gnum 3) (counts_code.code counts)
   value_gv (Map es) = gcons (gnum 4) (entries_gv es)
@@ -82,8 +82,9 @@ mutual
   pub value_inj : (x y : Value) → value_gv x ≡ value_gv y → x ≡ y
   value_inj (Taint a) (Taint b) p = ap Taint (coded_bool.inj a b (ap right p))
   value_inj (Taint a) y p = absurd (cc (ap (λ g. number_in (left g)) p))
-  value_inj (Scalar a) (Scalar b) p = ap Scalar (option_code.inj a b (ap right p))
-  value_inj (Scalar a) y p = absurd (cc (ap (λ g. number_in (left g)) p))
+  value_inj (Scalar s a) (Scalar t b) p = λ i.
+      Scalar (pick_code.inj s t (ap (λ g. left (right g)) p) i) (option_code.inj a b (ap (λ g. right (right g)) p) i)
+  value_inj (Scalar s a) y p = absurd (cc (ap (λ g. number_in (left g)) p))
   value_inj (Set k a) (Set l b) p = λ i.
       Set (kind_code.inj k l (ap (λ g. left (right g)) p) i) (scalars_code.inj a b (ap (λ g. right (right g)) p) i)
   value_inj (Set k a) y p = absurd (cc (ap (λ g. number_in (left g)) p))

@@ -3,15 +3,16 @@ use Rattle.std.specs.Prelude.{◌≡◌, ℕ, ◌+◌, ◌^◌, ◌<◌, Bool, f
 use Rattle.std.specs.List.{AllByRecursion}
 use Rattle.context_model.specs.Orders.{atom_cmp, Rises}
 use Rattle.context_model.specs.KeyedMerge.{keys_of, EachPair}
+use Rattle.bag_model.specs.declared.Pick.{Pick}
 use Rattle.bag_model.specs.Scalars.{ScalarKind, ScalarValue, scalar_cmp, IsScalarOf}
 use Rattle.bag_model.specs.Shapes.{Shape, Nodes, no_node, node}
 
--- A taint is on or off, a scalar is there or not, a set has a kind and its scalars, a counter has a count for each writer,
+-- A taint is on or off, a scalar says which of several values stays and is there or not, a set has a kind and its scalars, a counter has a count for each writer,
 -- a map has a value for each key, and a bag has one for each field.
 mutual
   pub data Value : Type 0 where
     Taint : Bool → Value
-    Scalar : Option ScalarValue → Value
+    Scalar : Pick → Option ScalarValue → Value
     Set : ScalarKind → List ScalarValue → Value
     Counter : List (List ℕ × ℕ) → Value
     Map : Entries → Value
@@ -41,7 +42,7 @@ values_list (value v vs) = v ∷ values_list vs
 abbrev mutual
   pub bottom : Shape → Value
   bottom Shape.Taint = Taint false
-  bottom (Shape.Scalar kind) = Scalar None
+  bottom (Shape.Scalar pick kind) = Scalar pick None
   bottom (Shape.Set kind) = Set kind []
   bottom Shape.Counter = Counter []
   bottom (Shape.Map key shape) = Map no_entry
@@ -55,15 +56,15 @@ abbrev mutual
 abbrev pub AreCounts : List (List ℕ × ℕ) → Type 0
 AreCounts counts = Rises atom_cmp (keys_of counts) × EachPair (λ writer n. n < 2 ^ 64) counts
 
--- The value is of the shape: each scalar is of its kind, the scalars of a set, the writers of a counter and the keys of a
+-- The value is of the shape: each scalar is of its kind and keeps the value that its shape says, the scalars of a set, the writers of a counter and the keys of a
 -- map rise, a count has 64 bits, and a bag has a value for each field.
 abbrev mutual
   pub IsOfShape : Shape → Value → Type 0
   IsOfShape Shape.Taint (Taint on) = Unit {0}
   IsOfShape Shape.Taint other = ⊥
-  IsOfShape (Shape.Scalar kind) (Scalar None) = Unit {0}
-  IsOfShape (Shape.Scalar kind) (Scalar (Some v)) = IsScalarOf kind v
-  IsOfShape (Shape.Scalar kind) other = ⊥
+  IsOfShape (Shape.Scalar pick kind) (Scalar own None) = own ≡ pick
+  IsOfShape (Shape.Scalar pick kind) (Scalar own (Some v)) = (own ≡ pick) × IsScalarOf kind v
+  IsOfShape (Shape.Scalar pick kind) other = ⊥
   IsOfShape (Shape.Set kind) (Set own vs) =
       (own ≡ kind) × Rises scalar_cmp vs × AllByRecursion (IsScalarOf kind) vs
   IsOfShape (Shape.Set kind) other = ⊥
@@ -86,7 +87,7 @@ abbrev mutual
 abbrev mutual
   pub size_of : Value → ℕ
   size_of (Taint on) = 1
-  size_of (Scalar v) = 1
+  size_of (Scalar pick v) = 1
   size_of (Set kind vs) = 1
   size_of (Counter counts) = 1
   size_of (Map es) = 1 + size_of_entries es

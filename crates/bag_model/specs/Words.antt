@@ -7,7 +7,7 @@ use Rattle.bag_model.specs.Scalars.{Word, Boolean, Int32, Int64, Sint32, Sint64,
 
 -- A reserved word: the word of a scalar, or one that begins or is another part of the language.
 pub data Reserved : Type 0 where
-  Import Bag Struct Set Map Counter Taint Float Double : Reserved
+  Import Bag Struct Set Greatest Map Counter Taint Float Double : Reserved
   ScalarWord : Word → Reserved
 
 -- The text of a scalar word.
@@ -32,6 +32,7 @@ reserved_text Import = codes "import"
 reserved_text Bag = codes "bag"
 reserved_text Struct = codes "struct"
 reserved_text Set = codes "set"
+reserved_text Greatest = codes "greatest"
 reserved_text Map = codes "map"
 reserved_text Counter = codes "counter"
 reserved_text Taint = codes "taint"
@@ -47,7 +48,7 @@ scalar_words =
 -- The reserved words, each once.
 abbrev pub all_reserved : List Reserved
 all_reserved =
-    Import ∷ Bag ∷ Struct ∷ Set ∷ Map ∷ Counter ∷ Taint ∷ Float ∷ Double ∷ map ScalarWord scalar_words
+    Import ∷ Bag ∷ Struct ∷ Set ∷ Greatest ∷ Map ∷ Counter ∷ Taint ∷ Float ∷ Double ∷ map ScalarWord scalar_words
 
 -- Their texts.
 abbrev pub reserved_words : List (List ℕ)

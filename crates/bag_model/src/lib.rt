@@ -1,6 +1,7 @@
 //! Definitions and laws of what a context means: scalars with their order and their spellings, the words of the definition
 //! language, shapes of fields and what makes a table of them, slots with their name paths, and views. They stand in
-//! `specs/`, and what is proved of them in `proofs/`. The crates above cite both. The code has their limits alone.
+//! `specs/`, and what is proved of them in `proofs/`. The crates above cite both. The code has their limits, and which of several values a
+//! scalar field keeps.
 #![tactic(auto)]
 
 /// The most levels of headers that the fields of a table take, those of the keys of counters and maps included.
@@ -8,3 +9,10 @@ pub const MAX_LEVELS: usize = 16;
 
 /// The most fields that a table has, with those of all bags inside it.
 pub const MAX_FIELDS: usize = 16_384;
+
+/// Which of several values of a scalar field stays.
+#[derive(Clone, Copy, Debug, PartialEq, Eq)]
+pub enum Pick {
+    Least,
+    Greatest,
+}
