@@ -6,6 +6,7 @@ use Rattle.std.specs.Option.{option_map}
 use Rattle.std.proofs.lemmas.Option.{slice_get-get_or, slice_get-map}
 use Rattle.std.proofs.lemmas.Bool.{cases_lt}
 use Rattle.std.proofs.lemmas.List.{length-map}
+use Rattle.bag_model.specs.declared.Pick.TheVariants as pick
 use Rattle.bag_model.specs.Shapes as model
 use Rattle.bag_model.specs.Slots.{SlotAt, slots_of, slots_in, slot_count, starts, within, dotted, name_path}
 use Rattle.bag_model.specs.Tables.{IsShape, levels, levels_under, nodes_under, node_count}
@@ -103,7 +104,7 @@ ends_are s ready = ap length (open_ends s ∙ (has_indexes s ready.indexed).ends
 -- The shape of the field that holds a slot, where it is no bag, is the slot's.
 pub own_slot : (shape : model.Shape) → ((nodes : model.Nodes) → shape ≢ model.Shape.Bag nodes) → slots_in shape ≡ record { names = []; numbers = []; shape = shape } ∷ []
 own_slot model.Shape.Taint h = refl
-own_slot (model.Shape.Scalar kind) h = refl
+own_slot (model.Shape.Scalar pick kind) h = refl
 own_slot (model.Shape.Set kind) h = refl
 own_slot model.Shape.Counter h = refl
 own_slot (model.Shape.Map key value) h = refl
@@ -141,7 +142,8 @@ no_bag shape h nodes is = by (out-Shape shape) refl
     by (Shape-F.Bag inner) e = h inner (sym (roll-out-Shape shape) ∙ (ap roll-Shape e ∙ variants.rolls-Bag inner))
     by Shape-F.Taint e = let bad : model.Shape.Taint ≡ model.Shape.Bag nodes = plainly Shape-F.Taint e in cc bad
     by Shape-F.Counter e = let bad : model.Shape.Counter ≡ model.Shape.Bag nodes = plainly Shape-F.Counter e in cc bad
-    by (Shape-F.Scalar kind) e = let bad : model.Shape.Scalar (kind_of kind) ≡ model.Shape.Bag nodes = plainly (Shape-F.Scalar kind) e in cc bad
+    by (Shape-F.Scalar kind) e = let bad : model.Shape.Scalar pick.Least (kind_of kind) ≡ model.Shape.Bag nodes = plainly (Shape-F.Scalar kind) e in cc bad
+    by (Shape-F.Greatest kind) e = let bad : model.Shape.Scalar pick.Greatest (kind_of kind) ≡ model.Shape.Bag nodes = plainly (Shape-F.Greatest kind) e in cc bad
     by (Shape-F.Set kind) e = let bad : model.Shape.Set (kind_of kind) ≡ model.Shape.Bag nodes = plainly (Shape-F.Set kind) e in cc bad
     by (Shape-F.Map key value) e = let bad : model.Shape.Map (kind_of key) (plain (kept_shape value.value)) ≡ model.Shape.Bag nodes = plainly (Shape-F.Map key value) e in cc bad
 

@@ -66,7 +66,7 @@ finds_inside nodes inner i f path name rest b shape at named bag is found =
 pub nothing_inside : (own : Shape) → ((nodes : Nodes) → own ≢ Bag nodes) → (rest : List ℕ) (names : List (List ℕ)) (b : ℕ) (shape : Shape) → AreRest names (Some rest) → IsWithin own names b shape → ⊥
 nothing_inside own h rest [] b shape are within = are
 nothing_inside Taint h rest (m ∷ ms) b shape are within = within
-nothing_inside (Scalar kind) h rest (m ∷ ms) b shape are within = within
+nothing_inside (Scalar pick kind) h rest (m ∷ ms) b shape are within = within
 nothing_inside (Set kind) h rest (m ∷ ms) b shape are within = within
 nothing_inside Counter h rest (m ∷ ms) b shape are within = within
 nothing_inside (Map key value) h rest (m ∷ ms) b shape are within = within

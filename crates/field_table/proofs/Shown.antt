@@ -3,6 +3,7 @@ use Rattle.std.proofs.Common.{◌≡◌, ℕ, List, [], ◌∷◌, ◌++◌, sym
 use Rattle.std.specs.Prelude.{Box}
 use Rattle.std.specs.declared.alloc.Global.{Global}
 use Rattle.field_table.specs.declared.shapes.Shape.{Shape}
+use Rattle.bag_model.specs.declared.Pick.TheVariants as pick
 use Rattle.bag_model.specs.Shapes as model
 use Rattle.scalar_types.specs.KindViews.{kind_of}
 use Rattle.scalar_types.specs.declared.kinds.ScalarKind.{ScalarKind}
@@ -20,8 +21,11 @@ kept_taint = ap kept_shape (sym variants.rolls-Taint) ∙ fold-roll-Shape Kept K
 kept_counter : kept_shape variants.Counter ≡ Counter
 kept_counter = ap kept_shape (sym variants.rolls-Counter) ∙ fold-roll-Shape Kept KeptField KeptBag shape_step slot_step slots_step Shape-F.Counter
 
-kept_scalar : (kind : ScalarKind) → kept_shape (variants.Scalar kind) ≡ Scalar (kind_of kind)
+kept_scalar : (kind : ScalarKind) → kept_shape (variants.Scalar kind) ≡ Scalar pick.Least (kind_of kind)
 kept_scalar kind = ap kept_shape (sym (variants.rolls-Scalar kind)) ∙ fold-roll-Shape Kept KeptField KeptBag shape_step slot_step slots_step (Shape-F.Scalar kind)
+
+kept_greatest : (kind : ScalarKind) → kept_shape (variants.Greatest kind) ≡ Scalar pick.Greatest (kind_of kind)
+kept_greatest kind = ap kept_shape (sym (variants.rolls-Greatest kind)) ∙ fold-roll-Shape Kept KeptField KeptBag shape_step slot_step slots_step (Shape-F.Greatest kind)
 
 kept_set : (kind : ScalarKind) → kept_shape (variants.Set kind) ≡ Set (kind_of kind)
 kept_set kind = ap kept_shape (sym (variants.rolls-Set kind)) ∙ fold-roll-Shape Kept KeptField KeptBag shape_step slot_step slots_step (Shape-F.Set kind)
@@ -38,8 +42,11 @@ taint_shown = (ap plain kept_taint, subst IsLoose (sym kept_taint) tt)
 pub counter_shown : (shape_of variants.Counter ≡ model.Shape.Counter) × IsIndexedShape variants.Counter
 counter_shown = (ap plain kept_counter, subst IsLoose (sym kept_counter) tt)
 
-pub scalar_shown : (kind : ScalarKind) → (shape_of (variants.Scalar kind) ≡ model.Shape.Scalar (kind_of kind)) × IsIndexedShape (variants.Scalar kind)
+pub scalar_shown : (kind : ScalarKind) → (shape_of (variants.Scalar kind) ≡ model.Shape.Scalar pick.Least (kind_of kind)) × IsIndexedShape (variants.Scalar kind)
 scalar_shown kind = (ap plain (kept_scalar kind), subst IsLoose (sym (kept_scalar kind)) tt)
+
+pub greatest_shown : (kind : ScalarKind) → (shape_of (variants.Greatest kind) ≡ model.Shape.Scalar pick.Greatest (kind_of kind)) × IsIndexedShape (variants.Greatest kind)
+greatest_shown kind = (ap plain (kept_greatest kind), subst IsLoose (sym (kept_greatest kind)) tt)
 
 pub set_shown : (kind : ScalarKind) → (shape_of (variants.Set kind) ≡ model.Shape.Set (kind_of kind)) × IsIndexedShape (variants.Set kind)
 set_shown kind = (ap plain (kept_set kind), subst IsLoose (sym (kept_set kind)) tt)

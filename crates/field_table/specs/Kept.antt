@@ -6,6 +6,7 @@ use Rattle.std.specs.Ordering.{nat_cmp}
 use Rattle.std.specs.declared.cmp.Ordering.TheVariants.{Less, Greater}
 use Rattle.context_model.specs.Orders.{IsIn}
 use Rattle.bag_model.specs.declared.TheConstants.{MAX_FIELDS}
+use Rattle.bag_model.specs.declared.Pick.{Pick}
 use Rattle.bag_model.specs.Scalars as scalars
 use Rattle.bag_model.specs.Shapes as model
 use Rattle.bag_model.specs.Slots.{slot_count, slots_of, starts}
@@ -15,7 +16,7 @@ mutual
   -- A shape, with the indexes of all bags in it.
   pub data Kept : Type 0 where
     Taint : Kept
-    Scalar : scalars.ScalarKind → Kept
+    Scalar : Pick → scalars.ScalarKind → Kept
     Set : scalars.ScalarKind → Kept
     Counter : Kept
     Map : scalars.ScalarKind → Kept → Kept
@@ -44,7 +45,7 @@ kept_nodes (field ∷ list) = node field.name field.number field.shape (kept_nod
 abbrev mutual
   pub plain : Kept → model.Shape
   plain Taint = model.Shape.Taint
-  plain (Scalar kind) = model.Shape.Scalar kind
+  plain (Scalar pick kind) = model.Shape.Scalar pick kind
   plain (Set kind) = model.Shape.Set kind
   plain Counter = model.Shape.Counter
   plain (Map key value) = model.Shape.Map key (plain value)
@@ -87,7 +88,7 @@ IsInOrder (kept nodes ends by_name) = IsNameOrder (map name (model.fields (plain
 abbrev mutual
   pub IsKept : Kept → Type 0
   IsKept Taint = Unit {0}
-  IsKept (Scalar kind) = Unit {0}
+  IsKept (Scalar pick kind) = Unit {0}
   IsKept (Set kind) = Unit {0}
   IsKept Counter = Unit {0}
   IsKept (Map key value) = IsKept value
@@ -103,7 +104,7 @@ abbrev mutual
 -- The same of a shape that no field has yet: the places in its own bag may be in any order.
 abbrev pub IsLoose : Kept → Type 0
 IsLoose Taint = Unit {0}
-IsLoose (Scalar kind) = Unit {0}
+IsLoose (Scalar pick kind) = Unit {0}
 IsLoose (Set kind) = Unit {0}
 IsLoose Counter = Unit {0}
 IsLoose (Map key value) = IsLoose value

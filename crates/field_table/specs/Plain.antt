@@ -1,5 +1,6 @@
 -- The fields and shapes of the code as plain ones, and what is said of their indexes.
 use Rattle.std.specs.Prelude.{ℕ, List}
+use Rattle.bag_model.specs.declared.Pick.TheVariants.{Least, Greatest}
 use Rattle.bag_model.specs.Shapes as model
 use Rattle.scalar_types.specs.KindViews.{kind_of}
 use Rattle.field_table.specs.declared.shapes.Shape.{Shape}
@@ -11,7 +12,8 @@ use Rattle.field_table.specs.Kept.{Kept, KeptField, KeptBag, kept, kept_nodes, p
 
 abbrev pub shape_step : Shape-F Kept KeptField KeptBag → Kept
 shape_step Shape-F.Taint = Taint
-shape_step (Shape-F.Scalar kind) = Scalar (kind_of kind)
+shape_step (Shape-F.Scalar kind) = Scalar Least (kind_of kind)
+shape_step (Shape-F.Greatest kind) = Scalar Greatest (kind_of kind)
 shape_step (Shape-F.Set kind) = Set (kind_of kind)
 shape_step Shape-F.Counter = Counter
 shape_step (Shape-F.Map key value) = Map (kind_of key) value.value

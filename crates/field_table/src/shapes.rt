@@ -37,7 +37,10 @@ pub struct Slot {
 #[derive(Drop)]
 pub enum Shape {
     Taint,
+    /// A scalar of which the least value stays.
     Scalar(ScalarKind),
+    /// A scalar of which the greatest value stays.
+    Greatest(ScalarKind),
     Set(ScalarKind),
     Counter,
     /// The kind of the keys, and the shape of each value.
@@ -273,6 +276,7 @@ impl Shape {
             Shape::Map(_, value) => value.sort_bag_index(),
             Shape::Taint => {}
             Shape::Scalar(_) => {}
+            Shape::Greatest(_) => {}
             Shape::Set(_) => {}
             Shape::Counter => {}
         }
@@ -286,6 +290,7 @@ impl Shape {
             Shape::Bag(fields) => fields.slot_count(),
             Shape::Taint => 1,
             Shape::Scalar(_) => 1,
+            Shape::Greatest(_) => 1,
             Shape::Set(_) => 1,
             Shape::Counter => 1,
             Shape::Map(_, _) => 1,
