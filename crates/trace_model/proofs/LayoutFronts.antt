@@ -45,8 +45,8 @@ mutual
   pub InLayout-front : (shape : Shape) (q : Path) (v : Value) (f : Path) (a : Atom) (r : Path) → InLayout shape q v (f ++ a ∷ r) → IsFrontOf f q ⊎ InLayout shape q v f
   InLayout-front Taint q (Taint on) f a r l = inl (front_before f r q a (0 ∷ []) l.1)
   InLayout-front Taint q v f a r l = absurd l
-  InLayout-front (Scalar kind) q (Scalar (Some v)) f a r l = inl (front_before f r q a (0 ∷ spelling kind v) l)
-  InLayout-front (Scalar kind) q v f a r l = absurd l
+  InLayout-front (Scalar pick kind) q (Scalar own (Some v)) f a r l = inl (front_before f r q a (0 ∷ spelling kind v) l)
+  InLayout-front (Scalar pick kind) q v f a r l = absurd l
   InLayout-front (Set kind) q (Set own vs) f a r l = inl (front_before f r q a (0 ∷ spelling kind l.0) l.2)
   InLayout-front (Set kind) q v f a r l = absurd l
   InLayout-front Counter q (Counter counts) f a r l = elim l.3 [
@@ -99,7 +99,7 @@ mutual
   -- The paths that a table names end so.
   pub IsUsed-plain : (shape : Shape) (q p : Path) → IsUsed shape q p → EndsPlainly p
   IsUsed-plain Taint q p u = (q, 0, u.0, u.1)
-  IsUsed-plain (Scalar kind) q p u = (q, 0, u.0, u.1)
+  IsUsed-plain (Scalar pick kind) q p u = (q, 0, u.0, u.1)
   IsUsed-plain (Set kind) q p u = (q, 0, u.0, u.1)
   IsUsed-plain Counter q p u = elim u.1 [ inl e ↦ (q, 249 - 8 * length q, u.0, e) | inr d ↦ (key_path q u.0, 0, d.0, d.1) ]
   IsUsed-plain (Map kind shape) q p u = elim u.1 [ inl e ↦ (q, 249 - 8 * length q, u.0, e) | inr d ↦ IsUsed-plain shape (key_path q u.0) p d ]

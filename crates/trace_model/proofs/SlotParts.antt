@@ -35,7 +35,7 @@ module _ (H : Shape → Path → Type 0) (E : Nodes → Path → Type 0) (by_fie
   mutual
     pub in_slot : (shape : Shape) (q : Path) (slot : SlotAt) → IsIn slot (slots_in shape) → H shape q → H slot.shape (slot_path q slot)
     in_slot Taint q slot i h = own_there Taint q slot i h
-    in_slot (Scalar kind) q slot i h = own_there (Scalar kind) q slot i h
+    in_slot (Scalar pick kind) q slot i h = own_there (Scalar pick kind) q slot i h
     in_slot (Set kind) q slot i h = own_there (Set kind) q slot i h
     in_slot Counter q slot i h = own_there Counter q slot i h
     in_slot (Map kind shape) q slot i h = own_there (Map kind shape) q slot i h
@@ -61,7 +61,7 @@ module _ (H : Shape → Path → Type 0) (E : Nodes → Path → Type 0) (by_fie
   mutual
     pub from_slots_in : (shape : Shape) (q : Path) → ((slot : SlotAt) → IsIn slot (slots_in shape) → H slot.shape (slot_path q slot)) → H shape q
     from_slots_in Taint q f = own_back Taint q f
-    from_slots_in (Scalar kind) q f = own_back (Scalar kind) q f
+    from_slots_in (Scalar pick kind) q f = own_back (Scalar pick kind) q f
     from_slots_in (Set kind) q f = own_back (Set kind) q f
     from_slots_in Counter q f = own_back Counter q f
     from_slots_in (Map kind shape) q f = own_back (Map kind shape) q f
