@@ -179,11 +179,11 @@ IsWellFormed-take n list w = IsWellFormed-front (take n list) (drop n list) (sub
 -- a trimmed well-formed list is well formed
 pub trimmed-well_formed : TrimsWellFormed
 unfolding trimmed
-trimmed-well_formed list budget w = by (nat_le (size_of list) budget)
+trimmed-well_formed form list budget w = by (nat_le (size_of form list) budget)
   where
-    by : (b : Bool) → IsWellFormed (cond b list (cut_at (kept_of list budget) list))
+    by : (b : Bool) → IsWellFormed (cond b list (cut_at (kept_of form list budget) list))
     by true = w
-    by false = IsWellFormed-cut (kept_of list budget) list w
+    by false = IsWellFormed-cut (kept_of form list budget) list w
 
 pub IsWellFormed-empty : IsWellFormed []
 IsWellFormed-empty = record { kinds = tt; levels = tt; order = tt }

@@ -4,6 +4,11 @@ pub mod EndedLaws
 pub mod Following
 pub mod Frames
 pub mod FramingLaws
+pub mod LengthCodes
+pub mod Heads
+pub mod FirstFaults
+pub mod FramingRows
+pub mod UnsignedFronts
 pub mod KindLaws
 pub mod Leaving
 pub mod OrderLaws

@@ -3,7 +3,8 @@ use Rattle.std.proofs.Common.{◌≡◌, List, [], ◌∷◌, refl, arith}
 use Rattle.context_model.specs.Atoms.{Atom}
 use Rattle.context_model.specs.Orders.{atom_cmp}
 use Rattle.context_model.specs.Merge.{greedy_merge}
-use Rattle.context_model.specs.Framing.{length_code, bytes_of}
+use Rattle.context_model.specs.declared.Form.TheVariants.{One}
+use Rattle.context_model.specs.Framing.{base_128, bytes_of}
 use Rattle.context_model.specs.Kinds.Kind.{Datum, Indexed, Keyed}
 use Rattle.context_model.specs.Varints.{unsigned_varint, unsigned_form, unsigned_tail}
 use Rattle.context_model.specs.WellFormed.{IsWellFormed}
@@ -28,16 +29,16 @@ four_five = refl
 five_four : greedy_merge atom_cmp at_five at_four ≡ at_both
 five_four = refl
 
-four_bytes : bytes_of at_four ≡ 2 ∷ 0xf8 ∷ 4 ∷ 2 ∷ 0xf1 ∷ 0x78 ∷ 2 ∷ 0 ∷ 1 ∷ []
-unfolding length_code
+four_bytes : bytes_of One at_four ≡ 2 ∷ 0xf8 ∷ 4 ∷ 2 ∷ 0xf1 ∷ 0x78 ∷ 2 ∷ 0 ∷ 1 ∷ []
+unfolding base_128
 four_bytes = refl
 
-five_bytes : bytes_of at_five ≡ 2 ∷ 0xf8 ∷ 5 ∷ 2 ∷ 0xf1 ∷ 0x78 ∷ 2 ∷ 0 ∷ 1 ∷ []
-unfolding length_code
+five_bytes : bytes_of One at_five ≡ 2 ∷ 0xf8 ∷ 5 ∷ 2 ∷ 0xf1 ∷ 0x78 ∷ 2 ∷ 0 ∷ 1 ∷ []
+unfolding base_128
 five_bytes = refl
 
-both_bytes : bytes_of (merge_of (at_four ∷ at_five ∷ [])) ≡ 2 ∷ 0xf8 ∷ 4 ∷ 2 ∷ 0xf1 ∷ 0x78 ∷ 2 ∷ 0 ∷ 1 ∷ 2 ∷ 0xf8 ∷ 5 ∷ 2 ∷ 0xf1 ∷ 0x78 ∷ 2 ∷ 0 ∷ 1 ∷ []
-unfolding length_code
+both_bytes : bytes_of One (merge_of (at_four ∷ at_five ∷ [])) ≡ 2 ∷ 0xf8 ∷ 4 ∷ 2 ∷ 0xf1 ∷ 0x78 ∷ 2 ∷ 0 ∷ 1 ∷ 2 ∷ 0xf8 ∷ 5 ∷ 2 ∷ 0xf1 ∷ 0x78 ∷ 2 ∷ 0 ∷ 1 ∷ []
+unfolding base_128
 both_bytes = refl
 
 -- both lists are well formed, and this is their merge
@@ -98,16 +99,16 @@ cut_whole = refl
 whole_cut : greedy_merge atom_cmp whole cut ≡ cut_and_whole
 whole_cut = refl
 
-cut_bytes : bytes_of cut ≡ 2 ∷ 0xf8 ∷ 0 ∷ 0 ∷ []
-unfolding length_code
+cut_bytes : bytes_of One cut ≡ 2 ∷ 0xf8 ∷ 0 ∷ 0 ∷ []
+unfolding base_128
 cut_bytes = refl
 
-whole_bytes : bytes_of whole ≡ 2 ∷ 0xf8 ∷ 0 ∷ 5 ∷ 0 ∷ 0 ∷ 0 ∷ 0 ∷ 7 ∷ 2 ∷ 0xf8 ∷ 1 ∷ []
-unfolding length_code
+whole_bytes : bytes_of One whole ≡ 2 ∷ 0xf8 ∷ 0 ∷ 5 ∷ 0 ∷ 0 ∷ 0 ∷ 0 ∷ 7 ∷ 2 ∷ 0xf8 ∷ 1 ∷ []
+unfolding base_128
 whole_bytes = refl
 
-cut_whole_bytes : bytes_of (merge_of (cut ∷ whole ∷ [])) ≡ 2 ∷ 0xf8 ∷ 0 ∷ 0 ∷ 5 ∷ 0 ∷ 0 ∷ 0 ∷ 0 ∷ 7 ∷ 2 ∷ 0xf8 ∷ 1 ∷ []
-unfolding length_code
+cut_whole_bytes : bytes_of One (merge_of (cut ∷ whole ∷ [])) ≡ 2 ∷ 0xf8 ∷ 0 ∷ 0 ∷ 5 ∷ 0 ∷ 0 ∷ 0 ∷ 0 ∷ 7 ∷ 2 ∷ 0xf8 ∷ 1 ∷ []
+unfolding base_128
 cut_whole_bytes = refl
 
 behind_in_part : HasMarkerBehind cut ((0xf8 ∷ 0 ∷ []) ∷ [])

@@ -3,7 +3,7 @@ use Rattle.std.proofs.Common.{◌≡◌, ℕ, zero, suc, ◌<◌, ◌≤◌, ◌
 use Rattle.std.proofs.lemmas.Bool.{cases_order}
 use Rattle.context_model.specs.Atoms.{Atom}
 use Rattle.context_model.specs.ByteCodes.{ByteCode}
-use Rattle.context_model.specs.ByteCodes.ByteCode.{CutLength, AtomTooLong, LongForm, CutBody, BadPrefix, BadIndex, LevelJump, OutOfOrder}
+use Rattle.context_model.specs.ByteCodes.ByteCode.{CutLength, BadCount, AtomTooLong, LongForm, CutBody, BadPrefix, BadIndex, LevelJump, OutOfOrder}
 use Rattle.context_model.specs.Kinds.{HasKind}
 use Rattle.context_model.specs.Orders.{Path}
 use Rattle.context_model.specs.Paths.{level, header_count, last_path_after}
@@ -18,6 +18,7 @@ wrong_apart BadIndex q a w k f = w.none k
 wrong_apart LevelJump q a w k f = let l : level a ≤ header_count q = f.level (w.1.0) in omega (arith, w.1.1)
 wrong_apart OutOfOrder q a w k f = w.2 f.later
 wrong_apart CutLength q a w k f = w
+wrong_apart BadCount q a w k f = w
 wrong_apart AtomTooLong q a w k f = w
 wrong_apart LongForm q a w k f = w
 wrong_apart CutBody q a w k f = w
@@ -41,10 +42,12 @@ wrong_unique OutOfOrder BadIndex q a w v = absurd (v.none w.0)
 wrong_unique OutOfOrder LevelJump q a w v = absurd (w.1 v.1)
 wrong_unique OutOfOrder OutOfOrder q a w v = refl
 wrong_unique CutLength d q a w v = absurd w
+wrong_unique BadCount d q a w v = absurd w
 wrong_unique AtomTooLong d q a w v = absurd w
 wrong_unique LongForm d q a w v = absurd w
 wrong_unique CutBody d q a w v = absurd w
 wrong_unique c CutLength q a w v = absurd v
+wrong_unique c BadCount q a w v = absurd v
 wrong_unique c AtomTooLong q a w v = absurd v
 wrong_unique c LongForm q a w v = absurd v
 wrong_unique c CutBody q a w v = absurd v

@@ -4,7 +4,9 @@ use Rattle.std.proofs.lemmas.List.{length-take-le, take-append-le, take-take, ta
 use Rattle.std.proofs.lemmas.Bool.{cases_lt}
 use Rattle.std.proofs.lemmas.Bool.Decides.{nat_tests}
 use Rattle.context_model.specs.Atoms.{Atom}
-use Rattle.context_model.specs.Framing.{size_of}
+use Rattle.context_model.specs.declared.Form.{Form}
+use Rattle.context_model.specs.declared.Form.TheVariants.{One, Two}
+use Rattle.context_model.specs.Framing.{head_len, size_of, least_budget}
 use Rattle.context_model.specs.Trimmed.{cut_at, greatest, kept_of, trimmed, IsLongestFit, KeepsLongest, CutsOnce}
 use Rattle.context_model.proofs.FramingLaws.{size_of-cut, size_of-front, size_of-take-le, size_of-grows}
 
@@ -37,55 +39,60 @@ le-greatest test (suc n) m within passes = by (λ below. le-greatest test n m be
     ]
 
 -- The test that kept_of asks.
-abbrev fits_in : List Atom → ℕ → ℕ → Bool
-fits_in list budget n = nat_le (size_of (cut_at n list)) budget
+abbrev fits_in : Form → List Atom → ℕ → ℕ → Bool
+fits_in form list budget n = nat_le (size_of form (cut_at n list)) budget
+
+-- No atoms have the head's bytes.
+size_of-nothing : (form : Form) → size_of form [] ≡ head_len form
+size_of-nothing One = refl
+size_of-nothing Two = refl
 
 -- What kept_of and trimmed answer, by whether the list fits.
-pub kept_of-fits : (list : List Atom) (budget : ℕ) → size_of list ≤ budget → kept_of list budget ≡ length list
+pub kept_of-fits : (form : Form) (list : List Atom) (budget : ℕ) → size_of form list ≤ budget → kept_of form list budget ≡ length list
 unfolding kept_of
-kept_of-fits list budget fits = grind (arith, nat_tests)
+kept_of-fits form list budget fits = grind (arith, nat_tests)
 
-pub kept_of-cut : (list : List Atom) (budget : ℕ) → budget < size_of list → kept_of list budget ≡ greatest (fits_in list budget) (length list)
+pub kept_of-cut : (form : Form) (list : List Atom) (budget : ℕ) → budget < size_of form list → kept_of form list budget ≡ greatest (fits_in form list budget) (length list)
 unfolding kept_of
-kept_of-cut list budget over = grind (arith, nat_tests)
+kept_of-cut form list budget over = grind (arith, nat_tests)
 
-pub trimmed-fits : (list : List Atom) (budget : ℕ) → size_of list ≤ budget → trimmed list budget ≡ list
+pub trimmed-fits : (form : Form) (list : List Atom) (budget : ℕ) → size_of form list ≤ budget → trimmed form list budget ≡ list
 unfolding trimmed
-trimmed-fits list budget fits = grind (arith, nat_tests)
+trimmed-fits form list budget fits = grind (arith, nat_tests)
 
-pub trimmed-cut : (list : List Atom) (budget : ℕ) → budget < size_of list → trimmed list budget ≡ cut_at (kept_of list budget) list
+pub trimmed-cut : (form : Form) (list : List Atom) (budget : ℕ) → budget < size_of form list → trimmed form list budget ≡ cut_at (kept_of form list budget) list
 unfolding trimmed
-trimmed-cut list budget over = grind (arith, nat_tests)
+trimmed-cut form list budget over = grind (arith, nat_tests)
 
 -- The longest front that fits is one.
-pub IsLongestFit-unique : (list : List Atom) (budget i j : ℕ) → IsLongestFit list budget i → IsLongestFit list budget j → i ≡ j
-IsLongestFit-unique list budget i j a b =
+pub IsLongestFit-unique : (form : Form) (list : List Atom) (budget i j : ℕ) → IsLongestFit form list budget i → IsLongestFit form list budget j → i ≡ j
+IsLongestFit-unique form list budget i j a b =
     let up : i ≤ j = b.longest i (let w = a.within in omega arith) a.fits in
     let down : j ≤ i = a.longest j (let w = b.within in omega arith) b.fits in
     omega arith
 
 -- A list that doesn't fit keeps its longest front that fits with a marker behind it.
 pub keeps_longest : KeepsLongest
-keeps_longest list budget some over =
-    let test = fits_in list budget in
+keeps_longest form list budget some over =
+    let test = fits_in form list budget in
     let n = length list in
     let keep = greatest test n in
     let upto : keep ≤ n = greatest-le test n in
-    let fits : size_of (cut_at keep list) ≤ budget = elim (greatest-passes test n) [
-      | inl passes ↦ leb-true (size_of (cut_at keep list)) budget passes
-      | inr none ↦ subst (λ k. size_of (cut_at k list) ≤ budget) (sym none) (let one = size_of-cut 0 list in omega arith)
+    let fits : size_of form (cut_at keep list) ≤ budget = elim (greatest-passes test n) [
+      | inl passes ↦ leb-true (size_of form (cut_at keep list)) budget passes
+      | inr none ↦ subst (λ k. size_of form (cut_at k list) ≤ budget) (sym none) (let one = size_of-cut form 0 list in let none = size_of-nothing form in omega arith)
     ] in
-    let whole : size_of (take n list) ≡ size_of list = ap size_of (take_all n list (omega arith)) in
+    let whole : size_of form (take n list) ≡ size_of form list = ap (size_of form) (take_all n list (omega arith)) in
     let within : keep < n = elim (cases_lt keep n) [
       | inl less ↦ less
       | inr all ↦ (let same : keep ≡ n = omega arith in
-          let cut : size_of (cut_at n list) ≤ budget = subst (λ k. size_of (cut_at k list) ≤ budget) same fits in
-          let more = size_of-cut n list in absurd (omega arith))
+          let cut : size_of form (cut_at n list) ≤ budget = subst (λ k. size_of form (cut_at k list) ≤ budget) same fits in
+          let more = size_of-cut form n list in absurd (omega arith))
     ] in
-    subst (λ k. IsLongestFit list budget k) (sym (kept_of-cut list budget over)) (record {
+    subst (λ k. IsLongestFit form list budget k) (sym (kept_of-cut form list budget over)) (record {
       within = within;
       fits = fits;
-      longest = λ m upto_all fit. le-greatest test n m upto_all (le-leb (size_of (cut_at m list)) budget fit);
+      longest = λ m upto_all fit. le-greatest test n m upto_all (le-leb (size_of form (cut_at m list)) budget fit);
     })
 
 -- The front with its marker, cut again at most as far, is the list cut there.
@@ -99,57 +106,57 @@ length-cut_at : (k : ℕ) (list : List Atom) → k ≤ length list → length (c
 length-cut_at k list within = length-append (take k list) ([] ∷ []) ∙ ap (λ n. n + 1) (length-take-le k list within)
 
 -- To cut the list that was cut at k once more is to cut the list, for a budget below the first.
-cuts_again : (list : List Atom) (b k : ℕ) → 0 < b → b < size_of list → k < length list → ((n : ℕ) → n ≤ length list → size_of (cut_at n list) ≤ b → n ≤ k)
-    → trimmed (cut_at k list) b ≡ cut_at (kept_of list b) list
-cuts_again list b k some over within bound =
+cuts_again : (form : Form) (list : List Atom) (b k : ℕ) → least_budget form ≤ b → b < size_of form list → k < length list → ((n : ℕ) → n ≤ length list → size_of form (cut_at n list) ≤ b → n ≤ k)
+    → trimmed form (cut_at k list) b ≡ cut_at (kept_of form list b) list
+cuts_again form list b k some over within bound =
     let cut = cut_at k list in
-    let at : ℕ = kept_of list b in
-    let fit : IsLongestFit list b at = keeps_longest list b some over in
+    let at : ℕ = kept_of form list b in
+    let fit : IsLongestFit form list b at = keeps_longest form list b some over in
     let at_k : at ≤ k = bound at (let w = fit.within in omega arith) fit.fits in
-    elim (cases_lt b (size_of cut)) [
+    elim (cases_lt b (size_of form cut)) [
       | inl more ↦ (
-          let again : IsLongestFit cut b (kept_of cut b) = keeps_longest cut b some more in
+          let again : IsLongestFit form cut b (kept_of form cut b) = keeps_longest form cut b some more in
           let len : length cut ≡ k + 1 = length-cut_at k list (omega arith) in
-          let m : ℕ = kept_of cut b in
+          let m : ℕ = kept_of form cut b in
           let m_k : m ≤ k = (let w = again.within in omega arith) in
           let same : cut_at m cut ≡ cut_at m list = cut_at-cut_at m k list m_k (omega arith) in
-          let up : m ≤ at = fit.longest m (omega arith) (subst (λ xs. size_of xs ≤ b) same again.fits) in
-          let down : at ≤ m = again.longest at (omega arith) (subst (λ xs. size_of xs ≤ b) (sym (cut_at-cut_at at k list at_k (omega arith))) fit.fits) in
+          let up : m ≤ at = fit.longest m (omega arith) (subst (λ xs. size_of form xs ≤ b) same again.fits) in
+          let down : at ≤ m = again.longest at (omega arith) (subst (λ xs. size_of form xs ≤ b) (sym (cut_at-cut_at at k list at_k (omega arith))) fit.fits) in
           let equal : m ≡ at = omega arith in
-          trimmed-cut cut b more ∙ same ∙ ap (λ n. cut_at n list) equal
+          trimmed-cut form cut b more ∙ same ∙ ap (λ n. cut_at n list) equal
           )
       | inr fits ↦ (
           let up : k ≤ at = fit.longest k (omega arith) fits in
           let equal : k ≡ at = omega arith in
-          trimmed-fits cut b fits ∙ ap (λ n. cut_at n list) equal
+          trimmed-fits form cut b fits ∙ ap (λ n. cut_at n list) equal
           )
     ]
 
 -- To trim to one budget and then to another is to trim to the lesser of the two.
 pub cuts_once : CutsOnce
-cuts_once list a b some_a some_b = elim (cases_lt a (size_of list)) [
-  | inr fits ↦ rw (trimmed-fits list a fits) (
+cuts_once form list a b some_a some_b = elim (cases_lt a (size_of form list)) [
+  | inr fits ↦ rw (trimmed-fits form list a fits) (
       elim (cases_lt a b) [
         | inl less ↦ (
             let least : min a b ≡ a = omega arith in
-            trimmed-fits list b (omega arith) ∙ sym (trimmed-fits list a fits) ∙ ap (trimmed list) (sym least)
+            trimmed-fits form list b (omega arith) ∙ sym (trimmed-fits form list a fits) ∙ ap (trimmed form list) (sym least)
             )
-        | inr not_less ↦ (let least : min a b ≡ b = omega arith in ap (trimmed list) (sym least))
+        | inr not_less ↦ (let least : min a b ≡ b = omega arith in ap (trimmed form list) (sym least))
       ]
       )
   | inl over ↦ (
-      let k : ℕ = kept_of list a in
-      let fit : IsLongestFit list a k = keeps_longest list a some_a over in
-      rw (trimmed-cut list a over) (
+      let k : ℕ = kept_of form list a in
+      let fit : IsLongestFit form list a k = keeps_longest form list a some_a over in
+      rw (trimmed-cut form list a over) (
       elim (cases_lt b a) [
         | inl less ↦ (
             let least : min a b ≡ b = omega arith in
-            cuts_again list b k some_b (omega arith) fit.within (λ n upto fits. fit.longest n upto (omega arith))
-            ∙ sym (trimmed-cut list b (omega arith)) ∙ ap (trimmed list) (sym least)
+            cuts_again form list b k some_b (omega arith) fit.within (λ n upto fits. fit.longest n upto (omega arith))
+            ∙ sym (trimmed-cut form list b (omega arith)) ∙ ap (trimmed form list) (sym least)
             )
         | inr not_less ↦ (
             let least : min a b ≡ a = omega arith in
-            trimmed-fits (cut_at k list) b (let f = fit.fits in omega arith) ∙ sym (trimmed-cut list a over) ∙ ap (trimmed list) (sym least)
+            trimmed-fits form (cut_at k list) b (let f = fit.fits in omega arith) ∙ sym (trimmed-cut form list a over) ∙ ap (trimmed form list) (sym least)
             )
       ]
       )
@@ -157,45 +164,45 @@ cuts_once list a b some_a some_b = elim (cases_lt a (size_of list)) [
 ]
 
 -- The longest front that fits ends at the first atom with which the budget is passed, or one before where no byte is left for the marker.
-fit_before : (list : List Atom) (budget i : ℕ) → 0 < budget → i < length list → size_of (take i list) ≤ budget → budget < size_of (take (i + 1) list)
-    → IsLongestFit list budget (if nat_lt (size_of (take i list)) budget then i else i - 1)
-fit_before list budget i some within fits over = elim (cases_lt (size_of (take i list)) budget) [
+fit_before : (form : Form) (list : List Atom) (budget i : ℕ) → least_budget form ≤ budget → i < length list → size_of form (take i list) ≤ budget → budget < size_of form (take (i + 1) list)
+    → IsLongestFit form list budget (if nat_lt (size_of form (take i list)) budget then i else i - 1)
+fit_before form list budget i some within fits over = elim (cases_lt (size_of form (take i list)) budget) [
   | inl room ↦ (
-      let here : (if nat_lt (size_of (take i list)) budget then i else i - 1) ≡ i = grind (arith, nat_tests) in
-      subst (IsLongestFit list budget) (sym here) (record {
+      let here : (if nat_lt (size_of form (take i list)) budget then i else i - 1) ≡ i = grind (arith, nat_tests) in
+      subst (IsLongestFit form list budget) (sym here) (record {
         within = within;
-        fits = let e = size_of-cut i list in omega arith;
+        fits = let e = size_of-cut form i list in omega arith;
         longest = λ n upto fit. (
-            let e = size_of-cut n list in
-            elim (cases_lt i n) [ inl more ↦ (let m = size_of-take-le (i + 1) n list (omega arith) in absurd (omega arith)) | inr less ↦ less ]
+            let e = size_of-cut form n list in
+            elim (cases_lt i n) [ inl more ↦ (let m = size_of-take-le form (i + 1) n list (omega arith) in absurd (omega arith)) | inr less ↦ less ]
             );
       })
       )
   | inr full ↦ (
-      let here : (if nat_lt (size_of (take i list)) budget then i else i - 1) ≡ i - 1 = grind (arith, nat_tests) in
-      let later : 0 < i = elim (cases_lt 0 i) [ inl more ↦ more | inr first ↦ (let z : i ≡ 0 = omega arith in let e : size_of (take i list) ≡ 0 = ap (λ k. size_of (take k list)) z in absurd (omega arith)) ] in
-      let grows : size_of (take (i - 1) list) + 1 ≤ size_of (take (i - 1 + 1) list) = size_of-grows list (i - 1) (omega arith) in
-      let back : size_of (take (i - 1 + 1) list) ≡ size_of (take i list) = ap (λ k. size_of (take k list)) (omega arith) in
-      subst (IsLongestFit list budget) (sym here) (record {
+      let here : (if nat_lt (size_of form (take i list)) budget then i else i - 1) ≡ i - 1 = grind (arith, nat_tests) in
+      let later : 0 < i = elim (cases_lt 0 i) [ inl more ↦ more | inr first ↦ (let z : i ≡ 0 = omega arith in let e : size_of form (take i list) ≡ size_of form [] = ap (λ k. size_of form (take k list)) z in let none = size_of-nothing form in absurd (omega arith)) ] in
+      let grows : size_of form (take (i - 1) list) + 1 ≤ size_of form (take (i - 1 + 1) list) = size_of-grows form list (i - 1) (omega arith) in
+      let back : size_of form (take (i - 1 + 1) list) ≡ size_of form (take i list) = ap (λ k. size_of form (take k list)) (omega arith) in
+      subst (IsLongestFit form list budget) (sym here) (record {
         within = omega arith;
-        fits = let e = size_of-cut (i - 1) list in omega arith;
+        fits = let e = size_of-cut form (i - 1) list in omega arith;
         longest = λ n upto fit. (
-            let e = size_of-cut n list in
-            elim (cases_lt (i - 1) n) [ inl more ↦ (let m = size_of-take-le i n list (omega arith) in absurd (omega arith)) | inr less ↦ less ]
+            let e = size_of-cut form n list in
+            elim (cases_lt (i - 1) n) [ inl more ↦ (let m = size_of-take-le form i n list (omega arith) in absurd (omega arith)) | inr less ↦ less ]
             );
       })
       )
 ]
 
-pub kept_of-before : (list : List Atom) (budget i : ℕ) → 0 < budget → i < length list → size_of (take i list) ≤ budget → budget < size_of (take (i + 1) list)
-    → kept_of list budget ≡ (if nat_lt (size_of (take i list)) budget then i else i - 1)
-kept_of-before list budget i some within fits over =
-    let more : budget < size_of list = (let f = size_of-front (i + 1) list in omega arith) in
-    IsLongestFit-unique list budget _ _ (keeps_longest list budget some more) (fit_before list budget i some within fits over)
+pub kept_of-before : (form : Form) (list : List Atom) (budget i : ℕ) → least_budget form ≤ budget → i < length list → size_of form (take i list) ≤ budget → budget < size_of form (take (i + 1) list)
+    → kept_of form list budget ≡ (if nat_lt (size_of form (take i list)) budget then i else i - 1)
+kept_of-before form list budget i some within fits over =
+    let more : budget < size_of form list = (let f = size_of-front form (i + 1) list in omega arith) in
+    IsLongestFit-unique form list budget _ _ (keeps_longest form list budget some more) (fit_before form list budget i some within fits over)
 
 -- All atoms stay exactly where the list fits.
-pub kept_of-all : (list : List Atom) (budget : ℕ) → 0 < budget → length list ≤ kept_of list budget → size_of list ≤ budget
-kept_of-all list budget some all = elim (cases_lt budget (size_of list)) [
-  | inl over ↦ (let fit = keeps_longest list budget some over in let w = fit.within in absurd (omega arith))
+pub kept_of-all : (form : Form) (list : List Atom) (budget : ℕ) → least_budget form ≤ budget → length list ≤ kept_of form list budget → size_of form list ≤ budget
+kept_of-all form list budget some all = elim (cases_lt budget (size_of form list)) [
+  | inl over ↦ (let fit = keeps_longest form list budget some over in let w = fit.within in absurd (omega arith))
   | inr fits ↦ fits
 ]

@@ -1,31 +1,39 @@
 -- The first fault of bytes that aren't those of a context.
-use Rattle.std.specs.Prelude.{◌≡◌, ◌⊎◌, ℕ, ◌<◌, ◌≤◌, List, ◌++◌, length, take, drop, [], Some}
-use Rattle.outside.specs.declared.TheConstants.{ATOM_MAX}
+use Rattle.std.specs.Prelude.{◌≡◌, ◌⊎◌, ℕ, ◌<◌, ◌≤◌, List, ◌++◌, length, take, drop, []}
+use Rattle.context_model.specs.declared.Form.{Form}
 use Rattle.context_model.specs.Atoms.{Atom, AreAtoms}
-use Rattle.context_model.specs.Framing.{frame, bytes_of}
+use Rattle.context_model.specs.Framing.{frame, frames, most, AreWithin, IsBytesOf}
 use Rattle.context_model.specs.ByteCodes.{ByteCode}
 use Rattle.context_model.specs.Paths.{last_path_after}
 use Rattle.context_model.specs.WellFormed.{IsWellFormed}
-use Rattle.context_model.specs.WireFault.{wire_code}
+use Rattle.context_model.specs.WireFault.{IsUnframed, FirstFault}
 use Rattle.context_model.specs.ShapeFault.{IsWrong}
 
 -- The bytes are those of a context.
 abbrev pub IsContextOf : List Atom → List ℕ → Type 0
-IsContextOf list bytes = AreAtoms list × IsWellFormed list × (bytes ≡ bytes_of list)
+IsContextOf list bytes = AreAtoms list × IsWellFormed list × IsBytesOf list bytes
 
--- This is wrong with the bytes behind a list: they begin with no atom, or with one that may not stand there.
-abbrev pub IsWrongBehind : List Atom → List ℕ → ByteCode → Type 0
-IsWrongBehind list rest code =
-    (wire_code rest ≡ Some code)
-    ⊎ ((atom : Atom) × (more : List ℕ) × (length atom ≤ ATOM_MAX) × (rest ≡ frame atom ++ more) × IsWrong code (last_path_after [] list) atom)
+-- The bytes are the frames of a well-formed list.
+abbrev pub IsFrontOf : Form → List Atom → List ℕ → Type 0
+IsFrontOf form list bytes = AreWithin form list × IsWellFormed list × (bytes ≡ frames form list)
 
--- The longest front that is the bytes of a context ends before the input does, and this is wrong with what follows.
-pub record IsFirstContextFault (bytes : List ℕ) (offset : ℕ) (code : ByteCode) : Type 0 where
+-- This is wrong with the bytes behind the frames of a list: they begin with no frame, or with that of an atom that may not stand
+-- there.
+abbrev pub IsWrongBehind : Form → List Atom → List ℕ → ByteCode → Type 0
+IsWrongBehind form list rest code =
+    IsUnframed form rest code
+    ⊎ ((atom : Atom) × (more : List ℕ) × (length atom ≤ most form) × (rest ≡ frame form atom ++ more) × IsWrong code (last_path_after [] list) atom)
+
+-- The longest front that is the frames of a well-formed list ends before the bytes do, and this is wrong with what follows.
+pub record IsFirstUnformed (form : Form) (bytes : List ℕ) (offset : ℕ) (code : ByteCode) : Type 0 where
   pub list : List Atom
   pub within : offset < length bytes
-  pub front : IsContextOf list (take offset bytes)
-  pub longest : (n : ℕ) (other : List Atom) → n ≤ length bytes → IsContextOf other (take n bytes) → n ≤ offset
-  pub applies : IsWrongBehind list (drop offset bytes) code
+  pub front : IsFrontOf form list (take offset bytes)
+  pub longest : (n : ℕ) (other : List Atom) → n ≤ length bytes → IsFrontOf form other (take n bytes) → n ≤ offset
+  pub applies : IsWrongBehind form list (drop offset bytes) code
+
+abbrev pub IsFirstContextFault : List ℕ → ℕ → ByteCode → Type 0
+IsFirstContextFault = FirstFault IsFirstUnformed
 
 -- Bytes are those of at most one context, have at most one first fault, and never both.
 pub record HasOneContext (bytes : List ℕ) : Type 0 where

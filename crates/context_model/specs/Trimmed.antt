@@ -1,7 +1,8 @@
 -- A list that is cut to a budget of bytes, with a marker where something was cut off.
 use Rattle.std.specs.Prelude.{◌≡◌, ℕ, ◌<◌, ◌≤◌, zero, suc, Bool, List, [], ◌∷◌, ◌++◌, length, take, min, nat_le, if◌then◌else◌}
+use Rattle.context_model.specs.declared.Form.{Form}
 use Rattle.context_model.specs.Atoms.{Atom}
-use Rattle.context_model.specs.Framing.{size_of}
+use Rattle.context_model.specs.Framing.{size_of, least_budget}
 
 -- The first n atoms, and a marker behind them.
 abbrev pub cut_at : ℕ → List Atom → List Atom
@@ -12,26 +13,29 @@ abbrev pub greatest : (ℕ → Bool) → ℕ → ℕ
 greatest test zero = 0
 greatest test (suc n) = if test (suc n) then suc n else greatest test n
 
--- How many atoms stay: all of them where the list fits the budget, and otherwise as many as fit with a marker behind them.
-unfoldable pub kept_of : List Atom → ℕ → ℕ
-kept_of list budget =
-    if nat_le (size_of list) budget then length list
-    else greatest (λ n. nat_le (size_of (cut_at n list)) budget) (length list)
+-- How many atoms stay where this form is asked for: all of them where the list fits the budget, and otherwise as many as fit with a
+-- marker behind them.
+unfoldable pub kept_of : Form → List Atom → ℕ → ℕ
+kept_of form list budget =
+    if nat_le (size_of form list) budget then length list
+    else greatest (λ n. nat_le (size_of form (cut_at n list)) budget) (length list)
 
 -- The list where it fits the budget, and otherwise the atoms that stay and a marker.
-unfoldable pub trimmed : List Atom → ℕ → List Atom
-trimmed list budget = if nat_le (size_of list) budget then list else cut_at (kept_of list budget) list
+unfoldable pub trimmed : Form → List Atom → ℕ → List Atom
+trimmed form list budget = if nat_le (size_of form list) budget then list else cut_at (kept_of form list budget) list
 
 -- So many first atoms, and not all, fit the budget with a marker behind them, and no more do.
-pub record IsLongestFit (list : List Atom) (budget keep : ℕ) : Type 0 where
+pub record IsLongestFit (form : Form) (list : List Atom) (budget keep : ℕ) : Type 0 where
   pub within : keep < length list
-  pub fits : size_of (cut_at keep list) ≤ budget
-  pub longest : (n : ℕ) → n ≤ length list → size_of (cut_at n list) ≤ budget → n ≤ keep
+  pub fits : size_of form (cut_at keep list) ≤ budget
+  pub longest : (n : ℕ) → n ≤ length list → size_of form (cut_at n list) ≤ budget → n ≤ keep
 
 -- A list that doesn't fit keeps its longest front that fits with a marker behind it.
 abbrev pub KeepsLongest : Type 0
-KeepsLongest = (list : List Atom) (budget : ℕ) → 0 < budget → budget < size_of list → IsLongestFit list budget (kept_of list budget)
+KeepsLongest = (form : Form) (list : List Atom) (budget : ℕ)
+    → least_budget form ≤ budget → budget < size_of form list → IsLongestFit form list budget (kept_of form list budget)
 
--- To trim to one budget and then to another is to trim to the lesser of the two.
+-- To trim to one budget and then to another, in one form, is to trim to the lesser of the two.
 abbrev pub CutsOnce : Type 0
-CutsOnce = (list : List Atom) (a b : ℕ) → 0 < a → 0 < b → trimmed (trimmed list a) b ≡ trimmed list (min a b)
+CutsOnce = (form : Form) (list : List Atom) (a b : ℕ)
+    → least_budget form ≤ a → least_budget form ≤ b → trimmed form (trimmed form list a) b ≡ trimmed form list (min a b)

@@ -1,5 +1,6 @@
 -- Numbers as byte strings whose order is that of the numbers: varints, unsigned and signed.
-use Rattle.std.specs.Prelude.{ℕ, ℤ, pos, negsuc, zero, suc, ◌+◌, ◌-◌, ◌/◌, ◌%◌, ◌^◌, nat_le, List, [], ◌∷◌, map, count_by}
+use Rattle.std.specs.Prelude.{◌≡◌, ℕ, ℤ, pos, negsuc, zero, suc, ◌+◌, ◌-◌, ◌/◌, ◌%◌, ◌^◌, ◌<◌, ◌≤◌, nat_le, List, [], ◌∷◌, ◌++◌, length, map, count_by}
+use Rattle.std.specs.Int.{leading_ones, w8}
 
 -- The lowest bytes of a number, so many of them, most significant first.
 abbrev pub big_endian : ℕ → ℕ → List ℕ
@@ -44,3 +45,27 @@ signed_tail (negsuc n) = natural_tail n
 -- The signed varint of a number from -2 ^ 63 to 2 ^ 63 - 1 is its shortest form.
 unfoldable pub signed_varint : ℤ → List ℕ
 signed_varint z = signed_form (signed_tail z) z
+
+-- ---- what stands at the front of bytes: an unsigned varint, a longer form of one, or too few bytes
+
+abbrev pub BeginsWith : List ℕ → List ℕ → Type 0
+BeginsWith bytes front = (rest : List ℕ) × (bytes ≡ front ++ rest)
+
+-- The varint of the value is at the front, and has so many bytes.
+pub record IsUnsignedAt (bytes : List ℕ) (value count : ℕ) : Type 0 where
+  pub fits : value < 2 ^ 64
+  pub front : BeginsWith bytes (unsigned_varint value)
+  pub whole : count ≡ length (unsigned_varint value)
+
+-- There is no first byte, or fewer bytes follow it than it begins with ones.
+abbrev pub IsUnsignedCut : List ℕ → Type 0
+IsUnsignedCut [] = Unit {0}
+IsUnsignedCut (first ∷ rest) = length rest < leading_ones w8 first
+
+-- A number is at the front in a form that is longer than its shortest.
+pub record IsUnsignedLong (bytes : List ℕ) : Type 0 where
+  pub tail : ℕ
+  pub value : ℕ
+  pub room : tail ≤ 8
+  pub longer : unsigned_tail value < tail
+  pub front : BeginsWith bytes (unsigned_form tail value)

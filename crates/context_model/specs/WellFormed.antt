@@ -1,6 +1,7 @@
 -- Well-formed lists of atoms.
 use Rattle.std.specs.Prelude.{ℕ, ◌+◌, ◌≤◌, List, [], ◌∷◌, map, filter}
 use Rattle.std.specs.List.{AllByRecursion}
+use Rattle.context_model.specs.declared.Form.{Form}
 use Rattle.context_model.specs.Atoms.{Atom}
 use Rattle.context_model.specs.Kinds.{HasKind}
 use Rattle.context_model.specs.Orders.{path_cmp, Rises}
@@ -20,4 +21,4 @@ pub record IsWellFormed (list : List Atom) : Type 0 where
 
 -- A trimmed well-formed list is well formed.
 abbrev pub TrimsWellFormed : Type 0
-TrimsWellFormed = (list : List Atom) (budget : ℕ) → IsWellFormed list → IsWellFormed (trimmed list budget)
+TrimsWellFormed = (form : Form) (list : List Atom) (budget : ℕ) → IsWellFormed list → IsWellFormed (trimmed form list budget)

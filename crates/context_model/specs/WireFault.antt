@@ -1,11 +1,17 @@
--- The first fault of bytes that aren't those of a list: where the longest front that is a list ends, and why it ends there.
-use Rattle.std.specs.Prelude.{◌≡◌, ℕ, ◌+◌, ◌-◌, ◌*◌, ◌%◌, ◌<◌, ◌≤◌, Bool, ◌==◌, ◌&&◌, ◌||◌, List, [], ◌∷◌, length, take, drop, slice_index, nat_lt, nat_le, if◌then◌else◌, Option, Some, None}
+-- The first fault of bytes that aren't those of a list: what is wrong with their head, or where the longest front behind it that is
+-- a list ends, and why it ends there.
+use Rattle.std.specs.Prelude.{◌≡◌, ◌⊎◌, ℕ, ◌+◌, ◌-◌, ◌*◌, ◌%◌, ◌<◌, ◌≤◌, Bool, ◌==◌, ◌&&◌, ◌||◌, List, [], ◌∷◌, length, take, drop, slice_index, nat_lt, nat_le, if◌then◌else◌, Option, Some, None}
 use Rattle.std.specs.List.{list_all}
+use Rattle.std.specs.Str.{bytes_eq}
+use Rattle.outside.specs.declared.TheConstants.{ATOM_MAX}
 use Rattle.context_model.specs.declared.TheConstants.{LENGTH_MAX}
 use Rattle.context_model.specs.Atoms.{Atom, AreAtoms}
-use Rattle.context_model.specs.Framing.{bytes_of, IsFramed}
+use Rattle.context_model.specs.declared.Form.{Form}
+use Rattle.context_model.specs.declared.Form.TheVariants.{One, Two}
+use Rattle.context_model.specs.Varints.{big_endian, IsUnsignedAt, IsUnsignedCut, IsUnsignedLong}
+use Rattle.context_model.specs.Framing.{bytes_of, form_of, head_len, IsFramed, IsBytesOf}
 use Rattle.context_model.specs.ByteCodes.{ByteCode}
-use Rattle.context_model.specs.ByteCodes.ByteCode.{CutLength, AtomTooLong, LongForm, CutBody}
+use Rattle.context_model.specs.ByteCodes.ByteCode.{CutLength, BadCount, AtomTooLong, LongForm, CutBody}
 
 -- The bytes up to the first whose top bit isn't set, or all of them.
 abbrev pub through_last : List ℕ → List ℕ
@@ -41,7 +47,7 @@ is_long_form bytes = nat_lt 1 (length (length_front bytes)) && (slice_index (len
 abbrev pub cuts_body : List ℕ → Bool
 cuts_body bytes = nat_lt (length (drop (length (length_front bytes)) bytes)) (length_said (length_front bytes))
 
--- What is wrong with the atom that begins here: the first of these that applies.
+-- What is wrong with the atom of form one that begins here: the first of these that applies.
 unfoldable pub wire_code : List ℕ → Option ByteCode
 wire_code bytes =
     if cuts_length bytes then Some CutLength
@@ -50,18 +56,56 @@ wire_code bytes =
     else if cuts_body bytes then Some CutBody
     else None
 
--- The longest front that is the bytes of a list ends before the input does, and this is wrong with what follows.
-pub record IsFirstWireFault (bytes : List ℕ) (offset : ℕ) (code : ByteCode) : Type 0 where
-  pub within : offset < length bytes
-  pub framed : IsFramed (take offset bytes)
-  pub longest : (n : ℕ) → n ≤ length bytes → IsFramed (take n bytes) → n ≤ offset
-  pub applies : wire_code (drop offset bytes) ≡ Some code
+-- ---- form two
 
--- Bytes are those of at most one list, have at most one first fault, and never both.
+-- What is wrong with the atom of form two that begins here; at most one of these applies.
+abbrev pub IsUnframedTwo : List ℕ → ByteCode → Type 0
+IsUnframedTwo bytes CutLength = IsUnsignedCut bytes
+IsUnframedTwo bytes LongForm = IsUnsignedLong bytes
+IsUnframedTwo bytes AtomTooLong = (len count : ℕ) × IsUnsignedAt bytes len count × (ATOM_MAX < len)
+IsUnframedTwo bytes CutBody = (len count : ℕ) × IsUnsignedAt bytes len count × (len ≤ ATOM_MAX) × (length bytes < count + len)
+IsUnframedTwo bytes other = ⊥
+
+-- What is wrong with the head: the input ends inside it, or its number isn't that of the bytes behind it.
+abbrev pub head_code : Form → List ℕ → Option ByteCode
+head_code One bytes = None
+head_code Two bytes =
+    if nat_lt (length bytes) 12 then Some CutLength
+    else if bytes_eq (take 8 (drop 4 bytes)) (big_endian 8 (length bytes - 12)) then None
+    else Some BadCount
+
+-- ---- either form
+
+-- This is wrong with the atom that begins here.
+abbrev pub IsUnframed : Form → List ℕ → ByteCode → Type 0
+IsUnframed One bytes code = wire_code bytes ≡ Some code
+IsUnframed Two bytes code = IsUnframedTwo bytes code
+
+-- The longest front that is the frames of a list ends before the bytes do, and this is wrong with what follows.
+pub record IsFirstUnframed (form : Form) (bytes : List ℕ) (offset : ℕ) (code : ByteCode) : Type 0 where
+  pub within : offset < length bytes
+  pub framed : IsFramed form (take offset bytes)
+  pub longest : (n : ℕ) → n ≤ length bytes → IsFramed form (take n bytes) → n ≤ offset
+  pub applies : IsUnframed form (drop offset bytes) code
+
+-- The first fault of bytes, where `Behind` says the first one of what stands behind a head: one of the head, at its number, or one
+-- behind it.
+abbrev pub FirstFault : (Form → List ℕ → ℕ → ByteCode → Type 0) → List ℕ → ℕ → ByteCode → Type 0
+FirstFault Behind bytes offset code =
+    ((offset ≡ 4) × (head_code (form_of bytes) bytes ≡ Some code))
+    ⊎ ((at : ℕ) × (head_code (form_of bytes) bytes ≡ None) × (offset ≡ head_len (form_of bytes) + at)
+    × Behind (form_of bytes) (drop (head_len (form_of bytes)) bytes) at code)
+
+abbrev pub IsFirstWireFault : List ℕ → ℕ → ByteCode → Type 0
+IsFirstWireFault = FirstFault IsFirstUnframed
+
+-- Bytes are those of at most one list, have at most one first fault, and never both; and the bytes of a list, whatever form was
+-- asked for, are those of the list in the form that they are read in.
 pub record HasOneReading (bytes : List ℕ) : Type 0 where
-  pub list : (a b : List Atom) → AreAtoms a → AreAtoms b → bytes ≡ bytes_of a → bytes ≡ bytes_of b → a ≡ b
+  pub list : (a b : List Atom) → AreAtoms a → AreAtoms b → IsBytesOf a bytes → IsBytesOf b bytes → a ≡ b
   pub fault : (i j : ℕ) (c d : ByteCode) → IsFirstWireFault bytes i c → IsFirstWireFault bytes j d → (i ≡ j) × (c ≡ d)
-  pub either : (list : List Atom) (offset : ℕ) (code : ByteCode) → AreAtoms list → bytes ≡ bytes_of list → IsFirstWireFault bytes offset code → ⊥
+  pub either : (list : List Atom) (offset : ℕ) (code : ByteCode) → AreAtoms list → IsBytesOf list bytes → IsFirstWireFault bytes offset code → ⊥
+  pub any : (form : Form) (list : List Atom) → AreAtoms list → bytes ≡ bytes_of form list → IsBytesOf list bytes
 
 -- All bytes read in one way.
 abbrev pub ReadsOneWay : Type 0

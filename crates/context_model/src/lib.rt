@@ -1,5 +1,39 @@
-//! What contracts say of atoms and contexts: definitions in specs/, and their laws in proofs/. There is no code but one limit.
+//! What contracts say of atoms and contexts: definitions in specs/, and their laws in proofs/. The code has the two forms in which
+//! a list is laid out, with their limits.
 #![tactic(auto)]
 
-/// The greatest length that stands before an atom in the bytes of a list.
+ghost use Rattle.std.specs.Prelude.{◌≡◌};
+ghost use Rattle.context_model.specs.Framing.{head_len, least_budget, most};
+
+/// The greatest length that stands before an atom in the bytes of a list of form one.
 pub const LENGTH_MAX: usize = 65_535;
+
+/// How a list is laid out as bytes: each atom behind its length in base 128, or behind a varint, and all of them behind a head
+/// that says how many bytes follow it.
+#[derive(Clone, Copy, Debug, PartialEq, Eq)]
+pub enum Form {
+    One,
+    Two,
+}
+
+impl Form {
+    /// How many bytes stand before the first atom.
+    pub fn head_len(self) -> usize
+        ensures { result ≡ head_len self }
+    {
+        match self {
+            Form::One => 0,
+            Form::Two => 12,
+        }
+    }
+
+    /// The least budget that a list can be cut to: the head and a marker.
+    pub fn least_budget(self) -> u64
+        ensures { result ≡ least_budget self }
+    {
+        match self {
+            Form::One => 1,
+            Form::Two => 13,
+        }
+    }
+}

@@ -8,43 +8,6 @@ use lib.Count.{count_leading_zeros}
 use Rattle.context_model.proofs.VarintLaws.{upto_eight, powers, unsigned_first, unsigned_rises, natural_first}
 use Rattle.lex_varint.specs.Fronts.{natural_demand}
 
--- the byte lies where bytes with so many ones at their front lie
-pub record HasOnes (b k : ℕ) : Type 0 where
-  pub most : k ≤ 8
-  pub low : unsigned_first k ≤ b
-  pub high : b < unsigned_first k + 2 ^ (7 - k)
-
-all_ones : count_leading_zeros 8 0 ≡ 8
-unfolding count_leading_zeros
-all_ones = refl
-
-pub HasOnes-leading : (b : ℕ) → b < 256 → HasOnes b (leading_ones w8 b)
-HasOnes-leading b h = elim (cases_lt b 255) [ inl o ↦ below o | inr o ↦ whole (omega arith) ]
-  where
-    whole : b ≡ 255 → HasOnes b (count_leading_zeros 8 (255 - b))
-    whole e = subst (λ v. HasOnes b v) (sym (ap (λ v. count_leading_zeros 8 (255 - v)) e ∙ all_ones)) (record { most = omega arith; low = omega arith; high = omega arith })
-
-    below : b < 255 → HasOnes b (count_leading_zeros 8 (255 - b))
-    below o = by (leading_top 8 (255 - b) (omega arith) (omega arith))
-      where
-        by : (j : ℕ) × (count_leading_zeros 8 (255 - b) + suc j ≡ 8) × (2 ^ j ≤ 255 - b) × (255 - b < 2 ^ suc j) → HasOnes b (count_leading_zeros 8 (255 - b))
-        by (j, e, low, high) =
-            let k : ℕ = count_leading_zeros 8 (255 - b) in
-            let seven : 7 - k ≡ j = omega arith in
-            let eight : 8 - k ≡ suc j = omega arith in
-            let small : 2 ^ (7 - k) ≡ 2 ^ j = ap (λ v. 2 ^ v) seven in
-            let great : 2 ^ (8 - k) ≡ 2 ^ suc j = ap (λ v. 2 ^ v) eight in
-            let double : 2 ^ suc j ≡ 2 ^ j * 2 = pow-suc 2 j in
-            let most : 2 ^ suc j ≤ 2 ^ 8 = powers (suc j) 8 (omega arith) in
-            record { most = omega arith; low = omega arith; high = omega arith }
-
-pub HasOnes-unique : (b j k : ℕ) → HasOnes b j → HasOnes b k → j ≡ k
-HasOnes-unique b j k f g = elim (cases_order j k) [
-  | inl e ↦ e
-  | inr (inl less) ↦ let rise : unsigned_first j + 2 ^ (7 - j) ≤ unsigned_first k = unsigned_rises j k g.most less in absurd (omega arith)
-  | inr (inr less) ↦ let rise : unsigned_first k + 2 ^ (7 - k) ≤ unsigned_first j = unsigned_rises k j f.most less in absurd (omega arith)
-]
-
 -- the same for the bytes that begin the codes of signed numbers from 0 on
 pub record HasNaturalOnes (b k : ℕ) : Type 0 where
   pub most : (k < 7) ⊎ (k ≡ 8)

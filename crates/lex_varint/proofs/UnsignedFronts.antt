@@ -12,50 +12,6 @@ use Rattle.lex_varint.proofs.Ones.{HasOnes, HasOnes-leading, HasOnes-unique, one
 use Rattle.lex_varint.proofs.Puts.{table}
 use Rattle.std.proofs.lemmas.List.{length-take-le}
 
--- the number stands at the front with so many bytes behind the first, be they too many or not
-pub record Stands (bytes : List ℕ) (k n : ℕ) : Type 0 where
-  pub few : k ≤ 8
-  pub room : n < unsigned_room k
-  pub front : BeginsWith bytes (unsigned_form k n)
-
-pub Stands-unique : (bytes : List ℕ) (j k m n : ℕ) → Stands bytes j m → Stands bytes k n → (j ≡ k) × (m ≡ n)
-Stands-unique bytes j k m n f g = unsigned_form-unique j k m n f.front.0 g.front.0 f.few g.few f.room g.room (sym f.front.1 ∙ g.front.1)
-
-Stands-taken : (bytes : List ℕ) (v count : ℕ) → IsUnsignedAt bytes v count → Stands bytes (unsigned_tail v) v
-unfolding unsigned_varint
-Stands-taken bytes v count t = record { few = unsigned_tail-bound v t.fits; room = unsigned_tail-room v t.fits; front = t.front }
-
-Stands-long : (bytes : List ℕ) → (f : IsUnsignedLong bytes) → Stands bytes f.tail f.value
-Stands-long bytes f = record { few = f.room; room = unsigned_tail-below f.tail f.value f.room f.longer; front = f.front }
-
-Stands-ones : (first : ℕ) (rest : List ℕ) (k n : ℕ) → Stands (first ∷ rest) k n → HasOnes first k × (k ≤ length rest)
-unfolding unsigned_form
-Stands-ones first rest k n f =
-    let head : first ≡ unsigned_first k + n / 256 ^ k = heads in
-    let part : n / 256 ^ k < 2 ^ (7 - k) = unsigned_part k n f.room in
-    (record { most = f.few; low = omega arith; high = omega arith }, long)
-  where
-    heads : first ≡ unsigned_first k + n / 256 ^ k
-    heads = cc (f.front.1)
-
-    tails : rest ≡ big_endian k n ++ f.front.0
-    tails = cc (f.front.1)
-
-    long : k ≤ length rest
-    long = omega (arith, ap length tails, length-append (big_endian k n) f.front.0, length-big_endian k n)
-
-Stands-uncut : (bytes : List ℕ) (k n : ℕ) → Stands bytes k n → IsUnsignedCut bytes → ⊥
-Stands-uncut [] k n f cut = absurd (omega (arith, ap length (f.front.1), length-append (unsigned_form k n) f.front.0, length-unsigned_form k n))
-Stands-uncut (first ∷ rest) k n f cut =
-    let s : HasOnes first k × (k ≤ length rest) = Stands-ones first rest k n f in
-    let low : first < 256 = below s.0 (unsigned_bytes k f.few) in
-    let same : leading_ones w8 first ≡ k = HasOnes-unique first (leading_ones w8 first) k (HasOnes-leading first low) s.0 in
-    let more : k ≤ length rest = s.1 in
-    absurd (omega arith)
-  where
-    below : HasOnes first k → unsigned_first k + 2 ^ (7 - k) ≤ 256 → first < 256
-    below o h = omega (arith, o.high)
-
 -- what the bytes make
 pub Stands-made : (first : ℕ) (rest : List ℕ) (n : ℕ) → first < 256 → leading_ones w8 first ≤ length rest
     → big_endian (leading_ones w8 first) n ≡ take (leading_ones w8 first) rest → n / 256 ^ leading_ones w8 first ≡ first - unsigned_first (leading_ones w8 first)

@@ -1,31 +1,8 @@
 -- What stands at the front of bytes: a varint, a longer form of one, a number out of range, or too few bytes.
 use Rattle.std.specs.Prelude.{◌≡◌, ℕ, ℤ, pos, negsuc, ◌-◌, ◌^◌, ◌<◌, ◌≤◌, ◌⊎◌, Bool, true, false, if◌then◌else◌, nat_lt, ◌==◌, List, [], ◌∷◌, ◌++◌, length, FitsSigned}
 use Rattle.std.specs.Int.{leading_ones, w8, w64}
-use Rattle.context_model.specs.Varints.{unsigned_form, unsigned_tail, unsigned_varint, signed_form, signed_tail, signed_varint, complement}
-
-abbrev pub BeginsWith : List ℕ → List ℕ → Type 0
-BeginsWith bytes front = (rest : List ℕ) × (bytes ≡ front ++ rest)
-
--- ---- unsigned
-
--- The varint of the value is at the front, and has so many bytes.
-pub record IsUnsignedAt (bytes : List ℕ) (value count : ℕ) : Type 0 where
-  pub fits : value < 2 ^ 64
-  pub front : BeginsWith bytes (unsigned_varint value)
-  pub whole : count ≡ length (unsigned_varint value)
-
--- There is no first byte, or fewer bytes follow it than it begins with ones.
-abbrev pub IsUnsignedCut : List ℕ → Type 0
-IsUnsignedCut [] = Unit {0}
-IsUnsignedCut (first ∷ rest) = length rest < leading_ones w8 first
-
--- A number is at the front in a form that is longer than its shortest.
-pub record IsUnsignedLong (bytes : List ℕ) : Type 0 where
-  pub tail : ℕ
-  pub value : ℕ
-  pub room : tail ≤ 8
-  pub longer : unsigned_tail value < tail
-  pub front : BeginsWith bytes (unsigned_form tail value)
+use Rattle.context_model.specs.Varints.{signed_form, signed_tail, signed_varint, complement}
+pub use Rattle.context_model.specs.Varints.{BeginsWith, IsUnsignedAt, IsUnsignedCut, IsUnsignedLong}
 
 -- ---- signed
 

@@ -22,7 +22,7 @@ pub use texts::{Octets, Text, WordIter, Words};
 pub use transfers::{read_all, write_all};
 
 /// The most bytes that an atom has.
-pub const ATOM_MAX: usize = 65_535;
+pub const ATOM_MAX: usize = 1_048_576;
 
 /// The most bytes that are fetched of a file: one more than a definition or a table may have, so that one that is too
 /// long is known.
