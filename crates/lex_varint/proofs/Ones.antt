@@ -1,11 +1,9 @@
 -- What the count of ones at the front of a byte says of the byte.
-use Rattle.std.proofs.Common.{◌≡◌, ℕ, suc, ◌+◌, ◌-◌, ◌*◌, ◌^◌, ◌<◌, ◌≤◌, [], ◌∷◌, get_or, cond, eqb, eq-eqb, ne_eqb, sym, refl, ap, ◌∙◌, subst, arith, inl, inr, ◌⊎◌}
+use Rattle.std.proofs.Common.{◌≡◌, ℕ, ◌+◌, ◌-◌, ◌^◌, ◌<◌, ◌≤◌, [], ◌∷◌, get_or, cond, eqb, eq-eqb, ne_eqb, sym, refl, ap, subst, arith, inl, inr, ◌⊎◌}
 use Rattle.std.specs.Int.{leading_ones, w8}
-use Rattle.std.proofs.lemmas.Nat.{leading_top}
-use Rattle.std.proofs.lemmas.Bool.{cases_lt, cases_order, cases_eq}
-use Rattle.std.proofs.Math.Nat.{pow-suc}
-use lib.Count.{count_leading_zeros}
-use Rattle.context_model.proofs.VarintLaws.{upto_eight, powers, unsigned_first, unsigned_rises, natural_first}
+use Rattle.std.proofs.lemmas.Bool.{cases_eq}
+use Rattle.context_model.proofs.VarintLaws.{upto_eight, unsigned_first, natural_first}
+use Rattle.context_model.proofs.UnsignedFronts.{HasOnes, HasOnes-leading}
 use Rattle.lex_varint.specs.Fronts.{natural_demand}
 
 -- the same for the bytes that begin the codes of signed numbers from 0 on

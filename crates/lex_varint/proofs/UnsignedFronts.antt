@@ -1,14 +1,14 @@
 -- At most one of the three answers fits the front of a byte string, and which one a front gets.
-use Rattle.std.proofs.Common.{◌≡◌, ℕ, ◌+◌, ◌-◌, ◌*◌, ◌/◌, ◌^◌, ◌<◌, ◌≤◌, ◌↔◌, List, [], ◌∷◌, ◌++◌, length, take, drop, Result, Ok, Err, sym, refl, ap, ap₂, ◌∙◌, subst, subst₂, arith, take-append-drop, length-append, le_trans, mul-le-mul_right, get_or}
+use Rattle.std.proofs.Common.{◌≡◌, ℕ, ◌+◌, ◌-◌, ◌*◌, ◌/◌, ◌^◌, ◌<◌, ◌≤◌, ◌↔◌, List, [], ◌∷◌, ◌++◌, length, take, drop, Result, Ok, Err, sym, refl, ap, ap₂, ◌∙◌, subst, subst₂, arith, take-append-drop, le_trans, mul-le-mul_right, get_or}
 use Rattle.std.specs.Int.{leading_ones, w8}
 use Rattle.context_model.specs.Varints.{big_endian, unsigned_form, unsigned_tail, unsigned_varint}
-use Rattle.context_model.proofs.Digits.{length-big_endian}
-use Rattle.context_model.proofs.VarintLaws.{unsigned_first, unsigned_room, unsigned_tail-most, unsigned_tail-bound, unsigned_tail-room, unsigned_tail-below, unsigned_room-most, unsigned_bytes}
-use Rattle.context_model.proofs.VarintForms.{unsigned_part, unsigned_part-back, unsigned_form-unique, length-unsigned_form}
+use Rattle.context_model.proofs.VarintLaws.{unsigned_first, unsigned_room, unsigned_tail-most, unsigned_room-most}
+use Rattle.context_model.proofs.VarintForms.{unsigned_part-back, length-unsigned_form}
 use Rattle.lex_varint.specs.Fronts.{BeginsWith, IsUnsignedAt, IsUnsignedCut, IsUnsignedLong}
 use Rattle.lex_varint.specs.declared.VarintFault.{VarintFault}
 use Rattle.lex_varint.specs.declared.VarintFault.TheVariants.{Cut, LongForm}
-use Rattle.lex_varint.proofs.Ones.{HasOnes, HasOnes-leading, HasOnes-unique, ones_at}
+use Rattle.context_model.proofs.UnsignedFronts.{HasOnes, HasOnes-leading, Stands, Stands-unique, Stands-taken, Stands-long, Stands-uncut}
+use Rattle.lex_varint.proofs.Ones.{ones_at}
 use Rattle.lex_varint.proofs.Puts.{table}
 use Rattle.std.proofs.lemmas.List.{length-take-le}
 

@@ -1,5 +1,5 @@
 -- What stands at the front of bytes: a varint, a longer form of one, a number out of range, or too few bytes.
-use Rattle.std.specs.Prelude.{◌≡◌, ℕ, ℤ, pos, negsuc, ◌-◌, ◌^◌, ◌<◌, ◌≤◌, ◌⊎◌, Bool, true, false, if◌then◌else◌, nat_lt, ◌==◌, List, [], ◌∷◌, ◌++◌, length, FitsSigned}
+use Rattle.std.specs.Prelude.{◌≡◌, ℕ, ℤ, pos, negsuc, ◌-◌, ◌^◌, ◌<◌, ◌≤◌, ◌⊎◌, Bool, true, false, if◌then◌else◌, nat_lt, ◌==◌, List, [], ◌∷◌, length, FitsSigned}
 use Rattle.std.specs.Int.{leading_ones, w8, w64}
 use Rattle.context_model.specs.Varints.{signed_form, signed_tail, signed_varint, complement}
 pub use Rattle.context_model.specs.Varints.{BeginsWith, IsUnsignedAt, IsUnsignedCut, IsUnsignedLong}

@@ -1,7 +1,8 @@
 use Rattle.std.proofs.Common.{◌+◌, take, length, Ok, Err, arith}
 use Rattle.std.proofs.lemmas.List.{length-take-le}
 use Rattle.lex_varint.specs.declared.VarintFault.TheVariants.{Cut, LongForm}
-use Rattle.lex_varint.proofs.UnsignedFronts.{Stands, Stands-read, Answers, answers_cut, answers_long, answers_taken, empty_cut, short_cut, byte_first, table_low, table_room}
+use Rattle.context_model.proofs.UnsignedFronts.{Stands}
+use Rattle.lex_varint.proofs.UnsignedFronts.{Stands-read, Answers, answers_cut, answers_long, answers_taken, empty_cut, short_cut, byte_first, table_low, table_room}
 use Rattle.lex_varint.proofs.take_u64.Goals as goal
 
 pub returns-in_default : goal.returns-in_default
