@@ -23,7 +23,7 @@ use Rattle.bag_model.specs.Values.{Value}
 use Rattle.bag_model.proofs.ScalarOrder.{pick_total}
 use Rattle.bag_model.proofs.SpellingOrder.{spelling-order, spelling-one}
 use Rattle.bag_walks.specs.Parts.{IsBehind, HasNoHeader, IsDataPart, StaysBelow, Stands}
-use Rattle.bag_walks.specs.Gathered.{IsDatumAt, IsFirstDatum, IsLastDatum}
+use Rattle.bag_walks.specs.Gathered.{IsDatumAt, IsFirstDatum, IsLastDatum, IsDatumThatStays}
 use Rattle.bag_walks.proofs.Inside.{inside_along, datum_there, header_there}
 use Rattle.bag_walks.proofs.Bridge.{data_are}
 
@@ -112,7 +112,7 @@ both_ways pick v w less back =
 
 module _ (kind : ScalarKind) (list : List Atom) (q : Path) (from to : ℕ) (behind : IsBehind list q from) (its : IsDataPart list from to) where
   -- Where no datum stands, no value is read.
-  pub none_reads : (pick : Pick) → IsFirstDatum list from to None → IsFirst (pick_cmp pick) kind (PathsOf list) q None
+  none_reads : (pick : Pick) → IsFirstDatum list from to None → IsFirst (pick_cmp pick) kind (PathsOf list) q None
   none_reads pick none w (fits, i) =
       let s : Stands list (0 ∷ spelling kind w) from to = (data_are list q from to (spelling kind w) behind its).0 i in
       none s.place s.from_on s.up_to (omega (arith, s.up_to, its.part.within), (spelling kind w, s.atom))
@@ -148,7 +148,7 @@ module _ (kind : ScalarKind) (list : List Atom) (q : Path) (from to : ℕ) (behi
           self_less same = subst (λ u. pick_cmp pick u v ≡ Less) (same_value w fits_w s same) less
 
   -- The first datum is that of the least value.
-  pub first_reads : (place : ℕ) (v : ScalarValue) → IsFirstDatum list from to (Some place) → IsScalarOf kind v → atom_at list place ≡ 0 ∷ spelling kind v
+  first_reads : (place : ℕ) (v : ScalarValue) → IsFirstDatum list from to (Some place) → IsScalarOf kind v → atom_at list place ≡ 0 ∷ spelling kind v
       → IsFirst (pick_cmp Least) kind (PathsOf list) q (Some v)
   first_reads place v first fits is = end_reads Least place v first.0 first.1 fits is (λ k w fits_w is_w l m other. elim (cases_order place k) [
     | inl same ↦ absurd (other same)
@@ -157,13 +157,28 @@ module _ (kind : ScalarKind) (list : List Atom) (q : Path) (from to : ℕ) (behi
   ])
 
   -- And the last that of the greatest.
-  pub last_reads : (place : ℕ) (v : ScalarValue) → IsLastDatum list from to (Some place) → IsScalarOf kind v → atom_at list place ≡ 0 ∷ spelling kind v
+  last_reads : (place : ℕ) (v : ScalarValue) → IsLastDatum list from to (Some place) → IsScalarOf kind v → atom_at list place ≡ 0 ∷ spelling kind v
       → IsFirst (pick_cmp Greatest) kind (PathsOf list) q (Some v)
   last_reads place v last fits is = end_reads Greatest place v last.0 last.1 fits is (λ k w fits_w is_w l m other. elim (cases_order place k) [
     | inl same ↦ absurd (other same)
     | inr (inl later) ↦ absurd (last.3 k later m (omega (arith, m, its.part.within), (spelling kind w, is_w)))
     | inr (inr earlier) ↦ value_before k place w v fits_w fits l earlier last.1 is_w is
   ])
+
+  -- Either way the datum that stays is that of the value that stays.
+  pub stays_reads : (pick : Pick) (place : ℕ) (v : ScalarValue) → IsDatumThatStays pick list from to (Some place) → IsScalarOf kind v → atom_at list place ≡ 0 ∷ spelling kind v
+      → IsFirst (pick_cmp pick) kind (PathsOf list) q (Some v)
+  stays_reads Least place v first fits is = first_reads place v first fits is
+  stays_reads Greatest place v last fits is = last_reads place v last fits is
+
+  pub none_stays : (pick : Pick) → IsDatumThatStays pick list from to None → IsFirst (pick_cmp pick) kind (PathsOf list) q None
+  none_stays Least none = none_reads Least none
+  none_stays Greatest none = none_reads Greatest none
+
+-- It is a datum of the part.
+pub stays_there : (pick : Pick) (list : List Atom) (from to place : ℕ) → IsDatumThatStays pick list from to (Some place) → (from ≤ place) × (place < to) × IsDatumAt list place
+stays_there Least list from to place first = (first.0, first.1, first.2)
+stays_there Greatest list from to place last = (last.0, last.1, last.2)
 
 -- ---- counts
 
