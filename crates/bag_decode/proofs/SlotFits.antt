@@ -39,7 +39,7 @@ wider P q room more slot l fits = record { shape = fits.shape; levels_are = omeg
 mutual
   pub slot_fits : (shape : Shape) (P : Path → Type 0) (q : Path) (slot : SlotAt) → IsShape shape → IsTyped shape P q → IsIn slot (slots_in shape) → FitsSlot P q (levels_under shape) slot
   slot_fits Taint P q slot is typed i = own_fits Taint P q slot is typed i
-  slot_fits (Scalar kind) P q slot is typed i = own_fits (Scalar kind) P q slot is typed i
+  slot_fits (Scalar pick kind) P q slot is typed i = own_fits (Scalar pick kind) P q slot is typed i
   slot_fits (Set kind) P q slot is typed i = own_fits (Set kind) P q slot is typed i
   slot_fits Counter P q slot is typed i = own_fits Counter P q slot is typed i
   slot_fits (Map key value) P q slot is typed i = own_fits (Map key value) P q slot is typed i

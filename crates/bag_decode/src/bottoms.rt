@@ -29,6 +29,7 @@ pub fn bottom_of(alloc: Global, shape: &Shape) -> Result<Val, Memory>
     match shape {
         Shape::Taint => Ok(Val::Taint(false)),
         Shape::Scalar(_) => Ok(Val::Scalar(None)),
+        Shape::Greatest(_) => Ok(Val::Greatest(None)),
         Shape::Set(kind) => Ok(Val::Set(SetOf::new(alloc, kind.copy()?)?)),
         Shape::Counter => Ok(Val::Counter(Counts::new(alloc))),
         Shape::Map(_, _) => Ok(Val::Map(Entries::new(alloc))),

@@ -9,6 +9,7 @@ ghost use Rattle.bag_model.specs.Scalars.{IsScalarOf, spelling};
 ghost use Rattle.bag_model.specs.Shapes as shapes;
 ghost use Rattle.bag_model.specs.Typed.{IsCount, IsSpelling, IsTyped};
 ghost use Rattle.bag_model.specs.Values as values;
+ghost use Rattle.bag_walks.specs.Gathered.{IsDatumThatStays};
 ghost use Rattle.bag_walks.specs.Parts.{IsBehind, IsSegment};
 ghost use Rattle.bag_scan.specs.Found.{HasNoKey};
 ghost use Rattle.scalar_types.specs.KindViews.{kind_of};
@@ -17,7 +18,7 @@ ghost use Rattle.bag_decode.specs.Walked.{AreCountsAt, IsNextKey};
 
 use atom_kinds::rest;
 use atom_list::AtomList;
-use bag_model::MAX_LEVELS;
+use bag_model::{MAX_LEVELS, Pick};
 use bag_scan::{atom, data_end, find_key, first_datum, is_datum, last_datum};
 use bag_value::ScalarSet;
 use counter_type::Counts;
@@ -48,19 +49,32 @@ pub(crate) fn take_known(alloc: Global, kind: &ScalarKind, bytes: &[u8]) -> Resu
     }
 }
 
-/// The scalar of the first datum behind the header.
-pub(crate) fn first_scalar(
+/// The place of the datum of the value that stays: the first where the least stays, and the last where the greatest does.
+fn datum_that_stays(pick: Pick, list: &AtomList, from: usize, to: usize) -> Option<usize>
+    requires order { from ≤ to }
+    requires within { to ≤ length list.now }
+    ensures { IsDatumThatStays pick list.now from to result }
+{
+    match pick {
+        Pick::Least => first_datum(list, from, to),
+        Pick::Greatest => last_datum(list, from, to),
+    }
+}
+
+/// The scalar that stays of those of the data behind the header.
+pub(crate) fn scalar_that_stays(
     alloc: Global,
+    pick: Pick,
     kind: &ScalarKind,
     list: &AtomList,
     from: usize,
 ) -> Result<Option<Scalar>, Memory>
     requires behind { IsBehind list.now (path_before list.now from) from }
-    requires typed { IsTyped (shapes.Shape.Scalar (kind_of kind.now)) (PathsOf list.now) (path_before list.now from) }
-    ensures { IfOk result (λ found. Reads (shapes.Shape.Scalar (kind_of kind.now)) (PathsOf list.now)
-        (path_before list.now from) (values.Value.Scalar (option_map value_of found))) }
+    requires typed { IsTyped (shapes.Shape.Scalar pick (kind_of kind.now)) (PathsOf list.now) (path_before list.now from) }
+    ensures { IfOk result (λ found. Reads (shapes.Shape.Scalar pick (kind_of kind.now)) (PathsOf list.now)
+        (path_before list.now from) (values.Value.Scalar pick (option_map value_of found))) }
 {
-    match first_datum(list, from, data_end(list, from)) {
+    match datum_that_stays(pick, list, from, data_end(list, from)) {
         Some(at) => Ok(Some(take_known(alloc, kind, rest(atom(list, at)))?)),
         None => Ok(None),
     }

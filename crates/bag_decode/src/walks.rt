@@ -13,9 +13,9 @@ ghost use Rattle.field_table.specs.Plain.{shape_of, nodes_of};
 ghost use Rattle.scalar_types.specs.KindViews.{kind_of};
 
 use crate::bottoms::bottom_of;
-use crate::leaves::{counts_of, first_scalar, has_datum, next_key, set_of, take_known};
+use crate::leaves::{counts_of, has_datum, next_key, scalar_that_stays, set_of, take_known};
 use atom_list::{AtomList, Context};
-use bag_model::MAX_LEVELS;
+use bag_model::{MAX_LEVELS, Pick};
 use bag_scan::{find_field, segment_end};
 use bag_value::{Entries, Entry, Val, Vals};
 use field_table::{Shape, Slots, Table};
@@ -48,8 +48,12 @@ pub fn decode_field(
             Ok((Val::Taint(on), segment_end(list, level, from)))
         }
         Shape::Scalar(kind) => {
-            let scalar = first_scalar(alloc, kind, list, from)?;
+            let scalar = scalar_that_stays(alloc, Pick::Least, kind, list, from)?;
             Ok((Val::Scalar(scalar), segment_end(list, level, from)))
+        }
+        Shape::Greatest(kind) => {
+            let scalar = scalar_that_stays(alloc, Pick::Greatest, kind, list, from)?;
+            Ok((Val::Greatest(scalar), segment_end(list, level, from)))
         }
         Shape::Set(kind) => {
             let set = set_of(alloc, kind, list, from)?;

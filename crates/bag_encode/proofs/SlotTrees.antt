@@ -55,7 +55,7 @@ module _ (n : ℕ) (name : List ℕ) (number : ℕ) (shape : Shape) (nodes : Nod
 mutual
   pub only_trees_in : (shape : Shape) (n slot : ℕ) (at : SlotAt) (v : Value) → slice_get (slots_in shape) slot ≡ Some at → trees_of shape n (only_in shape slot v) ≡ slot_trees n at.numbers at.shape v
   only_trees_in Taint n slot at v e = own_trees Taint n slot at v e
-  only_trees_in (Scalar kind) n slot at v e = own_trees (Scalar kind) n slot at v e
+  only_trees_in (Scalar pick kind) n slot at v e = own_trees (Scalar pick kind) n slot at v e
   only_trees_in (Set kind) n slot at v e = own_trees (Set kind) n slot at v e
   only_trees_in Counter n slot at v e = own_trees Counter n slot at v e
   only_trees_in (Map kind shape) n slot at v e = own_trees (Map kind shape) n slot at v e
@@ -106,7 +106,7 @@ node_levels name number shape nodes slot at (inr later) own rest = omega (arith,
 mutual
   levels_in : (shape : Shape) (slot : ℕ) (at : SlotAt) → slice_get (slots_in shape) slot ≡ Some at → length at.numbers + levels_under at.shape ≤ levels_under shape
   levels_in Taint slot at e = own_levels Taint slot at e
-  levels_in (Scalar kind) slot at e = own_levels (Scalar kind) slot at e
+  levels_in (Scalar pick kind) slot at e = own_levels (Scalar pick kind) slot at e
   levels_in (Set kind) slot at e = own_levels (Set kind) slot at e
   levels_in Counter slot at e = own_levels Counter slot at e
   levels_in (Map kind shape) slot at e = own_levels (Map kind shape) slot at e

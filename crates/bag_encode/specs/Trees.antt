@@ -51,8 +51,8 @@ abbrev mutual
   pub trees_of : Shape → ℕ → Value → Trees
   trees_of Taint level (Taint on) = if on then leaf (atom_of (Datum [])) else bare
   trees_of Taint level other = bare
-  trees_of (Scalar kind) level (Scalar v) = trees_by (scalar_datum kind) (λ _. bare) (option_to_list v)
-  trees_of (Scalar kind) level other = bare
+  trees_of (Scalar pick kind) level (Scalar own v) = trees_by (scalar_datum kind) (λ _. bare) (option_to_list v)
+  trees_of (Scalar pick kind) level other = bare
   trees_of (Set kind) level (Set own vs) = trees_by (scalar_datum kind) (λ _. bare) vs
   trees_of (Set kind) level other = bare
   trees_of Counter level (Counter counts) =

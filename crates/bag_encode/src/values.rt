@@ -39,6 +39,8 @@ pub(crate) fn put_value(
         (Shape::Taint, Val::Taint(true)) => list.push_datum(&[]),
         (Shape::Scalar(_), Val::Scalar(None)) => Ok(()),
         (Shape::Scalar(kind), Val::Scalar(Some(scalar))) => list.push_scalar(kind, scalar),
+        (Shape::Greatest(_), Val::Greatest(None)) => Ok(()),
+        (Shape::Greatest(kind), Val::Greatest(Some(scalar))) => list.push_scalar(kind, scalar),
         (Shape::Set(kind), Val::Set(set)) => put_set(list, kind, set),
         (Shape::Counter, Val::Counter(counts)) => put_counts(list, level, counts),
         (Shape::Map(kind, shape), Val::Map(entries)) => {

@@ -119,6 +119,7 @@ fn check_field(shape: &Shape, list: &AtomList, level: usize, from: usize) -> Res
     match shape {
         Shape::Taint => check_data(&Payload::Empty, list, level, from),
         Shape::Scalar(kind) => check_data(&Payload::Scalar(kind), list, level, from),
+        Shape::Greatest(kind) => check_data(&Payload::Scalar(kind), list, level, from),
         Shape::Set(kind) => check_data(&Payload::Scalar(kind), list, level, from),
         Shape::Counter => check_counts(list, level, from),
         Shape::Map(kind, value) => check_entries(kind, value, list, level, from),

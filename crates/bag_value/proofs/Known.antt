@@ -1,5 +1,5 @@
 -- What a set and a counter of the code know of themselves, of their plain values.
-use Rattle.std.specs.Prelude.{◌≡◌, ℕ, List, [], ◌∷◌, map}
+use Rattle.std.specs.Prelude.{ℕ, List, [], ◌∷◌, map}
 use Rattle.std.specs.List.{AllByRecursion}
 use Rattle.std.proofs.Common.{refl, sym, ◌∙◌, inl, inr}
 use Rattle.context_model.specs.Orders.{IsIn, Rises}
@@ -13,7 +13,7 @@ use Rattle.scalar_types.specs.KindViews.{kind_of}
 use Rattle.scalar_types.specs.ScalarViews.{value_of}
 use Rattle.scalar_types.specs.declared.kinds.ScalarKind.{ScalarKind}
 use Rattle.scalar_types.specs.declared.scalars.Scalar.{Scalar}
-use Rattle.set_map_types.specs.Held.{Held, IsSet, value_cmp, set_proper}
+use Rattle.set_map_types.specs.Held.{Held, value_cmp, set_proper}
 
 -- the scalars that a set of a kind holds, and how each is spelled
 abbrev pub kind_fits : ScalarKind → Scalar → Type 0

@@ -5,13 +5,14 @@ use denote.Param.Weighed.{most}
 use Rattle.bag_model.specs.Values.{size_of, size_of_entries, size_of_values}
 use Rattle.bag_value.specs.declared.lists.Entry.{Entry}
 use Rattle.bag_value.specs.declared.vals.Val.{Val}
-use Rattle.bag_value.specs.declared.vals.Val.TheVariants.{Taint, Scalar, Set, Counter, Map, Bag}
+use Rattle.bag_value.specs.declared.vals.Val.TheVariants.{Taint, Scalar, Greatest, Set, Counter, Map, Bag}
 use Rattle.bag_value.specs.Plain.{plain, plain_values, plain_entries}
 use Rattle.bag_value.specs.declared.lists.Entries.TheDeep.{deep-Val, deep-Entry}
 
 val_falls : (v : Val) → deep-Val v ≤ size_of (plain v)
 val_falls (Taint on) = omega arith
 val_falls (Scalar value) = omega arith
+val_falls (Greatest value) = omega arith
 val_falls (Set set) = omega arith
 val_falls (Counter counts) = omega arith
 val_falls (Map entries) = omega arith

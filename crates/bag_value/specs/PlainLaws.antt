@@ -1,7 +1,7 @@
 -- The plain value and the value back from it undo each other, and the laws of the join hold.
-use Rattle.std.specs.Prelude.{◌≡◌, List, [], ◌∷◌, map, Option, Some, None}
-use Rattle.std.specs.Option.{option_map}
+use Rattle.std.specs.Prelude.{◌≡◌, List, [], ◌∷◌, map, Some, None}
 use Rattle.std.proofs.Common.{refl, sym, ap, ◌∙◌, subst}
+use Rattle.bag_model.specs.declared.Pick.TheVariants as pick
 use Rattle.bag_model.specs.Values as model
 use Rattle.bag_model.specs.Scalars.{ScalarValue}
 use Rattle.bag_model.specs.Joins.{join, IsBottom, Alike, Proper}
@@ -24,8 +24,10 @@ scalars_back (v ∷ vs) = λ i. scalar_back v i ∷ scalars_back vs i
 
 pub plain_back : (x : model.Value) → plain (val_of x) ≡ x
 plain_back (model.Value.Taint on) = refl
-plain_back (model.Value.Scalar None) = refl
-plain_back (model.Value.Scalar (Some v)) = λ i. model.Value.Scalar (Some (value_back v i))
+plain_back (model.Value.Scalar pick.Least None) = refl
+plain_back (model.Value.Scalar pick.Least (Some v)) = λ i. model.Value.Scalar pick.Least (Some (value_back v i))
+plain_back (model.Value.Scalar pick.Greatest None) = refl
+plain_back (model.Value.Scalar pick.Greatest (Some v)) = λ i. model.Value.Scalar pick.Greatest (Some (value_back v i))
 plain_back (model.Value.Set kind vs) = λ i. model.Value.Set (plain_kind_back kind i) (values_back vs i)
 plain_back (model.Value.Counter counts) = refl
 plain_back (model.Value.Map entries) = refl
@@ -35,6 +37,8 @@ pub val_back : (v : Val) → val_of (plain v) ≡ v
 val_back (vals.Taint on) = refl
 val_back (vals.Scalar None) = refl
 val_back (vals.Scalar (Some v)) = λ i. vals.Scalar (Some (scalar_back v i))
+val_back (vals.Greatest None) = refl
+val_back (vals.Greatest (Some v)) = λ i. vals.Greatest (Some (scalar_back v i))
 val_back (vals.Set set) = λ i. vals.Set (record { codec = kind_back set.codec i; items = scalars_back set.items i })
 val_back (vals.Counter counts) = refl
 val_back (vals.Map entries) = refl

@@ -17,6 +17,8 @@ impl Val {
             Val::Taint(on) => Ok(Val::Taint(*on)),
             Val::Scalar(None) => Ok(Val::Scalar(None)),
             Val::Scalar(Some(scalar)) => Ok(Val::Scalar(Some(scalar.copy()?))),
+            Val::Greatest(None) => Ok(Val::Greatest(None)),
+            Val::Greatest(Some(scalar)) => Ok(Val::Greatest(Some(scalar.copy()?))),
             Val::Set(set) => Ok(Val::Set(set.copy()?)),
             Val::Counter(counts) => Ok(Val::Counter(counts.copy()?)),
             Val::Map(entries) => Ok(Val::Map(entries.copy()?)),

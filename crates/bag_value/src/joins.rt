@@ -4,13 +4,14 @@ ghost use Rattle.std.specs.Prelude.{◌≡◌, ◌++◌, IfOk, OnOk};
 ghost use Rattle.std.specs.Option.{option_map};
 ghost use Rattle.context_model.specs.Merge.{first_of};
 ghost use Rattle.bag_model.specs.Joins.{Alike, AlikeEntries, AreAlike, join, join_entries, join_values};
-ghost use Rattle.bag_model.specs.Scalars.{scalar_cmp};
+ghost use Rattle.bag_model.specs.Scalars.{pick_cmp};
 ghost use Rattle.scalar_types.specs.KindViews.{kind_of};
 ghost use Rattle.scalar_types.specs.ScalarViews.{value_of};
 ghost use Rattle.bag_value.specs.Plain.{plain};
 
 use crate::lists::{Entries, Entry, Vals};
 use crate::vals::{ScalarSet, Val};
+use bag_model::Pick;
 use counter_type::{Counts, Lattice};
 use outside::Memory;
 use scalar_types::Scalar;
@@ -26,7 +27,10 @@ impl Val {
         match (self, other) {
             (Val::Taint(ours), Val::Taint(theirs)) => Ok(Val::Taint(*ours || *theirs)),
             (Val::Scalar(ours), Val::Scalar(theirs)) => {
-                Ok(Val::Scalar(first_scalar(ours, theirs)?))
+                Ok(Val::Scalar(scalar_that_stays(Pick::Least, ours, theirs)?))
+            }
+            (Val::Greatest(ours), Val::Greatest(theirs)) => {
+                Ok(Val::Greatest(scalar_that_stays(Pick::Greatest, ours, theirs)?))
             }
             (Val::Set(ours), Val::Set(theirs)) => Ok(Val::Set(union_of(ours, theirs)?)),
             (Val::Counter(ours), Val::Counter(theirs)) => {
@@ -105,19 +109,33 @@ fn append(into: &mut Vec<Entry>, entries: &[Entry]) -> Result<(), Memory>
     Ok(())
 }
 
-/// The scalar that comes first, of those that are there.
-fn first_scalar(ours: &Option<Scalar>, theirs: &Option<Scalar>) -> Result<Option<Scalar>, Memory>
-    ensures { IfOk result (λ first. option_map value_of first ≡ first_of scalar_cmp (option_map value_of ours.now) (option_map value_of theirs.now)) }
+/// Of the scalars that are there the one that stays.
+fn scalar_that_stays(
+    pick: Pick,
+    ours: &Option<Scalar>,
+    theirs: &Option<Scalar>,
+) -> Result<Option<Scalar>, Memory>
+    ensures { IfOk result (λ stays. option_map value_of stays ≡ first_of (pick_cmp pick) (option_map value_of ours.now) (option_map value_of theirs.now)) }
 {
     match (ours, theirs) {
         (None, None) => Ok(None),
         (Some(our), None) => Ok(Some(our.copy()?)),
         (None, Some(their)) => Ok(Some(their.copy()?)),
-        (Some(our), Some(their)) => match our.order(their) {
+        (Some(our), Some(their)) => match order_by(pick, our, their) {
             Ordering::Less => Ok(Some(our.copy()?)),
             Ordering::Equal => Ok(Some(our.copy()?)),
             Ordering::Greater => Ok(Some(their.copy()?)),
         },
+    }
+}
+
+/// The order in which the scalar that stays comes first.
+fn order_by(pick: Pick, our: &Scalar, their: &Scalar) -> Ordering
+    ensures { result ≡ pick_cmp pick (value_of our.now) (value_of their.now) }
+{
+    match pick {
+        Pick::Least => our.order(their),
+        Pick::Greatest => their.order(our),
     }
 }
 

@@ -17,9 +17,9 @@ pub fn values_of_one_shape_are_joined()
     ensures joined { (shape : Shape) (v w : Value) → IsOfShape shape v → IsOfShape shape w → IsOfShape shape (join v w) }
 {}
 
-/// The join of two values holds what both hold: a taint is on where one is, of two scalars stands the first, sets have the
-/// scalars of both, counters the writers of both with the greater count, maps the keys of both with joined values, and bags
-/// the join at each field.
+/// The join of two values holds what both hold: a taint is on where one is, of two scalars stands the least or the
+/// greatest, sets have the scalars of both, counters the writers of both with the greater count, maps the keys of both
+/// with joined values, and bags the join at each field.
 pub fn joins_are_unions()
     ensures { JoinsAreUnions }
 {}

@@ -19,8 +19,10 @@ pub type ScalarSet = SetOf<ScalarKind>;
 pub enum Val {
     /// Whether a taint is on.
     Taint(bool),
-    /// A scalar, or none.
+    /// A scalar of which the least value stays, or none.
     Scalar(Option<Scalar>),
+    /// A scalar of which the greatest value stays, or none.
+    Greatest(Option<Scalar>),
     /// The elements of a set.
     Set(ScalarSet),
     /// The count of each writer.
@@ -38,7 +40,7 @@ impl Val {
     {
         match self {
             Val::Taint(_) => {}
-            Val::Scalar(_) => {}
+            Val::Scalar(_) | Val::Greatest(_) => {}
             Val::Set(set) => {
                 let _ = set.is_bottom();
             }
@@ -58,6 +60,7 @@ impl Val {
         match self {
             Val::Taint(on) => !*on,
             Val::Scalar(scalar) => scalar.is_none(),
+            Val::Greatest(scalar) => scalar.is_none(),
             Val::Set(set) => set.is_bottom(),
             Val::Counter(counts) => counts.is_bottom(),
             Val::Map(entries) => entries.is_empty(),
@@ -66,8 +69,8 @@ impl Val {
     }
 }
 
-/// Values are joined variant by variant: a taint by or, a scalar to the one that comes first, a set to the union, a
-/// counter to the greater count of each writer, a map key by key and a bag field by field.
+/// Values are joined variant by variant: a taint by or, a scalar to the least or the greatest value, a set to the
+/// union, a counter to the greater count of each writer, a map key by key and a bag field by field.
 ///
 /// Two are alike where they are of one variant, two sets of one kind, the values of two maps at a common key and those of
 /// two bags field by field. Want of memory leaves a value unchanged.

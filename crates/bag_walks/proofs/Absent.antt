@@ -19,7 +19,7 @@ bare_child P q h bare r p = bare (h ∷ r) (subst P (append_assoc q (h ∷ []) r
 mutual
   pub Reads-bare : (shape : Shape) (P : Path → Type 0) (q : Path) → IsBare P q → Reads shape P q (bottom shape)
   Reads-bare Taint P q bare = ((λ t. cc), λ (payload, p). absurd (bare (atom_of (Datum payload) ∷ []) p))
-  Reads-bare (Scalar kind) P q bare = λ w h. bare _ h.1
+  Reads-bare (Scalar pick kind) P q bare = (refl, λ w h. bare _ h.1)
   Reads-bare (Set kind) P q bare = (refl, tt, λ v. ((λ none. absurd none), λ h. absurd (bare _ h.1)))
   Reads-bare Counter P q bare = (tt, λ writer. ((λ none. absurd none), λ p. absurd (bare _ p)), tt)
   Reads-bare (Map kind shape) P q bare = (tt, λ key. ((λ none. absurd none), λ h. absurd (bare _ h.1)), tt)

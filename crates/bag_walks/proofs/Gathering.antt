@@ -14,14 +14,16 @@ use Rattle.context_model.specs.Varints.{unsigned_varint}
 use Rattle.context_model.proofs.OrderLaws.{atoms_total}
 use Rattle.context_model.proofs.PlacesOf.{paths_rise}
 use Rattle.context_model.proofs.VarintLaws.{unsigned_varint-order, unsigned_varint-injective}
+use Rattle.bag_model.specs.declared.Pick.{Pick}
+use Rattle.bag_model.specs.declared.Pick.TheVariants.{Least, Greatest}
 use Rattle.bag_model.specs.Readings.{PathsOf, IsFirst, IsGreatest, Reads}
-use Rattle.bag_model.specs.Scalars.{ScalarKind, ScalarValue, scalar_cmp, IsScalarOf, spelling}
+use Rattle.bag_model.specs.Scalars.{ScalarKind, ScalarValue, scalar_cmp, pick_cmp, IsScalarOf, spelling}
 use Rattle.bag_model.specs.Shapes.{Shape}
 use Rattle.bag_model.specs.Values.{Value}
-use Rattle.bag_model.proofs.ScalarOrder.{scalar_total}
+use Rattle.bag_model.proofs.ScalarOrder.{pick_total}
 use Rattle.bag_model.proofs.SpellingOrder.{spelling-order, spelling-one}
 use Rattle.bag_walks.specs.Parts.{IsBehind, HasNoHeader, IsDataPart, StaysBelow, Stands}
-use Rattle.bag_walks.specs.Gathered.{IsDatumAt, IsFirstDatum, IsLastDatum}
+use Rattle.bag_walks.specs.Gathered.{IsDatumAt, IsFirstDatum, IsLastDatum, IsDatumThatStays}
 use Rattle.bag_walks.proofs.Inside.{inside_along, datum_there, header_there}
 use Rattle.bag_walks.proofs.Bridge.{data_are}
 
@@ -101,36 +103,82 @@ taint_reads list q from to on behind its known = (
       known.1 (s.place, s.from_on, s.up_to, (omega (arith, s.up_to, its.part.within), (payload, s.atom))),
 )
 
+-- No two values come one before the other in either direction.
+both_ways : (pick : Pick) (v w : ScalarValue) → pick_cmp pick v w ≡ Less → pick_cmp pick w v ≡ Less → ⊥
+both_ways pick v w less back =
+    let turned : pick_cmp pick w v ≡ Greater = (pick_total pick).antisymm w v ∙ ap ordering_reverse less in
+    let clash : Less ≡ Greater = sym back ∙ turned in
+    cc
+
 module _ (kind : ScalarKind) (list : List Atom) (q : Path) (from to : ℕ) (behind : IsBehind list q from) (its : IsDataPart list from to) where
   -- Where no datum stands, no value is read.
-  pub none_reads : IsFirstDatum list from to None → IsFirst scalar_cmp kind (PathsOf list) q None
-  none_reads none w (fits, i) =
+  none_reads : (pick : Pick) → IsFirstDatum list from to None → IsFirst (pick_cmp pick) kind (PathsOf list) q None
+  none_reads pick none w (fits, i) =
       let s : Stands list (0 ∷ spelling kind w) from to = (data_are list q from to (spelling kind w) behind its).0 i in
       none s.place s.from_on s.up_to (omega (arith, s.up_to, its.part.within), (spelling kind w, s.atom))
 
-  -- The first datum is that of the value that comes first.
-  pub first_reads : (place : ℕ) (v : ScalarValue) → IsFirstDatum list from to (Some place) → IsScalarOf kind v → atom_at list place ≡ 0 ∷ spelling kind v
-      → IsFirst scalar_cmp kind (PathsOf list) q (Some v)
-  first_reads place v first fits is = (
-    (fits, (data_are list q from to (spelling kind v) behind its).1 (record { place = place; from_on = first.0; up_to = first.1; atom = is })),
+  -- The value of the earlier of two data is the lesser one.
+  value_before : (j k : ℕ) (v w : ScalarValue) → IsScalarOf kind v → IsScalarOf kind w → from ≤ j → j < k → k < to → atom_at list j ≡ 0 ∷ spelling kind v → atom_at list k ≡ 0 ∷ spelling kind w → scalar_cmp v w ≡ Less
+  value_before j k v w fits_v fits_w l m n is_v is_w =
+      sym (spelling-order kind v w fits_v fits_w) ∙ datum_before list q from to j k (spelling kind v) (spelling kind w) behind its.part l m n is_v is_w
+
+  -- The datum of a value that comes before those of all others, in the order in which the value that stays comes first.
+  end_reads : (pick : Pick) (place : ℕ) (v : ScalarValue) → from ≤ place → place < to → IsScalarOf kind v → atom_at list place ≡ 0 ∷ spelling kind v
+      → ((k : ℕ) (w : ScalarValue) → IsScalarOf kind w → atom_at list k ≡ 0 ∷ spelling kind w → from ≤ k → k < to → (place ≡ k → ⊥) → pick_cmp pick v w ≡ Less)
+      → IsFirst (pick_cmp pick) kind (PathsOf list) q (Some v)
+  end_reads pick place v l m fits is before = (
+    (fits, (data_are list q from to (spelling kind v) behind its).1 (record { place = place; from_on = l; up_to = m; atom = is })),
     λ w (fits_w, i) less. not_less w fits_w ((data_are list q from to (spelling kind w) behind its).0 i) less,
   )
     where
-      not_less : (w : ScalarValue) → IsScalarOf kind w → Stands list (0 ∷ spelling kind w) from to → scalar_cmp w v ≡ Less → ⊥
-      not_less w fits_w s less = elim (cases_order place s.place) [
-        | inl same ↦ absurd (let e : spelling kind w ≡ spelling kind v = payload (sym s.atom ∙ ap (atom_at list) (sym same) ∙ is) in
-            let tied : scalar_cmp w v ≡ Equal = ap (scalar_cmp w) (sym (spelling-one kind w v fits_w fits e)) ∙ tied_itself scalar_total w in
-            let clash : Less ≡ Equal = sym less ∙ tied in cc)
-        | inr (inl later) ↦ absurd (let before : atom_cmp (spelling kind v) (spelling kind w) ≡ Less =
-            datum_before list q from to place s.place (spelling kind v) (spelling kind w) behind its.part first.0 later s.up_to is s.atom in
-            let ordered : scalar_cmp v w ≡ Less = sym (spelling-order kind v w fits fits_w) ∙ before in
-            let back : scalar_cmp w v ≡ Greater = scalar_total.antisymm w v ∙ ap ordering_reverse ordered in
-            let clash : Less ≡ Greater = sym less ∙ back in cc)
-        | inr (inr earlier) ↦ absurd (first.3 s.place s.from_on earlier (omega (arith, s.up_to, its.part.within), (spelling kind w, s.atom)))
-      ]
+      same_value : (w : ScalarValue) → IsScalarOf kind w → (s : Stands list (0 ∷ spelling kind w) from to) → place ≡ s.place → w ≡ v
+      same_value w fits_w s same = spelling-one kind w v fits_w fits (payload (sym s.atom ∙ ap (atom_at list) (sym same) ∙ is))
         where
           payload : 0 ∷ spelling kind w ≡ 0 ∷ spelling kind v → spelling kind w ≡ spelling kind v
           payload e = cc
+
+      not_less : (w : ScalarValue) → IsScalarOf kind w → Stands list (0 ∷ spelling kind w) from to → pick_cmp pick w v ≡ Less → ⊥
+      not_less w fits_w s less = elim (cases_order place s.place) [
+        | inl same ↦ both_ways pick v v (self_less same) (self_less same)
+        | inr (inl later) ↦ both_ways pick v w (before s.place w fits_w s.atom s.from_on s.up_to (λ same. omega arith)) less
+        | inr (inr earlier) ↦ both_ways pick v w (before s.place w fits_w s.atom s.from_on s.up_to (λ same. omega arith)) less
+      ]
+        where
+          self_less : place ≡ s.place → pick_cmp pick v v ≡ Less
+          self_less same = subst (λ u. pick_cmp pick u v ≡ Less) (same_value w fits_w s same) less
+
+  -- The first datum is that of the least value.
+  first_reads : (place : ℕ) (v : ScalarValue) → IsFirstDatum list from to (Some place) → IsScalarOf kind v → atom_at list place ≡ 0 ∷ spelling kind v
+      → IsFirst (pick_cmp Least) kind (PathsOf list) q (Some v)
+  first_reads place v first fits is = end_reads Least place v first.0 first.1 fits is (λ k w fits_w is_w l m other. elim (cases_order place k) [
+    | inl same ↦ absurd (other same)
+    | inr (inl later) ↦ value_before place k v w fits fits_w first.0 later m is is_w
+    | inr (inr earlier) ↦ absurd (first.3 k l earlier (omega (arith, m, its.part.within), (spelling kind w, is_w)))
+  ])
+
+  -- And the last that of the greatest.
+  last_reads : (place : ℕ) (v : ScalarValue) → IsLastDatum list from to (Some place) → IsScalarOf kind v → atom_at list place ≡ 0 ∷ spelling kind v
+      → IsFirst (pick_cmp Greatest) kind (PathsOf list) q (Some v)
+  last_reads place v last fits is = end_reads Greatest place v last.0 last.1 fits is (λ k w fits_w is_w l m other. elim (cases_order place k) [
+    | inl same ↦ absurd (other same)
+    | inr (inl later) ↦ absurd (last.3 k later m (omega (arith, m, its.part.within), (spelling kind w, is_w)))
+    | inr (inr earlier) ↦ value_before k place w v fits_w fits l earlier last.1 is_w is
+  ])
+
+  -- Either way the datum that stays is that of the value that stays.
+  pub stays_reads : (pick : Pick) (place : ℕ) (v : ScalarValue) → IsDatumThatStays pick list from to (Some place) → IsScalarOf kind v → atom_at list place ≡ 0 ∷ spelling kind v
+      → IsFirst (pick_cmp pick) kind (PathsOf list) q (Some v)
+  stays_reads Least place v first fits is = first_reads place v first fits is
+  stays_reads Greatest place v last fits is = last_reads place v last fits is
+
+  pub none_stays : (pick : Pick) → IsDatumThatStays pick list from to None → IsFirst (pick_cmp pick) kind (PathsOf list) q None
+  none_stays Least none = none_reads Least none
+  none_stays Greatest none = none_reads Greatest none
+
+-- It is a datum of the part.
+pub stays_there : (pick : Pick) (list : List Atom) (from to place : ℕ) → IsDatumThatStays pick list from to (Some place) → (from ≤ place) × (place < to) × IsDatumAt list place
+stays_there Least list from to place first = (first.0, first.1, first.2)
+stays_there Greatest list from to place last = (last.0, last.1, last.2)
 
 -- ---- counts
 
@@ -145,8 +193,8 @@ module _ (list : List Atom) (q : Path) (from to : ℕ) (behind : IsBehind list q
   )
 
   -- The last datum is that of the greatest count.
-  pub last_reads : (place n : ℕ) → IsLastDatum list from to (Some place) → n < 2 ^ 64 → atom_at list place ≡ 0 ∷ unsigned_varint n → IsGreatest (PathsOf list) q n
-  last_reads place n last few is = (
+  pub last_count_reads : (place n : ℕ) → IsLastDatum list from to (Some place) → n < 2 ^ 64 → atom_at list place ≡ 0 ∷ unsigned_varint n → IsGreatest (PathsOf list) q n
+  last_count_reads place n last few is = (
     inl (few, (data_are list q from to (unsigned_varint n) behind its).1 (record { place = place; from_on = last.0; up_to = last.1; atom = is })),
     λ m (few_m, i). at_most m few_m ((data_are list q from to (unsigned_varint m) behind its).0 i),
   )

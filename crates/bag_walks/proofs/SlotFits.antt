@@ -74,7 +74,7 @@ module _ (name : List ℕ) (number : ℕ) (shape : Shape) (nodes : Nodes) (slot 
 mutual
   fits_in : (shape : Shape) (slot : ℕ) (at : SlotAt) (v : Value) (q p : Path) → slice_get (slots_in shape) slot ≡ Some at → FitsAnywhere at.shape v → InLayout shape q (only_in shape slot v) p → Fits p
   fits_in Taint slot at v q p e short laid = own_fits Taint slot at v q p e short laid
-  fits_in (Scalar kind) slot at v q p e short laid = own_fits (Scalar kind) slot at v q p e short laid
+  fits_in (Scalar pick kind) slot at v q p e short laid = own_fits (Scalar pick kind) slot at v q p e short laid
   fits_in (Set kind) slot at v q p e short laid = own_fits (Set kind) slot at v q p e short laid
   fits_in Counter slot at v q p e short laid = own_fits Counter slot at v q p e short laid
   fits_in (Map kind shape) slot at v q p e short laid = own_fits (Map kind shape) slot at v q p e short laid

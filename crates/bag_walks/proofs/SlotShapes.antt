@@ -29,7 +29,7 @@ mutual
   inner_shape : (own : Shape) (place : ℕ) (at : SlotAt) → IsShape own → slice_get (slots_in own) place ≡ Some at → IsShape at.shape
   inner_shape (Bag nodes) place at is e = slot_shape nodes place at is e
   inner_shape Taint place at is e = alone_shape Taint place at is e
-  inner_shape (Scalar kind) place at is e = alone_shape (Scalar kind) place at is e
+  inner_shape (Scalar pick kind) place at is e = alone_shape (Scalar pick kind) place at is e
   inner_shape (Set kind) place at is e = alone_shape (Set kind) place at is e
   inner_shape Counter place at is e = alone_shape Counter place at is e
   inner_shape (Map key value) place at is e = alone_shape (Map key value) place at is e

@@ -6,6 +6,8 @@ use Rattle.context_model.specs.Kinds.{atom_of}
 use Rattle.context_model.specs.Kinds.Kind.{Keyed}
 use Rattle.context_model.specs.Orders.{Path, atom_cmp, IsIn, Rises}
 use Rattle.context_model.specs.Paths.{atom_at}
+use Rattle.bag_model.specs.declared.Pick.{Pick}
+use Rattle.bag_model.specs.declared.Pick.TheVariants.{Least, Greatest}
 use Rattle.bag_model.specs.Readings.{PathsOf, key_path, IsGreatest, Reads}
 use Rattle.bag_model.specs.Scalars.{ScalarKind, ScalarValue, scalar_cmp, IsScalarOf, spelling}
 use Rattle.bag_model.specs.Shapes.{Shape}
@@ -27,6 +29,11 @@ abbrev pub IsLastDatum : List Atom → ℕ → ℕ → Option ℕ → Type 0
 IsLastDatum list from to None = (k : ℕ) → from ≤ k → k < to → IsDatumAt list k → ⊥
 IsLastDatum list from to (Some place) =
     (from ≤ place) × (place < to) × IsDatumAt list place × ((k : ℕ) → place < k → k < to → IsDatumAt list k → ⊥)
+
+-- The datum of the value that stays: the first where the least stays, and the last where the greatest does.
+abbrev pub IsDatumThatStays : Pick → List Atom → ℕ → ℕ → Option ℕ → Type 0
+IsDatumThatStays Least = IsFirstDatum
+IsDatumThatStays Greatest = IsLastDatum
 
 -- These are the values of the kind that stand as data from the one place up to the other, in order, and all data there are
 -- of them.

@@ -3,7 +3,7 @@ use Rattle.std.proofs.Common.{◌≡◌, ℕ, ◌+◌, ◌<◌, ◌≤◌, List,
 use Rattle.std.proofs.lemmas.List.{drop_more, drop_all}
 use Rattle.bdl_check.specs.Types.{spot_of}
 use Rattle.bdl_parser.specs.declared.trees.Spot.{Spot}
-use Rattle.bdl_parser.specs.declared.trees.TypeForm.{TypeForm, Scalar, Float, Double, Taint, Counter, Set', Map', Name}
+use Rattle.bdl_parser.specs.declared.trees.TypeForm.{TypeForm, Scalar, Float, Double, Taint, Counter, Set', Greatest', Map', Name}
 use Rattle.bdl_parser.specs.Views.{tree_at}
 
 -- The place of a node's tree is the node's.
@@ -15,6 +15,7 @@ spot_at spot Taint = refl
 spot_at spot Counter = refl
 spot_at spot (Name text) = refl
 spot_at spot (Set' p inner form) = refl
+spot_at spot (Greatest' p inner form) = refl
 spot_at spot (Map' p key form q value body) = refl
 
 -- What is left of a list that is mapped, where its next item is known.

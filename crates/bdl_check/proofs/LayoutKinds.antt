@@ -32,6 +32,7 @@ no_word at TypeForms.Double not = refl
 no_word at TypeForms.Taint not = refl
 no_word at TypeForms.Counter not = refl
 no_word at (TypeForms.Set' p inner form) not = refl
+no_word at (TypeForms.Greatest' p inner form) not = refl
 no_word at (TypeForms.Map' p key form q value body) not = refl
 no_word at (TypeForms.Name text) not = refl
 

@@ -24,7 +24,7 @@ shape_grows ds A B up (trees.leaf trees.double spot) s a = absurd a
 shape_grows ds A B up (trees.leaf trees.taint spot) s a = a
 shape_grows ds A B up (trees.leaf trees.counter spot) s a = a
 shape_grows ds A B up (trees.leaf (trees.name text) spot) s a = (a.0, a.1, decl_grows A B up a.0.decl s a.2)
-shape_grows ds A B up (trees.set element spot) s a = a
+shape_grows ds A B up (trees.held holding element spot) s a = a
 shape_grows ds A B up (trees.map key value spot) s a = (a.0, a.1, a.2, shape_grows ds A B up value a.1 a.3, a.4)
 
 pub list_grows : (ds : List Placed) (A B : Layout) → Grows A B → (list : List BagFieldTree) (fs : List Field) → AreFieldsOf ds A list fs
@@ -70,7 +70,7 @@ shape_within ds (trees.leaf trees.double spot) s a = absurd a
 shape_within ds (trees.leaf trees.taint spot) s a = (0, a)
 shape_within ds (trees.leaf trees.counter spot) s a = (0, a)
 shape_within ds (trees.leaf (trees.name text) spot) s a = let w = decl_within ds a.0.decl s a.2 in (w.0, (a.0, a.1, w.1))
-shape_within ds (trees.set element spot) s a = (0, a)
+shape_within ds (trees.held holding element spot) s a = (0, a)
 shape_within ds (trees.map key value spot) s a = let w = shape_within ds value a.1 a.3 in (w.0, (a.0, a.1, a.2, w.1, a.4))
 
 list_within : (ds : List Placed) (list : List BagFieldTree) (fs : List Field) → AreFieldsOf ds (IsLaidOut ds) list fs

@@ -2,15 +2,17 @@
 use Rattle.std.proofs.Common.{◌≡◌, ℕ, ◌+◌, ◌<◌, List, [], ◌∷◌, codes, refl, sym, subst, lit<, arith}
 use Rattle.std.specs.List.{slice_index}
 use Rattle.std.proofs.lemmas.List.Sorted.{IsPermutation-refl, IsPermutation-swap}
+use Rattle.bag_model.specs.declared.Pick.TheVariants.{Least, Greatest}
 use Rattle.bag_model.specs.Scalars as scalars
 use Rattle.bag_model.specs.Shapes.{Nodes, Scalar, Bag as BagOf, no_node, node}
 use Rattle.bdl_check.specs.Declarations.{Placed}
 use Rattle.bdl_check.specs.Layouts.{IsLaidOut, IsLaidOutWithin}
 use Rattle.bdl_parser.specs.declared.trees.Decl.{Decl}
 use Rattle.bdl_parser.specs.declared.trees.Decl.TheVariants.{Bag, Struct}
-use Rattle.bdl_parser.specs.declared.trees.ScalarWord.TheVariants.{Bool as BoolWord, Int32 as Int32Word, Str as StrWord}
+use Rattle.bdl_parser.specs.declared.trees.Holding.TheVariants.{AsGreatest}
+use Rattle.bdl_parser.specs.declared.trees.ScalarWord.TheVariants.{Bool as BoolWord, Int32 as Int32Word, Str as StrWord, Uint32 as Uint32Word}
 use Rattle.bdl_parser.specs.declared.trees.Spot.{Spot}
-use Rattle.bdl_parser.specs.Trees.{BagFieldTree, StructFieldTree, TypeTree, scalar, name, leaf}
+use Rattle.bdl_parser.specs.Trees.{BagFieldTree, StructFieldTree, TypeTree, scalar, name, leaf, held}
 
 abbrev here : Spot
 here = record { line = 1; column = 1 }
@@ -35,7 +37,7 @@ abbrev bags : List Placed
 bags = in_f (Bag (codes "In") here inner) ∷ in_f (Bag (codes "Out") here outer) ∷ []
 
 abbrev inner_nodes : Nodes
-inner_nodes = node (codes "ok") 2 (Scalar (scalars.ScalarKind.One scalars.Word.Boolean)) no_node
+inner_nodes = node (codes "ok") 2 (Scalar Least (scalars.ScalarKind.One scalars.Word.Boolean)) no_node
 
 inner_bag : IsLaidOutWithin 1 bags inner inner_nodes
 inner_bag = record {
@@ -67,7 +69,7 @@ abbrev with_struct : List Placed
 with_struct = in_f (Struct (codes "P") here struct_fields) ∷ in_f (Bag (codes "B") here holder) ∷ []
 
 struct_is_one_value : IsLaidOut with_struct holder (node (codes "p") 0
-    (Scalar (scalars.ScalarKind.Packed (scalars.Word.Str ∷ scalars.Word.Int32 ∷ []))) no_node)
+    (Scalar Least (scalars.ScalarKind.Packed (scalars.Word.Str ∷ scalars.Word.Int32 ∷ []))) no_node)
 struct_is_one_value = (
   1,
   record {
@@ -78,6 +80,21 @@ struct_is_one_value = (
   },
 )
 
+-- `bag G { greatest<uint32> top = 0; }`
+abbrev top : List BagFieldTree
+top = field (held AsGreatest (leaf (scalar Uint32Word) here) here) (codes "top") 0 ∷ []
+
+greatest_is_one_value : IsLaidOut [] top (node (codes "top") 0 (Scalar Greatest (scalars.ScalarKind.One scalars.Word.Uint32)) no_node)
+greatest_is_one_value = (
+  1,
+  record {
+    sorted = top;
+    same = IsPermutation-refl top;
+    rising = λ k (within : k + 1 < 1). absurd (omega arith);
+    each = (record { name_is = refl; number_is = refl; shape = (scalars.ScalarKind.One scalars.Word.Uint32, refl, refl) }, tt);
+  },
+)
+
 -- `bag B { bool z = 9; bool y = 3; }`
 abbrev z : BagFieldTree
 z = field (leaf (scalar BoolWord) here) (codes "z") 9
@@ -85,8 +102,8 @@ z = field (leaf (scalar BoolWord) here) (codes "z") 9
 abbrev y : BagFieldTree
 y = field (leaf (scalar BoolWord) here) (codes "y") 3
 
-in_order_of_number : IsLaidOut [] (z ∷ y ∷ []) (node (codes "y") 3 (Scalar (scalars.ScalarKind.One scalars.Word.Boolean))
-    (node (codes "z") 9 (Scalar (scalars.ScalarKind.One scalars.Word.Boolean)) no_node))
+in_order_of_number : IsLaidOut [] (z ∷ y ∷ []) (node (codes "y") 3 (Scalar Least (scalars.ScalarKind.One scalars.Word.Boolean))
+    (node (codes "z") 9 (Scalar Least (scalars.ScalarKind.One scalars.Word.Boolean)) no_node))
 in_order_of_number = (
   1,
   record {

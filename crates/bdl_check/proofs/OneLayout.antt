@@ -5,7 +5,7 @@ use Rattle.std.specs.List.Sorted.{IsPermutation, IsStrictlyIncreasing}
 use Rattle.std.proofs.lemmas.List.Kept.{AllPairs-from_increasing}
 use Rattle.std.proofs.lemmas.List.Sorted.{Contains-permutation, IsPermutation-sym}
 use Rattle.bag_model.specs.Scalars.{ScalarKind}
-use Rattle.bag_model.specs.Shapes.{Shape, Nodes, Field, fields, node, no_node, Set, Map, Bag as BagOf}
+use Rattle.bag_model.specs.Shapes.{Shape, Nodes, Field, fields, node, no_node, Map, Bag as BagOf}
 use Rattle.bag_model.specs.Tables.{levels, node_count}
 use Rattle.bdl_load.specs.declared.faults.Fault.{Fault}
 use Rattle.bdl_parser.specs.declared.trees.Decl.{Decl}
@@ -13,7 +13,7 @@ use Rattle.bdl_parser.specs.declared.trees.Decl.TheVariants.{Bag, Struct}
 use Rattle.bdl_parser.specs.Trees as trees
 use Rattle.bdl_parser.specs.Trees.{BagFieldTree, TypeTree}
 use Rattle.bdl_check.specs.Declarations.{Placed, named}
-use Rattle.bdl_check.specs.Layouts.{Layout, IsShapeOfDecl, IsShapeOf, IsFieldOf, AreFieldsOf, IsInOrder, IsLaidOutWithin, IsLaidOut}
+use Rattle.bdl_check.specs.Layouts.{Layout, IsShapeOfDecl, IsShapeOf, IsFieldOf, AreFieldsOf, IsInOrder, IsLaidOutWithin, IsLaidOut, held_shape}
 use Rattle.bdl_check.specs.Tables.{BagTree, bag_named, Fits, IsUnfit, IsTableAmong, IsUntabled}
 use Rattle.bag_model.specs.declared.TheConstants.{MAX_LEVELS, MAX_FIELDS}
 use Rattle.bdl_check.proofs.Lists.{is_in_front, is_behind}
@@ -114,7 +114,7 @@ one_shape ds A B one (trees.leaf trees.counter spot) s t a b = a ∙ sym b
 one_shape ds A B one (trees.leaf (trees.name text) spot) s t a b =
     let same = same_some (named ds text) a.0 b.0 a.1 b.1 in
     decl_shape A B one b.0.decl s t (subst (λ (d : Placed). IsShapeOfDecl A d.decl s) same a.2) b.2
-one_shape ds A B one (trees.set element spot) s t a b = a.2 ∙ ap Set (same_some _ a.0 b.0 a.1 b.1) ∙ sym b.2
+one_shape ds A B one (trees.held holding element spot) s t a b = a.2 ∙ ap (held_shape holding) (same_some _ a.0 b.0 a.1 b.1) ∙ sym b.2
 one_shape ds A B one (trees.map key value spot) s t a b =
     let kind = same_some _ a.0 b.0 a.2 b.2 in
     let inner = one_shape ds A B one value a.1 b.1 a.3 b.3 in

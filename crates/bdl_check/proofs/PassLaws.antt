@@ -22,8 +22,9 @@ use Rattle.bdl_check.specs.Passes.{are_distinct, is_open, passes_name, passes_le
 use Rattle.bdl_check.specs.Types.{Kinds, node_faults_at, node_faults, type_faults}
 use Rattle.bdl_parser.specs.declared.trees.Decl.{Decl}
 use Rattle.bdl_parser.specs.declared.trees.Decl.TheVariants.{Bag, Struct}
+use Rattle.bdl_parser.specs.declared.trees.Holding.{Holding}
 use Rattle.bdl_parser.specs.declared.trees.Spot.{Spot}
-use Rattle.bdl_parser.specs.Trees.{Leaf, TypeTree, BagFieldTree, StructFieldTree, scalar, float, double, taint, counter, name, leaf, set, map as map_of}
+use Rattle.bdl_parser.specs.Trees.{Leaf, TypeTree, BagFieldTree, StructFieldTree, scalar, float, double, taint, counter, name, leaf, held, map as map_of}
 
 -- Nothing stands in a list.
 abbrev pub nothing : {A : Type 0} → List A → Bool
@@ -80,12 +81,13 @@ leaf_passes kinds Element (name text) spot = name_passes spot Element (kinds tex
 leaf_passes kinds Key (name text) spot = name_passes spot Key (kinds text)
 leaf_passes kinds MapValue (name text) spot = name_passes spot MapValue (kinds text)
 
-set_passes : (kinds : Kinds) (role : Role) (element : TypeTree) (spot : Spot) → nothing (node_faults kinds role (set element spot)) ≡ is_open role
-set_passes kinds BagField element spot = refl
-set_passes kinds StructField element spot = refl
-set_passes kinds Element element spot = refl
-set_passes kinds Key element spot = refl
-set_passes kinds MapValue element spot = refl
+held_passes : (kinds : Kinds) (role : Role) (holding : Holding) (element : TypeTree) (spot : Spot)
+    → nothing (node_faults kinds role (held holding element spot)) ≡ is_open role
+held_passes kinds BagField holding element spot = refl
+held_passes kinds StructField holding element spot = refl
+held_passes kinds Element holding element spot = refl
+held_passes kinds Key holding element spot = refl
+held_passes kinds MapValue holding element spot = refl
 
 map_passes : (kinds : Kinds) (role : Role) (key value : TypeTree) (spot : Spot)
     → nothing (node_faults kinds role (map_of key value spot)) ≡ is_open role
@@ -98,9 +100,9 @@ map_passes kinds MapValue key value spot = refl
 -- A type has no fault exactly where it passes.
 type_passes : (kinds : Kinds) (role : Role) (tree : TypeTree) → nothing (type_faults kinds role tree) ≡ passes_type kinds role tree
 type_passes kinds role (leaf l spot) = leaf_passes kinds role l spot
-type_passes kinds role (set element spot) =
-    nothing_append (node_faults kinds role (set element spot)) (type_faults kinds Element element)
-    ∙ (λ i. set_passes kinds role element spot i && type_passes kinds Element element i)
+type_passes kinds role (held holding element spot) =
+    nothing_append (node_faults kinds role (held holding element spot)) (type_faults kinds Element element)
+    ∙ (λ i. held_passes kinds role holding element spot i && type_passes kinds Element element i)
 type_passes kinds role (map_of key value spot) =
     nothing_append (node_faults kinds role (map_of key value spot)) (type_faults kinds Key key ++ type_faults kinds MapValue value)
     ∙ (λ i. map_passes kinds role key value spot i && nothing_append (type_faults kinds Key key) (type_faults kinds MapValue value) i)

@@ -85,7 +85,7 @@ element_kind ds (trees.leaf (trees.name text) spot) e =
     let d = declared ds Element text e in
     let kind = struct_kind d.0.decl d.2 in
     (kind.0, and_then_at (λ (d : Placed). kind_of_decl d.decl) (named ds text) d.0 kind.0 d.1 kind.1)
-element_kind ds (trees.set element spot) e = absurd (cc e)
+element_kind ds (trees.held holding element spot) e = absurd (cc e)
 element_kind ds (trees.map key value spot) e = absurd (cc e)
 
 -- A key that passes is a word.
@@ -97,7 +97,7 @@ key_kind ds (trees.leaf trees.double spot) e = absurd (cc e)
 key_kind ds (trees.leaf trees.taint spot) e = absurd (cc e)
 key_kind ds (trees.leaf trees.counter spot) e = absurd (cc e)
 key_kind ds (trees.leaf (trees.name text) spot) e = let d = declared ds Key text e in absurd (cc d.2)
-key_kind ds (trees.set element spot) e = absurd (cc e)
+key_kind ds (trees.held holding element spot) e = absurd (cc e)
 key_kind ds (trees.map key value spot) e = absurd (cc e)
 
 value_name : (kind : Option DeclKind) → passes_name MapValue kind ≡ passes_name BagField kind
@@ -112,7 +112,7 @@ as_value kinds (trees.leaf trees.double spot) = refl
 as_value kinds (trees.leaf trees.taint spot) = refl
 as_value kinds (trees.leaf trees.counter spot) = refl
 as_value kinds (trees.leaf (trees.name text) spot) = value_name (kinds text)
-as_value kinds (trees.set element spot) = refl
+as_value kinds (trees.held holding element spot) = refl
 as_value kinds (trees.map key value spot) = refl
 
 -- The key and the value of a map that passes.

@@ -17,7 +17,7 @@ use Rattle.bdl_parser.specs.declared.trees.Decl.TheVariants.{Bag, Struct}
 use Rattle.bdl_parser.specs.declared.trees.Import.{Import}
 use Rattle.bdl_parser.specs.declared.trees.Module.{Module}
 use Rattle.bdl_parser.specs.declared.trees.Spot.{Spot}
-use Rattle.bdl_parser.specs.Grammar.{key, mark, name_in, number_in, a_name, a_number, a_text, a_leaf, set_of, map_of, a_type, a_bag_field, a_struct_field, bag_fields, struct_fields, a_bag, a_struct, an_import, the_decls, a_module}
+use Rattle.bdl_parser.specs.Grammar.{key, mark, name_in, number_in, a_name, a_number, a_text, a_leaf, a_holding, held_of, map_of, a_type, a_bag_field, a_struct_field, bag_fields, struct_fields, a_bag, a_struct, an_import, the_decls, a_module}
 use Rattle.bdl_parser.specs.Lexemes.{What, Lexeme, word, number, quoted, sign, what_of, lexemes_of}
 use Rattle.bdl_parser.specs.Spelled.{IsSpelledField, IsSpelledDecl, AreSpelledDecls}
 use Rattle.bdl_parser.specs.Trees.{TypeTree, BagFieldTree, StructFieldTree}
@@ -149,9 +149,9 @@ keeps_name = keeps_token a_name (λ p. is_name p.0 ≡ true) (λ t p small means
 keeps_number : Keeps (token a_number) (λ (p : ℕ × Spot). p.0 < 2 ^ 16)
 keeps_number = keeps_token a_number (λ p. p.0 < 2 ^ 16) (λ t p small means. number_small t.what t.spot p small means)
 
-keeps_set : (inner : Form Lexeme TypeTree) → Keeps inner Any → Keeps (set_of inner) Any
-keeps_set inner k =
-    keeps_made (λ p. trees.set p.1.1.0 p.0) Any (λ p so. tt) (keeps_two (keeps_any (key (codes "set"))) (keeps_two (keeps_any (mark 60)) (keeps_two k (keeps_any (mark 62)))))
+keeps_held : (inner : Form Lexeme TypeTree) → Keeps inner Any → Keeps (held_of inner) Any
+keeps_held inner k =
+    keeps_made (λ p. trees.held p.0.0 p.1.1.0 p.0.1) Any (λ p so. tt) (keeps_two (keeps_any a_holding) (keeps_two (keeps_any (mark 60)) (keeps_two k (keeps_any (mark 62)))))
 
 keeps_map : (inner : Form Lexeme TypeTree) → Keeps inner Any → Keeps (map_of inner) Any
 keeps_map inner k =
@@ -161,7 +161,7 @@ keeps_map inner k =
 keeps_type : (n : ℕ) → Keeps (a_type n) Any
 unfolding a_type
 keeps_type zero = keeps_nothing
-keeps_type (suc n) = keeps_either (keeps_any a_leaf) (keeps_either (keeps_set (a_type n) (keeps_type n)) (keeps_map (a_type n) (keeps_type n)))
+keeps_type (suc n) = keeps_either (keeps_any a_leaf) (keeps_either (keeps_held (a_type n) (keeps_type n)) (keeps_map (a_type n) (keeps_type n)))
 
 keeps_bag_field : (n : ℕ) → Keeps (a_bag_field n) IsSpelledField
 keeps_bag_field n =

@@ -14,6 +14,7 @@ use Rattle.bag_model.specs.Tables.{is_name, IsScalarKind, IsKeyKind, IsShape, Ar
 use Rattle.bdl_parser.specs.Spelled.{IsSpelledField, IsSpelledDecl}
 use Rattle.bdl_parser.specs.declared.trees.Decl.{Decl}
 use Rattle.bdl_parser.specs.declared.trees.Decl.TheVariants.{Bag, Struct}
+use Rattle.bdl_parser.specs.declared.trees.Holding.TheVariants.{AsSet, AsGreatest}
 use Rattle.bdl_parser.specs.declared.trees.Spot.{Spot}
 use Rattle.bdl_parser.specs.Trees as trees
 use Rattle.bdl_parser.specs.Trees.{TypeTree, BagFieldTree, StructFieldTree}
@@ -46,7 +47,7 @@ struct_word kinds (trees.leaf trees.double spot) e = absurd (cc e)
 struct_word kinds (trees.leaf trees.taint spot) e = absurd (cc e)
 struct_word kinds (trees.leaf trees.counter spot) e = absurd (cc e)
 struct_word kinds (trees.leaf (trees.name text) spot) e = absurd (no_struct_name (kinds text) e)
-struct_word kinds (trees.set element spot) e = absurd (cc e)
+struct_word kinds (trees.held holding element spot) e = absurd (cc e)
 struct_word kinds (trees.map key value spot) e = absurd (cc e)
 
 some_words : (o : Option scalars.Word) (word : scalars.Word) (words : List scalars.Word) → o ≡ Some word → cons_option o words ≢ []
@@ -137,7 +138,7 @@ module _ (ds : List Placed) (good : AllGood ds) where
   element_good (trees.leaf (trees.name text) spot) kind e =
       let d = and_then_is (λ (d : Placed). kind_of_decl d.decl) (named ds text) kind e in
       struct_good (kind_named ds) d.0.decl kind (good text d.0 d.1).0 d.2
-  element_good (trees.set element spot) kind e = absurd (cc e)
+  element_good (trees.held holding element spot) kind e = absurd (cc e)
   element_good (trees.map key value spot) kind e = absurd (cc e)
 
   key_good : (t : TypeTree) (kind : scalars.ScalarKind) → passes_type (kind_named ds) Key t ≡ true → kind_in ds t ≡ Some kind → IsKeyKind kind
@@ -158,7 +159,8 @@ module _ (ds : List Placed) (good : AllGood ds) where
   shape_good L makes (trees.leaf trees.taint spot) s p a = subst IsShape (sym a) tt
   shape_good L makes (trees.leaf trees.counter spot) s p a = subst IsShape (sym a) tt
   shape_good L makes (trees.leaf (trees.name text) spot) s p a = let here = good text a.0 a.1 in decl_good L makes a.0.decl s here.0 here.1 a.2
-  shape_good L makes (trees.set element spot) s p a = subst IsShape (sym a.2) (element_good element a.0 a.1)
+  shape_good L makes (trees.held AsSet element spot) s p a = subst IsShape (sym a.2) (element_good element a.0 a.1)
+  shape_good L makes (trees.held AsGreatest element spot) s p a = subst IsShape (sym a.2) (element_good element a.0 a.1)
   shape_good L makes (trees.map key value spot) s p a =
       subst IsShape (sym a.4) (
         key_good key a.0 (map_key (kind_named ds) key value spot p) a.2,

@@ -3,12 +3,15 @@ use Rattle.std.proofs.Common.{◌≡◌, ℕ, ◌<◌, ◌+◌, min, max, true, 
 use Rattle.std.specs.List.{slice_get}
 use Rattle.std.proofs.lemmas.List.Sorted.{IsPermutation-refl}
 use Rattle.std.proofs.lemmas.Option.{slice_get_within, slice_get-get_or}
+use Rattle.bag_model.specs.declared.Pick.TheVariants.{Least, Greatest}
 use Rattle.bag_model.specs.Scalars as scalars
 use Rattle.bag_model.specs.Shapes.{Taint, Scalar, Set, Counter, Map, Bag as BagOf, no_node}
 use Rattle.bag_model.specs.Tables.{levels}
 use Rattle.bdl_parser.specs.declared.trees.Decl.{Decl}
 use Rattle.bdl_parser.specs.declared.trees.Decl.TheVariants.{Bag, Struct}
 use Rattle.bdl_parser.specs.declared.trees.Spot.{Spot}
+use Rattle.bdl_parser.specs.declared.trees.Holding.{Holding}
+use Rattle.bdl_parser.specs.declared.trees.Holding.TheVariants.{AsSet, AsGreatest}
 use Rattle.bdl_parser.specs.declared.trees.ScalarWord.{ScalarWord}
 use Rattle.bdl_parser.specs.declared.trees.TypeForm as TypeForms
 use Rattle.bdl_parser.specs.declared.trees.TypeForm.{TypeForm}
@@ -49,12 +52,15 @@ map_size ds key value spot under l f p h el ef =
       fields_are = ef ∙ h.fields_are;
     }
 
--- A set takes none.
-pub set_size : (ds : List Placed) (element : TypeTree) (spot : Spot) → passes_type (kind_named ds) BagField (trees.set element spot) ≡ true
-    → HasTypeSize ds (trees.set element spot) (size 0 0)
-set_size ds element spot p =
+-- What holds elements takes none.
+pub held_size : (ds : List Placed) (holding : Holding) (element : TypeTree) (spot : Spot)
+    → passes_type (kind_named ds) BagField (trees.held holding element spot) ≡ true → HasTypeSize ds (trees.held holding element spot) (size 0 0)
+held_size ds AsSet element spot p =
     let kind = element_kind ds element p in
     record { shape = Set kind.0; is = (kind.0, kind.1, refl); levels_are = refl; fields_are = refl }
+held_size ds AsGreatest element spot p =
+    let kind = element_kind ds element p in
+    record { shape = Scalar Greatest kind.0; is = (kind.0, kind.1, refl); levels_are = refl; fields_are = refl }
 
 decl_size : (ds : List Placed) (text : List ℕ) (spot : Spot) (d : Placed) (s : Size) → named ds text ≡ Some d → IsSizeOf ds d.decl s
     → HasTypeSize ds (trees.leaf (trees.name text) spot) s
@@ -68,8 +74,8 @@ decl_size ds text spot d s e h = by d.decl refl h
       fields_are = h.fields_are;
     }
     by (Struct own at list) is h = record {
-      shape = Scalar (scalars.ScalarKind.Packed (words_of list));
-      is = (d, e, subst (λ (decl : Decl). IsShapeOfDecl (IsLaidOut ds) decl (Scalar (scalars.ScalarKind.Packed (words_of list)))) (sym is) refl);
+      shape = Scalar Least (scalars.ScalarKind.Packed (words_of list));
+      is = (d, e, subst (λ (decl : Decl). IsShapeOfDecl (IsLaidOut ds) decl (Scalar Least (scalars.ScalarKind.Packed (words_of list)))) (sym is) refl);
       levels_are = h.0;
       fields_are = h.1;
     }
@@ -135,13 +141,14 @@ known_right ds sizes (x ∷ xs) ys h = known_right ds sizes xs ys h.1
 -- How many maps stand inside one another.
 abbrev pub map_depth : TypeTree → ℕ
 map_depth (trees.leaf l spot) = 0
-map_depth (trees.set element spot) = 0
+map_depth (trees.held holding element spot) = 0
 map_depth (trees.map key value spot) = 1 + map_depth value
 
--- A word, a taint or a set takes none.
+-- A word, a taint and what holds elements take none.
 pub flat_size : (ds : List Placed) (at : Spot) (form : TypeForm)
     → ((word : ScalarWord) × (form ≡ TypeForms.Scalar word)) ⊎
-    ((form ≡ TypeForms.Taint) ⊎ ((element : Box TypeNode Global) × (form ≡ TypeForms.Set element)))
+    ((form ≡ TypeForms.Taint) ⊎ (((element : Box TypeNode Global) × (form ≡ TypeForms.Set element)) ⊎
+    ((element : Box TypeNode Global) × (form ≡ TypeForms.Greatest element))))
     → passes_type (kind_named ds) BagField (tree_at at form) ≡ true → HasTypeSize ds (tree_at at form) (size 0 0)
 flat_size ds at form (inl word) p =
     subst (λ (form : TypeForm). HasTypeSize ds (tree_at at form) (size 0 0)) (sym word.1)
@@ -149,7 +156,11 @@ flat_size ds at form (inl word) p =
 flat_size ds at form (inr (inl taint)) p =
     subst (λ (form : TypeForm). HasTypeSize ds (tree_at at form) (size 0 0)) (sym taint)
     (record { shape = Taint; is = refl; levels_are = refl; fields_are = refl })
-flat_size ds at form (inr (inr element)) p =
+flat_size ds at form (inr (inr (inl element))) p =
     subst (λ (form : TypeForm). HasTypeSize ds (tree_at at form) (size 0 0)) (sym element.1)
-    (set_size ds (tree_of element.0.value) at (subst (λ (form : TypeForm). passes_type (kind_named ds) BagField (tree_at at form) ≡ true) element.1
-    p))
+    (held_size ds AsSet (tree_of element.0.value) at
+    (subst (λ (form : TypeForm). passes_type (kind_named ds) BagField (tree_at at form) ≡ true) element.1 p))
+flat_size ds at form (inr (inr (inr element))) p =
+    subst (λ (form : TypeForm). HasTypeSize ds (tree_at at form) (size 0 0)) (sym element.1)
+    (held_size ds AsGreatest (tree_of element.0.value) at
+    (subst (λ (form : TypeForm). passes_type (kind_named ds) BagField (tree_at at form) ≡ true) element.1 p))

@@ -3,12 +3,15 @@ use Rattle.std.specs.Prelude.{◌≡◌, ◌≤◌, ℕ, zero, suc, Option, None
 use Rattle.std.specs.List.{filter_map}
 use Rattle.std.specs.List.Sorted.{IsPermutation, IsStrictlyIncreasing}
 use Rattle.std.specs.Option.{option_and_then}
+use Rattle.bag_model.specs.declared.Pick.TheVariants.{Least, Greatest}
 use Rattle.bag_model.specs.Scalars as scalars
 use Rattle.bag_model.specs.Shapes.{Shape, Nodes, Field, fields, Taint, Scalar, Set, Counter, Map, Bag as BagOf}
 use Rattle.bag_model.specs.Tables.{levels_under}
 use Rattle.bdl_check.specs.Declarations.{Placed, named}
 use Rattle.bdl_parser.specs.declared.trees.Decl.{Decl}
 use Rattle.bdl_parser.specs.declared.trees.Decl.TheVariants.{Bag, Struct}
+use Rattle.bdl_parser.specs.declared.trees.Holding.{Holding}
+use Rattle.bdl_parser.specs.declared.trees.Holding.TheVariants.{AsSet, AsGreatest}
 use Rattle.bdl_parser.specs.declared.trees.ScalarWord.{ScalarWord}
 use Rattle.bdl_parser.specs.declared.trees.ScalarWord.TheVariants.{Bool, Int32, Int64, Sint32, Sint64, Uint32, Uint64, Fixed32, Fixed64, Sfixed32, Sfixed64, Str, Bytes}
 use Rattle.bdl_parser.specs.Trees as trees
@@ -59,26 +62,32 @@ kind_in ds _ = None
 abbrev pub Layout : Type 1
 Layout = List trees.BagFieldTree → Nodes → Type 0
 
+-- The shape of a field that holds scalars of this kind.
+abbrev pub held_shape : Holding → scalars.ScalarKind → Shape
+held_shape AsSet kind = Set kind
+held_shape AsGreatest kind = Scalar Greatest kind
+
 -- The shape of a field whose type is the name of a declaration: a struct is a scalar, and a bag
 -- stands in place.
 abbrev pub IsShapeOfDecl : Layout → Decl → Shape → Type 0
 IsShapeOfDecl LaysOut (Bag own spot list) shape =
     (nodes : Nodes) × LaysOut list nodes × (shape ≡ BagOf nodes)
 IsShapeOfDecl LaysOut (Struct own spot list) shape =
-    shape ≡ Scalar (scalars.ScalarKind.Packed (words_of list))
+    shape ≡ Scalar Least (scalars.ScalarKind.Packed (words_of list))
 
 -- The shape of a field of this type.
 abbrev pub IsShapeOf : List Placed → Layout → trees.TypeTree → Shape → Type 0
 IsShapeOf ds LaysOut (trees.leaf (trees.scalar word) spot) shape =
-    shape ≡ Scalar (scalars.ScalarKind.One (word_in word))
+    shape ≡ Scalar Least (scalars.ScalarKind.One (word_in word))
 IsShapeOf ds LaysOut (trees.leaf trees.float spot) shape = ⊥
 IsShapeOf ds LaysOut (trees.leaf trees.double spot) shape = ⊥
 IsShapeOf ds LaysOut (trees.leaf trees.taint spot) shape = shape ≡ Taint
 IsShapeOf ds LaysOut (trees.leaf trees.counter spot) shape = shape ≡ Counter
 IsShapeOf ds LaysOut (trees.leaf (trees.name text) spot) shape =
     (d : Placed) × (named ds text ≡ Some d) × IsShapeOfDecl LaysOut d.decl shape
-IsShapeOf ds LaysOut (trees.set element spot) shape =
-    (kind : scalars.ScalarKind) × (kind_in ds element ≡ Some kind) × (shape ≡ Set kind)
+IsShapeOf ds LaysOut (trees.held holding element spot) shape =
+    (kind : scalars.ScalarKind) × (kind_in ds element ≡ Some kind)
+    × (shape ≡ held_shape holding kind)
 IsShapeOf ds LaysOut (trees.map key value spot) shape =
     (kind : scalars.ScalarKind) × (inner : Shape) × (kind_in ds key ≡ Some kind)
     × IsShapeOf ds LaysOut value inner × (shape ≡ Map kind inner)

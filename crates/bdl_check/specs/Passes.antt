@@ -11,7 +11,7 @@ use Rattle.bdl_check.specs.Fields.{numbers_of, names_of, struct_names_of}
 use Rattle.bdl_check.specs.Types.{Kinds}
 use Rattle.bdl_parser.specs.declared.trees.Decl.{Decl}
 use Rattle.bdl_parser.specs.declared.trees.Decl.TheVariants.{Bag, Struct}
-use Rattle.bdl_parser.specs.Trees.{Leaf, TypeTree, scalar, float, double, taint, counter, name, leaf, set, map as map_of}
+use Rattle.bdl_parser.specs.Trees.{Leaf, TypeTree, scalar, float, double, taint, counter, name, leaf, held, map as map_of}
 
 -- No two of a list are alike.
 abbrev pub are_distinct : {A : Type 0} → (A → A → Bool) → List A → Bool
@@ -26,7 +26,7 @@ is_open Element = false
 is_open Key = false
 is_open MapValue = true
 
--- A struct's name may stand for the elements of a set too.
+-- A struct's name may stand for the elements of a set and of a greatest too.
 abbrev pub may_name : Role → DeclKind → Bool
 may_name Element IsStruct = true
 may_name Element IsBag = false
@@ -52,7 +52,7 @@ passes_leaf kinds role (name text) = passes_name role (kinds text)
 -- A type passes where each of its nodes may stand where it stands.
 abbrev pub passes_type : Kinds → Role → TypeTree → Bool
 passes_type kinds role (leaf l spot) = passes_leaf kinds role l
-passes_type kinds role (set element spot) = is_open role && passes_type kinds Element element
+passes_type kinds role (held holding element spot) = is_open role && passes_type kinds Element element
 passes_type kinds role (map_of key value spot) =
     is_open role && (passes_type kinds Key key && passes_type kinds MapValue value)
 

@@ -7,7 +7,7 @@ use Rattle.bdl_load.specs.declared.faults.Fault.{Fault}
 use Rattle.bdl_load.specs.Faults.{found, fault_in}
 use Rattle.bdl_parser.specs.declared.trees.Decl.{Decl}
 use Rattle.bdl_parser.specs.declared.trees.Decl.TheVariants.{Bag, Struct}
-use Rattle.bdl_parser.specs.Trees.{TypeTree, name, leaf, set, map as map_of}
+use Rattle.bdl_parser.specs.Trees.{TypeTree, name, leaf, held, map as map_of}
 use Rattle.topological_order.specs.Graphs.{Graph, Reaches}
 use Rattle.topological_order.specs.Orders.{IsFirstCyclic}
 
@@ -15,7 +15,7 @@ use Rattle.topological_order.specs.Orders.{IsFirstCyclic}
 abbrev pub names_in : TypeTree → List (List ℕ)
 names_in (leaf (name text) spot) = text ∷ []
 names_in (leaf _ spot) = []
-names_in (set element spot) = names_in element
+names_in (held holding element spot) = names_in element
 names_in (map_of key value spot) = names_in key ++ names_in value
 
 -- The names that the types of a bag's fields have; those of a struct's have none.

@@ -10,7 +10,7 @@ use Rattle.bdl_check.specs.declared.types.Role.TheVariants.{StructField, Element
 use Rattle.bdl_check.specs.Faults.{when}
 use Rattle.bdl_load.specs.Faults.{found}
 use Rattle.bdl_parser.specs.declared.trees.Spot.{Spot}
-use Rattle.bdl_parser.specs.Trees.{TypeTree, scalar, float, double, name, leaf, set, map}
+use Rattle.bdl_parser.specs.Trees.{TypeTree, scalar, float, double, name, leaf, held, map}
 
 -- What each name was declared as.
 abbrev pub Kinds : Type 0
@@ -19,7 +19,7 @@ Kinds = List ℕ → Option DeclKind
 -- The place of a type's first token.
 abbrev pub spot_of : TypeTree → Spot
 spot_of (leaf l spot) = spot
-spot_of (set element spot) = spot
+spot_of (held holding element spot) = spot
 spot_of (map key value spot) = spot
 
 -- A scalar word.
@@ -47,7 +47,8 @@ abbrev pub names_struct : Kinds → TypeTree → Bool
 names_struct kinds (leaf (name text) spot) = is_struct (kinds text)
 names_struct kinds _ = false
 
--- The elements of a set are scalars or structs, and the keys of a map are scalars.
+-- The elements of a set and of a greatest are scalars or structs, and the keys of a map are
+-- scalars.
 abbrev pub is_bad_key : Kinds → Role → TypeTree → Bool
 is_bad_key kinds Element type = not (is_scalar type || names_struct kinds type)
 is_bad_key kinds Key type = not (is_scalar type)
@@ -73,8 +74,8 @@ node_faults kinds role type = node_faults_at (spot_of type) kinds role type
 -- The faults of a type: those of its nodes from left to right, a node before the nodes inside it.
 abbrev pub type_faults : Kinds → Role → TypeTree → List Finding
 type_faults kinds role (leaf l spot) = node_faults kinds role (leaf l spot)
-type_faults kinds role (set element spot) =
-    node_faults kinds role (set element spot) ++ type_faults kinds Element element
+type_faults kinds role (held holding element spot) =
+    node_faults kinds role (held holding element spot) ++ type_faults kinds Element element
 type_faults kinds role (map key value spot) =
     node_faults kinds role (map key value spot)
     ++ (type_faults kinds Key key ++ type_faults kinds MapValue value)

@@ -89,6 +89,7 @@ fn type_shape(
             decl_shape(alloc, declarations, &declared, room)
         }
         TypeForm::Set(element) => Ok(Shape::Set(type_kind(declarations, element)?)),
+        TypeForm::Greatest(element) => Ok(Shape::Greatest(type_kind(declarations, element)?)),
         TypeForm::Map(key, value) => {
             let key = type_kind(declarations, key)?;
             let value = type_shape(alloc, declarations, value, room - 1)?;

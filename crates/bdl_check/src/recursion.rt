@@ -36,7 +36,9 @@ fn add_links(
             }
             Ok(())
         }
-        TypeForm::Set(element) => add_links(declarations, element, row),
+        TypeForm::Set(element) | TypeForm::Greatest(element) => {
+            add_links(declarations, element, row)
+        }
         TypeForm::Map(key, value) => {
             add_links(declarations, key, row)?;
             add_links(declarations, value, row)

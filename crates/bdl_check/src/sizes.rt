@@ -77,7 +77,7 @@ fn type_size(declarations: &Declarations, sizes: &[Size], node: &TypeNode) -> Si
     ensures { HasTypeSize declarations.now (tree_of node.now) result }
 {
     match &node.form {
-        TypeForm::Scalar(_) | TypeForm::Taint | TypeForm::Set(_) => EMPTY,
+        TypeForm::Scalar(_) | TypeForm::Taint | TypeForm::Set(_) | TypeForm::Greatest(_) => EMPTY,
         TypeForm::Counter => with_keys(EMPTY),
         TypeForm::Map(_, value) => with_keys(type_size(declarations, sizes, value)),
         TypeForm::Name(name) => {

@@ -20,7 +20,7 @@ pub(crate) enum Role {
     BagField,
     /// The whole type of a struct's field.
     StructField,
-    /// The elements of a set.
+    /// The element of a `set` or of a `greatest`.
     Element,
     /// The keys of a map.
     Key,
@@ -115,7 +115,9 @@ pub(crate) fn type_fault(
         return Some(fault);
     }
     match &node.form {
-        TypeForm::Set(element) => type_fault(declarations, Role::Element, element),
+        TypeForm::Set(element) | TypeForm::Greatest(element) => {
+            type_fault(declarations, Role::Element, element)
+        }
         TypeForm::Map(key, value) => {
             if let Some(fault) = type_fault(declarations, Role::Key, key) {
                 return Some(fault);

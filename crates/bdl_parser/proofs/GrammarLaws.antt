@@ -5,8 +5,10 @@ use Rattle.std.specs.Str.{bytes_eq}
 use Rattle.std.proofs.lemmas.Slice.Eq.{bytes_eq-Decides}
 use Rattle.bag_model.specs.Words.{reserved_of}
 use Rattle.bdl_parser.specs.declared.trees.Decl.{Decl}
+use Rattle.bdl_parser.specs.declared.trees.Holding.{Holding}
+use Rattle.bdl_parser.specs.declared.trees.Holding.TheVariants.{AsSet, AsGreatest}
 use Rattle.bdl_parser.specs.declared.trees.Spot.{Spot}
-use Rattle.bdl_parser.specs.Grammar.{is_word, is_mark, key, mark, a_name, a_number, a_text, a_leaf, leaf_in, set_of, map_of, a_type, a_bag_field, a_struct_field, bag_fields, struct_fields, a_bag, a_struct, a_decl, an_import, the_decls, a_module}
+use Rattle.bdl_parser.specs.Grammar.{is_word, is_mark, key, mark, a_name, a_number, a_text, a_leaf, leaf_in, holding_in, a_holding, held_of, map_of, a_type, a_bag_field, a_struct_field, bag_fields, struct_fields, a_bag, a_struct, a_decl, an_import, the_decls, a_module}
 use Rattle.bdl_parser.specs.Lexemes.{What, Lexeme, word, number, quoted, sign}
 use Rattle.bdl_parser.specs.Refusals.{is_type_first}
 use Rattle.bdl_parser.specs.Trees.{Leaf, TypeTree, BagFieldTree, StructFieldTree}
@@ -74,23 +76,61 @@ set_no_leaf : is_some (leaf_of (codes "set")) ≡ false
 unfolding reserved_of
 set_no_leaf = refl
 
+greatest_no_leaf : is_some (leaf_of (codes "greatest")) ≡ false
+unfolding reserved_of
+greatest_no_leaf = refl
+
 map_no_leaf : is_some (leaf_of (codes "map")) ≡ false
 unfolding reserved_of
 map_no_leaf = refl
 
-by_either : (t : Lexeme) → is_some (a_leaf t) ≡ true → (is_some (key (codes "set") t) ≡ true) ⊎ (is_some (key (codes "map") t) ≡ true) → ⊥
-by_either t p (inl q) = leaf_keys t (codes "set") set_no_leaf p q
+-- a word that holds elements is one of two
+text_holds : (text : List ℕ) (one other : Bool) → one ≡ bytes_eq text (codes "set") → other ≡ bytes_eq text (codes "greatest") → is_some (cond one (Some AsSet) (cond other (Some AsGreatest) None)) ≡ true → (text ≡ codes "set") ⊎ (text ≡ codes "greatest")
+text_holds text true other p q e = inl ((bytes_eq-Decides text (codes "set")).0 (sym p))
+text_holds text false true p q e = inr ((bytes_eq-Decides text (codes "greatest")).0 (sym q))
+text_holds text false false p q e = absurd (let w : false ≡ true = e in cc)
+
+what_holds : (what : What) (spot : Spot) → is_some {T = Holding × Spot} (option_map (λ found. (found, spot)) (holding_in what)) ≡ true → (what ≡ word (codes "set")) ⊎ (what ≡ word (codes "greatest"))
+what_holds (word text) spot e = by_text (text_holds text (bytes_eq text (codes "set")) (bytes_eq text (codes "greatest")) refl refl (mapped (holding_in (word text)) ∙ e))
+  where
+    by_text : (text ≡ codes "set") ⊎ (text ≡ codes "greatest") → (word text ≡ word (codes "set")) ⊎ (word text ≡ word (codes "greatest"))
+    by_text (inl is) = inl (ap word is)
+    by_text (inr is) = inr (ap word is)
+
+    mapped : (o : Option Holding) → is_some o ≡ is_some {T = Holding × Spot} (option_map (λ found. (found, spot)) o)
+    mapped None = refl
+    mapped (Some x) = refl
+what_holds (number value) spot e = absurd (let w : false ≡ true = e in cc)
+what_holds (quoted text) spot e = absurd (let w : false ≡ true = e in cc)
+what_holds (sign byte) spot e = absurd (let w : false ≡ true = e in cc)
+
+-- a token that holds elements says one of two words
+holding_says : (t : Lexeme) → is_some (a_holding t) ≡ true → (t.what ≡ word (codes "set")) ⊎ (t.what ≡ word (codes "greatest"))
+holding_says t e = what_holds t.what t.spot e
+
+leaf_held : (t : Lexeme) → is_some (a_leaf t) ≡ true → (t.what ≡ word (codes "set")) ⊎ (t.what ≡ word (codes "greatest")) → ⊥
+leaf_held t p (inl is) = leaf_none t (codes "set") set_no_leaf is p
+leaf_held t p (inr is) = leaf_none t (codes "greatest") greatest_no_leaf is p
+
+by_either : (t : Lexeme) → is_some (a_leaf t) ≡ true → (is_some (a_holding t) ≡ true) ⊎ (is_some (key (codes "map") t) ≡ true) → ⊥
+by_either t p (inl q) = leaf_held t p (holding_says t q)
 by_either t p (inr q) = leaf_keys t (codes "map") map_no_leaf p q
 
-pub leaf_apart : Apart (λ t. is_some (a_leaf t)) (λ t. is_some (key (codes "set") t) || is_some (key (codes "map") t))
-leaf_apart t p q = by_either t p (or_three (is_some (key (codes "set") t)) (is_some (key (codes "map") t)) q)
+pub leaf_apart : Apart (λ t. is_some (a_leaf t)) (λ t. is_some (a_holding t) || is_some (key (codes "map") t))
+leaf_apart t p q = by_either t p (or_three (is_some (a_holding t)) (is_some (key (codes "map") t)) q)
 
-pub set_apart : Apart (λ t. is_some (key (codes "set") t)) (λ t. is_some (key (codes "map") t))
-set_apart = keys_apart (codes "set") (codes "map") refl
+held_is_map : (t : Lexeme) → is_some (key (codes "map") t) ≡ true → (t.what ≡ word (codes "set")) ⊎ (t.what ≡ word (codes "greatest")) → ⊥
+held_is_map t q (inl is) =
+    let w : false ≡ true = ap (is_word (codes "map")) (sym is) ∙ key_is_word (codes "map") t q in cc
+held_is_map t q (inr is) =
+    let w : false ≡ true = ap (is_word (codes "map")) (sym is) ∙ key_is_word (codes "map") t q in cc
 
-pub lawful_set : (inner : Form Lexeme TypeTree) → IsLawful inner is_type_first → IsLawful (set_of inner) (λ t. is_some (key (codes "set") t))
-lawful_set inner law =
-    law_made (λ p. Rattle.bdl_parser.specs.Trees.set p.1.1.0 p.0) (law_two (law_token (key (codes "set"))) (law_two (law_token (mark 60)) (law_two law (law_token (mark 62)))))
+pub held_apart : Apart (λ t. is_some (a_holding t)) (λ t. is_some (key (codes "map") t))
+held_apart t p q = held_is_map t q (holding_says t p)
+
+pub lawful_held : (inner : Form Lexeme TypeTree) → IsLawful inner is_type_first → IsLawful (held_of inner) (λ t. is_some (a_holding t))
+lawful_held inner law =
+    law_made (λ p. Rattle.bdl_parser.specs.Trees.held p.0.0 p.1.1.0 p.0.1) (law_two (law_token a_holding) (law_two (law_token (mark 60)) (law_two law (law_token (mark 62)))))
 
 pub lawful_map : (inner : Form Lexeme TypeTree) → IsLawful inner is_type_first → IsLawful (map_of inner) (λ t. is_some (key (codes "map") t))
 lawful_map inner law =
@@ -100,9 +140,9 @@ pub lawful_type : (n : ℕ) → IsLawful (a_type n) is_type_first
 unfolding a_type
 lawful_type zero = lawful_nothing is_type_first
 lawful_type (suc n) =
-    lawful_either (token a_leaf) (either (set_of (a_type n)) (map_of (a_type n))) (λ t. is_some (a_leaf t)) (λ t. is_some (key (codes "set") t) || is_some (key (codes "map") t))
+    lawful_either (token a_leaf) (either (held_of (a_type n)) (map_of (a_type n))) (λ t. is_some (a_leaf t)) (λ t. is_some (a_holding t) || is_some (key (codes "map") t))
     (law_token a_leaf)
-    (lawful_either (set_of (a_type n)) (map_of (a_type n)) (λ t. is_some (key (codes "set") t)) (λ t. is_some (key (codes "map") t)) (lawful_set (a_type n) (lawful_type n)) (lawful_map (a_type n) (lawful_type n)) set_apart)
+    (lawful_either (held_of (a_type n)) (map_of (a_type n)) (λ t. is_some (a_holding t)) (λ t. is_some (key (codes "map") t)) (lawful_held (a_type n) (lawful_type n)) (lawful_map (a_type n) (lawful_type n)) held_apart)
     leaf_apart
 
 -- a type begins with a word
@@ -112,17 +152,21 @@ leaf_word (number value) spot e = absurd (let w : false ≡ true = e in cc)
 leaf_word (quoted text) spot e = absurd (let w : false ≡ true = e in cc)
 leaf_word (sign byte) spot e = absurd (let w : false ≡ true = e in cc)
 
-keyed : (t : Lexeme) → (is_some (key (codes "set") t) ≡ true) ⊎ (is_some (key (codes "map") t) ≡ true) → (text : List ℕ) × (t.what ≡ word text)
-keyed t (inl e) = (codes "set", key_says (codes "set") t e)
+held_word : (t : Lexeme) → (t.what ≡ word (codes "set")) ⊎ (t.what ≡ word (codes "greatest")) → (text : List ℕ) × (t.what ≡ word text)
+held_word t (inl is) = (codes "set", is)
+held_word t (inr is) = (codes "greatest", is)
+
+keyed : (t : Lexeme) → (is_some (a_holding t) ≡ true) ⊎ (is_some (key (codes "map") t) ≡ true) → (text : List ℕ) × (t.what ≡ word text)
+keyed t (inl e) = held_word t (holding_says t e)
 keyed t (inr e) = (codes "map", key_says (codes "map") t e)
 
-leaf_or_key : (t : Lexeme) → (is_some (a_leaf t) ≡ true) ⊎ ((is_some (key (codes "set") t) || is_some (key (codes "map") t)) ≡ true) → (text : List ℕ) × (t.what ≡ word text)
+leaf_or_key : (t : Lexeme) → (is_some (a_leaf t) ≡ true) ⊎ ((is_some (a_holding t) || is_some (key (codes "map") t)) ≡ true) → (text : List ℕ) × (t.what ≡ word text)
 leaf_or_key t (inl e) = leaf_word t.what t.spot e
-leaf_or_key t (inr e) = keyed t (or_three (is_some (key (codes "set") t)) (is_some (key (codes "map") t)) e)
+leaf_or_key t (inr e) = keyed t (or_three (is_some (a_holding t)) (is_some (key (codes "map") t)) e)
 
 pub type_word : (t : Lexeme) → is_type_first t ≡ true → (text : List ℕ) × (t.what ≡ word text)
 type_word t e =
-    leaf_or_key t (or_three (is_some (a_leaf t)) (is_some (key (codes "set") t) || is_some (key (codes "map") t)) e)
+    leaf_or_key t (or_three (is_some (a_leaf t)) (is_some (a_holding t) || is_some (key (codes "map") t)) e)
 
 pub type_or_mark : (byte : ℕ) → Apart is_type_first (λ t. is_some (mark byte t))
 type_or_mark byte t p q = let it = type_word t p in mark_not_word byte t it.0 it.1 q
@@ -217,9 +261,9 @@ g_same meant = grows_same (token meant)
 g_made : {A B : Type 0} (make : A → B) {f wide : Form Lexeme A} → Grows f wide → Grows (made make f) (made make wide)
 g_made make {f = f} {wide = wide} gf = grows_made make f wide gf
 
-grows_set : (f wide : Form Lexeme TypeTree) → Grows f wide → Grows (set_of f) (set_of wide)
-grows_set f wide g =
-    g_made (λ p. Rattle.bdl_parser.specs.Trees.set p.1.1.0 p.0) (g_two (g_same (key (codes "set"))) (g_two (g_same (mark 60)) (g_two g (g_same (mark 62)))))
+grows_held : (f wide : Form Lexeme TypeTree) → Grows f wide → Grows (held_of f) (held_of wide)
+grows_held f wide g =
+    g_made (λ p. Rattle.bdl_parser.specs.Trees.held p.0.0 p.1.1.0 p.0.1) (g_two (g_same a_holding) (g_two (g_same (mark 60)) (g_two g (g_same (mark 62)))))
 
 grows_map : (f wide : Form Lexeme TypeTree) → Grows f wide → Grows (map_of f) (map_of wide)
 grows_map f wide g =
@@ -232,9 +276,9 @@ pub grows_type : (n : ℕ) → Grows (a_type n) (a_type (suc n))
 unfolding a_type
 grows_type zero = grows_nothing (a_type (suc zero)) (lawful_type (suc zero)).empty
 grows_type (suc n) =
-    grows_either (token a_leaf) (either (set_of (a_type n)) (map_of (a_type n))) (token a_leaf) (either (set_of (a_type (suc n))) (map_of (a_type (suc n))))
+    grows_either (token a_leaf) (either (held_of (a_type n)) (map_of (a_type n))) (token a_leaf) (either (held_of (a_type (suc n))) (map_of (a_type (suc n))))
     (g_same a_leaf)
-    (grows_either (set_of (a_type n)) (map_of (a_type n)) (set_of (a_type (suc n))) (map_of (a_type (suc n))) (grows_set (a_type n) (a_type (suc n)) (grows_type n)) (grows_map (a_type n) (a_type (suc n)) (grows_type n)))
+    (grows_either (held_of (a_type n)) (map_of (a_type n)) (held_of (a_type (suc n))) (map_of (a_type (suc n))) (grows_held (a_type n) (a_type (suc n)) (grows_type n)) (grows_map (a_type n) (a_type (suc n)) (grows_type n)))
 
 pub grows_bag_field : (n m : ℕ) → Grows (a_type n) (a_type m) → Grows (a_bag_field n) (a_bag_field m)
 grows_bag_field n m g =

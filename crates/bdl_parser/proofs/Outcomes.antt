@@ -8,7 +8,7 @@ use Rattle.bdl_parser.specs.declared.ParseCode.{ParseCode}
 use Rattle.bdl_parser.specs.declared.ParseCode.TheVariants.{Expected, TypeNesting}
 use Rattle.bdl_parser.specs.declared.trees.Module.{Module}
 use Rattle.bdl_parser.specs.FirstFault.{IsModuleOf, NestsAt, FaultAt}
-use Rattle.bdl_parser.specs.Grammar.{key, mark, a_name, a_number, a_text, a_leaf, set_of, map_of, a_type, a_bag_field, a_struct_field, a_bag, a_struct, a_decl, an_import, the_decls, a_module}
+use Rattle.bdl_parser.specs.Grammar.{key, mark, a_name, a_number, a_text, a_leaf, a_holding, held_of, map_of, a_type, a_bag_field, a_struct_field, a_bag, a_struct, a_decl, an_import, the_decls, a_module}
 use Rattle.bdl_parser.specs.Lexemes.{Lexeme}
 use Rattle.bdl_parser.specs.Refusals.{is_type_first}
 use Rattle.bdl_parser.specs.Trees.{TypeTree}
@@ -29,9 +29,9 @@ f_key meant {g = g} gg = fronted_two (token meant) g (λ t. is_some (meant t)) (
 f_made : {A B : Type 0} (make : A → B) {f : Form Lexeme A} → IsFronted f → IsFronted (made make f)
 f_made make {f = f} ff = fronted_made make f ff
 
-fronted_set : (inner : Form Lexeme TypeTree) → IsLawful inner is_type_first → IsFronted inner → IsFronted (set_of inner)
-fronted_set inner law ff =
-    f_made (λ p. Rattle.bdl_parser.specs.Trees.set p.1.1.0 p.0) (f_key (key (codes "set")) (f_key (mark 60) (f_two law ff (f_token (mark 62)))))
+fronted_held : (inner : Form Lexeme TypeTree) → IsLawful inner is_type_first → IsFronted inner → IsFronted (held_of inner)
+fronted_held inner law ff =
+    f_made (λ p. Rattle.bdl_parser.specs.Trees.held p.0.0 p.1.1.0 p.0.1) (f_key a_holding (f_key (mark 60) (f_two law ff (f_token (mark 62)))))
 
 fronted_map : (inner : Form Lexeme TypeTree) → IsLawful inner is_type_first → IsFronted inner → IsFronted (map_of inner)
 fronted_map inner law ff =
@@ -41,8 +41,8 @@ fronted_type : (n : ℕ) → IsFronted (a_type n)
 unfolding a_type
 fronted_type zero = fronted_nothing
 fronted_type (suc n) =
-    fronted_either (token a_leaf) (either (set_of (a_type n)) (map_of (a_type n))) (f_token a_leaf)
-    (fronted_either (set_of (a_type n)) (map_of (a_type n)) (fronted_set (a_type n) (lawful_type n) (fronted_type n)) (fronted_map (a_type n) (lawful_type n) (fronted_type n)))
+    fronted_either (token a_leaf) (either (held_of (a_type n)) (map_of (a_type n))) (f_token a_leaf)
+    (fronted_either (held_of (a_type n)) (map_of (a_type n)) (fronted_held (a_type n) (lawful_type n) (fronted_type n)) (fronted_map (a_type n) (lawful_type n) (fronted_type n)))
 
 fronted_bag_field : (n : ℕ) → IsFronted (a_bag_field n)
 fronted_bag_field n =

@@ -1,10 +1,10 @@
--- One level of types: a type of one word, a set or a map, each with one type less room inside.
+-- One level of types: a type of one word, one that holds elements or a map, each with one type less room inside.
 use Rattle.std.proofs.Common.{◌≡◌, ℕ, zero, suc, ◌+◌, ◌≤◌, Bool, true, false, ◌||◌, Option, None, Some, List, [], ◌∷◌, ◌⊎◌, inl, inr, codes, refl, sym, ap, ◌∙◌, subst, subst₂, arith, drop}
 use Rattle.std.specs.Option.{is_some, option_map}
 use Rattle.bdl_parser.specs.declared.parser.FormFault.{FormFault}
 use Rattle.bdl_parser.specs.declared.ParseCode.TheVariants.{Expected, TypeNesting}
 use Rattle.bdl_parser.specs.declared.parser.FormFault.TheVariants.{Wrong, Memory}
-use Rattle.bdl_parser.specs.Grammar.{key, a_leaf, set_of, map_of, a_type}
+use Rattle.bdl_parser.specs.Grammar.{key, a_leaf, a_holding, held_of, map_of, a_type}
 use Rattle.bdl_parser.specs.declared.trees.Spot.{Spot}
 use Rattle.bdl_parser.specs.declared.trees.TypeForm.{TypeForm}
 use Rattle.bdl_parser.specs.Lexemes.{Lexeme, word}
@@ -17,10 +17,10 @@ use Rattle.grammar_model.specs.Stops.{first_passes, Stops, GoesOn, Taken}
 use Rattle.grammar_model.proofs.FormLaws.{Apart, ender_of}
 use Rattle.grammar_model.proofs.GoOnLaws.{goes_left, goes_right}
 use Rattle.grammar_model.proofs.StopLaws.{IsNotHere, not_here_apart, stops_here, stops_left, stops_right}
-use Rattle.bdl_parser.proofs.GrammarLaws.{law_token, leaf_apart, set_apart, lawful_set, lawful_map, lawful_type}
+use Rattle.bdl_parser.proofs.GrammarLaws.{law_token, leaf_apart, held_apart, lawful_held, lawful_map, lawful_type}
 
-abbrev set_test : Lexeme → Bool
-set_test t = is_some (key (codes "set") t)
+abbrev held_test : Lexeme → Bool
+held_test t = is_some (a_holding t)
 
 abbrev map_test : Lexeme → Bool
 map_test t = is_some (key (codes "map") t)
@@ -33,81 +33,81 @@ unfolding a_type
 leaf_taken room inner ts t rest e it zero le = absurd (omega arith)
 leaf_taken room inner ts t rest e it (suc n) le = inl it
 
-pub set_taken_type : (room inner : ℕ) (ts : List Lexeme) (t : TypeTree) (rest : List Lexeme) → room ≡ inner + 1 → Taken (λ n. set_of (a_type n)) inner ts t rest → Taken a_type room ts t rest
+pub held_taken_type : (room inner : ℕ) (ts : List Lexeme) (t : TypeTree) (rest : List Lexeme) → room ≡ inner + 1 → Taken (λ n. held_of (a_type n)) inner ts t rest → Taken a_type room ts t rest
 unfolding a_type
-set_taken_type room inner ts t rest e it zero le = absurd (omega arith)
-set_taken_type room inner ts t rest e it (suc n) le = inr (inl (it n (omega arith)))
+held_taken_type room inner ts t rest e it zero le = absurd (omega arith)
+held_taken_type room inner ts t rest e it (suc n) le = inr (inl (it n (omega arith)))
 
 pub map_taken_type : (room inner : ℕ) (ts : List Lexeme) (t : TypeTree) (rest : List Lexeme) → room ≡ inner + 1 → Taken (λ n. map_of (a_type n)) inner ts t rest → Taken a_type room ts t rest
 unfolding a_type
 map_taken_type room inner ts t rest e it zero le = absurd (omega arith)
 map_taken_type room inner ts t rest e it (suc n) le = inr (inr (it n (omega arith)))
 
-none_of_three : (ts : List Lexeme) → meets a_leaf ts ≡ false → meets (key (codes "set")) ts ≡ false → meets (key (codes "map")) ts ≡ false → first_passes is_type_first ts ≡ false
+none_of_three : (ts : List Lexeme) → meets a_leaf ts ≡ false → meets a_holding ts ≡ false → meets (key (codes "map")) ts ≡ false → first_passes is_type_first ts ≡ false
 none_of_three [] p q r = refl
 none_of_three (t ∷ ts) p q r = λ i. p i || (q i || r i)
 
-pub leaf_refused : (room : ℕ) (e : FormFault) (ts bad : List Lexeme) → meets (key (codes "set")) ts ≡ false → meets (key (codes "map")) ts ≡ false → IsTokenRefused a_leaf e ts bad → IsRefused a_type room e ts bad
+pub leaf_refused : (room : ℕ) (e : FormFault) (ts bad : List Lexeme) → meets a_holding ts ≡ false → meets (key (codes "map")) ts ≡ false → IsTokenRefused a_leaf e ts bad → IsRefused a_type room e ts bad
 leaf_refused room (Wrong Expected) ts bad q r it = λ n le.
     subst (Stops (a_type n) ts) it.0 (stops_here (a_type n) is_type_first (lawful_type n) ts (none_of_three ts it.1 q r))
 leaf_refused room (Wrong TypeNesting) ts bad q r it = absurd it
 leaf_refused room Memory ts bad q r it = tt
 
--- where a set or a map begins, nothing else does
+-- where a type that holds elements or a map begins, nothing else does
 
-set_not_leaf : Apart set_test leaf_test
-set_not_leaf t p q = leaf_apart t q (ap (λ b. b || map_test t) p)
+held_not_leaf : Apart held_test leaf_test
+held_not_leaf t p q = leaf_apart t q (ap (λ b. b || map_test t) p)
 
 or_true : (a b : Bool) → b ≡ true → (a || b) ≡ true
 or_true true b e = refl
 or_true false b e = e
 
 map_not_leaf : Apart map_test leaf_test
-map_not_leaf t p q = leaf_apart t q (or_true (set_test t) (map_test t) p)
+map_not_leaf t p q = leaf_apart t q (or_true (held_test t) (map_test t) p)
 
-map_not_set : Apart map_test set_test
-map_not_set t p q = set_apart t q p
+map_not_held : Apart map_test held_test
+map_not_held t p q = held_apart t q p
 
 no_leaf : (test : Lexeme → Bool) (ts : List Lexeme) → Apart test leaf_test → first_passes test ts ≡ true → IsNotHere (token a_leaf) ts
 no_leaf test ts apart e =
     not_here_apart (token a_leaf) test leaf_test (ender_of (token a_leaf) leaf_test (law_token a_leaf)) apart ts e
 
-no_map : (n : ℕ) (ts : List Lexeme) → first_passes set_test ts ≡ true → IsNotHere (map_of (a_type n)) ts
+no_map : (n : ℕ) (ts : List Lexeme) → first_passes held_test ts ≡ true → IsNotHere (map_of (a_type n)) ts
 no_map n ts e =
-    not_here_apart (map_of (a_type n)) set_test map_test (ender_of (map_of (a_type n)) map_test (lawful_map (a_type n) (lawful_type n))) set_apart ts e
+    not_here_apart (map_of (a_type n)) held_test map_test (ender_of (map_of (a_type n)) map_test (lawful_map (a_type n) (lawful_type n))) held_apart ts e
 
-no_set : (n : ℕ) (ts : List Lexeme) → first_passes map_test ts ≡ true → IsNotHere (set_of (a_type n)) ts
-no_set n ts e =
-    not_here_apart (set_of (a_type n)) map_test set_test (ender_of (set_of (a_type n)) set_test (lawful_set (a_type n) (lawful_type n))) map_not_set ts e
+no_held : (n : ℕ) (ts : List Lexeme) → first_passes map_test ts ≡ true → IsNotHere (held_of (a_type n)) ts
+no_held n ts e =
+    not_here_apart (held_of (a_type n)) map_test held_test (ender_of (held_of (a_type n)) held_test (lawful_held (a_type n) (lawful_type n))) map_not_held ts e
 
-abbrev set_or_map : ℕ → Form Lexeme TypeTree
-set_or_map n = either (set_of (a_type n)) (map_of (a_type n))
+abbrev held_or_map : ℕ → Form Lexeme TypeTree
+held_or_map n = either (held_of (a_type n)) (map_of (a_type n))
 
-set_stops : (room inner : ℕ) (ts bad : List Lexeme) → room ≡ inner + 1 → first_passes set_test ts ≡ true → ((n : ℕ) → inner ≤ n → Stops (set_of (a_type n)) ts bad) → (n : ℕ) → room ≤ n → Stops (a_type n) ts bad
+held_stops : (room inner : ℕ) (ts bad : List Lexeme) → room ≡ inner + 1 → first_passes held_test ts ≡ true → ((n : ℕ) → inner ≤ n → Stops (held_of (a_type n)) ts bad) → (n : ℕ) → room ≤ n → Stops (a_type n) ts bad
 unfolding a_type
-set_stops room inner ts bad e first r zero le = absurd (omega arith)
-set_stops room inner ts bad e first r (suc n) le =
-    stops_right (token a_leaf) (set_or_map n) ts bad (no_leaf set_test ts set_not_leaf first)
-    (stops_left (set_of (a_type n)) (map_of (a_type n)) ts bad (no_map n ts first) (r n (omega arith)))
+held_stops room inner ts bad e first r zero le = absurd (omega arith)
+held_stops room inner ts bad e first r (suc n) le =
+    stops_right (token a_leaf) (held_or_map n) ts bad (no_leaf held_test ts held_not_leaf first)
+    (stops_left (held_of (a_type n)) (map_of (a_type n)) ts bad (no_map n ts first) (r n (omega arith)))
 
 map_stops : (room inner : ℕ) (ts bad : List Lexeme) → room ≡ inner + 1 → first_passes map_test ts ≡ true → ((n : ℕ) → inner ≤ n → Stops (map_of (a_type n)) ts bad) → (n : ℕ) → room ≤ n → Stops (a_type n) ts bad
 unfolding a_type
 map_stops room inner ts bad e first r zero le = absurd (omega arith)
 map_stops room inner ts bad e first r (suc n) le =
-    stops_right (token a_leaf) (set_or_map n) ts bad (no_leaf map_test ts map_not_leaf first)
-    (stops_right (set_of (a_type n)) (map_of (a_type n)) ts bad (no_set n ts first) (r n (omega arith)))
+    stops_right (token a_leaf) (held_or_map n) ts bad (no_leaf map_test ts map_not_leaf first)
+    (stops_right (held_of (a_type n)) (map_of (a_type n)) ts bad (no_held n ts first) (r n (omega arith)))
 
-set_goes : (inner : ℕ) (ts bad : List Lexeme) → first_passes set_test ts ≡ true → GoesOn (set_of (a_type inner)) (set_of (a_type (inner + 1))) ts bad → GoesOn (a_type (suc inner)) (a_type (suc (inner + 1))) ts bad
+held_goes : (inner : ℕ) (ts bad : List Lexeme) → first_passes held_test ts ≡ true → GoesOn (held_of (a_type inner)) (held_of (a_type (inner + 1))) ts bad → GoesOn (a_type (suc inner)) (a_type (suc (inner + 1))) ts bad
 unfolding a_type
-set_goes inner ts bad first r =
-    goes_right (token a_leaf) (set_or_map inner) (token a_leaf) (set_or_map (inner + 1)) ts bad (no_leaf set_test ts set_not_leaf first)
-    (goes_left (set_of (a_type inner)) (map_of (a_type inner)) (set_of (a_type (inner + 1))) (map_of (a_type (inner + 1))) ts bad (no_map inner ts first) r)
+held_goes inner ts bad first r =
+    goes_right (token a_leaf) (held_or_map inner) (token a_leaf) (held_or_map (inner + 1)) ts bad (no_leaf held_test ts held_not_leaf first)
+    (goes_left (held_of (a_type inner)) (map_of (a_type inner)) (held_of (a_type (inner + 1))) (map_of (a_type (inner + 1))) ts bad (no_map inner ts first) r)
 
 map_goes : (inner : ℕ) (ts bad : List Lexeme) → first_passes map_test ts ≡ true → GoesOn (map_of (a_type inner)) (map_of (a_type (inner + 1))) ts bad → GoesOn (a_type (suc inner)) (a_type (suc (inner + 1))) ts bad
 unfolding a_type
 map_goes inner ts bad first r =
-    goes_right (token a_leaf) (set_or_map inner) (token a_leaf) (set_or_map (inner + 1)) ts bad (no_leaf map_test ts map_not_leaf first)
-    (goes_right (set_of (a_type inner)) (map_of (a_type inner)) (set_of (a_type (inner + 1))) (map_of (a_type (inner + 1))) ts bad (no_set inner ts first) r)
+    goes_right (token a_leaf) (held_or_map inner) (token a_leaf) (held_or_map (inner + 1)) ts bad (no_leaf map_test ts map_not_leaf first)
+    (goes_right (held_of (a_type inner)) (map_of (a_type inner)) (held_of (a_type (inner + 1))) (map_of (a_type (inner + 1))) ts bad (no_held inner ts first) r)
 
 room_is : (room inner : ℕ) (ts bad : List Lexeme) → room ≡ inner + 1 → GoesOn (a_type (suc inner)) (a_type (suc (inner + 1))) ts bad → GoesOn (a_type room) (a_type (room + 1)) ts bad
 room_is room inner ts bad e r =
@@ -115,10 +115,10 @@ room_is room inner ts bad e r =
     let two : suc (inner + 1) ≡ room + 1 = omega arith in
     subst₂ (λ n m. GoesOn (a_type n) (a_type m) ts bad) one two r
 
-pub set_refused_type : (room inner : ℕ) (e : FormFault) (ts bad : List Lexeme) → room ≡ inner + 1 → meets (key (codes "set")) ts ≡ true → IsRefused (λ n. set_of (a_type n)) inner e ts bad → IsRefused a_type room e ts bad
-set_refused_type room inner (Wrong Expected) ts bad is first r = set_stops room inner ts bad is first r
-set_refused_type room inner (Wrong TypeNesting) ts bad is first r = room_is room inner ts bad is (set_goes inner ts bad first r)
-set_refused_type room inner Memory ts bad is first r = tt
+pub held_refused_type : (room inner : ℕ) (e : FormFault) (ts bad : List Lexeme) → room ≡ inner + 1 → meets a_holding ts ≡ true → IsRefused (λ n. held_of (a_type n)) inner e ts bad → IsRefused a_type room e ts bad
+held_refused_type room inner (Wrong Expected) ts bad is first r = held_stops room inner ts bad is first r
+held_refused_type room inner (Wrong TypeNesting) ts bad is first r = room_is room inner ts bad is (held_goes inner ts bad first r)
+held_refused_type room inner Memory ts bad is first r = tt
 
 pub map_refused_type : (room inner : ℕ) (e : FormFault) (ts bad : List Lexeme) → room ≡ inner + 1 → meets (key (codes "map")) ts ≡ true → IsRefused (λ n. map_of (a_type n)) inner e ts bad → IsRefused a_type room e ts bad
 map_refused_type room inner (Wrong Expected) ts bad is first r = map_stops room inner ts bad is first r
@@ -134,14 +134,14 @@ or_two : (a b : Bool) → (a || b) ≡ true → (a ≡ true) ⊎ (b ≡ true)
 or_two true b e = inl refl
 or_two false b e = inr e
 
-key_begins : (t : Lexeme) → (set_test t ≡ true) ⊎ (map_test t ≡ true) → (set_or_map 0).begins (t ∷ [])
+key_begins : (t : Lexeme) → (held_test t ≡ true) ⊎ (map_test t ≡ true) → (held_or_map 0).begins (t ∷ [])
 key_begins t (inl e) = inl (inl e)
 key_begins t (inr e) = inr (inl e)
 
-first_begins : (t : Lexeme) → (leaf_test t ≡ true) ⊎ ((set_test t || map_test t) ≡ true) → (a_type 1).begins (t ∷ [])
+first_begins : (t : Lexeme) → (leaf_test t ≡ true) ⊎ ((held_test t || map_test t) ≡ true) → (a_type 1).begins (t ∷ [])
 unfolding a_type
 first_begins t (inl e) = inl e
-first_begins t (inr e) = inr (key_begins t (or_two (set_test t) (map_test t) e))
+first_begins t (inr e) = inr (key_begins t (or_two (held_test t) (map_test t) e))
 
 none_at_all : (ts : List Lexeme) → Stops (a_type 0) ts ts
 unfolding a_type
@@ -162,7 +162,7 @@ nesting_goes (t ∷ ts) e = record {
   rest = ts;
   cut = refl;
   there = refl;
-  on = first_begins t (or_two (leaf_test t) (set_test t || map_test t) e);
+  on = first_begins t (or_two (leaf_test t) (held_test t || map_test t) e);
 }
 
 -- a word that is a type, and one that isn't

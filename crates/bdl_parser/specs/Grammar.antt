@@ -4,12 +4,13 @@ use Rattle.std.specs.Option.{option_map}
 use Rattle.std.specs.Str.{bytes_eq}
 use Rattle.bdl_parser.specs.declared.trees.Decl.{Decl}
 use Rattle.bdl_parser.specs.declared.trees.Decl.TheVariants.{Bag, Struct}
+use Rattle.bdl_parser.specs.declared.trees.Holding.{Holding}
 use Rattle.bdl_parser.specs.declared.trees.Import.{Import}
 use Rattle.bdl_parser.specs.declared.trees.Module.{Module}
 use Rattle.bdl_parser.specs.declared.trees.Spot.{Spot}
 use Rattle.bdl_parser.specs.Lexemes.{What, Lexeme, word, number, quoted, sign}
-use Rattle.bdl_parser.specs.Trees.{Leaf, TypeTree, BagFieldTree, StructFieldTree, leaf, set, map}
-use Rattle.bdl_parser.specs.Words.{name_of, leaf_of}
+use Rattle.bdl_parser.specs.Trees.{Leaf, TypeTree, BagFieldTree, StructFieldTree, leaf, held, map}
+use Rattle.bdl_parser.specs.Words.{name_of, leaf_of, holding_of}
 use Rattle.grammar_model.specs.Forms.{Form, token, two, either, made, many, nothing, ended}
 
 -- Whether it is this word.
@@ -63,10 +64,18 @@ leaf_in _ = None
 abbrev pub a_leaf : Lexeme → Option TypeTree
 a_leaf lexeme = option_map (λ found. leaf found lexeme.spot) (leaf_in lexeme.what)
 
--- "set" "<" type ">".
-abbrev pub set_of : Form Lexeme TypeTree → Form Lexeme TypeTree
-set_of inner =
-    made (λ p. set p.1.1.0 p.0) (two (token (key (codes "set"))) (two (token (mark 60)) (two inner (token (mark 62)))))
+abbrev pub holding_in : What → Option Holding
+holding_in (word text) = holding_of text
+holding_in _ = None
+
+-- "set" | "greatest", with its place.
+abbrev pub a_holding : Lexeme → Option (Holding × Spot)
+a_holding lexeme = option_map (λ found. (found, lexeme.spot)) (holding_in lexeme.what)
+
+-- ( "set" | "greatest" ) "<" type ">".
+abbrev pub held_of : Form Lexeme TypeTree → Form Lexeme TypeTree
+held_of inner =
+    made (λ p. held p.0.0 p.1.1.0 p.0.1) (two (token a_holding) (two (token (mark 60)) (two inner (token (mark 62)))))
 
 -- "map" "<" type "," type ">".
 abbrev pub map_of : Form Lexeme TypeTree → Form Lexeme TypeTree
@@ -76,7 +85,7 @@ map_of inner =
 -- A type in which at most so many types stand inside one another, itself among them.
 unfoldable pub a_type : ℕ → Form Lexeme TypeTree
 a_type zero = nothing
-a_type (suc n) = either (token a_leaf) (either (set_of (a_type n)) (map_of (a_type n)))
+a_type (suc n) = either (token a_leaf) (either (held_of (a_type n)) (map_of (a_type n)))
 
 -- Type NAME "=" Number ";".
 abbrev pub a_bag_field : ℕ → Form Lexeme BagFieldTree

@@ -2,7 +2,7 @@
 use Rattle.std.specs.Prelude.{Option, None, Some, List, map}
 use Rattle.bag_model.specs.Words as model
 use Rattle.bdl_parser.specs.declared.words.Reserved.{Reserved}
-use Rattle.bdl_parser.specs.declared.words.Reserved.TheVariants.{Import, Bag, Struct, Set, Map, Counter, Taint, Float, Double, Scalar}
+use Rattle.bdl_parser.specs.declared.words.Reserved.TheVariants.{Import, Bag, Struct, Set, Greatest, Map, Counter, Taint, Float, Double, Scalar}
 use Rattle.bdl_parser.specs.Trees.{Leaf, scalar, float, double, taint, counter}
 use Rattle.bdl_parser.specs.Words.{scalar_of}
 
@@ -12,6 +12,7 @@ in_code model.Reserved.Import = Import
 in_code model.Reserved.Bag = Bag
 in_code model.Reserved.Struct = Struct
 in_code model.Reserved.Set = Set
+in_code model.Reserved.Greatest = Greatest
 in_code model.Reserved.Map = Map
 in_code model.Reserved.Counter = Counter
 in_code model.Reserved.Taint = Taint

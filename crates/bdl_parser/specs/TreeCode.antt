@@ -2,10 +2,12 @@
 use Rattle.std.specs.Prelude.{◌≡◌, ℕ, List, ◌⊎◌, ◌==◌, if◌then◌else◌}
 use Rattle.std.specs.Coded.{Coded, code_by, coded×, coded⊎, coded_ℕ, coded_list}
 use Rattle.std.proofs.Common.{refl, inl, inr, ap, subst, sym}
+use Rattle.bdl_parser.specs.declared.trees.Holding.{Holding}
+use Rattle.bdl_parser.specs.declared.trees.Holding.TheVariants.{AsSet, AsGreatest}
 use Rattle.bdl_parser.specs.declared.trees.ScalarWord.{ScalarWord}
 use Rattle.bdl_parser.specs.declared.trees.ScalarWord.TheVariants.{Bool, Int32, Int64, Sint32, Sint64, Uint32, Uint64, Fixed32, Fixed64, Sfixed32, Sfixed64, Str, Bytes}
 use Rattle.bdl_parser.specs.declared.trees.Spot.{Spot}
-use Rattle.bdl_parser.specs.Trees.{Leaf, TypeTree, BagFieldTree, StructFieldTree, scalar, float, double, taint, counter, name, leaf, set, map}
+use Rattle.bdl_parser.specs.Trees.{Leaf, TypeTree, BagFieldTree, StructFieldTree, scalar, float, double, taint, counter, name, leaf, held, map}
 use base.Stored.{Gv, gnil, gnum, gcons}
 
 abbrev pub spot_code : Coded Spot
@@ -79,9 +81,23 @@ leaf_undone counter = refl
 abbrev pub leaf_code : Coded Leaf
 leaf_code = code_by LeafParts (coded⊎ scalar_code (coded⊎ (coded_list coded_ℕ) coded_ℕ)) leaf_parts leaf_back leaf_undone
 
+abbrev pub holding_number : Holding → ℕ
+holding_number AsSet = 0
+holding_number AsGreatest = 1
+
+abbrev pub holding_back : ℕ → Holding
+holding_back n = if n == 0 then AsSet else AsGreatest
+
+pub holding_undone : (holding : Holding) → holding_back (holding_number holding) ≡ holding
+holding_undone AsSet = refl
+holding_undone AsGreatest = refl
+
+abbrev pub holding_code : Coded Holding
+holding_code = code_by ℕ coded_ℕ holding_number holding_back holding_undone
+
 abbrev pub tree_gv : TypeTree → Gv
 tree_gv (leaf l spot) = gcons gnil (gcons (leaf_code.code l) (spot_code.code spot))
-tree_gv (set inner spot) = gcons (gnum 0) (gcons (tree_gv inner) (spot_code.code spot))
+tree_gv (held holding inner spot) = gcons (holding_code.code holding) (gcons (tree_gv inner) (spot_code.code spot))
 tree_gv (map key value spot) = gcons (gcons gnil gnil) (gcons (gcons (tree_gv key) (tree_gv value)) (spot_code.code spot))
 
 abbrev left : Gv → Gv
@@ -107,16 +123,16 @@ IsNum (gcons a b) = ⊥
 pub tree_inj : (x y : TypeTree) → tree_gv x ≡ tree_gv y → x ≡ y
 tree_inj (leaf l spot) (leaf m place) p = λ i.
     leaf (leaf_code.inj l m (ap (λ g. left (right g)) p) i) (spot_code.inj spot place (ap (λ g. right (right g)) p) i)
-tree_inj (set t spot) (set u place) p = λ i.
-    set (tree_inj t u (ap (λ g. left (right g)) p) i) (spot_code.inj spot place (ap (λ g. right (right g)) p) i)
+tree_inj (held h t spot) (held g u place) p = λ i.
+    held (holding_code.inj h g (ap left p) i) (tree_inj t u (ap (λ g. left (right g)) p) i) (spot_code.inj spot place (ap (λ g. right (right g)) p) i)
 tree_inj (map k t spot) (map j u place) p = λ i.
     map (tree_inj k j (ap (λ g. left (left (right g))) p) i) (tree_inj t u (ap (λ g. right (left (right g))) p) i) (spot_code.inj spot place (ap (λ g. right (right g)) p) i)
-tree_inj (leaf l spot) (set u place) p = absurd (subst IsNil (ap left p) tt)
+tree_inj (leaf l spot) (held g u place) p = absurd (subst IsNil (ap left p) tt)
 tree_inj (leaf l spot) (map j u place) p = absurd (subst IsNil (ap left p) tt)
-tree_inj (set t spot) (leaf m place) p = absurd (subst IsNum (ap left p) tt)
-tree_inj (set t spot) (map j u place) p = absurd (subst IsNum (ap left p) tt)
+tree_inj (held h t spot) (leaf m place) p = absurd (subst IsNum (ap left p) tt)
+tree_inj (held h t spot) (map j u place) p = absurd (subst IsNum (ap left p) tt)
 tree_inj (map k t spot) (leaf m place) p = absurd (subst IsNil (sym (ap left p)) tt)
-tree_inj (map k t spot) (set u place) p = absurd (subst IsNum (sym (ap left p)) tt)
+tree_inj (map k t spot) (held g u place) p = absurd (subst IsNum (sym (ap left p)) tt)
 
 abbrev pub tree_code : Coded TypeTree
 tree_code = record { code = tree_gv; inj = tree_inj }

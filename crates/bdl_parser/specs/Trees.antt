@@ -1,5 +1,6 @@
 -- What the types and the fields of a definition say.
 use Rattle.std.specs.Prelude.{ℕ, List}
+use Rattle.bdl_parser.specs.declared.trees.Holding.{Holding}
 use Rattle.bdl_parser.specs.declared.trees.ScalarWord.{ScalarWord}
 use Rattle.bdl_parser.specs.declared.trees.Spot.{Spot}
 
@@ -12,10 +13,10 @@ pub data Leaf : Type 0 where
   counter : Leaf
   name : List ℕ → Leaf
 
--- A type, with the place of its first token: of one word, a set of elements, or a map from keys to values.
+-- A type, with the place of its first token: of one word, one that holds elements, or a map from keys to values.
 pub data TypeTree : Type 0 where
   leaf : Leaf → Spot → TypeTree
-  set : TypeTree → Spot → TypeTree
+  held : Holding → TypeTree → Spot → TypeTree
   map : TypeTree → TypeTree → Spot → TypeTree
 
 -- A field of a bag.

@@ -1,8 +1,11 @@
 -- What the words of the definition language say.
-use Rattle.std.specs.Prelude.{ℕ, Option, None, Some, List, if◌then◌else◌}
+use Rattle.std.specs.Prelude.{ℕ, Option, None, Some, List, codes, if◌then◌else◌}
 use Rattle.std.specs.Option.{option_map}
+use Rattle.std.specs.Str.{bytes_eq}
 use Rattle.bag_model.specs.Scalars as model
 use Rattle.bag_model.specs.Words.{Reserved, Taint, Counter, Float, Double, ScalarWord as ReservedScalar, reserved_of, is_name}
+use Rattle.bdl_parser.specs.declared.trees.Holding.{Holding}
+use Rattle.bdl_parser.specs.declared.trees.Holding.TheVariants.{AsSet, AsGreatest}
 use Rattle.bdl_parser.specs.declared.trees.ScalarWord.{ScalarWord}
 use Rattle.bdl_parser.specs.declared.trees.ScalarWord.TheVariants.{Bool, Int32, Int64, Sint32, Sint64, Uint32, Uint64, Fixed32, Fixed64, Sfixed32, Sfixed64, Str, Bytes}
 use Rattle.bdl_parser.specs.Trees.{Leaf, scalar, float, double, taint, counter, name}
@@ -44,3 +47,8 @@ leaf_by text None = option_map name (name_of text)
 -- What a type of one word is.
 abbrev pub leaf_of : List ℕ → Option Leaf
 leaf_of text = leaf_by text (reserved_of text)
+
+-- How a type that begins with this text holds its elements, if it has any.
+abbrev pub holding_of : List ℕ → Option Holding
+holding_of text =
+    if bytes_eq text (codes "set") then Some AsSet else (if bytes_eq text (codes "greatest") then Some AsGreatest else None)

@@ -20,7 +20,7 @@ pub use lists::{BagFields, Decls, Imports, StructFields};
 use parser::{FormFault, Parser};
 use std::alloc::Global;
 pub use trees::{
-    BagField, Decl, Import, Module, ScalarWord, Spot, StructField, TypeForm, TypeNode,
+    BagField, Decl, Holding, Import, Module, ScalarWord, Spot, StructField, TypeForm, TypeNode,
 };
 
 /// How many types may stand inside one another.

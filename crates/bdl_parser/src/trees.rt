@@ -76,10 +76,19 @@ pub enum TypeForm {
     Taint,
     Counter,
     Set(Box<TypeNode>),
+    /// One value, the greatest that is written.
+    Greatest(Box<TypeNode>),
     /// The key's type and the value's.
     Map(Box<TypeNode>, Box<TypeNode>),
     /// A bag or a struct by its name.
     Name(Text),
+}
+
+/// How a type holds its elements: each of them, or the greatest alone.
+#[derive(Clone, Copy, Debug, PartialEq, Eq)]
+pub enum Holding {
+    AsSet,
+    AsGreatest,
 }
 
 /// The types that are one value.

@@ -1,16 +1,18 @@
 //! Types, which stand inside one another.
 
 ghost use Rattle.std.specs.Prelude.{◌≡◌, IfOk, IfErr};
-ghost use Rattle.bdl_parser.specs.Grammar.{a_leaf, a_type, set_of, map_of};
-ghost use Rattle.bdl_parser.specs.Refusals.{IsTokenRefused, IsRefused, is_type_first};
-ghost use Rattle.bdl_parser.specs.Views.{tree_of};
+ghost use Rattle.bdl_parser.specs.declared.trees.Spot.{Spot};
+ghost use Rattle.bdl_parser.specs.Grammar.{a_leaf, a_holding, a_type, held_of, map_of};
+ghost use Rattle.bdl_parser.specs.Refusals.{meets, IsTokenRefused, IsRefused, is_type_first};
+ghost use Rattle.bdl_parser.specs.Trees.{held};
+ghost use Rattle.bdl_parser.specs.Views.{tree_at, tree_of};
 ghost use Rattle.grammar_model.specs.Forms.{IsOne};
 ghost use Rattle.grammar_model.specs.Stops.{Taken, first_passes};
 
 use crate::ParseCode;
 use crate::parser::{FormFault, Meaning, Parser};
-use crate::trees::{TypeForm, TypeNode};
-use crate::words::{is_leaf, leaf_form};
+use crate::trees::{Holding, Spot, TypeForm, TypeNode};
+use crate::words::{holding, is_leaf, leaf_form};
 use outside::Memory;
 use std::alloc::Global;
 
@@ -20,6 +22,16 @@ fn boxed(alloc: Global, node: TypeNode) -> Result<Box<TypeNode>, Memory>
     Box::new(alloc, node).map_err(|_| Memory)
 }
 
+/// What a type with these elements is.
+fn held_form(holding: Holding, element: Box<TypeNode>) -> TypeForm
+    ensures { (spot : Spot) → tree_at spot result ≡ held holding (tree_of element.value) spot }
+{
+    match holding {
+        Holding::AsSet => TypeForm::Set(element),
+        Holding::AsGreatest => TypeForm::Greatest(element),
+    }
+}
+
 impl<'a> Parser<'a> {
     /// Whether a type begins here.
     fn is_at_type(&self) -> bool
@@ -27,7 +39,7 @@ impl<'a> Parser<'a> {
     {
         match self.peek() {
             Some((Meaning::Word(bytes), _)) => {
-                is_leaf(bytes) || self.is_at_key("set") || self.is_at_key("map")
+                is_leaf(bytes) || holding(bytes).is_some() || self.is_at_key("map")
             }
             _ => false,
         }
@@ -61,6 +73,33 @@ impl<'a> Parser<'a> {
         }
     }
 
+    /// Whether a type with elements begins here.
+    fn is_at_holding(&self) -> bool
+        ensures { result ≡ meets a_holding self.now }
+    {
+        match self.peek() {
+            Some((Meaning::Word(bytes), _)) => holding(bytes).is_some(),
+            _ => false,
+        }
+    }
+
+    /// Reads the word that a type with elements begins with.
+    fn holding(&mut self) -> Result<(Holding, Spot), FormFault>
+        ensures ok { IfOk result (λ found. IsOne a_holding self.old found self.new) }
+        ensures err { IfErr result (λ fault. IsTokenRefused a_holding fault self.old self.new) }
+    {
+        match self.peek() {
+            Some((Meaning::Word(bytes), at)) => {
+                let Some(found) = holding(bytes) else {
+                    return Err(FormFault::Wrong(ParseCode::Expected));
+                };
+                self.advance();
+                Ok((found, at))
+            }
+            _ => Err(FormFault::Wrong(ParseCode::Expected)),
+        }
+    }
+
     /// Reads a type in which at most `room` types stand inside one another.
     #[cycle(nested)]
     pub fn type_node(&mut self, alloc: Global, room: u32) -> Result<TypeNode, FormFault>
@@ -70,8 +109,8 @@ impl<'a> Parser<'a> {
         let Some(inner) = room.checked_sub(1) else {
             return Err(self.no_room());
         };
-        if self.is_at_key("set") {
-            return self.set_type(alloc, inner);
+        if self.is_at_holding() {
+            return self.held_type(alloc, inner);
         }
         if self.is_at_key("map") {
             return self.map_type(alloc, inner);
@@ -80,15 +119,15 @@ impl<'a> Parser<'a> {
     }
 
     #[cycle(nested)]
-    fn set_type(&mut self, alloc: Global, room: u32) -> Result<TypeNode, FormFault>
-        ensures ok { IfOk result (λ node. Taken (λ n. set_of (a_type n)) room self.old (tree_of node) self.new) }
-        ensures err { IfErr result (λ fault. IsRefused (λ n. set_of (a_type n)) room fault self.old self.new) }
+    fn held_type(&mut self, alloc: Global, room: u32) -> Result<TypeNode, FormFault>
+        ensures ok { IfOk result (λ node. Taken (λ n. held_of (a_type n)) room self.old (tree_of node) self.new) }
+        ensures err { IfErr result (λ fault. IsRefused (λ n. held_of (a_type n)) room fault self.old self.new) }
     {
-        let at = self.key("set")?;
+        let (holding, at) = self.holding()?;
         self.sign(b'<')?;
         let element = self.type_node(alloc, room)?;
         self.sign(b'>')?;
-        let form = TypeForm::Set(boxed(alloc, element)?);
+        let form = held_form(holding, boxed(alloc, element)?);
         Ok(TypeNode { at, form })
     }
 

@@ -8,9 +8,9 @@ ghost use Rattle.bdl_parser.specs.declared.trees.Spot.{Spot};
 ghost use Rattle.bdl_parser.specs.Trees.{leaf};
 ghost use Rattle.bdl_parser.specs.Views.{tree_at};
 ghost use Rattle.bdl_parser.specs.ReservedWords.{in_code, reserved_scalars};
-ghost use Rattle.bdl_parser.specs.Words.{leaf_of};
+ghost use Rattle.bdl_parser.specs.Words.{holding_of, leaf_of};
 
-use crate::trees::{ScalarWord, TypeForm};
+use crate::trees::{Holding, ScalarWord, TypeForm};
 use outside::{Memory, Text};
 use std::alloc::Global;
 use std::str;
@@ -29,6 +29,7 @@ pub(crate) enum Reserved {
     Bag,
     Struct,
     Set,
+    Greatest,
     Map,
     Counter,
     Taint,
@@ -104,6 +105,8 @@ fn reserved_word(text: &[u8]) -> Option<Reserved>
         Some(Reserved::Struct)
     } else if is(text, "set") {
         Some(Reserved::Set)
+    } else if is(text, "greatest") {
+        Some(Reserved::Greatest)
     } else if is(text, "map") {
         Some(Reserved::Map)
     } else if is(text, "counter") {
@@ -136,6 +139,19 @@ pub(crate) fn is_leaf(text: &[u8]) -> bool
     match reserved_word(text) {
         Some(word) => word.form().is_some(),
         None => true,
+    }
+}
+
+/// How a type that begins with the word holds its elements, if it has any.
+pub(crate) fn holding(text: &[u8]) -> Option<Holding>
+    ensures { result ≡ holding_of text.now }
+{
+    if is(text, "set") {
+        Some(Holding::AsSet)
+    } else if is(text, "greatest") {
+        Some(Holding::AsGreatest)
+    } else {
+        None
     }
 }
 

@@ -1,20 +1,21 @@
 -- The laws of sets and maps, for every codec in which a spelling belongs to one value and for every lattice of values.
 use Rattle.std.specs.Prelude.{◌≡◌, ℕ, ◌⊎◌, ◌↔◌, List, [], ◌∷◌, ◌++◌}
 use Rattle.std.specs.Cmp.{IsTotalOrder}
+use Rattle.std.specs.Ordering.{flip_args}
 use Rattle.std.specs.declared.cmp.Ordering.{Ordering}
 use Rattle.std.specs.declared.cmp.Ordering.TheVariants.{Equal}
 use Rattle.std.proofs.Common.{refl, sym, ◌∙◌, ap, subst, inl, inr}
-use Rattle.std.proofs.lemmas.Cmp.{nat_list_cmp_total, on_total}
+use Rattle.std.proofs.lemmas.Cmp.{back_total, nat_list_cmp_total, on_total}
 use Rattle.std.proofs.lemmas.Map.Lookups.{exact_bytes}
 use Rattle.scalar_types.specs.Spelling.{OneValue}
 use Rattle.counter_type.specs.Laws.{LatticeLaws}
-use Rattle.context_model.specs.Orders.{IsIn, Rises}
+use Rattle.context_model.specs.Orders.{IsIn}
 use Rattle.context_model.specs.Merge.{greedy_merge, AllBelow}
-use Rattle.context_model.specs.KeyedMerge.{merge_with, keys_of, EachPair, IsAt, AtOneKey, IsUnion}
+use Rattle.context_model.specs.KeyedMerge.{merge_with, keys_of, IsAt, AtOneKey, IsUnion}
 use Rattle.context_model.proofs.Rising.{Rises-greedy, Rises-push}
 use Rattle.context_model.proofs.GreedyLaws.{greedy-comm, greedy-assoc, greedy-idem, greedy-from}
 use Rattle.context_model.proofs.Meets.{greedy-holds, with-union}
-use Rattle.context_model.proofs.MergeLaws.{IsMade, From, with-from, with-comm, with-assoc, with-idem, keys_of-merge_with, EachPair-at, EachPair-from, IsIn-keys_of, IsAt-unique}
+use Rattle.context_model.proofs.MergeLaws.{From, with-from, with-comm, with-assoc, with-idem, keys_of-merge_with, EachPair-at, EachPair-from, IsIn-keys_of, IsAt-unique}
 use Rattle.set_map_types.specs.Held.{Held, value_cmp, IsSet, IsMap, set_proper, set_joined, SameCodec, HoldsNothing, map_proper, MapAlike, map_joined}
 
 -- The laws of lists of values of one codec.
@@ -25,6 +26,13 @@ module _ {V : Type 0} (fits : V → Type 0) (spelling : V → List ℕ) (one : O
   -- Values that fit and tie are one value.
   pub value_cmp_exact : (v w : V) → fits v → fits w → value_cmp spelling v w ≡ Equal → v ≡ w
   value_cmp_exact v w p q tie = one v w p q (exact_bytes (spelling v) (spelling w) tie)
+
+  -- The same of the order turned round.
+  pub against_total : IsTotalOrder (flip_args (value_cmp spelling))
+  against_total = back_total value_cmp_total
+
+  pub against_exact : (v w : V) → fits v → fits w → flip_args (value_cmp spelling) v w ≡ Equal → v ≡ w
+  against_exact v w p q tie = sym (value_cmp_exact w v q p tie)
 
   pub IsSet-union : (xs ys : List V) → IsSet fits spelling xs → IsSet fits spelling ys → IsSet fits spelling (greedy_merge (value_cmp spelling) xs ys)
   IsSet-union xs ys p q = record {

@@ -1,4 +1,5 @@
 use Rattle.std.specs.Prelude.{◌≡◌, ℕ, List, Option, Some, None}
+use Rattle.std.specs.Ordering.{flip_args}
 use Rattle.std.specs.declared.cmp.Ordering.{Ordering}
 use Rattle.context_model.specs.Merge.{first_of}
 use Rattle.set_map_types.specs.Held.{value_cmp}
@@ -31,3 +32,7 @@ IsAbsent s = s.value ≡ None
 -- the order of a codec's values, by their spellings
 abbrev pub by_spelling : {C V : Type 0} → (C → V → List ℕ) → C → V → V → Ordering
 by_spelling spelling c = value_cmp (spelling c)
+
+-- the same order, turned round
+abbrev pub against_spelling : {C V : Type 0} → (C → V → List ℕ) → C → V → V → Ordering
+against_spelling spelling c = flip_args (by_spelling spelling c)

@@ -1,7 +1,7 @@
 use Rattle.std.proofs.Common.{◌≡◌, ◌<◌, ◌≤◌, ◌⊎◌, inl, inr, ◌++◌, drop, length, sym, ap, ◌∙◌, subst, arith}
 use Rattle.std.proofs.lemmas.List.{take_rest}
 use Rattle.std.specs.declared.cmp.Ordering.TheVariants.{Equal}
-use Rattle.bag_model.specs.Joins.{AlikeEntries, AreAlike, Proper, AreProper}
+use Rattle.bag_model.specs.Joins.{AlikeEntries, Proper, AreProper}
 use Rattle.bag_model.specs.Scalars.{scalar_cmp}
 use Rattle.bag_model.specs.Values as model
 use Rattle.bag_model.specs.Values.{size_of_entries, size_of_values}

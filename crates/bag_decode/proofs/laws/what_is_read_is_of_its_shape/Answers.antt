@@ -1,4 +1,4 @@
-use Rattle.std.proofs.Common.{◌≡◌, Some, [], sym, ◌∙◌, subst}
+use Rattle.std.proofs.Common.{◌≡◌, [], sym, ◌∙◌, subst}
 use Rattle.context_model.specs.Ended.{field_path}
 use Rattle.bag_model.specs.Readings.{PathsOf}
 use Rattle.bag_model.specs.Shapes as shapes

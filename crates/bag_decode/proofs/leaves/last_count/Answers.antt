@@ -1,7 +1,7 @@
 use Rattle.std.proofs.Common.{◌≡◌, drop, sym, ap, ◌∙◌, subst, arith}
 use Rattle.context_model.specs.Paths.{atom_at, path_before}
 use Rattle.bag_model.specs.Typed.{IsCount}
-use Rattle.bag_walks.proofs.Gathering.{no_count_reads, last_reads}
+use Rattle.bag_walks.proofs.Gathering.{no_count_reads, last_count_reads}
 use Rattle.bag_decode.proofs.Known.{datum_is, datum_stands}
 use Rattle.bag_decode.proofs.leaves.last_count.Goals as goal
 
@@ -21,7 +21,7 @@ returns-in-Some c =
     let from = c.args.from in
     let at = c.in-Some.at in
     let payload : c.rest.result.now ≡ drop 1 (atom_at list at) = c.rest.ensures ∙ ap (drop 1) c.atom.ensures in
-    last_reads list (path_before list from) from c.data_end.result c.requires.behind c.data_end.ensures at c.known_count.result c.in-Some.ensures
+    last_count_reads list (path_before list from) from c.data_end.result c.requires.behind c.data_end.ensures at c.known_count.result c.in-Some.ensures
     (omega arith) (datum_is list at _ (c.in-Some.ensures).2 (sym payload ∙ c.known_count.ensures))
 
 pub returns-in-None : goal.returns-in-None

@@ -6,7 +6,7 @@ use Rattle.bag_model.proofs.PathLaws.{is_field}
 use Rattle.bag_model.proofs.SizeLaws.{size_at}
 use Rattle.field_table.specs.Plain.{nodes_of, shape_of}
 use Rattle.field_table.proofs.Held.{levels_there}
-use Rattle.field_table.proofs.Shown.{taint_shown, scalar_shown, set_shown}
+use Rattle.field_table.proofs.Shown.{taint_shown, scalar_shown, greatest_shown, set_shown}
 use Rattle.scalar_types.specs.KindViews.{kind_of}
 use Rattle.bag_typed.specs.Faults.{HasNone, IsFirstOf}
 use Rattle.bag_typed.proofs.Data.{not_both}
@@ -46,6 +46,20 @@ check_field-returns-in-Scalar-clause-fault t c =
     let q = path_before list c.args.from in
     let shown = ap shape_of c.in-Scalar.is ∙ (scalar_shown c.in-Scalar.kind).0 in
     subst (λ (shape : model.Shape). IfErr c.check_data-in-Scalar.result (IsFirstOf list (Misspells shape q))) (sym shown) c.check_data-in-Scalar.ensures.fault
+
+pub check_field-returns-in-Greatest-clause-typed : goal.check_field-returns-in-Greatest-clause-typed
+check_field-returns-in-Greatest-clause-typed t c =
+    let list = c.args.list.now in
+    let q = path_before list c.args.from in
+    let shown = ap shape_of c.in-Greatest.is ∙ (greatest_shown c.in-Greatest.kind).0 in
+    subst (λ (shape : model.Shape). IfOk c.check_data-in-Greatest.result (λ _. HasNone list (Misspells shape q))) (sym shown) c.check_data-in-Greatest.ensures.right
+
+pub check_field-returns-in-Greatest-clause-fault : goal.check_field-returns-in-Greatest-clause-fault
+check_field-returns-in-Greatest-clause-fault t c =
+    let list = c.args.list.now in
+    let q = path_before list c.args.from in
+    let shown = ap shape_of c.in-Greatest.is ∙ (greatest_shown c.in-Greatest.kind).0 in
+    subst (λ (shape : model.Shape). IfErr c.check_data-in-Greatest.result (IsFirstOf list (Misspells shape q))) (sym shown) c.check_data-in-Greatest.ensures.fault
 
 pub check_field-returns-in-Set-clause-typed : goal.check_field-returns-in-Set-clause-typed
 check_field-returns-in-Set-clause-typed t c =

@@ -9,10 +9,10 @@ use Rattle.bdl_check.proofs.recursion.+add_links.Goals as goal
 
 pub returns-in_ok-add_links-in-Map : goal.returns-in_ok-add_links-in-Map
 returns-in_ok-add_links-in-Map t c =
-    on_ok_weaker c.add_links-in-Map-2.result
-    (both_added (number_named c.args.declarations.now) c.args.row.now.items c.add_links-in-Map.new.row.items c.add_links-in-Map-2.new.row.items
-    (names_in (tree_of c.deref-in-Map.result.now)) (names_in (tree_of c.deref-in-Map-2.result.now)) (names_in (tree_of c.args.node.now))
+    on_ok_weaker c.add_links-in-Map.result
+    (both_added (number_named c.args.declarations.now) c.args.row.now.items c.add_links.new.row.items c.add_links-in-Map.new.row.items
+    (names_in (tree_of c.deref.result.now)) (names_in (tree_of c.deref-in-Map.result.now)) (names_in (tree_of c.args.node.now))
     (ap (λ (form : TypeForm). names_in (tree_at c.args.node.now.at form)) c.in-Map.is
-    ∙ (λ i. names_in (tree_of (sym c.deref-in-Map.ensures i)) ++ names_in (tree_of (sym c.deref-in-Map-2.ensures i))))
+    ∙ (λ i. names_in (tree_of (sym c.deref.ensures i)) ++ names_in (tree_of (sym c.deref-in-Map.ensures i))))
     c.in_ok-add_links-in-Map.ensures)
-    c.add_links-in-Map-2.ensures
+    c.add_links-in-Map.ensures

@@ -82,3 +82,6 @@ returns-in-Scalar-2 t c = flat_size c.args.declarations.now c.args.node.now.at c
 
 pub returns-in-Scalar-3 : goal.returns-in-Scalar-3
 returns-in-Scalar-3 t c = flat_size c.args.declarations.now c.args.node.now.at c.args.node.now.form c.in-Scalar.is c.requires.passes
+
+pub returns-in-Scalar-4 : goal.returns-in-Scalar-4
+returns-in-Scalar-4 t c = flat_size c.args.declarations.now c.args.node.now.at c.args.node.now.form c.in-Scalar.is c.requires.passes

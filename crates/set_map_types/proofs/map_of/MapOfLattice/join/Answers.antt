@@ -1,6 +1,5 @@
-use Rattle.std.proofs.Common.{◌≡◌, sym, subst}
-use Rattle.context_model.specs.KeyedMerge.{AtOneKey}
-use Rattle.set_map_types.specs.Held.{IsMap, MapAlike}
+use Rattle.std.proofs.Common.{sym, subst}
+use Rattle.set_map_types.specs.Held.{IsMap}
 use Rattle.set_map_types.specs.HeldLaws.{IsMap-merge}
 use Rattle.set_map_types.proofs.map_of.MapOfLattice.join.Goals as goal
 

@@ -1,4 +1,3 @@
-use Rattle.std.proofs.Common.{◌∷◌, [], map}
 use Rattle.std.proofs.lemmas.List.{map-append}
 use Rattle.context_model.specs.KeyedMerge.{keys_of}
 use Rattle.set_map_types.specs.HeldLaws.{IsSet-push}
