@@ -5,9 +5,8 @@ use Rattle.context_model.specs.Merged.{last_atom}
 use Rattle.context_model.specs.Orders.{Path}
 use Rattle.context_model.specs.Varints.{unsigned_varint}
 use Rattle.bag_model.specs.Encodings.{IsUsed, AreUsed}
-use Rattle.bag_model.specs.Readings.{key_path, node_path, PathsOf, SaysValues}
+use Rattle.bag_model.specs.Readings.{key_path, node_path, PathsOf}
 use Rattle.bag_model.specs.Shapes.{Shape, Nodes, Taint, Scalar, Set, Counter, Map, Bag, no_node, node}
-use Rattle.bag_model.specs.Values.{Values}
 use Rattle.bag_model.proofs.ForeignLaws.{encoding_not_foreign, foreign_unread}
 use Rattle.bag_codec.specs.ForeignPaths.{HasNamed, ForeignIsUnread}
 use Rattle.bag_codec.proofs.Layouts.{last_is}
@@ -19,7 +18,7 @@ no_marker q p first bytes e none = let same : first ∷ bytes ≡ [] = sym (last
 mutual
   used_no_marker : (shape : Shape) (q p : Path) → IsUsed shape q p → last_atom p ≢ []
   used_no_marker Taint q p u = no_marker q p 0 u.0 u.1
-  used_no_marker (Scalar kind) q p u = no_marker q p 0 u.0 u.1
+  used_no_marker (Scalar pick kind) q p u = no_marker q p 0 u.0 u.1
   used_no_marker (Set kind) q p u = no_marker q p 0 u.0 u.1
   used_no_marker Counter q p u =
       elim u.1 [

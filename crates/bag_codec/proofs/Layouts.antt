@@ -63,9 +63,9 @@ mutual
   pub layout_fits : (shape : Shape) (q : Path) (v : Value) → IsEncodable shape v → LayoutFits shape q v
   layout_fits shapes.Taint q (Taint on) e p l = fits_behind q p 0 [] l.1 (omega arith)
   layout_fits shapes.Taint q v e p l = absurd e
-  layout_fits (shapes.Scalar kind) q (Scalar None) e p l = absurd l
-  layout_fits (shapes.Scalar kind) q (Scalar (Some v)) e p l = fits_behind q p 0 (spelling kind v) l e.1
-  layout_fits (shapes.Scalar kind) q v e p l = absurd e
+  layout_fits (shapes.Scalar pick kind) q (Scalar own None) e p l = absurd l
+  layout_fits (shapes.Scalar pick kind) q (Scalar own (Some v)) e p l = fits_behind q p 0 (spelling kind v) l e.1.1
+  layout_fits (shapes.Scalar pick kind) q v e p l = absurd e
   layout_fits (shapes.Set kind) q (Set own vs) e p l = fits_behind q p 0 (spelling kind l.0) l.2 (All-at (FitsAtom kind) vs l.0 e.1 l.1).1
   layout_fits (shapes.Set kind) q v e p l = absurd e
   layout_fits shapes.Counter q (Counter counts) e p l =
@@ -102,9 +102,9 @@ mutual
   pub of_shape : (shape : Shape) (v : Value) → Proper v → IsEncodable shape v → IsOfShape shape v
   of_shape shapes.Taint (Taint on) p e = tt
   of_shape shapes.Taint v p e = absurd e
-  of_shape (shapes.Scalar kind) (Scalar None) p e = tt
-  of_shape (shapes.Scalar kind) (Scalar (Some v)) p e = e.0
-  of_shape (shapes.Scalar kind) v p e = absurd e
+  of_shape (shapes.Scalar pick kind) (Scalar own None) p e = e
+  of_shape (shapes.Scalar pick kind) (Scalar own (Some v)) p e = (e.0, e.1.0)
+  of_shape (shapes.Scalar pick kind) v p e = absurd e
   of_shape (shapes.Set kind) (Set own vs) p e = (e.0, p.0, subst (λ (other : ScalarKind). AllByRecursion (IsScalarOf other) vs) e.0 p.1)
   of_shape (shapes.Set kind) v p e = absurd e
   of_shape shapes.Counter (Counter counts) p e = p
@@ -131,9 +131,9 @@ mutual
   pub by_parts : (shape : Shape) (q : Path) (v : Value) → IsOfShape shape v → LayoutFits shape q v → IsEncodable shape v
   by_parts shapes.Taint q (Taint on) o f = tt
   by_parts shapes.Taint q v o f = absurd o
-  by_parts (shapes.Scalar kind) q (Scalar None) o f = tt
-  by_parts (shapes.Scalar kind) q (Scalar (Some v)) o f = (o, room_behind q 0 (spelling kind v) (f (datum_path q (spelling kind v)) refl))
-  by_parts (shapes.Scalar kind) q v o f = absurd o
+  by_parts (shapes.Scalar pick kind) q (Scalar own None) o f = o
+  by_parts (shapes.Scalar pick kind) q (Scalar own (Some v)) o f = (o.0, (o.1, room_behind q 0 (spelling kind v) (f (datum_path q (spelling kind v)) refl)))
+  by_parts (shapes.Scalar pick kind) q v o f = absurd o
   by_parts (shapes.Set kind) q (Set own vs) o f = (
     o.0,
     All-from (FitsAtom kind) vs

@@ -1,5 +1,5 @@
 -- What a list of atoms says fits atoms again.
-use Rattle.std.proofs.Common.{◌≡◌, ◌⊎◌, inl, inr, ℕ, ◌-◌, ◌*◌, ◌≤◌, List, [], ◌∷◌, ◌++◌, length, take, Some, None, sym, ap, subst, ◌∙◌}
+use Rattle.std.proofs.Common.{inl, inr, ◌-◌, ◌*◌, ◌≤◌, List, [], ◌∷◌, ◌++◌, length, take, Some, None, sym, ap, subst, ◌∙◌}
 use Rattle.outside.specs.declared.TheConstants.{ATOM_MAX}
 use Rattle.context_model.specs.Atoms.{Atom, AreAtoms}
 use Rattle.context_model.specs.Merged.{last_atom}
@@ -31,9 +31,9 @@ module _ (P : Path → Type 0) (fits : (p : Path) → P p → Fits p) where
     pub read_encodable : (shape : Shape) (q : Path) (v : Value) → Reads shape P q v → IsEncodable shape v
     read_encodable shapes.Taint q (Taint on) r = tt
     read_encodable shapes.Taint q v r = absurd r
-    read_encodable (shapes.Scalar kind) q (Scalar None) r = tt
-    read_encodable (shapes.Scalar kind) q (Scalar (Some v)) r = (r.0.0, room_behind q 0 (spelling kind v) (fits (q ++ (0 ∷ spelling kind v) ∷ []) r.0.1))
-    read_encodable (shapes.Scalar kind) q v r = absurd r
+    read_encodable (shapes.Scalar pick kind) q (Scalar own None) r = r.0
+    read_encodable (shapes.Scalar pick kind) q (Scalar own (Some v)) r = (r.0, (r.1.0.0, room_behind q 0 (spelling kind v) (fits (q ++ (0 ∷ spelling kind v) ∷ []) r.1.0.1)))
+    read_encodable (shapes.Scalar pick kind) q v r = absurd r
     read_encodable (shapes.Set kind) q (Set own vs) r = (
       r.0,
       All-from (FitsAtom kind) vs

@@ -16,15 +16,16 @@ HasRoom bytes = length bytes < ATOM_MAX
 abbrev pub FitsAtom : ScalarKind → ScalarValue → Type 0
 FitsAtom kind v = IsScalarOf kind v × HasRoom (spelling kind v)
 
--- The value has the variants and the scalars that the shape asks for, and its sets name the kinds of their fields; there is
--- room in an atom for each scalar and for each writer. Order and the counts' size are left out.
+-- The value has the variants and the scalars that the shape asks for, its scalars are those of which the same one stays, and
+-- its sets name the kinds of their fields; there is room in an atom for each scalar and for each writer. Order and the
+-- counts' size are left out.
 abbrev mutual
   pub IsEncodable : Shape → Value → Type 0
   IsEncodable shapes.Taint (Taint on) = Unit {0}
   IsEncodable shapes.Taint other = ⊥
-  IsEncodable (shapes.Scalar kind) (Scalar None) = Unit {0}
-  IsEncodable (shapes.Scalar kind) (Scalar (Some v)) = FitsAtom kind v
-  IsEncodable (shapes.Scalar kind) other = ⊥
+  IsEncodable (shapes.Scalar pick kind) (Scalar own None) = own ≡ pick
+  IsEncodable (shapes.Scalar pick kind) (Scalar own (Some v)) = (own ≡ pick) × FitsAtom kind v
+  IsEncodable (shapes.Scalar pick kind) other = ⊥
   IsEncodable (shapes.Set kind) (Set own vs) = (own ≡ kind) × AllByRecursion (FitsAtom kind) vs
   IsEncodable (shapes.Set kind) other = ⊥
   IsEncodable shapes.Counter (Counter counts) = EachPair (λ writer n. HasRoom writer) counts

@@ -83,6 +83,8 @@ fn is_encodable(shape: &Shape, value: &Val) -> bool
         (Shape::Taint, Val::Taint(_)) => true,
         (Shape::Scalar(_), Val::Scalar(None)) => true,
         (Shape::Scalar(kind), Val::Scalar(Some(scalar))) => fits_atom(kind, scalar),
+        (Shape::Greatest(_), Val::Greatest(None)) => true,
+        (Shape::Greatest(kind), Val::Greatest(Some(scalar))) => fits_atom(kind, scalar),
         (Shape::Set(kind), Val::Set(set)) => names_kind(set, kind) && elements_fit(kind, set),
         (Shape::Counter, Val::Counter(counts)) => writers_fit(counts),
         (Shape::Map(kind, shape), Val::Map(entries)) => entries_fit(kind, shape, entries),

@@ -1,14 +1,13 @@
 -- What is superseded in a field of each shape.
-use Rattle.std.proofs.Common.{◌≡◌, ◌⊎◌, inl, inr, ◌↔◌, ℕ, zero, suc, ◌+◌, ◌<◌, ◌≤◌, List, [], ◌∷◌, ◌++◌, length, slice_get, Some, refl, sym, ◌∙◌, subst, append_assoc, arith}
-use Rattle.std.proofs.lemmas.Bool.{cases_order}
-use Rattle.std.proofs.lemmas.List.{append-nil}
+use Rattle.std.proofs.Common.{◌≡◌, inl, inr, ◌↔◌, ℕ, zero, suc, List, [], ◌∷◌, ◌++◌, length, slice_get, Some, refl, sym, ◌∙◌, subst, append_assoc}
 use Rattle.context_model.specs.Atoms.{Atom}
 use Rattle.context_model.specs.Kinds.{atom_of}
 use Rattle.context_model.specs.Kinds.Kind.{Indexed, Keyed}
 use Rattle.context_model.specs.Orders.{Path, IsIn}
 use Rattle.context_model.specs.Paths.{paths}
 use Rattle.context_model.proofs.PlacesOf.{path_there, front_is_path}
-use Rattle.bag_model.specs.Normal.{Keeping, EachDatum, LeastDatum, GreatestDatum, HoldsData, SomeHoldsData, GivesWay}
+use Rattle.bag_model.specs.declared.Pick.{Pick}
+use Rattle.bag_model.specs.Normal.{Keeping, EachDatum, GreatestDatum, kept_by, HoldsData, SomeHoldsData, GivesWay}
 use Rattle.bag_model.specs.Readings.{PathsOf, key_path, node_path}
 use Rattle.bag_model.specs.Scalars.{ScalarKind}
 use Rattle.bag_model.specs.Shapes.{Shape, Nodes, Field, fields, Taint, Scalar, Set, Counter, Map, Bag, no_node, node}
@@ -29,9 +28,9 @@ set_none kind list q place s = none_of_each (Set kind) list q place s s.holds.0
 
 -- ---- one path, or one behind each key
 
-pub scalar_is : (kind : ScalarKind) (list : List Atom) (q : Path) (place : ℕ) → GivesWayAt LeastDatum list q place ↔ IsSupersededIn (Scalar kind) list q place
-scalar_is kind list q place = (
-  λ w. record { keep = LeastDatum; path = q; holds = (refl, refl); way = w },
+pub scalar_is : (pick : Pick) (kind : ScalarKind) (list : List Atom) (q : Path) (place : ℕ) → GivesWayAt (kept_by pick) list q place ↔ IsSupersededIn (Scalar pick kind) list q place
+scalar_is pick kind list q place = (
+  λ w. record { keep = kept_by pick; path = q; holds = (refl, refl); way = w },
   λ s. subst (λ k. GivesWayAt k list q place) s.holds.0 (subst (λ p. GivesWayAt s.keep list p place) s.holds.1 s.way),
 )
 

@@ -1,20 +1,18 @@
 -- What is superseded in the slots of a field that a view knows.
-use Rattle.std.proofs.Common.{◌≡◌, ◌⊎◌, inl, inr, ◌↔◌, ℕ, zero, suc, ◌+◌, ◌<◌, List, [], ◌∷◌, ◌++◌, length, Option, Some, refl, sym, ap, ◌∙◌, subst, arith, append_assoc}
+use Rattle.std.proofs.Common.{◌≡◌, ◌⊎◌, inl, inr, ◌↔◌, ℕ, zero, suc, ◌+◌, List, [], ◌∷◌, ◌++◌, length, Some, refl, sym, ap, ◌∙◌, subst, arith, append_assoc}
 use Rattle.std.specs.Prelude.{◌≢◌}
 use Rattle.std.specs.List.{slice_get}
 use Rattle.std.specs.Option.{option_map}
 use Rattle.std.proofs.lemmas.List.{append-nil}
 use Rattle.context_model.specs.Atoms.{Atom}
-use Rattle.context_model.specs.Ended.{field_path, field_path_from}
-use Rattle.context_model.specs.Kinds.{atom_of}
-use Rattle.context_model.specs.Kinds.Kind.{Indexed}
+use Rattle.context_model.specs.Ended.{field_path_from}
 use Rattle.context_model.specs.Orders.{Path, IsIn}
 use Rattle.context_model.specs.WithoutData.{AreDataPlaces}
 use Rattle.context_model.proofs.PlacesOf.{last_is}
 use Rattle.bag_model.specs.Normal.{IsSupersededAt}
-use Rattle.bag_model.specs.Readings.{PathsOf, node_path}
+use Rattle.bag_model.specs.Readings.{PathsOf}
 use Rattle.bag_model.specs.Shapes.{Shape, Nodes, Field, fields, Bag, no_node, node}
-use Rattle.bag_model.specs.Slots.{SlotAt, slots_of, slots_in, slot_count, starts, within}
+use Rattle.bag_model.specs.Slots.{SlotAt, slots_of, slots_in, starts, within}
 use Rattle.bag_model.specs.Views.{View, Knows}
 use Rattle.bag_model.proofs.DataPlaces.{HoldsData-below}
 use Rattle.bag_model.proofs.SlotLaws.{slots_of-list, slot_there}

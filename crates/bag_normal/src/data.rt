@@ -2,12 +2,13 @@
 
 ghost use Rattle.std.specs.Prelude.{◌≤◌, length, OnOk, IfOk};
 ghost use Rattle.context_model.specs.Paths.{path_before};
-ghost use Rattle.bag_model.specs.Normal.{LeastDatum, GreatestDatum};
+ghost use Rattle.bag_model.specs.Normal.{LeastDatum, GreatestDatum, kept_by};
 ghost use Rattle.bag_walks.specs.Parts.{IsBehind, IsDataPart};
 ghost use Rattle.bag_normal.specs.Superseded.{GivesWayAt};
 ghost use Rattle.bag_normal.specs.Gone.{RisesTo, Adds, IsDatumBetween};
 
 use atom_list::AtomList;
+use bag_model::Pick;
 use bag_scan::{data_end, first_datum, is_datum, last_datum};
 use outside::Memory;
 
@@ -27,12 +28,29 @@ fn add_data(list: &AtomList, from: usize, to: usize, gone: &mut Vec<usize>) -> R
     Ok(())
 }
 
-/// Adds the places of all data but the first, whatever markers stand between, and gives the end of the data.
-pub(crate) fn add_later_data(
+/// Adds the places of all data but that of the value that stays, which is the first where the least stays and the last where
+/// the greatest does, and gives the end of the data.
+pub(crate) fn add_other_data(
+    pick: Pick,
     list: &AtomList,
     from: usize,
     gone: &mut Vec<usize>,
 ) -> Result<usize, Memory>
+    requires behind { IsBehind list.now (path_before list.now from) from }
+    requires rises { RisesTo gone.old.items from }
+    ensures part { IfOk result (IsDataPart list.now from) }
+    ensures rises { IfOk result (RisesTo gone.new.items) }
+    ensures adds { OnOk result (Adds (GivesWayAt (kept_by pick) list.now (path_before list.now from))
+        gone.old.items gone.new.items) }
+{
+    match pick {
+        Pick::Least => add_later_data(list, from, gone),
+        Pick::Greatest => add_earlier_data(list, from, gone),
+    }
+}
+
+/// Adds the places of all data but the first, whatever markers stand between, and gives the end of the data.
+fn add_later_data(list: &AtomList, from: usize, gone: &mut Vec<usize>) -> Result<usize, Memory>
     requires behind { IsBehind list.now (path_before list.now from) from }
     requires rises { RisesTo gone.old.items from }
     ensures part { IfOk result (IsDataPart list.now from) }

@@ -10,9 +10,10 @@ ghost use Rattle.field_table.specs.Plain.{shape_of, nodes_of};
 ghost use Rattle.bag_normal.specs.Superseded.{GivesWayAt, IsSupersededIn, HoldsAtKey};
 ghost use Rattle.bag_normal.specs.Gone.{RisesTo, Adds};
 
-use crate::data::{add_earlier_data, add_later_data};
+use crate::data::{add_earlier_data, add_other_data};
 use crate::headers::next_field;
 use atom_list::AtomList;
+use bag_model::Pick;
 use bag_scan::{find_key, segment_end};
 use field_table::{Shape, Slots};
 use outside::Memory;
@@ -66,7 +67,11 @@ pub(crate) fn add_field(
     match shape {
         Shape::Taint => Ok(segment_end(list, level, from)),
         Shape::Scalar(_) => {
-            let to = add_later_data(list, from, gone)?;
+            let to = add_other_data(Pick::Least, list, from, gone)?;
+            Ok(segment_end(list, level, to))
+        }
+        Shape::Greatest(_) => {
+            let to = add_other_data(Pick::Greatest, list, from, gone)?;
             Ok(segment_end(list, level, to))
         }
         Shape::Set(_) => Ok(segment_end(list, level, from)),

@@ -2,7 +2,7 @@ pub mod Lists
 pub mod OneLayout
 pub mod LayoutRooms
 pub mod Firsts
-pub mod Entries
+pub mod Numbers
 pub mod NameLaws
 pub mod DeclLaws
 pub mod Links

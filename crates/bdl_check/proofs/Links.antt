@@ -1,7 +1,7 @@
 -- The numbers of the declarations that declarations name.
-use Rattle.std.proofs.Common.{◌≡◌, ℕ, ◌<◌, ◌≤◌, Bool, true, false, cond, List, [], ◌∷◌, ◌++◌, Option, None, Some, All, Bor, length, map, nat_lt, get_or, slice_get, refl, sym, ◌∙◌, ap, subst, append_assoc, append-nil, inl, inr, ◌⊎◌, arith}
+use Rattle.std.proofs.Common.{◌≡◌, ℕ, ◌<◌, ◌≤◌, Bool, true, false, cond, List, [], ◌∷◌, ◌++◌, Option, None, Some, All, length, map, take, nat_lt, get_or, slice_get, refl, sym, ◌∙◌, ap, subst, append_assoc, append-nil, inl, inr, ◌⊎◌, arith}
 use Rattle.std.proofs.lemmas.Bool.{ltb-true}
-use Rattle.std.proofs.lemmas.List.{length-map}
+use Rattle.std.proofs.lemmas.List.{length-map, take_all}
 use Rattle.std.proofs.lemmas.List.Elements.{All-cons, All-nil, All-map, filter_map-append}
 use Rattle.std.proofs.lemmas.Option.{slice_get_within, slice_get_cases}
 use Rattle.std.proofs.lemmas.Simd.{map-map}
@@ -94,11 +94,7 @@ fields_added f whole row rest is so_far = sym (append-nil row) ∙ ap (λ (field
     ∙ so_far
 
 -- What is had of each declaration as the code looks at them, is had of all.
-pub rows_are : {X : Type 0} (f : Placed → X) (ds : List Placed) (rows : List X) (its : List Declaration) (seen : List (Bor Declaration))
-    → rows ≡ map (λ d. f (placed_of d.now)) seen →
-    map (λ d. d.now) seen ≡ its → map placed_of its ≡ ds → rows ≡ map f ds
-rows_are f ds rows its seen are end is =
-    are
-    ∙ sym (map-map (λ (d : Declaration). f (placed_of d)) (λ (d : Bor Declaration). d.now) seen)
-    ∙ ap (map (λ (d : Declaration). f (placed_of d))) end
-    ∙ sym (map-map f placed_of its) ∙ ap (map f) is
+pub rows_are : {X : Type 0} (f : Placed → X) (ds : List Placed) (rows : List X) (items : List Declaration) (i : ℕ)
+    → rows ≡ map (λ d. f (placed_of d)) (take i items) → length items ≤ i → map placed_of items ≡ ds → rows ≡ map f ds
+rows_are f ds rows items i are past is =
+    are ∙ ap (map (λ (d : Declaration). f (placed_of d))) (take_all i items past) ∙ sym (map-map f placed_of items) ∙ ap (map f) is

@@ -1,18 +1,16 @@
--- The declarations of the code as plain ones.
-use Rattle.std.specs.Prelude.{◌≡◌, ℕ, List, All, map}
+-- The declarations of the code as plain ones, and their numbers by name.
+use Rattle.std.specs.Prelude.{◌≡◌, ℕ, List}
 use Rattle.std.specs.Borrow.{Bor}
-use Rattle.indexmap.specs.IndexMap.{IndexMap}
+use Rattle.std.specs.BTreeMap.{BTreeMap, get_by}
+use Rattle.std.specs.Cmp.Lexicographic.{slice_cmp}
+use Rattle.std.specs.Ordering.{nat_cmp}
 use Rattle.bdl_check.specs.declared.declarations.Declaration.{Declaration}
-use Rattle.bdl_check.specs.Declarations.{Placed, name_of}
+use Rattle.bdl_check.specs.Declarations.{Placed, number_named}
 
 -- A declaration in its file.
 abbrev pub placed_of : Declaration → Placed
 placed_of d = record { file = d.file.now; decl = d.decl.now }
 
--- The declarations of a map, in order.
-abbrev pub declared_in : {S : Type 0} → IndexMap (Bor (List ℕ)) Declaration S → List Placed
-declared_in map_ = map (λ entry. placed_of entry.1) map_.entries
-
--- Each stands under its name.
-abbrev pub IsKeyed : {S : Type 0} → IndexMap (Bor (List ℕ)) Declaration S → Type 0
-IsKeyed map_ = All (λ entry. entry.0.now ≡ name_of entry.1.decl.now) map_.entries
+-- The map has the number of each declaration by its name, and no other name.
+abbrev pub AreNumbersOf : List Placed → BTreeMap (Bor (List ℕ)) ℕ → Type 0
+AreNumbersOf ds numbers = (name : List ℕ) → get_by (λ key. slice_cmp nat_cmp name key.now) numbers ≡ number_named ds name

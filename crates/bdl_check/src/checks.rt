@@ -17,7 +17,7 @@ fn declared_fault(alloc: Global, declarations: &Declarations) -> Result<Option<F
     ensures { IfOk result (λ fault.
         fault ≡ first (declaration_faults (kind_named declarations.now) declarations.now)) }
 {
-    for declaration in declarations.iter() {
+    for declaration in declarations.as_slice() {
         if let Some(found) = decl_fault(alloc, declarations, declaration.decl)? {
             return Ok(Some(fault_in(declaration.file.copy()?, found)));
         }

@@ -6,10 +6,9 @@ ghost use Rattle.bdl_check.specs.Declarations.{named, number_named, kind_named, 
 ghost use Rattle.bdl_check.specs.DeclarationViews.{placed_of};
 
 use bdl_parser::{Decl, Spot};
-use indexmap::IndexMap;
-use indexmap::map::Values;
 use outside::{Memory, Text};
 use std::alloc::Global;
+use std::collections::BTreeMap;
 use std::marker::Model;
 
 /// What a name was declared as.
@@ -26,14 +25,16 @@ pub(crate) struct Declaration<'a> {
     pub decl: &'a Decl,
 }
 
-/// Declarations in order, each of which is found by its number and by its name.
+/// Declarations in order, each of which is found by its number and by its name. No choice of names makes a look-up slow, as it
+/// may where names are hashed.
 #[derive(Drop)]
 pub(crate) struct Declarations<'a> {
-    by_name: IndexMap<&'a str, Declaration<'a>>,
+    all: Vec<Declaration<'a>>,
+    numbers: BTreeMap<&'a str, usize>,
 }
 
 impl<'a> Model for Declarations<'a> {
-    ghost use Rattle.std.specs.Prelude.{List};
+    ghost use Rattle.std.specs.Prelude.{List, map};
     ghost use Rattle.bdl_check.specs.Declarations.{Placed};
     ghost use Rattle.bdl_check.specs.DeclarationCode.{placed_list_code};
 
@@ -41,11 +42,11 @@ impl<'a> Model for Declarations<'a> {
 
     ghost coded = { placed_list_code };
 
-    ghost use Rattle.bdl_check.specs.DeclarationViews.{declared_in, IsKeyed};
+    ghost use Rattle.bdl_check.specs.DeclarationViews.{placed_of, AreNumbersOf};
 
-    ghost view = { λ list. declared_in list.by_name };
+    ghost view = { λ list. map placed_of list.all.items };
 
-    ghost invariant = { λ list. IsKeyed list.by_name };
+    ghost invariant = { λ list. AreNumbersOf (map placed_of list.all.items) list.numbers };
 }
 
 impl<'a> Declarations<'a> {
@@ -54,7 +55,8 @@ impl<'a> Declarations<'a> {
         ensures { result ≡ [] }
     {
         Declarations {
-            by_name: IndexMap::new(alloc),
+            all: Vec::new(alloc),
+            numbers: BTreeMap::new(alloc),
         }
     }
 
@@ -62,29 +64,36 @@ impl<'a> Declarations<'a> {
     pub(crate) fn len(&self) -> usize
         ensures { result ≡ length self.now }
     {
-        self.by_name.len()
+        self.all.len()
     }
 
     /// The one with this number, from 0 on.
     pub(crate) fn get(&self, number: usize) -> Option<Declaration<'a>>
         ensures { option_map placed_of result ≡ slice_get self.now number }
     {
-        let (_, found) = self.by_name.get_index(number)?;
-        Some(*found)
+        self.all.get(number).copied()
     }
 
     /// All of them, in order.
-    pub(crate) fn iter(&self) -> Values<'_, &'a str, Declaration<'a>>
-        ensures { map placed_of result ≡ self.now }
+    pub(crate) fn as_slice(&self) -> &[Declaration<'a>]
+        ensures { map placed_of result.now ≡ self.now }
     {
-        self.by_name.values()
+        self.all.as_slice()
+    }
+
+    /// The number of the one of this name.
+    pub(crate) fn number(&self, name: &str) -> Option<usize>
+        ensures { result ≡ number_named self.now name.now }
+    {
+        self.numbers.get(name).copied()
     }
 
     /// The one of this name.
     pub(crate) fn named(&self, name: &str) -> Option<Declaration<'a>>
         ensures { option_map placed_of result ≡ named self.now name.now }
     {
-        self.by_name.get(name).copied()
+        let number = self.number(name)?;
+        self.get(number)
     }
 
     /// What a name was declared as.
@@ -94,13 +103,6 @@ impl<'a> Declarations<'a> {
         Some(decl_kind(self.named(name)?.decl))
     }
 
-    /// The number of the one of this name.
-    pub(crate) fn number(&self, name: &str) -> Option<usize>
-        ensures { result ≡ number_named self.now name.now }
-    {
-        self.by_name.get_index_of(name)
-    }
-
     /// Adds a declaration at the end, and answers whether its name is new. Where it isn't, nothing is added.
     pub(crate) fn declare(&mut self, file: &'a Text, decl: &'a Decl) -> Result<bool, Memory>
         ensures new { IfOk result (λ new. new ≡ not (is_some (named self.old (name_of decl.now)))) }
@@ -108,10 +110,15 @@ impl<'a> Declarations<'a> {
         ensures kept { result ≡ Ok false → self.new ≡ self.old }
     {
         let name = decl_name(decl);
-        if self.named(name).is_some() {
+        if self.number(name).is_some() {
             return Ok(false);
         }
-        self.by_name.insert(name, Declaration { file, decl })?;
+        let number = self.all.len();
+        self.all.push(Declaration { file, decl })?;
+        if self.numbers.insert(name, number).is_err() {
+            self.all.pop();
+            return Err(Memory);
+        }
         Ok(true)
     }
 }

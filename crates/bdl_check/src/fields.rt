@@ -13,12 +13,12 @@ use crate::declarations::Declarations;
 use crate::types::{Role, type_fault};
 use bdl_load::{DefCode, Finding};
 use bdl_parser::{BagField, BagFields, Decl, StructField, StructFields};
-use indexmap::IndexSet;
 use outside::Memory;
 use std::alloc::Global;
+use std::collections::BTreeSet;
 
 /// Adds a number, and answers whether it is new.
-fn add_number(numbers: &mut IndexSet<u16>, number: u16) -> Result<bool, Memory>
+fn add_number(numbers: &mut BTreeSet<u16>, number: u16) -> Result<bool, Memory>
     ensures new { IfOk result (λ is_new. is_new ≡ not (has_number numbers.old number)) }
     ensures added { OnOk result ((other : ℕ)
         → has_number numbers.new other ≡ ((number == other) || has_number numbers.old other)) }
@@ -27,7 +27,7 @@ fn add_number(numbers: &mut IndexSet<u16>, number: u16) -> Result<bool, Memory>
 }
 
 /// Adds a text, and answers whether it is new.
-fn add_text<'a>(texts: &mut IndexSet<&'a str>, text: &'a str) -> Result<bool, Memory>
+fn add_text<'a>(texts: &mut BTreeSet<&'a str>, text: &'a str) -> Result<bool, Memory>
     ensures new { IfOk result (λ is_new. is_new ≡ not (has_text texts.old text.now)) }
     ensures added { OnOk result ((other : List ℕ)
         → has_text texts.new other ≡ (bytes_eq text.now other || has_text texts.old other)) }
@@ -38,8 +38,8 @@ fn add_text<'a>(texts: &mut IndexSet<&'a str>, text: &'a str) -> Result<bool, Me
 /// The first fault of a bag's field, behind the fields with these numbers and these names.
 fn bag_field_fault<'a>(
     declarations: &Declarations,
-    numbers: &mut IndexSet<u16>,
-    texts: &mut IndexSet<&'a str>,
+    numbers: &mut BTreeSet<u16>,
+    texts: &mut BTreeSet<&'a str>,
     field: &'a BagField,
 ) -> Result<Option<Finding>, Memory>
     ensures found { (earlier : List BagFieldTree) → HasNumbers numbers.old (numbers_of earlier)
@@ -79,8 +79,8 @@ fn bag_fault(
     ensures { IfOk result (λ fault.
         fault ≡ first (bag_faults (kind_named declarations.now) [] fields.now)) }
 {
-    let mut numbers = IndexSet::new(alloc);
-    let mut texts = IndexSet::new(alloc);
+    let mut numbers = BTreeSet::new(alloc);
+    let mut texts = BTreeSet::new(alloc);
     for field in fields.as_slice() {
         if let Some(fault) = bag_field_fault(declarations, &mut numbers, &mut texts, field)? {
             return Ok(Some(fault));
@@ -92,7 +92,7 @@ fn bag_fault(
 /// The first fault of a struct's field, behind the fields with these names.
 fn struct_field_fault<'a>(
     declarations: &Declarations,
-    texts: &mut IndexSet<&'a str>,
+    texts: &mut BTreeSet<&'a str>,
     field: &'a StructField,
 ) -> Result<Option<Finding>, Memory>
     ensures found { (earlier : List StructFieldTree)
@@ -123,7 +123,7 @@ fn struct_fault(
     ensures { IfOk result (λ fault.
         fault ≡ first (struct_faults (kind_named declarations.now) [] fields.now)) }
 {
-    let mut texts = IndexSet::new(alloc);
+    let mut texts = BTreeSet::new(alloc);
     for field in fields.as_slice() {
         if let Some(fault) = struct_field_fault(declarations, &mut texts, field)? {
             return Ok(Some(fault));

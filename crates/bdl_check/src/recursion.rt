@@ -67,7 +67,7 @@ fn all_links(alloc: Global, declarations: &Declarations) -> Result<Vec<Vec<usize
     ensures { IfOk result (λ rows. graph_of rows.items ≡ links declarations.now) }
 {
     let mut rows = Vec::new(alloc);
-    for declaration in declarations.iter() {
+    for declaration in declarations.as_slice() {
         let row = links_from(alloc, declarations, declaration.decl)?;
         rows.push(row)?;
     }

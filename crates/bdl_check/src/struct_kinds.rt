@@ -26,12 +26,12 @@ pub(crate) struct WithKinds<'a> {
 
 /// The declarations in order, and beside each the kinds of its fields. Contracts see the declarations.
 #[derive(Drop)]
-pub(crate) struct StructKinds<'a> {
-    declarations: &'a Declarations<'a>,
+pub(crate) struct StructKinds<'a, 'b> {
+    declarations: &'a Declarations<'b>,
     kinds: Vec<KindList>,
 }
 
-impl<'a> Model for StructKinds<'a> {
+impl<'a, 'b> Model for StructKinds<'a, 'b> {
     ghost use Rattle.std.specs.Prelude.{◌≡◌, List, map};
     ghost use Rattle.bdl_check.specs.Declarations.{Placed};
     ghost use Rattle.bdl_check.specs.DeclarationCode.{placed_list_code};
@@ -47,16 +47,16 @@ impl<'a> Model for StructKinds<'a> {
     ghost invariant = { λ all. all.kinds.items ≡ map (λ d. words_of_decl d.decl) all.declarations.now };
 }
 
-impl<'a> StructKinds<'a> {
+impl<'a, 'b> StructKinds<'a, 'b> {
     /// Lists the kinds of all structs, whether a layout names them or not.
     pub(crate) fn of(
         alloc: Global,
-        declarations: &'a Declarations<'a>,
-    ) -> Result<StructKinds<'a>, Memory>
+        declarations: &'a Declarations<'b>,
+    ) -> Result<StructKinds<'a, 'b>, Memory>
         ensures { IfOk result (λ all. all ≡ declarations.now) }
     {
         let mut kinds = Vec::with_capacity(alloc, declarations.len())?;
-        for declaration in declarations.iter() {
+        for declaration in declarations.as_slice() {
             kinds.push(field_kinds(alloc, declaration.decl)?)?;
         }
         Ok(StructKinds {

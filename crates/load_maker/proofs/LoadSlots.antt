@@ -1,6 +1,7 @@
 -- The slots of the load's table, by their names.
 use Rattle.std.proofs.Common.{◌≡◌, ℕ, zero, suc, List, [], ◌∷◌, codes, Some, refl, ap, ◌∙◌, arith}
 use Rattle.std.specs.List.{slice_index}
+use Rattle.bag_model.specs.declared.Pick.TheVariants.{Least}
 use Rattle.bag_model.specs.Scalars as scalars
 use Rattle.bag_model.specs.Shapes.{Shape, Scalar, Set, Counter}
 use Rattle.bag_model.specs.Slots.{SlotAt, name_path, FindsSlot}
@@ -17,7 +18,7 @@ abbrev slot_at : List ℕ → ℕ → Shape → SlotAt
 slot_at name number shape = record { names = name ∷ []; numbers = number ∷ []; shape = shape }
 
 abbrev pub least_slot : SlotAt
-least_slot = slot_at (codes "least") 0 (Scalar (scalars.ScalarKind.One scalars.Fixed32))
+least_slot = slot_at (codes "least") 0 (Scalar Least (scalars.ScalarKind.One scalars.Fixed32))
 
 abbrev pub hits_slot : SlotAt
 hits_slot = slot_at (codes "hits") 1 Counter

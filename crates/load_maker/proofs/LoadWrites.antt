@@ -7,6 +7,7 @@ use Rattle.std.proofs.lemmas.List.Sums.{count_by-le-length}
 use Rattle.std.specs.Fmt.{decimal}
 use Rattle.context_model.specs.Varints.{big_endian, unsigned_form, unsigned_tail, unsigned_varint}
 use Rattle.context_model.proofs.Digits.{length-big_endian}
+use Rattle.bag_model.specs.declared.Pick.TheVariants.{Least}
 use Rattle.bag_model.specs.Scalars as scalars
 use Rattle.bag_model.specs.Scalars.{ScalarValue, Plain, Text, Unsigned}
 use Rattle.bag_model.specs.Shapes as shapes
@@ -35,9 +36,9 @@ short_varint n =
 pub some_digit : (n : ℕ) → n < 2 ^ 64 → 0 < length (decimal n)
 some_digit n small = (decimal_is_IsNumeral n small).0.0
 
-pub says_least : (n : ℕ) → n < 2 ^ 32 → SaysValue (shapes.Scalar (scalars.ScalarKind.One scalars.Fixed32)) (decimal n)
+pub says_least : (n : ℕ) → n < 2 ^ 32 → SaysValue (shapes.Scalar Least (scalars.ScalarKind.One scalars.Fixed32)) (decimal n)
 says_least n small =
-    (values.Scalar (Some (ScalarValue.One (Unsigned n))), (ScalarValue.One (Unsigned n), (small, omega arith, refl), refl))
+    (values.Scalar Least (Some (ScalarValue.One (Unsigned n))), (ScalarValue.One (Unsigned n), (small, omega arith, refl), refl))
 
 pub says_seen : (n : ℕ) → n < 2 ^ 32 → SaysValue (shapes.Set (scalars.ScalarKind.One scalars.Uint32)) (decimal n)
 says_seen n small =

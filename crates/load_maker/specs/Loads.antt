@@ -2,6 +2,7 @@
 use Rattle.std.specs.Prelude.{ℕ, zero, suc, ◌+◌, ◌-◌, ◌*◌, ◌%◌, List, [], ◌∷◌, ◌++◌, codes}
 use Rattle.std.specs.Fmt.{decimal}
 use Rattle.std.specs.List.{flat_map, join_with_byte}
+use Rattle.bag_model.specs.declared.Pick.TheVariants.{Least}
 use Rattle.bag_model.specs.Scalars as scalars
 use Rattle.bag_model.specs.Shapes.{Nodes, Scalar, Set, Counter, no_node, node}
 use Rattle.graph_lines.specs.Statements.{Statement, All, Nothing, Start, Set as Write, Branch, Forward, Join, Service, Step, Show}
@@ -10,7 +11,7 @@ use Rattle.graph_lines.specs.Forms.{words_of}
 -- The table of `bag Load { fixed32 least = 0; counter hits = 1; set<uint32> seen = 2; }`.
 abbrev pub load_table : Nodes
 load_table =
-    node (codes "least") 0 (Scalar (scalars.ScalarKind.One scalars.Fixed32))
+    node (codes "least") 0 (Scalar Least (scalars.ScalarKind.One scalars.Fixed32))
     (node (codes "hits") 1 Counter
     (node (codes "seen") 2 (Set (scalars.ScalarKind.One scalars.Uint32)) no_node))
 

@@ -4,6 +4,7 @@ use Rattle.std.specs.Fmt.{digits}
 use Rattle.hex.specs.Hex.{encode_with}
 use Rattle.serde_json.proofs.OnLiterals.{serde_json_on_literals}
 use Rattle.context_model.specs.Framing.{length_code}
+use Rattle.bag_model.specs.declared.Pick.TheVariants.{Least}
 use Rattle.bag_model.specs.Scalars as scalars
 use Rattle.bag_model.specs.Scalars.{ScalarValue, Str, Text}
 use Rattle.bag_model.specs.Shapes.{Shape}
@@ -18,10 +19,10 @@ use Rattle.report_json.specs.JsonReports.{slot_object, step_object, object_line}
 
 -- A slot of a string in a bag.
 abbrev note : SlotAt
-note = record { names = codes "sub" ∷ codes "note" ∷ []; numbers = 1 ∷ 2 ∷ []; shape = Shape.Scalar (scalars.ScalarKind.One Str) }
+note = record { names = codes "sub" ∷ codes "note" ∷ []; numbers = 1 ∷ 2 ∷ []; shape = Shape.Scalar Least (scalars.ScalarKind.One Str) }
 
 abbrev marked : Data
-marked = slot_object note Partial (Scalar (Some (ScalarValue.One (Text (codes "a\"\\")))))
+marked = slot_object note Partial (Scalar Least (Some (ScalarValue.One (Text (codes "a\"\\")))))
 
 slot_row : compact_text marked ≡ codes "{\"path\":\"sub.note\",\"state\":\"partial\",\"text\":\"\\\"a\\\\\\\"\\\\\\\\\\\"\"}"
 unfolding serde_json_on_literals
@@ -30,7 +31,7 @@ slot_row = refl
 line_row : object_line marked ≡ codes "sub.note partial \"a\\\"\\\\\"" ++ 10 ∷ []
 line_row = refl
 
-step_row : compact_text (array (items_of (step_object [] [] 7 ∷ step_object ((248 ∷ 1 ∷ []) ∷ []) (slot_object note Exact (Scalar (Some (ScalarValue.One (Text [])))) ∷ []) 10 ∷ [])))
+step_row : compact_text (array (items_of (step_object [] [] 7 ∷ step_object ((248 ∷ 1 ∷ []) ∷ []) (slot_object note Exact (Scalar Least (Some (ScalarValue.One (Text [])))) ∷ []) 10 ∷ [])))
     ≡ codes "[{\"bytes\":\"-\",\"fields\":[],\"step\":7},{\"bytes\":\"02f801\",\"fields\":[{\"path\":\"sub.note\",\"state\":\"exact\",\"text\":\"\\\"\\\"\"}],\"step\":10}]"
 unfolding serde_json_on_literals hex_text encode_with length_code digits
 step_row = refl

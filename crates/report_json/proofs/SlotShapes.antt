@@ -22,7 +22,7 @@ shapes_both (at ∷ front) back p q = (p.0, shapes_both front back p.1 q)
 mutual
   shapes_in : (shape : Shape) → IsShape shape → AllByRecursion HasShape (slots_in shape)
   shapes_in Shape.Taint s = (s, tt)
-  shapes_in (Shape.Scalar kind) s = (s, tt)
+  shapes_in (Shape.Scalar pick kind) s = (s, tt)
   shapes_in (Shape.Set kind) s = (s, tt)
   shapes_in Shape.Counter s = (s, tt)
   shapes_in (Shape.Map key shape) s = (s, tt)

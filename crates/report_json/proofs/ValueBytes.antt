@@ -12,6 +12,7 @@ use Rattle.std.proofs.lemmas.Str.{IsUtf8-nil, IsUtf8-append, IsUtf8-encode, enco
 use Rattle.std.proofs.str.Laws.{order}
 use Rattle.hex.specs.Hex.{encode_lower}
 use Rattle.context_model.specs.KeyedMerge.{EachPair}
+use Rattle.bag_model.specs.declared.Pick.{Pick}
 use Rattle.bag_model.specs.Scalars as scalars
 use Rattle.bag_model.specs.Scalars.{Form, Word, ScalarKind, ScalarValue, Plain, Truth, Signed, Unsigned, Text, Octets, IsOfForm, IsPlainOf, ArePlainsOf, IsScalarOf, form_of}
 use Rattle.bag_model.specs.Shapes.{Shape, Nodes, no_node, node}
@@ -119,9 +120,9 @@ taint_utf8 : (on : Bool) → IsUtf8 (taint_text on)
 taint_utf8 true = literal_utf8 (codes "on") refl
 taint_utf8 false = literal_utf8 (codes "off") refl
 
-dash_utf8 : (kind : ScalarKind) (v : Option ScalarValue) → IsOfShape (Shape.Scalar kind) (Value.Scalar v) → IsUtf8 (scalar_or_dash v)
-dash_utf8 kind None h = literal_utf8 (codes "-") refl
-dash_utf8 kind (Some v) h = scalar_utf8 kind v h
+dash_utf8 : (pick own : Pick) (kind : ScalarKind) (v : Option ScalarValue) → IsOfShape (Shape.Scalar pick kind) (Value.Scalar own v) → IsUtf8 (scalar_or_dash v)
+dash_utf8 pick own kind None h = literal_utf8 (codes "-") refl
+dash_utf8 pick own kind (Some v) h = scalar_utf8 kind v h.1
 
 counts_each : (counts : List (List ℕ × ℕ)) → AllByRecursion IsUtf8 (map count_text counts)
 counts_each [] = tt
@@ -141,8 +142,8 @@ mutual
   pub value_utf8 : (shape : Shape) (v : Value) → IsShape shape → IsOfShape shape v → IsUtf8 (value_text shape v)
   value_utf8 Shape.Taint (Value.Taint on) s h = taint_utf8 on
   value_utf8 Shape.Taint v s h = absurd h
-  value_utf8 (Shape.Scalar kind) (Value.Scalar v) s h = dash_utf8 kind v h
-  value_utf8 (Shape.Scalar kind) v s h = absurd h
+  value_utf8 (Shape.Scalar pick kind) (Value.Scalar own v) s h = dash_utf8 pick own kind v h
+  value_utf8 (Shape.Scalar pick kind) v s h = absurd h
   value_utf8 (Shape.Set kind) (Value.Set own vs) s h = braces_utf8 (map scalar_text vs) (scalars_utf8 kind vs h.2)
   value_utf8 (Shape.Set kind) v s h = absurd h
   value_utf8 Shape.Counter (Value.Counter counts) s h = counts_utf8 counts

@@ -1,11 +1,12 @@
 //! Texts of values of every shape.
 
 ghost use Rattle.std.specs.Prelude.{◌≡◌, ◌++◌, map, OnOk, OnErr};
+ghost use Rattle.std.specs.Option.{option_map};
 ghost use Rattle.field_table.specs.Plain.{shape_of, nodes_of};
 ghost use Rattle.scalar_types.specs.ScalarViews.{value_of};
 ghost use Rattle.bag_value.specs.Plain.{plain};
 ghost use Rattle.report_text.specs.Commas.{in_braces, in_brackets};
-ghost use Rattle.report_text.specs.ValueTexts.{taint_text, set_text, counts_text, value_text, entry_texts, field_texts};
+ghost use Rattle.report_text.specs.ValueTexts.{taint_text, scalar_or_dash, set_text, counts_text, value_text, entry_texts, field_texts};
 ghost use Rattle.report_text.specs.Growth.{Extends};
 
 use crate::commas::put_comma;
@@ -14,6 +15,7 @@ use bag_value::{Entries, ScalarSet, Val, Vals};
 use counter_type::Counts;
 use field_table::{Shape, Slots};
 use outside::Memory;
+use scalar_types::Scalar;
 
 /// Appends the text of a value of a field of this shape. Want of memory may leave a part of it behind what stood there.
 ///
@@ -25,13 +27,24 @@ pub fn put_value(shape: &Shape, value: &Val, into: &mut Vec<u8>) -> Result<(), M
 {
     match (shape, value) {
         (_, Val::Taint(on)) => put_taint(*on, into),
-        (_, Val::Scalar(None)) => Ok(into.push(b'-')?),
-        (_, Val::Scalar(Some(scalar))) => put_scalar(scalar, into),
+        (_, Val::Scalar(scalar)) => put_scalar_or_dash(scalar, into),
+        (_, Val::Greatest(scalar)) => put_scalar_or_dash(scalar, into),
         (_, Val::Set(set)) => put_set(set, into),
         (_, Val::Counter(counts)) => put_counts(counts, into),
         (Shape::Map(_, inner), Val::Map(entries)) => put_map(inner, entries, into),
         (Shape::Bag(fields), Val::Bag(values)) => put_bag(fields, values, into),
         _ => Ok(()),
+    }
+}
+
+/// Appends a scalar that may be there, or the dash of one that isn't.
+fn put_scalar_or_dash(scalar: &Option<Scalar>, into: &mut Vec<u8>) -> Result<(), Memory>
+    ensures ok { OnOk result (into.new.items ≡ into.old.items ++ scalar_or_dash (option_map value_of scalar.now)) }
+    ensures err { OnErr result (Extends into.old.items into.new.items) }
+{
+    match scalar {
+        Some(scalar) => put_scalar(scalar, into),
+        None => Ok(into.push(b'-')?),
     }
 }
 

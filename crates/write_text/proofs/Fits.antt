@@ -67,8 +67,8 @@ mutual
   -- Each atom of the layout of a write's value is within the limit of bytes.
   pub write_fits : (shape : Shape) (v : Value) (text : List ℕ) (q p : Path) → IsWrite shape v text → InLayout shape q v p → Fits p
   write_fits shapes.Shape.Taint v text q p w l = let l' = subst (λ (x : Value). InLayout shapes.Shape.Taint q x p) w.0 l in fits_behind q p (0 ∷ []) l'.1 (omega arith)
-  write_fits (shapes.Shape.Scalar kind) v text q p w l =
-      let l' = subst (λ (x : Value). InLayout (shapes.Shape.Scalar kind) q x p) w.2 l in
+  write_fits (shapes.Shape.Scalar pick kind) v text q p w l =
+      let l' = subst (λ (x : Value). InLayout (shapes.Shape.Scalar pick kind) q x p) w.2 l in
       fits_behind q p (0 ∷ spelling kind w.0) l' (fits_payload 0 (spelling kind w.0) w.1.1)
   write_fits (shapes.Shape.Set kind) v text q p w l =
       let l' = subst (λ (x : Value). InLayout (shapes.Shape.Set kind) q x p) w.2 l in

@@ -24,8 +24,8 @@ same_behind s r e = cc e
 mutual
   pub one_write : (shape : Shape) (v w : Value) (text : List ℕ) → IsShape shape → IsWrite shape v text → IsWrite shape w text → v ≡ w
   one_write shapes.Shape.Taint v w text is p q = p.0 ∙ sym q.0
-  one_write (shapes.Shape.Scalar kind) v w text is p q =
-      p.2 ∙ ap (λ (s : ScalarValue). Scalar (Some s)) (one_literal kind p.0 q.0 text p.1 q.1) ∙ sym q.2
+  one_write (shapes.Shape.Scalar pick kind) v w text is p q =
+      p.2 ∙ ap (λ (s : ScalarValue). Scalar pick (Some s)) (one_literal kind p.0 q.0 text p.1 q.1) ∙ sym q.2
   one_write (shapes.Shape.Set kind) v w text is p q =
       p.2 ∙ ap (λ (s : ScalarValue). Set kind (s ∷ [])) (one_literal kind p.0 q.0 text p.1 q.1) ∙ sym q.2
   one_write shapes.Shape.Counter v w text is p q =
@@ -59,7 +59,7 @@ mutual
 mutual
   pub write_of_shape : (shape : Shape) (v : Value) (text : List ℕ) → IsWrite shape v text → IsOfShape shape v
   write_of_shape shapes.Shape.Taint v text p = subst (IsOfShape shapes.Shape.Taint) (sym p.0) tt
-  write_of_shape (shapes.Shape.Scalar kind) v text p = subst (IsOfShape (shapes.Shape.Scalar kind)) (sym p.2) p.1.0
+  write_of_shape (shapes.Shape.Scalar pick kind) v text p = subst (IsOfShape (shapes.Shape.Scalar pick kind)) (sym p.2) (refl, p.1.0)
   write_of_shape (shapes.Shape.Set kind) v text p = subst (IsOfShape (shapes.Shape.Set kind)) (sym p.2) (refl, tt, (p.1.0, tt))
   write_of_shape shapes.Shape.Counter v text p = subst (IsOfShape shapes.Shape.Counter) (sym p.6) (tt, (p.4, tt))
   write_of_shape (shapes.Shape.Map kind shape) v text p =

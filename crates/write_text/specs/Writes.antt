@@ -13,7 +13,7 @@ use Rattle.write_text.specs.Literals.{IsLiteral, IsWriter}
 abbrev mutual
   pub IsWrite : Shape → Value → List ℕ → Type 0
   IsWrite shapes.Taint v text = (v ≡ Taint true) × (text ≡ codes "on")
-  IsWrite (shapes.Scalar kind) v text = (s : ScalarValue) × IsLiteral kind s text × (v ≡ Scalar (Some s))
+  IsWrite (shapes.Scalar pick kind) v text = (s : ScalarValue) × IsLiteral kind s text × (v ≡ Scalar pick (Some s))
   IsWrite (shapes.Set kind) v text = (s : ScalarValue) × IsLiteral kind s text × (v ≡ Set kind (s ∷ []))
   IsWrite shapes.Counter v text =
       (writer : List ℕ) × (count : ℕ) × (first : List ℕ) × IsWriter writer first × (count < 2 ^ 64)

@@ -38,6 +38,10 @@ pub fn read_write(alloc: Global, shape: &Shape, text: &[u8]) -> Result<Option<Va
             Some(scalar) => Ok(Some(Val::Scalar(Some(scalar)))),
             None => Ok(None),
         },
+        Shape::Greatest(kind) => match read_literal(alloc, kind, text)? {
+            Some(scalar) => Ok(Some(Val::Greatest(Some(scalar)))),
+            None => Ok(None),
+        },
         Shape::Set(kind) => match read_element(alloc, kind, text)? {
             Some(set) => Ok(Some(Val::Set(set))),
             None => Ok(None),

@@ -1,6 +1,7 @@
-use Rattle.std.proofs.Common.{◌≡◌, ℕ, ◌+◌, ◌<◌, ◌≤◌, List, sym, ap, ◌∙◌, subst, arith}
+use Rattle.std.proofs.Common.{◌≡◌, ℕ, ◌+◌, ◌<◌, List, sym, ap, ◌∙◌, subst, arith}
 use Rattle.context_model.specs.Atoms.{Atom}
 use Rattle.context_model.specs.Paths.{path_before}
+use Rattle.bag_model.specs.declared.Pick.TheVariants.{Least, Greatest}
 use Rattle.bag_model.specs.Normal.{LeastDatum, GreatestDatum}
 use Rattle.bag_model.specs.Shapes as model
 use Rattle.bag_model.proofs.PathLaws.{is_field}
@@ -10,11 +11,11 @@ use Rattle.field_table.specs.Plain.{nodes_of, shape_of, field_of}
 use Rattle.field_table.proofs.Held.{levels_there, field_is}
 use Rattle.bag_model.proofs.SizeLaws.{size_at}
 use Rattle.bag_scan.proofs.FieldGets.{opened}
-use Rattle.field_table.proofs.Shown.{scalar_shown, counter_shown, map_shown}
+use Rattle.field_table.proofs.Shown.{scalar_shown, greatest_shown, counter_shown, map_shown}
 use Rattle.bag_normal.specs.Gone.{Adds}
 use Rattle.bag_normal.specs.Headers.{IsFieldFound}
 use Rattle.bag_normal.specs.Superseded.{GivesWayAt, IsSupersededIn, HoldsAtKey}
-use Rattle.bag_normal.proofs.Places.{rises_on, adds_same, adds_both, on_ok}
+use Rattle.bag_normal.proofs.Places.{rises_on, adds_same, on_ok}
 use Rattle.bag_normal.proofs.Below.{scalar_is, counter_is, map_is, bag_is, InField, key_superseded, node_superseded}
 use Rattle.bag_normal.proofs.FieldHeaders.{field_behind, field_level, field_on, fields_more, fields_all, HoldsAtField, no_field_at_end}
 use Rattle.bag_normal.proofs.Keys.{key_behind, key_level, place_on, keys_more, keys_all, stop_on, no_key_at_end}
@@ -30,17 +31,31 @@ add_field-returns-in-Set-clause-rises t c = rises_on c.args.gone.now.items c.arg
 
 pub add_field-returns-in_ok-to-in-Scalar-clause-rises : goal.add_field-returns-in_ok-to-in-Scalar-clause-rises
 add_field-returns-in_ok-to-in-Scalar-clause-rises t c =
-    rises_on c.add_later_data.new.gone.items c.in_ok-to-in-Scalar.to c.segment_end-in-Scalar.result c.segment_end-in-Scalar.ensures.part.rises c.in_ok-to-in-Scalar.ensures.rises
+    rises_on c.add_other_data.new.gone.items c.in_ok-to-in-Scalar.to c.segment_end-in-Scalar.result c.segment_end-in-Scalar.ensures.part.rises c.in_ok-to-in-Scalar.ensures.rises
 
 pub add_field-returns-in_ok-to-in-Scalar-clause-adds : goal.add_field-returns-in_ok-to-in-Scalar-clause-adds
 add_field-returns-in_ok-to-in-Scalar-clause-adds t c =
     let list = c.args.list.now in
     let q = path_before list c.args.from in
     let kind = c.in-Scalar.field-0 in
-    let shown : shape_of c.args.shape.now ≡ model.Shape.Scalar (kind_of kind) = ap shape_of c.in-Scalar.is ∙ (scalar_shown kind).0 in
-    subst (λ (shape : model.Shape). Adds (IsSupersededIn shape list q) c.args.gone.now.items c.add_later_data.new.gone.items) (sym shown)
-    (adds_same (GivesWayAt LeastDatum list q) (IsSupersededIn (model.Shape.Scalar (kind_of kind)) list q) c.args.gone.now.items c.add_later_data.new.gone.items
-    (scalar_is (kind_of kind) list q) c.in_ok-to-in-Scalar.ensures.adds)
+    let shown : shape_of c.args.shape.now ≡ model.Shape.Scalar Least (kind_of kind) = ap shape_of c.in-Scalar.is ∙ (scalar_shown kind).0 in
+    subst (λ (shape : model.Shape). Adds (IsSupersededIn shape list q) c.args.gone.now.items c.add_other_data.new.gone.items) (sym shown)
+    (adds_same (GivesWayAt LeastDatum list q) (IsSupersededIn (model.Shape.Scalar Least (kind_of kind)) list q) c.args.gone.now.items c.add_other_data.new.gone.items
+    (scalar_is Least (kind_of kind) list q) c.in_ok-to-in-Scalar.ensures.adds)
+
+pub add_field-returns-in_ok-to-in-Greatest-clause-rises : goal.add_field-returns-in_ok-to-in-Greatest-clause-rises
+add_field-returns-in_ok-to-in-Greatest-clause-rises t c =
+    rises_on c.add_other_data-in-Greatest.new.gone.items c.in_ok-to-in-Greatest.to c.segment_end-in-Greatest.result c.segment_end-in-Greatest.ensures.part.rises c.in_ok-to-in-Greatest.ensures.rises
+
+pub add_field-returns-in_ok-to-in-Greatest-clause-adds : goal.add_field-returns-in_ok-to-in-Greatest-clause-adds
+add_field-returns-in_ok-to-in-Greatest-clause-adds t c =
+    let list = c.args.list.now in
+    let q = path_before list c.args.from in
+    let kind = c.in-Greatest.field-0 in
+    let shown : shape_of c.args.shape.now ≡ model.Shape.Scalar Greatest (kind_of kind) = ap shape_of c.in-Greatest.is ∙ (greatest_shown kind).0 in
+    subst (λ (shape : model.Shape). Adds (IsSupersededIn shape list q) c.args.gone.now.items c.add_other_data-in-Greatest.new.gone.items) (sym shown)
+    (adds_same (GivesWayAt GreatestDatum list q) (IsSupersededIn (model.Shape.Scalar Greatest (kind_of kind)) list q) c.args.gone.now.items c.add_other_data-in-Greatest.new.gone.items
+    (scalar_is Greatest (kind_of kind) list q) c.in_ok-to-in-Greatest.ensures.adds)
 
 pub add_field-returns-in-Counter-clause-adds : goal.add_field-returns-in-Counter-clause-adds
 add_field-returns-in-Counter-clause-adds t c =

@@ -1,4 +1,4 @@
-use Rattle.std.proofs.Common.{Result, Ok, ◌≡◌, ◌↔◌, ℕ, ◌<◌, ◌^◌, refl, sym, ap, ◌∙◌, subst, arith}
+use Rattle.std.proofs.Common.{Result, Ok, ◌≡◌, ◌↔◌, ℕ, ◌<◌, ◌^◌, refl, sym, ap, ◌∙◌, subst}
 use Rattle.context_model.specs.Atoms.{Atom}
 use Rattle.context_model.specs.Kinds.{atom_of, IsKind}
 use Rattle.context_model.specs.Kinds.{Kind as PlainKind}

@@ -1,8 +1,8 @@
-use Rattle.std.proofs.Common.{◌≡◌, ℕ, suc, ◌+◌, ◌≤◌, List, length, refl, sym, ap, ◌∙◌, subst, arith}
+use Rattle.std.proofs.Common.{ℕ, suc, ◌+◌, List, length, refl, ap, subst, arith}
 use Rattle.context_model.specs.Atoms.{Atom}
 use Rattle.context_model.specs.Paths.{path_before}
 use Rattle.bag_model.specs.Shapes as model
-use Rattle.bag_model.specs.Slots.{slots_of, slot_count, starts}
+use Rattle.bag_model.specs.Slots.{starts}
 use Rattle.bag_model.proofs.PathLaws.{is_field}
 use Rattle.bag_model.proofs.SizeLaws.{size_at}
 use Rattle.bag_model.proofs.SlotLaws.{slots_of-list, starts-bound}

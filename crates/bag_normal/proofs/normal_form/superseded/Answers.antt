@@ -1,8 +1,7 @@
-use Rattle.std.proofs.Common.{◌≡◌, List, [], sym, ◌∙◌, ap, subst}
+use Rattle.std.proofs.Common.{List, [], subst}
 use Rattle.context_model.specs.Atoms.{Atom}
 use Rattle.bag_model.specs.Normal.{IsSupersededAt}
 use Rattle.bag_model.specs.Shapes as model
-use Rattle.field_table.specs.Plain.{nodes_of}
 use Rattle.field_table.specs.Views.{view_of}
 use Rattle.bag_normal.specs.Gone.{Adds}
 use Rattle.bag_normal.specs.Superseded.{IsKnownSuperseded}

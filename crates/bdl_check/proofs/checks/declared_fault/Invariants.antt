@@ -1,4 +1,4 @@
-use Rattle.std.proofs.Common.{◌≡◌, map}
+use Rattle.std.proofs.Common.{◌≡◌, drop, map}
 use Rattle.bdl_check.specs.Checks.{declaration_faults}
 use Rattle.bdl_check.specs.Declarations.{kind_named}
 use Rattle.bdl_check.specs.DeclarationViews.{placed_of}
@@ -7,5 +7,5 @@ use Rattle.bdl_check.proofs.checks.declared_fault.Given as goal
 
 abbrev pub invariant-loop-declaration : goal.invariant-loop-declaration
 invariant-loop-declaration l =
-    first (declaration_faults (kind_named l.declarations) (map placed_of l.declaration-iterator))
+    first (declaration_faults (kind_named l.declarations) (map placed_of (drop l.declaration-index l.declaration-items)))
     ≡ first (declaration_faults (kind_named l.declarations) l.declarations)

@@ -100,24 +100,24 @@ read_write-read_entry-requires t c =
     let is = ap shape_of c.in-Map.is ∙ map_shown c.in-Map.kind c.in-Map.value ∙ ap (λ (s : Shape). shapes.Shape.Map (kind_of c.in-Map.kind) (shape_of s)) (sym same) in
     (omega (arith, c.decreases, ap shape_size is), (subst IsShape is c.requires).1)
 
-pub read_write-returns-in-None-2 : goal.read_write-returns-in-None-2
-read_write-returns-in-None-2 t c = λ v p.
-    (rw c.in-None-2.is at c.in_ok-set-in-Set.ensures) v
-    (subst (λ (s : shapes.Shape). IsWrite s v c.args.text.now) (ap shape_of c.in-Set.is ∙ (set_shown c.in-Set.kind).0) p)
-
 pub read_write-returns-in-None-3 : goal.read_write-returns-in-None-3
 read_write-returns-in-None-3 t c = λ v p.
-    no_counter c.args.text.now (rw c.in-None-3.is at c.in_ok-counts-in-Counter.ensures) v
-    (subst (λ (s : shapes.Shape). IsWrite s v c.args.text.now) (ap shape_of c.in-Counter.is ∙ counter_shown.0) p)
+    (rw c.in-None-3.is at c.in_ok-set-in-Set.ensures) v
+    (subst (λ (s : shapes.Shape). IsWrite s v c.args.text.now) (ap shape_of c.in-Set.is ∙ (set_shown c.in-Set.kind).0) p)
 
 pub read_write-returns-in-None-4 : goal.read_write-returns-in-None-4
 read_write-returns-in-None-4 t c = λ v p.
-    let same : c.deref.result.now ≡ c.in-Map.value.value = search rules in
-    let is = ap shape_of c.in-Map.is ∙ map_shown c.in-Map.kind c.in-Map.value ∙ ap (λ (s : Shape). shapes.Shape.Map (kind_of c.in-Map.kind) (shape_of s)) (sym same) in
-    no_map (kind_of c.in-Map.kind) (shape_of c.deref.result.now) c.args.text.now (rw c.in-None-4.is at c.in_ok-entries-in-Map.ensures) v
-    (subst (λ (s : shapes.Shape). IsWrite s v c.args.text.now) is p)
+    no_counter c.args.text.now (rw c.in-None-4.is at c.in_ok-counts-in-Counter.ensures) v
+    (subst (λ (s : shapes.Shape). IsWrite s v c.args.text.now) (ap shape_of c.in-Counter.is ∙ counter_shown.0) p)
 
 pub read_write-returns-in-None-5 : goal.read_write-returns-in-None-5
 read_write-returns-in-None-5 t c = λ v p.
-    no_bag (nodes_of c.in-Bag.fields) c.args.text.now (rw c.in-None-5.is at c.in_ok-values-in-Bag.ensures) v
+    let same : c.deref.result.now ≡ c.in-Map.value.value = search rules in
+    let is = ap shape_of c.in-Map.is ∙ map_shown c.in-Map.kind c.in-Map.value ∙ ap (λ (s : Shape). shapes.Shape.Map (kind_of c.in-Map.kind) (shape_of s)) (sym same) in
+    no_map (kind_of c.in-Map.kind) (shape_of c.deref.result.now) c.args.text.now (rw c.in-None-5.is at c.in_ok-entries-in-Map.ensures) v
+    (subst (λ (s : shapes.Shape). IsWrite s v c.args.text.now) is p)
+
+pub read_write-returns-in-None-6 : goal.read_write-returns-in-None-6
+read_write-returns-in-None-6 t c = λ v p.
+    no_bag (nodes_of c.in-Bag.fields) c.args.text.now (rw c.in-None-6.is at c.in_ok-values-in-Bag.ensures) v
     (subst (λ (s : shapes.Shape). IsWrite s v c.args.text.now) (ap shape_of c.in-Bag.is ∙ bag_shown c.in-Bag.fields) p)
