@@ -4,8 +4,9 @@ use Rattle.std.proofs.lemmas.List.{append-nil, length-drop, length-take, length-
 use Rattle.std.proofs.lemmas.List.{length-map}
 use Rattle.outside.specs.declared.TheConstants.{ATOM_MAX}
 use Rattle.context_model.specs.Atoms.{Atom, AreAtoms}
-use Rattle.context_model.specs.Framing.{length_code, frame, bytes_of, size_of}
-use Rattle.context_model.proofs.FramingLaws.{bytes_of-append}
+use Rattle.context_model.specs.declared.Form.TheVariants.{One}
+use Rattle.context_model.specs.Framing.{base_128, frame, frames}
+use Rattle.context_model.proofs.FramingLaws.{frames-append}
 use Rattle.atom_list.specs.declared.builder.TheConstants.{BUFFER_MAX}
 use Rattle.atom_list.specs.Starts.{atom_at, atoms_at, AreStarts, starts_from, IsFlat, IsPieceOf, moved, AreMovable}
 use Rattle.atom_list.specs.Builder.{IsBuilt}
@@ -16,12 +17,12 @@ use Rattle.atom_list.proofs.Flat.{AreStarts-from, starts_from-append, atoms_at-f
 pub record AreOf (bytes : List ℕ) (starts : List ℕ) (list : List Atom) : Type 0 where
   pub short : AreAtoms list
   pub there : starts ≡ starts_from 0 list
-  pub framed : bytes ≡ bytes_of list
+  pub framed : bytes ≡ frames One list
   pub few : length bytes ≤ BUFFER_MAX
 
 pub list_is : (bytes : List ℕ) (starts : List ℕ) (list : List Atom) → AreOf bytes starts list → atoms_at bytes starts ≡ list
 list_is bytes starts list of =
-    ap (atoms_at bytes) of.there ∙ ap (λ v. atoms_at v (starts_from 0 list)) (of.framed ∙ sym (append-nil (bytes_of list))) ∙ atoms_at-from [] [] 0 list refl of.short
+    ap (atoms_at bytes) of.there ∙ ap (λ v. atoms_at v (starts_from 0 list)) (of.framed ∙ sym (append-nil (frames One list))) ∙ atoms_at-from [] [] 0 list refl of.short
 
 pub built_of : (bytes : List ℕ) (starts : List ℕ) (list : List Atom) → AreOf bytes starts list → IsBuilt bytes starts
 built_of bytes starts list of =
@@ -29,7 +30,7 @@ built_of bytes starts list of =
     record {
       short = subst AreAtoms is of.short;
       there = of.there ∙ ap (starts_from 0) is;
-      framed = of.framed ∙ ap bytes_of is;
+      framed = of.framed ∙ ap (frames One) is;
       few = of.few;
     }
 
@@ -42,30 +43,30 @@ AreAtoms-append (x ∷ xs) ys short short' = (short.0, AreAtoms-append xs ys sho
 
 -- More frames behind the others.
 pub of_more : (bytes bytes' : List ℕ) (starts starts' : List ℕ) (list more : List Atom) → AreOf bytes starts list → AreAtoms more → length bytes' ≤ BUFFER_MAX
-    → bytes' ≡ bytes ++ bytes_of more → starts' ≡ starts ++ starts_from (length bytes) more → AreOf bytes' starts' (list ++ more)
+    → bytes' ≡ bytes ++ frames One more → starts' ≡ starts ++ starts_from (length bytes) more → AreOf bytes' starts' (list ++ more)
 of_more bytes bytes' starts starts' list more of short few e f =
-    let long : length bytes ≡ 0 + size_of list = omega (arith, ap length of.framed) in
+    let long : length bytes ≡ 0 + length (frames One list) = omega (arith, ap length of.framed) in
     record {
       short = AreAtoms-append list more of.short short;
       there = f ∙ ap (λ v. v ++ starts_from (length bytes) more) of.there ∙ ap (λ n. starts_from 0 list ++ starts_from n more) long ∙ sym (starts_from-append 0 list more);
-      framed = e ∙ ap (λ v. v ++ bytes_of more) of.framed ∙ sym (bytes_of-append list more);
+      framed = e ∙ ap (λ v. v ++ frames One more) of.framed ∙ sym (frames-append One list more);
       few = few;
     }
 
 -- One frame behind the others.
 pub of_one : (bytes coded bytes' : List ℕ) (starts starts' : List ℕ) (list : List Atom) (atom : Atom) (start : ℕ) → AreOf bytes starts list → length atom ≤ ATOM_MAX → length bytes' ≤ BUFFER_MAX
-    → coded ≡ bytes ++ length_code (length atom) → bytes' ≡ coded ++ atom → start ≡ length bytes → starts' ≡ starts ++ start ∷ [] → AreOf bytes' starts' (list ++ atom ∷ [])
+    → coded ≡ bytes ++ base_128 (length atom) → bytes' ≡ coded ++ atom → start ≡ length bytes → starts' ≡ starts ++ start ∷ [] → AreOf bytes' starts' (list ++ atom ∷ [])
 of_one bytes coded bytes' starts starts' list atom start of short few e f s g =
-    let code = length_code (length atom) in
-    let first : bytes' ≡ bytes ++ bytes_of (atom ∷ []) = f ∙ ap (λ v. v ++ atom) e ∙ append_assoc bytes code atom ∙ ap (λ v. bytes ++ v) (sym (append-nil (frame atom))) in
+    let code = base_128 (length atom) in
+    let first : bytes' ≡ bytes ++ frames One (atom ∷ []) = f ∙ ap (λ v. v ++ atom) e ∙ append_assoc bytes code atom ∙ ap (λ v. bytes ++ v) (sym (append-nil (frame One atom))) in
     of_more bytes bytes' starts starts' list (atom ∷ []) of (short, tt) few first (g ∙ ap (λ n. starts ++ n ∷ []) s)
 
 -- A built list is flat, and all of it is laid.
 pub flat_built : (bytes : List ℕ) (starts : List ℕ) (laid : ℕ) → IsBuilt bytes starts → laid ≡ length starts → IsFlat bytes starts laid
 flat_built bytes starts laid built e =
     let list = atoms_at bytes starts in
-    let long : size_of list ≡ length bytes = ap length (sym built.framed) in
-    let whole : [] ++ (bytes_of list ++ []) ≡ bytes = append-nil (bytes_of list) ∙ sym built.framed in
+    let long : length (frames One list) ≡ length bytes = ap length (sym built.framed) in
+    let whole : [] ++ (frames One list ++ []) ≡ bytes = append-nil (frames One list) ∙ sym built.framed in
     let fit : AreStarts bytes starts = subst (AreStarts bytes) (sym built.there) (subst (λ v. AreStarts v (starts_from 0 list)) whole (AreStarts-from [] [] 0 list refl built.short)) in
     let starts_all : take laid starts ≡ starts = take_all laid starts (omega arith) in
     let list_all : take laid list ≡ list = take_all laid list (omega (arith, length-map starts (atom_at bytes))) in
@@ -75,7 +76,7 @@ flat_built bytes starts laid built e =
       within = omega arith;
       front = record {
         there = starts_all ∙ built.there ∙ ap (starts_from 0) (sym list_all);
-        framed = ap (λ v. take (size_of v) bytes) list_all ∙ take_all (size_of list) bytes (omega arith) ∙ built.framed ∙ ap bytes_of (sym list_all);
+        framed = ap (λ v. take (length (frames One v)) bytes) list_all ∙ take_all (length (frames One list)) bytes (omega arith) ∙ built.framed ∙ ap (frames One) (sym list_all);
       };
     }
 
@@ -84,14 +85,14 @@ flat_built bytes starts laid built e =
 pub moved-from : (from to at : ℕ) (list : List Atom) → from ≤ at → map (moved from to) (starts_from at list) ≡ starts_from (at - from + to) list
 moved-from from to at [] behind = refl
 moved-from from to at (x ∷ list) behind =
-    let next : at + length (frame x) - from + to ≡ at - from + to + length (frame x) = omega arith in
-    ap (λ v. (at - from + to) ∷ v) (moved-from from to (at + length (frame x)) list (omega arith) ∙ ap (λ n. starts_from n list) next)
+    let next : at + length (frame One x) - from + to ≡ at - from + to + length (frame One x) = omega arith in
+    ap (λ v. (at - from + to) ∷ v) (moved-from from to (at + length (frame One x)) list (omega arith) ∙ ap (λ n. starts_from n list) next)
 
-pub movable-from : (from to at : ℕ) (list : List Atom) → from ≤ at → at - from + to + size_of list ≤ BUFFER_MAX → AreMovable from to (starts_from at list)
+pub movable-from : (from to at : ℕ) (list : List Atom) → from ≤ at → at - from + to + length (frames One list) ≤ BUFFER_MAX → AreMovable from to (starts_from at list)
 movable-from from to at [] behind few = tt
 movable-from from to at (x ∷ list) behind few =
-    let size : size_of (x ∷ list) ≡ length (frame x) + size_of list = length-append (frame x) (bytes_of list) in
-    (record { behind = omega arith; within = omega arith }, movable-from from to (at + length (frame x)) list (omega arith) (omega arith))
+    let size : length (frames One (x ∷ list)) ≡ length (frame One x) + length (frames One list) = length-append (frame One x) (frames One list) in
+    (record { behind = omega arith; within = omega arith }, movable-from from to (at + length (frame One x)) list (omega arith) (omega arith))
 
 -- A piece behind the others.
 pub of_piece : (bytes bytes' piece : List ℕ) (starts starts' seen : List ℕ) (list more : List Atom) (at to : ℕ) → AreOf bytes starts list → IsPieceOf piece at seen more → length bytes' ≤ BUFFER_MAX
@@ -103,7 +104,7 @@ of_piece bytes bytes' piece starts starts' seen list more at to of is few e s f 
 
 -- ---- frames that are found where they stand
 
-pub of_noted : (bytes : List ℕ) (at skip len end : ℕ) (starts starts' : List ℕ) (rest : List ℕ) → end ≡ at + skip + len → IsScan bytes at starts → drop at bytes ≡ rest → skip + len ≤ length rest → len ≤ ATOM_MAX → take skip rest ≡ length_code len
+pub of_noted : (bytes : List ℕ) (at skip len end : ℕ) (starts starts' : List ℕ) (rest : List ℕ) → end ≡ at + skip + len → IsScan bytes at starts → drop at bytes ≡ rest → skip + len ≤ length rest → len ≤ ATOM_MAX → take skip rest ≡ base_128 len
     → starts' ≡ starts ++ at ∷ [] → AreOf (take end bytes) starts' (atoms_at (take at bytes) starts ++ slice_range rest skip (skip + len) ∷ [])
 of_noted bytes at skip len end starts starts' rest all scan e within short code f =
     let atom = slice_range rest skip (skip + len) in
@@ -117,7 +118,7 @@ of_noted bytes at skip len end starts starts' rest all scan e within short code 
     ∙ ap (λ v. take at bytes ++ v) (ap (take (end - at)) e ∙ ap (λ n. take n rest) (sym more) ∙ take_split skip (skip + len) rest (omega arith))
     ∙ sym (append_assoc (take at bytes) (take skip rest) atom) in
     of_one (take at bytes) coded (take end bytes) starts starts' (atoms_at (take at bytes) starts) atom at (of_built (take at bytes) starts scan.front) (omega arith)
-    (omega (arith, length-take end bytes, scan.few)) (ap (λ v. take at bytes ++ v) (code ∙ ap length_code (sym long))) split
+    (omega (arith, length-take end bytes, scan.few)) (ap (λ v. take at bytes ++ v) (code ∙ ap base_128 (sym long))) split
     (sym here) f
 
 pub scan_noted : (bytes : List ℕ) (at' : ℕ) (starts : List ℕ) (list : List Atom) → at' ≤ length bytes → length bytes ≤ BUFFER_MAX → AreOf (take at' bytes) starts list → IsScan bytes at' starts

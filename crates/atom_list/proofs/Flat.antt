@@ -4,10 +4,28 @@ use Rattle.std.proofs.lemmas.List.{map-append, take-append-drop, take-append-le,
 use Rattle.std.proofs.lemmas.List.{length-map, length-set, length-take, length-drop}
 use Rattle.std.proofs.lemmas.Slice.{between_is}
 use Rattle.context_model.specs.Atoms.{Atom, AreAtoms}
-use Rattle.context_model.specs.Framing.{frame, bytes_of, size_of}
-use Rattle.context_model.proofs.FramingLaws.{bytes_of-append, size_of-append, size_of-more, size_of-grows, size_of-take-le}
+use Rattle.context_model.specs.declared.Form.TheVariants.{One}
+use Rattle.context_model.specs.Framing.{length_code, frame, frames}
+use Rattle.context_model.proofs.FramingLaws.{frames-append, frames-more, frames_len-append, frames_len-front, length_code-some}
 use Rattle.atom_list.specs.Starts.{first_atom, atom_at, atoms_at, IsStart, AreStarts, BeginsFrame, starts_from, BeginsWith, IsFlat, IsPieceOf}
 use Rattle.atom_list.proofs.Frames.{first_atom-framed, short_atom}
+
+-- ---- the bytes of fronts
+
+-- One atom more.
+frames_len-more : (list : List Atom) (n : ℕ) → n < length list → length (frames One (take (n + 1) list)) ≡ length (frames One (take n list)) + length (frame One (get_or list n []))
+frames_len-more list n within = ap length (frames-more One list n within) ∙ length-append (frames One (take n list)) (frame One (get_or list n []))
+
+-- It is at least one byte more.
+frames_len-grows : (list : List Atom) (n : ℕ) → n < length list → length (frames One (take n list)) + 1 ≤ length (frames One (take (n + 1) list))
+frames_len-grows list n within =
+    let atom = get_or list n [] in
+    omega (arith, frames_len-more list n within, length-append (length_code One (length atom)) atom, length_code-some One (length atom))
+
+-- A shorter front has no more bytes than a longer one.
+frames_len-take-le : (m n : ℕ) (list : List Atom) → m ≤ n → length (frames One (take m list)) ≤ length (frames One (take n list))
+frames_len-take-le m n list below =
+    subst (λ front. length (frames One front) ≤ length (frames One (take n list))) (take-take m n list below) (frames_len-front One m (take n list))
 
 -- ---- starts
 
@@ -33,25 +51,25 @@ starts_at bytes (start ∷ starts) (suc k) d fit below = starts_at bytes starts 
 -- ---- the starts of frames one behind the other
 
 -- Where the frames behind the first begin.
-size_of-first : (at : ℕ) (x : Atom) (list : List Atom) → at + length (frame x) + size_of list ≡ at + size_of (x ∷ list)
-size_of-first at x list =
-    let size : size_of (x ∷ list) ≡ length (frame x) + size_of list = length-append (frame x) (bytes_of list) in
+frames_len-first : (at : ℕ) (x : Atom) (list : List Atom) → at + length (frame One x) + length (frames One list) ≡ at + length (frames One (x ∷ list))
+frames_len-first at x list =
+    let size : length (frames One (x ∷ list)) ≡ length (frame One x) + length (frames One list) = length-append (frame One x) (frames One list) in
     omega arith
 
-pub starts_from-append : (at : ℕ) (xs ys : List Atom) → starts_from at (xs ++ ys) ≡ starts_from at xs ++ starts_from (at + size_of xs) ys
+pub starts_from-append : (at : ℕ) (xs ys : List Atom) → starts_from at (xs ++ ys) ≡ starts_from at xs ++ starts_from (at + length (frames One xs)) ys
 starts_from-append at [] ys = let e : at ≡ at + 0 = omega arith in ap (λ n. starts_from n ys) e
 starts_from-append at (x ∷ xs) ys =
-    let next = at + length (frame x) in
-    ap (λ v. at ∷ v) (starts_from-append next xs ys ∙ ap (λ n. starts_from next xs ++ starts_from n ys) (size_of-first at x xs))
+    let next = at + length (frame One x) in
+    ap (λ v. at ∷ v) (starts_from-append next xs ys ∙ ap (λ n. starts_from next xs ++ starts_from n ys) (frames_len-first at x xs))
 
 pub starts_from-take : (n at : ℕ) (list : List Atom) → take n (starts_from at list) ≡ starts_from at (take n list)
 starts_from-take zero at list = refl
 starts_from-take (suc n) at [] = refl
-starts_from-take (suc n) at (x ∷ list) = ap (λ v. at ∷ v) (starts_from-take n (at + length (frame x)) list)
+starts_from-take (suc n) at (x ∷ list) = ap (λ v. at ∷ v) (starts_from-take n (at + length (frame One x)) list)
 
 pub length-starts_from : (at : ℕ) (list : List Atom) → length (starts_from at list) ≡ length list
 length-starts_from at [] = refl
-length-starts_from at (x ∷ list) = ap (λ n. suc n) (length-starts_from (at + length (frame x)) list)
+length-starts_from at (x ∷ list) = ap (λ n. suc n) (length-starts_from (at + length (frame One x)) list)
 
 -- The part of a list that stands between two others.
 pub middle : {X : Type 0} (before part after : List X) (start end : ℕ) → start ≡ length before → end ≡ length before + length part → slice_range (before ++ (part ++ after)) start end ≡ part
@@ -60,28 +78,28 @@ middle before part after start end e f =
     ap (take (end - start)) (drop_at before (part ++ after) start (sym e)) ∙ take_at part after (end - start) n
 
 -- What stands behind the bytes before a frame, and the same bytes with the frame among those before.
-behind : (before after : List ℕ) (at : ℕ) (x : Atom) (list : List Atom) → at ≡ length before → drop at (before ++ (bytes_of (x ∷ list) ++ after)) ≡ frame x ++ (bytes_of list ++ after)
-behind before after at x list e = drop_at before (bytes_of (x ∷ list) ++ after) at (sym e) ∙ append_assoc (frame x) (bytes_of list) after
+behind : (before after : List ℕ) (at : ℕ) (x : Atom) (list : List Atom) → at ≡ length before → drop at (before ++ (frames One (x ∷ list) ++ after)) ≡ frame One x ++ (frames One list ++ after)
+behind before after at x list e = drop_at before (frames One (x ∷ list) ++ after) at (sym e) ∙ append_assoc (frame One x) (frames One list) after
 
-further : (before after : List ℕ) (x : Atom) (list : List Atom) → before ++ (bytes_of (x ∷ list) ++ after) ≡ (before ++ frame x) ++ (bytes_of list ++ after)
-further before after x list = ap (λ v. before ++ v) (append_assoc (frame x) (bytes_of list) after) ∙ sym (append_assoc before (frame x) (bytes_of list ++ after))
+further : (before after : List ℕ) (x : Atom) (list : List Atom) → before ++ (frames One (x ∷ list) ++ after) ≡ (before ++ frame One x) ++ (frames One list ++ after)
+further before after x list = ap (λ v. before ++ v) (append_assoc (frame One x) (frames One list) after) ∙ sym (append_assoc before (frame One x) (frames One list ++ after))
 
-pub AreStarts-from : (before after : List ℕ) (at : ℕ) (list : List Atom) → at ≡ length before → AreAtoms list → AreStarts (before ++ (bytes_of list ++ after)) (starts_from at list)
+pub AreStarts-from : (before after : List ℕ) (at : ℕ) (list : List Atom) → at ≡ length before → AreAtoms list → AreStarts (before ++ (frames One list ++ after)) (starts_from at list)
 AreStarts-from before after at [] e short = tt
 AreStarts-from before after at (x ∷ list) e short =
-    let next : at + length (frame x) ≡ length (before ++ frame x) = omega (arith, length-append before (frame x)) in (
-      inr (x, bytes_of list ++ after, short.0, behind before after at x list e),
-      subst (λ v. AreStarts v (starts_from (at + length (frame x)) list)) (sym (further before after x list)) (AreStarts-from (before ++ frame x) after (at + length (frame x)) list next short.1),
+    let next : at + length (frame One x) ≡ length (before ++ frame One x) = omega (arith, length-append before (frame One x)) in (
+      inr (x, frames One list ++ after, short.0, behind before after at x list e),
+      subst (λ v. AreStarts v (starts_from (at + length (frame One x)) list)) (sym (further before after x list)) (AreStarts-from (before ++ frame One x) after (at + length (frame One x)) list next short.1),
     )
 
 -- The starts of frames are those of the atoms.
-pub atoms_at-from : (before after : List ℕ) (at : ℕ) (list : List Atom) → at ≡ length before → AreAtoms list → atoms_at (before ++ (bytes_of list ++ after)) (starts_from at list) ≡ list
+pub atoms_at-from : (before after : List ℕ) (at : ℕ) (list : List Atom) → at ≡ length before → AreAtoms list → atoms_at (before ++ (frames One list ++ after)) (starts_from at list) ≡ list
 atoms_at-from before after at [] e short = refl
 atoms_at-from before after at (x ∷ list) e short =
-    let next : at + length (frame x) ≡ length (before ++ frame x) = omega (arith, length-append before (frame x)) in
-    let head : atom_at (before ++ (bytes_of (x ∷ list) ++ after)) at ≡ x = ap first_atom (behind before after at x list e) ∙ first_atom-framed x (bytes_of list ++ after) short.0 in
-    let tail : atoms_at (before ++ (bytes_of (x ∷ list) ++ after)) (starts_from (at + length (frame x)) list) ≡ list =
-    ap (λ v. atoms_at v (starts_from (at + length (frame x)) list)) (further before after x list) ∙ atoms_at-from (before ++ frame x) after (at + length (frame x)) list next short.1 in
+    let next : at + length (frame One x) ≡ length (before ++ frame One x) = omega (arith, length-append before (frame One x)) in
+    let head : atom_at (before ++ (frames One (x ∷ list) ++ after)) at ≡ x = ap first_atom (behind before after at x list e) ∙ first_atom-framed x (frames One list ++ after) short.0 in
+    let tail : atoms_at (before ++ (frames One (x ∷ list) ++ after)) (starts_from (at + length (frame One x)) list) ≡ list =
+    ap (λ v. atoms_at v (starts_from (at + length (frame One x)) list)) (further before after x list) ∙ atoms_at-from (before ++ frame One x) after (at + length (frame One x)) list next short.1 in
     λ i. head i ∷ tail i
 
 -- ---- a list whose first atoms are frames one behind the other
@@ -89,14 +107,14 @@ atoms_at-from before after at (x ∷ list) e short =
 -- A buffer that begins with frames begins with fewer of them.
 pub begins_with_fewer : (n : ℕ) (bytes starts : List ℕ) (front : List Atom) → BeginsWith bytes starts front → BeginsWith bytes (take n starts) (take n front)
 begins_with_fewer n bytes starts front begins =
-    let all : bytes_of front ≡ bytes_of (take n front) ++ bytes_of (drop n front) = ap bytes_of (sym (take-append-drop n front)) ∙ bytes_of-append (take n front) (drop n front) in
-    let size = size_of-append (take n front) (drop n front) in
-    let same = ap size_of (take-append-drop n front) in
-    let less : size_of (take n front) ≤ size_of front = omega arith in
+    let all : frames One front ≡ frames One (take n front) ++ frames One (drop n front) = ap (frames One) (sym (take-append-drop n front)) ∙ frames-append One (take n front) (drop n front) in
+    let size = frames_len-append One (take n front) (drop n front) in
+    let same = ap (λ v. length (frames One v)) (take-append-drop n front) in
+    let less : length (frames One (take n front)) ≤ length (frames One front) = omega arith in
     record {
       there = ap (take n) begins.there ∙ starts_from-take n 0 front;
-      framed = sym (take-take (size_of (take n front)) (size_of front) bytes less) ∙ ap (take (size_of (take n front))) (begins.framed ∙ all)
-          ∙ take_at (bytes_of (take n front)) (bytes_of (drop n front)) (size_of (take n front)) refl;
+      framed = sym (take-take (length (frames One (take n front))) (length (frames One front)) bytes less) ∙ ap (take (length (frames One (take n front)))) (begins.framed ∙ all)
+          ∙ take_at (frames One (take n front)) (frames One (drop n front)) (length (frames One (take n front))) refl;
     }
 
 -- A list keeps what it has of its front while other starts change.
@@ -152,10 +170,10 @@ AreAtoms-parts [] ys short = (tt, short)
 AreAtoms-parts (x ∷ xs) ys short = let parts = AreAtoms-parts xs ys short.1 in ((short.0, parts.0), parts.1)
 
 -- Where the frame of an atom begins.
-starts_from-at : (at n : ℕ) (list : List Atom) (d : ℕ) → n < length list → get_or (starts_from at list) n d ≡ at + size_of (take n list)
+starts_from-at : (at n : ℕ) (list : List Atom) (d : ℕ) → n < length list → get_or (starts_from at list) n d ≡ at + length (frames One (take n list))
 starts_from-at at n [] d below = absurd (omega arith)
 starts_from-at at zero (x ∷ list) d below = omega arith
-starts_from-at at (suc n) (x ∷ list) d below = starts_from-at (at + length (frame x)) n list d (omega arith) ∙ size_of-first at x (take n list)
+starts_from-at at (suc n) (x ∷ list) d below = starts_from-at (at + length (frame One x)) n list d (omega arith) ∙ frames_len-first at x (take n list)
 
 module _ (bytes starts : List ℕ) (laid : ℕ) (flat : IsFlat bytes starts laid) where
   -- The atoms of the front are as many as its starts.
@@ -163,41 +181,41 @@ module _ (bytes starts : List ℕ) (laid : ℕ) (flat : IsFlat bytes starts laid
   laid_long = length-take-le laid (atoms_at bytes starts) (omega (arith, flat.within, length-map starts (atom_at bytes)))
 
   -- Where the frame of an atom of the front begins.
-  pub start_is : (n d : ℕ) → n < laid → get_or starts n d ≡ size_of (take n (atoms_at bytes starts))
+  pub start_is : (n d : ℕ) → n < laid → get_or starts n d ≡ length (frames One (take n (atoms_at bytes starts)))
   start_is n d below =
       let list = atoms_at bytes starts in
-      let none_before : 0 + size_of (take n (take laid list)) ≡ size_of (take n (take laid list)) = omega arith in
+      let none_before : 0 + length (frames One (take n (take laid list))) ≡ length (frames One (take n (take laid list))) = omega arith in
       sym (get_or-take laid starts n d below) ∙ ap (λ v. get_or v n d) flat.front.there ∙ starts_from-at 0 n (take laid list) d (omega (arith, laid_long))
-      ∙ none_before ∙ ap size_of (take-take n laid list (omega arith))
+      ∙ none_before ∙ ap (λ v. length (frames One v)) (take-take n laid list (omega arith))
 
   -- What the frames of the first atoms take is within the buffer.
-  pub ends_within : (from to : ℕ) → from ≤ to → to ≤ laid → (size_of (take from (atoms_at bytes starts)) ≤ size_of (take to (atoms_at bytes starts))) × (size_of (take to (atoms_at bytes starts)) ≤ length bytes)
+  pub ends_within : (from to : ℕ) → from ≤ to → to ≤ laid → (length (frames One (take from (atoms_at bytes starts))) ≤ length (frames One (take to (atoms_at bytes starts)))) × (length (frames One (take to (atoms_at bytes starts))) ≤ length bytes)
   ends_within from to order within =
       let list = atoms_at bytes starts in
-      let all : size_of (take to list) ≤ size_of (take laid list) = size_of-take-le to laid list within in
+      let all : length (frames One (take to list)) ≤ length (frames One (take laid list)) = frames_len-take-le to laid list within in
       let long = ap length flat.front.framed in
-      (size_of-take-le from to list order, omega (arith, length-take (size_of (take laid list)) bytes))
+      (frames_len-take-le from to list order, omega (arith, length-take (length (frames One (take laid list))) bytes))
 
   -- Where the frame of an atom of the front ends.
-  pub end_is : (n d : ℕ) → n < laid → get_or starts n d + length (frame (atom_at bytes (get_or starts n d))) ≡ size_of (take (n + 1) (atoms_at bytes starts))
+  pub end_is : (n d : ℕ) → n < laid → get_or starts n d + length (frame One (atom_at bytes (get_or starts n d))) ≡ length (frames One (take (n + 1) (atoms_at bytes starts)))
   end_is n d below =
       let list = atoms_at bytes starts in
       let within : n < length starts = omega (arith, flat.within) in
       let one : atom_at bytes (get_or starts n d) ≡ get_or list n [] = sym (get_or-map (atom_at bytes) starts n d [] within) in
-      ap (λ m. m + length (frame (atom_at bytes (get_or starts n d)))) (start_is n d below) ∙ ap (λ v. size_of (take n list) + length (frame v)) one
-      ∙ sym (size_of-more list n (omega (arith, length-map starts (atom_at bytes))))
+      ap (λ m. m + length (frame One (atom_at bytes (get_or starts n d)))) (start_is n d below) ∙ ap (λ v. length (frames One (take n list)) + length (frame One v)) one
+      ∙ sym (frames_len-more list n (omega (arith, length-map starts (atom_at bytes))))
 
   -- At the start of an atom of the front stands its frame.
   pub front_frame : (n d : ℕ) → n < laid → BeginsFrame (drop (get_or starts n d) bytes)
   front_frame n d below = elim (starts_at bytes starts n d flat.fit (omega (arith, flat.within))) [
     | inl behind ↦
         let list = atoms_at bytes starts in
-        let grows = size_of-grows list n (omega (arith, flat.within, length-map starts (atom_at bytes))) in
+        let grows = frames_len-grows list n (omega (arith, flat.within, length-map starts (atom_at bytes))) in
         absurd (omega (arith, start_is n d below, (ends_within n (n + 1) (omega arith) (omega arith)).1))
     | inr begins ↦ begins
   ]
 
-  pub piece_of : (from to start end : ℕ) → from ≤ to → to ≤ laid → start ≡ size_of (take from (atoms_at bytes starts)) → end ≡ size_of (take to (atoms_at bytes starts))
+  pub piece_of : (from to start end : ℕ) → from ≤ to → to ≤ laid → start ≡ length (frames One (take from (atoms_at bytes starts))) → end ≡ length (frames One (take to (atoms_at bytes starts)))
       → IsPieceOf (slice_range bytes start end) start (slice_range starts from to) (slice_range (atoms_at bytes starts) from to)
   piece_of from to start end order within s e =
       let list = atoms_at bytes starts in
@@ -205,22 +223,22 @@ module _ (bytes starts : List ℕ) (laid : ℕ) (flat : IsFlat bytes starts laid
       let mid = slice_range list from to in
       let back = slice_range list to laid in
       let split : take laid list ≡ front ++ (mid ++ back) = parts list from to laid order within in
-      let rest = drop (size_of (take laid list)) bytes in
-      let framed : bytes ≡ bytes_of front ++ (bytes_of mid ++ (bytes_of back ++ rest)) =
-      sym (take-append-drop (size_of (take laid list)) bytes) ∙ ap (λ v. v ++ rest) (flat.front.framed ∙ ap bytes_of split ∙ bytes_of-append front (mid ++ back) ∙ ap (λ v. bytes_of front ++ v) (bytes_of-append mid back))
-      ∙ append_assoc (bytes_of front) (bytes_of mid ++ bytes_of back) rest ∙ ap (λ v. bytes_of front ++ v) (append_assoc (bytes_of mid) (bytes_of back) rest) in
-      let upto : size_of (take to list) ≡ size_of front + size_of mid = ap size_of (take_split from to list order) ∙ size_of-append front mid in
+      let rest = drop (length (frames One (take laid list))) bytes in
+      let framed : bytes ≡ frames One front ++ (frames One mid ++ (frames One back ++ rest)) =
+      sym (take-append-drop (length (frames One (take laid list))) bytes) ∙ ap (λ v. v ++ rest) (flat.front.framed ∙ ap (frames One) split ∙ frames-append One front (mid ++ back) ∙ ap (λ v. frames One front ++ v) (frames-append One mid back))
+      ∙ append_assoc (frames One front) (frames One mid ++ frames One back) rest ∙ ap (λ v. frames One front ++ v) (append_assoc (frames One mid) (frames One back) rest) in
+      let upto : length (frames One (take to list)) ≡ length (frames One front) + length (frames One mid) = ap (λ v. length (frames One v)) (take_split from to list order) ∙ frames_len-append One front mid in
       let front_long : length front ≡ from = length-take-le from list (omega (arith, flat.within, length-map starts (atom_at bytes))) in
       let mid_long : length mid ≡ to - from = length-take-le (to - from) (drop from list) (omega (arith, flat.within, length-map starts (atom_at bytes), length-drop from list)) in
-      let there : take laid starts ≡ starts_from 0 front ++ (starts_from (0 + size_of front) mid ++ starts_from (0 + size_of front + size_of mid) back) =
-      flat.front.there ∙ ap (starts_from 0) split ∙ starts_from-append 0 front (mid ++ back) ∙ ap (λ v. starts_from 0 front ++ v) (starts_from-append (0 + size_of front) mid back) in
+      let there : take laid starts ≡ starts_from 0 front ++ (starts_from (0 + length (frames One front)) mid ++ starts_from (0 + length (frames One front) + length (frames One mid)) back) =
+      flat.front.there ∙ ap (starts_from 0) split ∙ starts_from-append 0 front (mid ++ back) ∙ ap (λ v. starts_from 0 front ++ v) (starts_from-append (0 + length (frames One front)) mid back) in
       let same : slice_range starts from to ≡ slice_range (take laid starts) from to =
       between_is starts from to ∙ ap (drop from) (sym (take-take to laid starts within)) ∙ sym (between_is (take laid starts) from to) in
-      let zero_start : 0 + size_of front ≡ start = omega arith in
+      let zero_start : 0 + length (frames One front) ≡ start = omega arith in
       record {
         short = (AreAtoms-parts mid (drop (to - from) (drop from list)) (subst AreAtoms (sym (take-append-drop (to - from) (drop from list))) (AreAtoms-parts front (drop from list) (subst AreAtoms (sym (take-append-drop from list)) (AreAtoms-starts bytes starts flat.fit))).1)).0;
-        framed = ap (λ v. slice_range v start end) framed ∙ middle (bytes_of front) (bytes_of mid) (bytes_of back ++ rest) start end s (e ∙ upto);
+        framed = ap (λ v. slice_range v start end) framed ∙ middle (frames One front) (frames One mid) (frames One back ++ rest) start end s (e ∙ upto);
         there = same ∙ ap (λ v. slice_range v from to) there
-            ∙ middle (starts_from 0 front) (starts_from (0 + size_of front) mid) (starts_from (0 + size_of front + size_of mid) back) from to (omega (arith, length-starts_from 0 front))
-            (omega (arith, length-starts_from 0 front, length-starts_from (0 + size_of front) mid)) ∙ ap (λ n. starts_from n mid) zero_start;
+            ∙ middle (starts_from 0 front) (starts_from (0 + length (frames One front)) mid) (starts_from (0 + length (frames One front) + length (frames One mid)) back) from to (omega (arith, length-starts_from 0 front))
+            (omega (arith, length-starts_from 0 front, length-starts_from (0 + length (frames One front)) mid)) ∙ ap (λ n. starts_from n mid) zero_start;
       }

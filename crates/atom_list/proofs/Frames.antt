@@ -2,28 +2,28 @@
 use Rattle.std.proofs.Common.{◌≡◌, ℕ, ◌+◌, ◌-◌, ◌/◌, ◌%◌, ◌<◌, ◌≤◌, List, [], ◌∷◌, ◌++◌, length, take, drop, slice_range, get_or, refl, sym, ◌∙◌, ap, append_assoc, length-append, arith, inl, inr, ◌⊎◌}
 use Rattle.std.proofs.lemmas.List.{take_at, drop_at, length-drop, drop-drop, drop_all, get_or-drop, get_or_append_left}
 use Rattle.std.proofs.lemmas.Bool.{cases_lt}
-use Rattle.std.proofs.lemmas.Bool.Decides.{nat_tests}
 use Rattle.outside.specs.declared.TheConstants.{ATOM_MAX}
 use Rattle.context_model.specs.Atoms.{Atom}
-use Rattle.context_model.specs.Framing.{length_code, frame}
-use Rattle.context_model.proofs.FramingLaws.{length-length_code}
+use Rattle.context_model.specs.declared.Form.TheVariants.{One}
+use Rattle.context_model.specs.Framing.{base_128, frame}
+use Rattle.context_model.proofs.FramingLaws.{length-base_128}
 use Rattle.context_model.specs.WireFault.{length_front, length_said}
-use Rattle.context_model.proofs.Frames.{length_front-code, length_said-code, length_fits}
+use Rattle.context_model.proofs.LengthCodes.{code_one, code_two, code_three, length_front-code, length_said-code}
 use Rattle.atom_list.specs.Starts.{first_atom, atom_at, BeginsFrame, IsStart}
 
 -- ---- the atom
 
-pub first_atom-framed : (atom : Atom) (rest : List ℕ) → length atom ≤ ATOM_MAX → first_atom (frame atom ++ rest) ≡ atom
+pub first_atom-framed : (atom : Atom) (rest : List ℕ) → length atom ≤ ATOM_MAX → first_atom (frame One atom ++ rest) ≡ atom
 unfolding first_atom
 first_atom-framed atom rest short =
-    let code = length_code (length atom) in
-    let whole : frame atom ++ rest ≡ code ++ (atom ++ rest) = append_assoc code atom rest in
-    let front : length_front (frame atom ++ rest) ≡ code = ap length_front whole ∙ length_front-code (length atom) (atom ++ rest) (length_fits atom short) in
-    let said : length_said (length_front (frame atom ++ rest)) ≡ length atom = ap length_said front ∙ length_said-code (length atom) (length_fits atom short) in
-    let skip = length (length_front (frame atom ++ rest)) in
+    let code = base_128 (length atom) in
+    let whole : frame One atom ++ rest ≡ code ++ (atom ++ rest) = append_assoc code atom rest in
+    let front : length_front (frame One atom ++ rest) ≡ code = ap length_front whole ∙ length_front-code (length atom) (atom ++ rest) (omega arith) in
+    let said : length_said (length_front (frame One atom ++ rest)) ≡ length atom = ap length_said front ∙ length_said-code (length atom) (omega arith) in
+    let skip = length (length_front (frame One atom ++ rest)) in
     let skips : skip ≡ length code = ap length front in
-    let many : skip + length_said (length_front (frame atom ++ rest)) - skip ≡ length atom = omega arith in
-    ap (λ n. take n (drop skip (frame atom ++ rest))) many
+    let many : skip + length_said (length_front (frame One atom ++ rest)) - skip ≡ length atom = omega arith in
+    ap (λ n. take n (drop skip (frame One atom ++ rest))) many
     ∙ ap (λ v. take (length atom) v) (ap (drop skip) whole ∙ drop_at code (atom ++ rest) skip (sym skips))
     ∙ take_at atom rest (length atom) refl
 
@@ -54,41 +54,28 @@ stands_at bytes code rest start some e =
       each = λ k below. sym (get_or-drop start bytes k 0) ∙ ap (λ v. get_or v k 0) e ∙ get_or_append_left code rest 0 k below;
     }
 
--- The three forms of a length.
-code_one : (n : ℕ) → n < 128 → length_code n ≡ n ∷ []
-unfolding length_code
-code_one n h = grind (arith, nat_tests)
-
-code_two : (n : ℕ) → 128 ≤ n → n < 16384 → length_code n ≡ (n % 128 + 128) ∷ (n / 128) ∷ []
-unfolding length_code
-code_two n h k = grind (arith, nat_tests)
-
-code_three : (n : ℕ) → 16384 ≤ n → length_code n ≡ (n % 128 + 128) ∷ (n / 128 % 128 + 128) ∷ (n / 16384) ∷ []
-unfolding length_code
-code_three n h = grind (arith, nat_tests)
-
 -- What the bytes at a place say of the length there.
-pub record One (bytes : List ℕ) (start n : ℕ) : Type 0 where
+pub record OneByte (bytes : List ℕ) (start n : ℕ) : Type 0 where
   pub within : start + 1 ≤ length bytes
   pub low : get_or bytes start 0 ≡ n
   pub few : n < 128
-  pub count : length (length_code n) ≡ 1
+  pub count : length (base_128 n) ≡ 1
 
-pub record Two (bytes : List ℕ) (start n : ℕ) : Type 0 where
+pub record TwoBytes (bytes : List ℕ) (start n : ℕ) : Type 0 where
   pub within : start + 2 ≤ length bytes
   pub low : get_or bytes start 0 ≡ n % 128 + 128
   pub middle : get_or bytes (start + 1) 0 ≡ n / 128
   pub few : n < 16384
-  pub count : length (length_code n) ≡ 2
+  pub count : length (base_128 n) ≡ 2
 
-pub record Three (bytes : List ℕ) (start n : ℕ) : Type 0 where
+pub record ThreeBytes (bytes : List ℕ) (start n : ℕ) : Type 0 where
   pub within : start + 3 ≤ length bytes
   pub low : get_or bytes start 0 ≡ n % 128 + 128
   pub middle : get_or bytes (start + 1) 0 ≡ n / 128 % 128 + 128
   pub high : get_or bytes (start + 2) 0 ≡ n / 16384
-  pub count : length (length_code n) ≡ 3
+  pub count : length (base_128 n) ≡ 3
 
-pub forms : (bytes rest : List ℕ) (start n : ℕ) → drop start bytes ≡ length_code n ++ rest → One bytes start n ⊎ (Two bytes start n ⊎ Three bytes start n)
+pub forms : (bytes rest : List ℕ) (start n : ℕ) → drop start bytes ≡ base_128 n ++ rest → OneByte bytes start n ⊎ (TwoBytes bytes start n ⊎ ThreeBytes bytes start n)
 forms bytes rest start n e =
     let first : start + 0 ≡ start = omega arith in
     elim (cases_lt n 128) [
@@ -112,18 +99,18 @@ forms bytes rest start n e =
 -- The length of the frame at a place, by its bytes there.
 pub record LengthAt (bytes : List ℕ) (start : ℕ) : Type 0 where
   pub said : ℕ
-  pub forms : One bytes start said ⊎ (Two bytes start said ⊎ Three bytes start said)
+  pub forms : OneByte bytes start said ⊎ (TwoBytes bytes start said ⊎ ThreeBytes bytes start said)
   pub short : said ≤ ATOM_MAX
-  pub code : length (length_front (drop start bytes)) ≡ length (length_code said)
+  pub code : length (length_front (drop start bytes)) ≡ length (base_128 said)
   pub says : length_said (length_front (drop start bytes)) ≡ said
-  pub within : start + length (length_code said) + said ≤ length bytes
-  pub framed : length (frame (atom_at bytes start)) ≡ length (length_code said) + said
+  pub within : start + length (base_128 said) + said ≤ length bytes
+  pub framed : length (frame One (atom_at bytes start)) ≡ length (base_128 said) + said
 
 pub length_at : (bytes : List ℕ) (start : ℕ) → BeginsFrame (drop start bytes) → LengthAt bytes start
 length_at bytes start (atom, rest, short, e) =
     let n = length atom in
-    let code = length_code n in
-    let fits = length_fits atom short in
+    let code = base_128 n in
+    let fits : n < 2097152 = omega arith in
     let whole : drop start bytes ≡ code ++ (atom ++ rest) = e ∙ append_assoc code atom rest in
     let front : length_front (drop start bytes) ≡ code = ap length_front whole ∙ length_front-code n (atom ++ rest) fits in
     let long : length bytes - start ≡ length code + length (atom ++ rest) = sym (length-drop start bytes) ∙ ap length whole ∙ length-append code (atom ++ rest) in
@@ -133,8 +120,8 @@ length_at bytes start (atom, rest, short, e) =
       short = short;
       code = ap length front;
       says = ap length_said front ∙ length_said-code n fits;
-      within = omega (arith, long, length-append atom rest, (length-length_code n).0);
-      framed = ap (λ v. length (frame v)) (ap first_atom e ∙ first_atom-framed atom rest short) ∙ length-append code atom;
+      within = omega (arith, long, length-append atom rest, (length-base_128 n).0);
+      framed = ap (λ v. length (frame One v)) (ap first_atom e ∙ first_atom-framed atom rest short) ∙ length-append code atom;
     }
 
 -- The atom is the part of the buffer that its length says.

@@ -2,8 +2,9 @@
 use Rattle.std.proofs.Common.{◌≡◌, ℕ, ◌+◌, ◌*◌, ◌-◌, ◌≤◌, List, [], ◌∷◌, ◌++◌, length, take, drop, slice_range, sym, ◌∙◌, ap, length-append, arith}
 use Rattle.std.proofs.lemmas.List.{take-append-drop, take-take}
 use Rattle.context_model.specs.Atoms.{Atom}
-use Rattle.context_model.specs.Framing.{length_code, frame, bytes_of, size_of}
-use Rattle.context_model.proofs.FramingLaws.{length-length_code}
+use Rattle.context_model.specs.declared.Form.TheVariants.{One}
+use Rattle.context_model.specs.Framing.{base_128, frame, frames}
+use Rattle.context_model.proofs.FramingLaws.{length-base_128}
 use Rattle.atom_list.specs.Builder.{room_of}
 
 pub room_of-append : (xs ys : List Atom) → room_of (xs ++ ys) ≡ room_of xs + room_of ys
@@ -11,13 +12,13 @@ room_of-append [] ys = omega arith
 room_of-append (x ∷ xs) ys = omega (arith, room_of-append xs ys)
 
 -- The room of a list is its size, and at most two bytes an atom more.
-pub room_of-size : (list : List Atom) → (size_of list ≤ room_of list) × (room_of list ≤ size_of list + 2 * length list)
+pub room_of-size : (list : List Atom) → (length (frames One list) ≤ room_of list) × (room_of list ≤ length (frames One list) + 2 * length list)
 room_of-size [] = (omega arith, omega arith)
 room_of-size (x ∷ list) =
     let rest = room_of-size list in
-    let code = length-length_code (length x) in
-    let long : length (frame x) ≡ length (length_code (length x)) + length x = length-append (length_code (length x)) x in
-    let size : size_of (x ∷ list) ≡ length (frame x) + size_of list = length-append (frame x) (bytes_of list) in
+    let code = length-base_128 (length x) in
+    let long : length (frame One x) ≡ length (base_128 (length x)) + length x = length-append (base_128 (length x)) x in
+    let size : length (frames One (x ∷ list)) ≡ length (frame One x) + length (frames One list) = length-append (frame One x) (frames One list) in
     (omega arith, omega arith)
 
 pub room_of-front : (m n : ℕ) (list : List Atom) → m ≤ n → room_of (take m list) ≤ room_of (take n list)

@@ -6,8 +6,9 @@ use Rattle.std.proofs.lemmas.Option.{get_or_from_slice_get, slice_get_within}
 use Rattle.std.proofs.lemmas.Slice.{between_is}
 use Rattle.outside.specs.declared.TheConstants.{ATOM_MAX}
 use Rattle.context_model.specs.Atoms.{Atom}
-use Rattle.context_model.specs.Framing.{frame, bytes_of, size_of}
-use Rattle.context_model.proofs.FramingLaws.{bytes_of-append}
+use Rattle.context_model.specs.declared.Form.TheVariants.{One}
+use Rattle.context_model.specs.Framing.{frame, frames}
+use Rattle.context_model.proofs.FramingLaws.{frames-append}
 use Rattle.atom_list.specs.Builder.{room_of}
 use Rattle.atom_list.specs.Starts.{first_atom, atom_at, atoms_at, AreStarts, BeginsFrame, starts_from, IsPieceOf, IsRow}
 use Rattle.atom_list.proofs.Frames.{first_atom-framed}
@@ -26,14 +27,14 @@ part_more bytes front rest first end order e =
 
 -- A piece with the frame right behind it.
 pub piece_more : (bytes : List ℕ) (first end : ℕ) (starts : List ℕ) (list : List Atom) (x : Atom) (rest : List ℕ) → first ≤ end → end ≤ length bytes
-    → IsPieceOf (slice_range bytes first end) first starts list → length x ≤ ATOM_MAX → drop end bytes ≡ frame x ++ rest
-    → IsPieceOf (slice_range bytes first (end + length (frame x))) first (starts ++ end ∷ []) (list ++ x ∷ [])
+    → IsPieceOf (slice_range bytes first end) first starts list → length x ≤ ATOM_MAX → drop end bytes ≡ frame One x ++ rest
+    → IsPieceOf (slice_range bytes first (end + length (frame One x))) first (starts ++ end ∷ []) (list ++ x ∷ [])
 piece_more bytes first end starts list x rest order within piece short e =
-    let long : end - first ≡ size_of list = sym (length-take-le (end - first) (drop first bytes) (omega (arith, length-drop first bytes))) ∙ ap length piece.framed in
-    let place : end ≡ first + size_of list = omega arith in
+    let long : end - first ≡ length (frames One list) = sym (length-take-le (end - first) (drop first bytes) (omega (arith, length-drop first bytes))) ∙ ap length piece.framed in
+    let place : end ≡ first + length (frames One list) = omega arith in
     record {
       short = AreAtoms-append list (x ∷ []) piece.short (short, tt);
-      framed = part_more bytes (frame x) rest first end order e ∙ ap (λ v. v ++ frame x) piece.framed ∙ ap (λ v. bytes_of list ++ v) (sym (append-nil (frame x))) ∙ sym (bytes_of-append list (x ∷ []));
+      framed = part_more bytes (frame One x) rest first end order e ∙ ap (λ v. v ++ frame One x) piece.framed ∙ ap (λ v. frames One list ++ v) (sym (append-nil (frame One x))) ∙ sym (frames-append One list (x ∷ []));
       there = ap (λ v. v ++ end ∷ []) piece.there ∙ ap (λ n. starts_from first list ++ n ∷ []) place ∙ sym (starts_from-append first list (x ∷ []));
     }
 
@@ -56,21 +57,21 @@ begins_before bytes starts k d fit below before = elim (starts_at bytes starts k
 ]
 
 pub row_more : (bytes starts : List ℕ) (count end end' : ℕ) → AreStarts bytes starts → IsRow bytes starts count end → count < length starts → get_or starts count 0 ≡ end → end < length bytes
-    → end' ≡ end + length (frame (atom_at bytes end)) → end' ≤ length bytes → IsRow bytes starts (count + 1) end'
+    → end' ≡ end + length (frame One (atom_at bytes end)) → end' ≤ length bytes → IsRow bytes starts (count + 1) end'
 row_more bytes starts count end end' fit row below next before e within =
     let list = atoms_at bytes starts in
     let first = get_or starts 0 0 in
     let begins : BeginsFrame (drop end bytes) = subst (λ n. BeginsFrame (drop n bytes)) next (begins_before bytes starts count 0 fit below (omega arith)) in
     let one : atom_at bytes end ≡ begins.0 = ap first_atom begins.3 ∙ first_atom-framed begins.0 begins.1 begins.2 in
-    let ends : end + length (frame begins.0) ≡ end' = ap (λ v. end + length (frame v)) (sym one) ∙ sym e in
+    let ends : end + length (frame One begins.0) ≡ end' = ap (λ v. end + length (frame One v)) (sym one) ∙ sym e in
     let atom : get_or list count [] ≡ begins.0 = get_or-map (atom_at bytes) starts count 0 [] below ∙ ap (atom_at bytes) next ∙ one in
     let starts_more : take (count + 1) starts ≡ take count starts ++ end ∷ [] = take_more starts count 0 below ∙ ap (λ n. take count starts ++ n ∷ []) next in
     let list_more : take (count + 1) list ≡ take count list ++ begins.0 ∷ [] = take_more list count [] (omega (arith, length-map starts (atom_at bytes))) ∙ ap (λ v. take count list ++ v ∷ []) atom in
     let more = piece_more bytes first end (take count starts) (take count list) begins.0 begins.1 row.order (omega arith) row.piece begins.2 begins.3 in
     record {
       piece = subst (λ n. IsPieceOf (slice_range bytes first n) first (take (count + 1) starts) (take (count + 1) list)) ends
-          (subst (λ v. IsPieceOf (slice_range bytes first (end + length (frame begins.0))) first v (take (count + 1) list)) (sym starts_more)
-          (subst (λ v. IsPieceOf (slice_range bytes first (end + length (frame begins.0))) first (take count starts ++ end ∷ []) v) (sym list_more) more));
+          (subst (λ v. IsPieceOf (slice_range bytes first (end + length (frame One begins.0))) first v (take (count + 1) list)) (sym starts_more)
+          (subst (λ v. IsPieceOf (slice_range bytes first (end + length (frame One begins.0))) first (take count starts ++ end ∷ []) v) (sym list_more) more));
       order = omega (arith, row.order);
       within = λ some. within;
     }
@@ -113,6 +114,6 @@ room_of-one list at x there = ap room_of (run_of_one list at x there) ∙ (omega
 pub room_of-piece : (list : List Atom) (bytes : List ℕ) (at : ℕ) (starts : List ℕ) → IsPieceOf bytes at starts list → (length bytes ≤ room_of list) × (room_of list ≤ length bytes + 2 * length starts)
 room_of-piece list bytes at starts piece =
     let size = room_of-size list in
-    let long : length bytes ≡ size_of list = ap length piece.framed in
+    let long : length bytes ≡ length (frames One list) = ap length piece.framed in
     let many : length starts ≡ length list = ap length piece.there ∙ length-starts_from at list in
     (omega arith, omega arith)

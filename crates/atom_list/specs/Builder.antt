@@ -1,7 +1,8 @@
 -- Lists in the making.
 use Rattle.std.specs.Prelude.{◌≡◌, ℕ, ◌+◌, ◌≤◌, ◌++◌, List, [], ◌∷◌, length, slice_range}
 use Rattle.context_model.specs.Atoms.{Atom, AreAtoms}
-use Rattle.context_model.specs.Framing.{bytes_of}
+use Rattle.context_model.specs.declared.Form.TheVariants.{One}
+use Rattle.context_model.specs.Framing.{frames}
 use Rattle.atom_list.specs.Starts.{atoms_at, starts_from, IsPieceOf}
 use Rattle.atom_list.specs.declared.builder.TheConstants.{BUFFER_MAX}
 
@@ -29,5 +30,5 @@ AddsPiece piece at starts old new =
 pub record IsBuilt (bytes : List ℕ) (starts : List ℕ) : Type 0 where
   pub short : AreAtoms (atoms_at bytes starts)
   pub there : starts ≡ starts_from 0 (atoms_at bytes starts)
-  pub framed : bytes ≡ bytes_of (atoms_at bytes starts)
+  pub framed : bytes ≡ frames One (atoms_at bytes starts)
   pub few : length bytes ≤ BUFFER_MAX

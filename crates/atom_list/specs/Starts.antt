@@ -3,7 +3,8 @@ use Rattle.std.specs.Prelude.{◌≡◌, ℕ, ◌+◌, ◌-◌, ◌<◌, ◌≤�
 use Rattle.std.specs.List.{AllByRecursion}
 use Rattle.outside.specs.declared.TheConstants.{ATOM_MAX}
 use Rattle.context_model.specs.Atoms.{Atom, AreAtoms}
-use Rattle.context_model.specs.Framing.{frame, bytes_of, size_of}
+use Rattle.context_model.specs.declared.Form.TheVariants.{One}
+use Rattle.context_model.specs.Framing.{frame, frames}
 use Rattle.context_model.specs.WireFault.{length_front, length_said}
 use Rattle.context_model.specs.WithoutData.{without}
 use Rattle.atom_list.specs.declared.builder.TheConstants.{BUFFER_MAX}
@@ -24,7 +25,7 @@ atoms_at bytes starts = map (atom_at bytes) starts
 
 -- The bytes begin with the frame of an atom.
 abbrev pub BeginsFrame : List ℕ → Type 0
-BeginsFrame bytes = (atom : Atom) × (rest : List ℕ) × (length atom ≤ ATOM_MAX) × (bytes ≡ frame atom ++ rest)
+BeginsFrame bytes = (atom : Atom) × (rest : List ℕ) × (length atom ≤ ATOM_MAX) × (bytes ≡ frame One atom ++ rest)
 
 -- A frame begins at this place of the buffer, or the buffer ends before it.
 abbrev pub IsStart : List ℕ → ℕ → Type 0
@@ -37,12 +38,12 @@ AreStarts bytes starts = AllByRecursion (IsStart bytes) starts
 -- Where the frames of atoms begin that follow one another from this place on.
 abbrev pub starts_from : ℕ → List Atom → List ℕ
 starts_from at [] = []
-starts_from at (atom ∷ list) = at ∷ starts_from (at + length (frame atom)) list
+starts_from at (atom ∷ list) = at ∷ starts_from (at + length (frame One atom)) list
 
 -- The buffer begins with the frames of these atoms, one behind the other.
 pub record BeginsWith (bytes : List ℕ) (starts : List ℕ) (front : List Atom) : Type 0 where
   pub there : starts ≡ starts_from 0 front
-  pub framed : take (size_of front) bytes ≡ bytes_of front
+  pub framed : take (length (frames One front)) bytes ≡ frames One front
 
 -- The starts are places of the buffer, which begins with the frames of the first so many atoms.
 pub record IsFlat (bytes : List ℕ) (starts : List ℕ) (laid : ℕ) : Type 0 where
@@ -55,7 +56,7 @@ pub record IsFlat (bytes : List ℕ) (starts : List ℕ) (laid : ℕ) : Type 0 w
 -- begin at this place.
 pub record IsPieceOf (bytes : List ℕ) (at : ℕ) (starts : List ℕ) (list : List Atom) : Type 0 where
   pub short : AreAtoms list
-  pub framed : bytes ≡ bytes_of list
+  pub framed : bytes ≡ frames One list
   pub there : starts ≡ starts_from at list
 
 -- The first so many starts are those of frames that follow one another in the buffer. The last of them ends at this place.

@@ -1,7 +1,8 @@
 //! Lists that are built atom by atom in room that was taken first.
 
 ghost use Rattle.std.specs.Prelude.{◌≡◌, ℕ, List, ◌+◌, ◌<◌, ◌≤◌, [], ◌∷◌, ◌++◌, length, drop, slice_range, IfOk, OnOk};
-ghost use Rattle.context_model.specs.Framing.{bytes_of};
+ghost use Rattle.context_model.specs.declared.Form.TheVariants.{One};
+ghost use Rattle.context_model.specs.Framing.{frames};
 ghost use Rattle.atom_list.specs.Builder.{room_of, run_room, AddsPiece};
 ghost use Rattle.atom_list.specs.Starts.{IsPieceOf};
 
@@ -156,7 +157,7 @@ impl Builder {
 
     /// The bytes of the list.
     pub fn into_bytes(self) -> Vec<u8>
-        ensures { result.items ≡ bytes_of self.atoms }
+        ensures { result.items ≡ frames One self.atoms }
     {
         let Builder {
             alloc: _,

@@ -1,16 +1,16 @@
 //! Frames of atoms in a vector that has room for them.
 
 ghost use Rattle.std.specs.Prelude.{◌≡◌, ◌+◌, ◌≤◌, ◌++◌, length, vec_len, vec_capacity};
-ghost use Rattle.context_model.specs.Framing.{length_code};
+ghost use Rattle.context_model.specs.Framing.{base_128};
 
 use outside::ATOM_MAX;
 
 /// Appends the length of an atom in base 128, the least significant group first. It takes no memory.
-#[tactic(auto, unfolding(context_model::specs::Framing::length_code))]
+#[tactic(auto, unfolding(context_model::specs::Framing::base_128))]
 pub(crate) fn put_length(bytes: &mut Vec<u8>, len: usize)
     requires len { len ≤ ATOM_MAX }
     requires room { vec_len bytes.old + 3 ≤ vec_capacity bytes.old }
-    ensures items { bytes.new.items ≡ bytes.old.items ++ length_code len }
+    ensures items { bytes.new.items ≡ bytes.old.items ++ base_128 len }
     ensures capacity { vec_capacity bytes.new ≡ vec_capacity bytes.old }
 {
     let low = (len % 128) as u8;

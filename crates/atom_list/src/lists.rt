@@ -4,7 +4,6 @@ ghost use Rattle.std.specs.Prelude.{◌≡◌, ◌+◌, ◌*◌, ◌<◌, ◌≤
 ghost use Rattle.std.specs.Ordering.{nat_cmp};
 ghost use Rattle.std.specs.Option.{option_copied};
 ghost use Rattle.context_model.specs.Atoms.{AreAtoms};
-ghost use Rattle.context_model.specs.Framing.{bytes_of};
 ghost use Rattle.context_model.specs.Orders.{Rises};
 ghost use Rattle.context_model.specs.WithoutData.{without};
 ghost use Rattle.atom_list.specs.Builder.{room_of};

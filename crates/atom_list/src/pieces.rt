@@ -1,7 +1,8 @@
 //! Frames that follow one another in the buffer of a list.
 
 ghost use Rattle.std.specs.Prelude.{◌≡◌, ◌+◌, ◌*◌, ◌<◌, ◌≤◌, [], length, IfSome};
-ghost use Rattle.context_model.specs.Framing.{bytes_of};
+ghost use Rattle.context_model.specs.declared.Form.TheVariants.{One};
+ghost use Rattle.context_model.specs.Framing.{frames};
 ghost use Rattle.atom_list.specs.Builder.{room_of, run_room};
 ghost use Rattle.atom_list.specs.Starts.{IsPieceFrom};
 
@@ -89,7 +90,7 @@ impl AtomList {
 
     /// The bytes of the list, where they stand in its buffer: `None` where something was cut from it.
     pub fn framed(&self) -> Option<&[u8]>
-        ensures { IfSome result (λ bytes. bytes.now ≡ bytes_of self.now) }
+        ensures { IfSome result (λ bytes. bytes.now ≡ frames One self.now) }
     {
         let piece = self.piece(0, self.len());
         if piece.starts.len() == self.len() {

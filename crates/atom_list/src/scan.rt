@@ -2,7 +2,8 @@
 
 ghost use Rattle.std.specs.Prelude.{◌≡◌, ◌+◌, ◌≤◌, [], ◌∷◌, ◌++◌, length, take, drop, slice_range, IfOk, OnOk, OnErr};
 ghost use Rattle.context_model.specs.Atoms.{AreAtoms};
-ghost use Rattle.context_model.specs.Framing.{length_code, size_of};
+ghost use Rattle.context_model.specs.declared.Form.TheVariants.{One};
+ghost use Rattle.context_model.specs.Framing.{base_128, frames};
 ghost use Rattle.atom_list.specs.Scan.{with_part};
 
 use crate::builder::BUFFER_MAX;
@@ -63,7 +64,7 @@ impl Scan {
 
     /// How many bytes the list has.
     pub fn offset(&self) -> usize
-        ensures { result ≡ size_of self.now.atoms }
+        ensures { result ≡ length (frames One self.now.atoms) }
     {
         self.at
     }
@@ -73,7 +74,7 @@ impl Scan {
     pub fn note(&mut self, skip: usize, len: usize) -> Result<(), Memory>
         requires within { skip + len ≤ length self.old.rest }
         requires short { len ≤ ATOM_MAX }
-        requires framed { take skip self.old.rest ≡ length_code len }
+        requires framed { take skip self.old.rest ≡ base_128 len }
         ensures atoms { OnOk result (self.new.atoms ≡ with_part self.old skip len) }
         ensures rest { OnOk result (self.new.rest ≡ drop (skip + len) self.old.rest) }
         ensures err { OnErr result (self.new ≡ self.old) }

@@ -2,6 +2,7 @@
 
 ghost use Rattle.std.specs.Prelude.{◌≡◌, ◌+◌, ◌<◌, ◌≤◌, ◌++◌, ℕ, List, length, map, drop, slice_index, vec_len, vec_capacity};
 ghost use Rattle.std.specs.Ordering.{nat_cmp};
+ghost use Rattle.context_model.specs.declared.Form.TheVariants.{One};
 ghost use Rattle.context_model.specs.Framing.{frame};
 ghost use Rattle.context_model.specs.Orders.{Rises};
 ghost use Rattle.context_model.specs.WireFault.{length_front, length_said};
@@ -44,7 +45,7 @@ pub(crate) fn atom_at(bytes: &[u8], start: u32) -> &[u8]
 /// Where the frame ends that begins at this place of a buffer.
 pub(crate) fn frame_end(bytes: &[u8], start: u32) -> usize
     requires { BeginsFrame (drop start bytes.now) }
-    ensures end { result ≡ start + length (frame (atom_at bytes.now start)) }
+    ensures end { result ≡ start + length (frame One (atom_at bytes.now start)) }
     ensures within { result ≤ length bytes.now }
 {
     let start = start as usize;

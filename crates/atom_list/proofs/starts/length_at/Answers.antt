@@ -1,10 +1,10 @@
 use Rattle.std.proofs.Common.{inl, inr, arith}
-use Rattle.context_model.proofs.FramingLaws.{length-length_code}
+use Rattle.context_model.proofs.FramingLaws.{length-base_128}
 use Rattle.atom_list.proofs.Frames.{length_at}
 use Rattle.atom_list.proofs.starts.length_at.Goals as goal
 
 pub bounds-bytes-start : goal.bounds-bytes-start
-bounds-bytes-start c = let at = length_at c.args.bytes.now c.args.start c.requires in omega (arith, at.within, (length-length_code at.said).0)
+bounds-bytes-start c = let at = length_at c.args.bytes.now c.args.start c.requires in omega (arith, at.within, (length-base_128 at.said).0)
 
 pub returns-then-low-lt128-clause-bytes : goal.returns-then-low-lt128-clause-bytes
 returns-then-low-lt128-clause-bytes c =

@@ -1,7 +1,7 @@
 use Rattle.std.proofs.Common.{◌≡◌, ℕ, ◌+◌, ◌-◌, ◌≤◌, ◌++◌, List, [], ◌∷◌, length, min, length-append, ◌∙◌, ap, arith}
 use Rattle.std.specs.Vec.{vec_capacity}
-use Rattle.context_model.specs.Framing.{length_code}
-use Rattle.context_model.proofs.FramingLaws.{length-length_code}
+use Rattle.context_model.specs.Framing.{base_128}
+use Rattle.context_model.proofs.FramingLaws.{length-base_128}
 use Rattle.atom_list.specs.declared.builder.TheConstants.{BUFFER_MAX}
 use Rattle.atom_list.specs.Starts.{atoms_at}
 use Rattle.atom_list.proofs.Building.{AreOf, of_built, of_one, list_is, built_of}
@@ -21,8 +21,8 @@ pub put_bytes-requires : goal.put_bytes-requires
 put_bytes-requires c =
     let is = ap (λ v. v.byte_room) c.self.view_is in
     let len = length c.args.atom.now in
-    let room = with_length c.self.inside.bytes.items (length_code len) c.put_length.new.bytes.items len (vec_capacity c.self.inside.bytes) BUFFER_MAX c.args.self.now.byte_room
-    c.put_length.ensures.items (length-length_code len).1 is c.requires.byte_room in
+    let room = with_length c.self.inside.bytes.items (base_128 len) c.put_length.new.bytes.items len (vec_capacity c.self.inside.bytes) BUFFER_MAX c.args.self.now.byte_room
+    c.put_length.ensures.items (length-base_128 len).1 is c.requires.byte_room in
     omega (arith, room.0, c.put_length.new.bytes.ok.0, c.put_length.ensures.capacity)
 
 -- The list with the atom.
@@ -30,8 +30,8 @@ pushed : (c : goal.After-put_bytes) → AreOf c.put_bytes.new.bytes.items c.push
 pushed c =
     let is = ap (λ v. v.byte_room) c.self.view_is in
     let len = length c.args.atom.now in
-    let room = with_length c.self.inside.bytes.items (length_code len) c.put_length.new.bytes.items len (vec_capacity c.self.inside.bytes) BUFFER_MAX c.args.self.now.byte_room
-    c.put_length.ensures.items (length-length_code len).1 is c.requires.byte_room in
+    let room = with_length c.self.inside.bytes.items (base_128 len) c.put_length.new.bytes.items len (vec_capacity c.self.inside.bytes) BUFFER_MAX c.args.self.now.byte_room
+    c.put_length.ensures.items (length-base_128 len).1 is c.requires.byte_room in
     let long : length c.put_bytes.new.bytes.items ≡ length c.put_length.new.bytes.items + len = ap length c.put_bytes.ensures.items ∙ length-append c.put_length.new.bytes.items c.args.atom.now in
     of_one c.self.inside.bytes.items c.put_length.new.bytes.items c.put_bytes.new.bytes.items c.self.inside.starts.items c.push_reserved.new.self.items _ c.args.atom.now
     c.len.result (of_built _ _ c.self.invariant) c.requires.short (omega (arith, room.1)) c.put_length.ensures.items c.put_bytes.ensures.items
@@ -55,5 +55,5 @@ pub returns-clause-byte_room : goal.returns-clause-byte_room
 returns-clause-byte_room c =
     let is = ap (λ v. v.byte_room) c.self.view_is in
     let len = length c.args.atom.now in
-    left c.self.inside.bytes.items (length_code len) c.put_length.new.bytes.items c.args.atom.now c.put_bytes.new.bytes.items (vec_capacity c.self.inside.bytes) (vec_capacity c.put_length.new.bytes) (vec_capacity c.put_bytes.new.bytes)
-    BUFFER_MAX c.args.self.now.byte_room c.put_length.ensures.items c.put_bytes.ensures.items (length-length_code len).1 is c.put_length.ensures.capacity c.put_bytes.ensures.capacity
+    left c.self.inside.bytes.items (base_128 len) c.put_length.new.bytes.items c.args.atom.now c.put_bytes.new.bytes.items (vec_capacity c.self.inside.bytes) (vec_capacity c.put_length.new.bytes) (vec_capacity c.put_bytes.new.bytes)
+    BUFFER_MAX c.args.self.now.byte_room c.put_length.ensures.items c.put_bytes.ensures.items (length-base_128 len).1 is c.put_length.ensures.capacity c.put_bytes.ensures.capacity

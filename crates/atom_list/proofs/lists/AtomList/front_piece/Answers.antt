@@ -1,6 +1,7 @@
 use Rattle.std.proofs.Common.{◌≡◌, ℕ, ◌+◌, ◌-◌, ◌<◌, ◌≤◌, List, length, take, drop, get_or, slice_range, sym, ◌∙◌, ap, subst, arith}
 use Rattle.std.proofs.lemmas.List.{length-take, length-drop}
-use Rattle.context_model.specs.Framing.{frame, size_of}
+use Rattle.context_model.specs.declared.Form.TheVariants.{One}
+use Rattle.context_model.specs.Framing.{frame, frames}
 use Rattle.atom_list.specs.Starts.{atom_at, atoms_at, BeginsFrame, IsFlat, IsPieceOf}
 use Rattle.atom_list.proofs.Flat.{start_is, end_is, front_frame, piece_of, ends_within}
 use Rattle.atom_list.proofs.lists.AtomList.front_piece.Goals as goal
@@ -15,14 +16,14 @@ frame_end-end-requires c =
 
 -- What is known where both ends were looked up.
 ends : (bytes seen starts : List ℕ) (laid from to start last end : ℕ) → IsFlat bytes starts laid → seen ≡ bytes → from < to → to ≤ laid
-    → start ≡ get_or starts from start → last ≡ get_or starts (to - 1) last → end ≡ last + length (frame (atom_at seen last))
-    → (start ≡ size_of (take from (atoms_at bytes starts))) × (end ≡ size_of (take to (atoms_at bytes starts))) × (start ≤ end) × (end ≤ length bytes)
+    → start ≡ get_or starts from start → last ≡ get_or starts (to - 1) last → end ≡ last + length (frame One (atom_at seen last))
+    → (start ≡ length (frames One (take from (atoms_at bytes starts)))) × (end ≡ length (frames One (take to (atoms_at bytes starts)))) × (start ≤ end) × (end ≤ length bytes)
 ends bytes seen starts laid from to start last end flat same order within at_start at_last at_end =
-    let s : start ≡ size_of (take from (atoms_at bytes starts)) = at_start ∙ start_is bytes starts laid flat from start (omega arith) in
+    let s : start ≡ length (frames One (take from (atoms_at bytes starts))) = at_start ∙ start_is bytes starts laid flat from start (omega arith) in
     let next : to - 1 + 1 ≡ to = omega arith in
-    let t : end ≡ size_of (take to (atoms_at bytes starts)) =
-    at_end ∙ ap (λ v. last + length (frame (atom_at v last))) same ∙ ap (λ n. n + length (frame (atom_at bytes n))) at_last ∙ end_is bytes starts laid flat (to - 1) last (omega arith)
-    ∙ ap (λ n. size_of (take n (atoms_at bytes starts))) next in
+    let t : end ≡ length (frames One (take to (atoms_at bytes starts))) =
+    at_end ∙ ap (λ v. last + length (frame One (atom_at v last))) same ∙ ap (λ n. n + length (frame One (atom_at bytes n))) at_last ∙ end_is bytes starts laid flat (to - 1) last (omega arith)
+    ∙ ap (λ n. length (frames One (take n (atoms_at bytes starts)))) next in
     let b = ends_within bytes starts laid flat from to (omega arith) within in
     (s, t, omega arith, omega arith)
 
@@ -38,7 +39,7 @@ slice_bounds-result-start c =
 
 -- The piece, as the slices are seen.
 piece : (bytes seen : List ℕ) (starts starts' : List ℕ) (list : List (List ℕ)) (laid from to start end : ℕ) → IsFlat bytes starts laid → seen ≡ bytes → starts' ≡ starts → atoms_at bytes starts ≡ list → from ≤ to → to ≤ laid
-    → start ≡ size_of (take from (atoms_at bytes starts)) → end ≡ size_of (take to (atoms_at bytes starts))
+    → start ≡ length (frames One (take from (atoms_at bytes starts))) → end ≡ length (frames One (take to (atoms_at bytes starts)))
     → IsPieceOf (take (end - start) (drop start seen)) start (take (to - from) (drop from starts')) (slice_range list from (from + length (take (to - from) (drop from starts'))))
 piece bytes seen starts starts' list laid from to start end flat e f view order within s t =
     let count : to ≡ from + length (take (to - from) (drop from starts')) = omega (arith, length-take (to - from) (drop from starts'), length-drop from starts', ap length f, flat.within) in
