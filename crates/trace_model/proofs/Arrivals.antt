@@ -1,6 +1,7 @@
 -- The paths that arrive at a step: those of all writes and received lists that reach it.
 use Rattle.std.proofs.Common.{◌≡◌, ◌⊎◌, inl, inr, ℕ, zero, suc, ◌<◌, List, [], ◌∷◌, length, map, Some, true, false, Bool, refl, sym, subst, arith}
 use Rattle.std.specs.List.{slice_get}
+use Rattle.context_model.specs.declared.Form.{Form}
 use Rattle.context_model.specs.Atoms.{Atom}
 use Rattle.context_model.specs.Orders.{Path, IsIn}
 use Rattle.context_model.specs.Framing.{size_of}
@@ -17,9 +18,9 @@ use Rattle.bag_model.specs.Readings.{PathsOf}
 use Rattle.bag_model.specs.Encodings.{InLayouts}
 use Rattle.bag_model.proofs.PathSets.{AnyOf}
 use Rattle.bag_model.proofs.SlotsBelow.{in_map}
-use Rattle.trace_model.specs.Graphs.{Act, Start, Recv, Set, Branch, Forward, Trim, Join, Step, Graph, parents_of, HasStep, view_at, IsActOf, IsRecorded}
+use Rattle.trace_model.specs.Graphs.{Act, Start, Recv, Set, Branch, Forward, Trim, Join, Step, Graph, parents_of, HasStep, view_at, IsActOf, IsRecorded, form_at}
 use Rattle.trace_model.specs.Runs.{list_at, parents_lists, Gives, IsRun}
-use Rattle.trace_model.specs.Truth.{IsReachedBy, Cuts, WasCut}
+use Rattle.trace_model.specs.Truth.{IsReachedBy, Cuts, WasCut, CutsIn}
 use Rattle.trace_model.proofs.ReachLaws.{reached_split, reached_joined}
 use Rattle.trace_model.proofs.SlotParts.{map_in}
 use Rattle.trace_model.proofs.Telling.{Tells, NoPath, PathsOfEach, Tells-received, Tells-empty, Tells-encoded, Tells-same, Tells-union, Tells-normal, Tells-trimmed}
@@ -36,7 +37,7 @@ Carries nodes p (Join parents) = ⊥
 
 -- A step that reaches n brings the path.
 abbrev pub Arrives : Nodes → Graph → ℕ → Path → Type 0
-Arrives nodes graph n p = IsReachedBy graph n (Carries nodes p)
+Arrives nodes graph n p = IsReachedBy graph n (λ step. Carries nodes p step.act)
 
 -- ---- places of lists
 
@@ -71,15 +72,15 @@ OfParent T act = (parent : ℕ) × IsIn parent (parents_of act) × T parent
 of_one : (T : ℕ → Type 0) (parent : ℕ) → (m : ℕ) × IsIn m (parent ∷ []) × T m → T parent
 of_one T parent s = elim s.1 [ inl e ↦ subst T e s.2 | inr none ↦ elim none [ ] ]
 
-module _ (nodes : Nodes) (table : IsTable nodes) (lists : List (List Atom)) (A : ℕ → Path → Type 0) (C : ℕ → Type 0) where
+module _ (nodes : Nodes) (table : IsTable nodes) (form : Form) (lists : List (List Atom)) (A : ℕ → Path → Type 0) (C : ℕ → Type 0) where
   abbrev Told : Act → Path → Type 0
   Told act p = Carries nodes p act ⊎ OfParent (λ parent. A parent p) act
 
   abbrev CutThere : Act → Type 0
-  CutThere act = Cuts lists act ⊎ OfParent C act
+  CutThere act = CutsIn form lists act ⊎ OfParent C act
 
   -- the parent's list itself, or its normal form
-  tells_parent : (act : Act) (parent : ℕ) (list : List Atom) → (parents_of act ≡ parent ∷ []) → ((p : Path) → Carries nodes p act → ⊥) → (Cuts lists act → ⊥)
+  tells_parent : (act : Act) (parent : ℕ) (list : List Atom) → (parents_of act ≡ parent ∷ []) → ((p : Path) → Carries nodes p act → ⊥) → (CutsIn form lists act → ⊥)
       → Tells nodes list (A parent) (C parent) → Tells nodes list (Told act) (CutThere act)
   tells_parent act parent list one none uncut t = Tells-same nodes list (A parent) (Told act) (C parent) (CutThere act)
       (λ p. ((λ a. inr (parent, here, a)), λ s. elim s [ inl c ↦ absurd (none p c) | inr d ↦ back (λ m. A m p) d ]))
@@ -168,7 +169,7 @@ module _ (nodes : Nodes) (table : IsTable nodes) (lists : List (List Atom)) (A :
       some (inr s) = ((s.0, s.1), s.2)
 
   -- What an act gives.
-  act_tells : (view : View) (act : Act) (list : List Atom) → IsActOf nodes view act → Gives nodes view act (parents_lists lists act) list
+  act_tells : (view : View) (act : Act) (list : List Atom) → IsActOf nodes view act → Gives nodes form view act (parents_lists lists act) list
       → ((parent : ℕ) → IsIn parent (parents_of act) → Tells nodes (list_at lists parent) (A parent) (C parent)) → Tells nodes list (Told act) (CutThere act)
   act_tells view Start list may g t = subst (λ l. Tells nodes l (Told Start) (CutThere Start)) (sym g) (Tells-same nodes [] NoPath (Told Start) ⊥ (CutThere Start)
       (λ p. ((λ none. absurd none), λ s. elim s [ inl none ↦ none | inr d ↦ d.1 ])) ((λ none. absurd none), λ s. elim s [ inl none ↦ none | inr d ↦ d.1 ]) (Tells-empty nodes))
@@ -181,10 +182,10 @@ module _ (nodes : Nodes) (table : IsTable nodes) (lists : List (List Atom)) (A :
   act_tells view (Forward parent) list may g t =
       tells_parent (Forward parent) parent list refl (λ p none. none) (λ none. none) (Tells-normal nodes view (list_at lists parent) list (A parent) (C parent) table g (t parent (inl refl)))
   act_tells view (Trim parent budget) list may g t = subst (λ l. Tells nodes l (Told (Trim parent budget)) (CutThere (Trim parent budget))) (sym g)
-      (Tells-same nodes (trimmed (list_at lists parent) budget) (A parent) (Told (Trim parent budget)) ((budget < size_of (list_at lists parent)) ⊎ C parent) (CutThere (Trim parent budget))
+      (Tells-same nodes (trimmed form (list_at lists parent) budget) (A parent) (Told (Trim parent budget)) ((budget < size_of form (list_at lists parent)) ⊎ C parent) (CutThere (Trim parent budget))
       (λ p. ((λ a. inr (parent, inl refl, a)), λ s. elim s [ inl none ↦ absurd none | inr d ↦ of_one (λ m. A m p) parent d ]))
       ((λ s. elim s [ inl over ↦ inl over | inr c ↦ inr (parent, inl refl, c) ]), λ s. elim s [ inl over ↦ inl over | inr d ↦ inr (of_one C parent d) ])
-      (Tells-trimmed nodes (list_at lists parent) budget (A parent) (C parent) (t parent (inl refl))))
+      (Tells-trimmed nodes form (list_at lists parent) budget (A parent) (C parent) (t parent (inl refl))))
   act_tells view (Join parents) list may g t =
       Tells-normal nodes view g.merged list (Told (Join parents)) (CutThere (Join parents)) table g.normal (tells_join parents g.merged g.merge t)
 
@@ -196,11 +197,11 @@ module _ (nodes : Nodes) (graph : Graph) (lists : List (List Atom)) (recorded : 
   TellsAt n = Tells nodes (list_at lists n) (Arrives nodes graph n) (WasCut graph lists n)
 
   step_tells : (n : ℕ) (step : Step) → HasStep graph n step → ((parent : ℕ) → IsIn parent (parents_of step.act) → TellsAt parent) → TellsAt n
-  step_tells n step there t = Tells-same nodes (list_at lists n) (Told nodes recorded.table lists (Arrives nodes graph) (WasCut graph lists) step.act) (Arrives nodes graph n)
-      (CutThere nodes recorded.table lists (Arrives nodes graph) (WasCut graph lists) step.act) (WasCut graph lists n)
-      (λ p. (reached_joined graph n step there (Carries nodes p), reached_split graph n step there (Carries nodes p)))
-      (reached_joined graph n step there (Cuts lists), reached_split graph n step there (Cuts lists))
-      (act_tells nodes recorded.table lists (Arrives nodes graph) (WasCut graph lists) (view_at graph step.service) step.act (list_at lists n)
+  step_tells n step there t = Tells-same nodes (list_at lists n) (Told nodes recorded.table (form_at graph step.service) lists (Arrives nodes graph) (WasCut graph lists) step.act) (Arrives nodes graph n)
+      (CutThere nodes recorded.table (form_at graph step.service) lists (Arrives nodes graph) (WasCut graph lists) step.act) (WasCut graph lists n)
+      (λ p. (reached_joined graph n step there (λ step. Carries nodes p step.act), reached_split graph n step there (λ step. Carries nodes p step.act)))
+      (reached_joined graph n step there (Cuts graph lists), reached_split graph n step there (Cuts graph lists))
+      (act_tells nodes recorded.table (form_at graph step.service) lists (Arrives nodes graph) (WasCut graph lists) (view_at graph step.service) step.act (list_at lists n)
       ((recorded.fits).acts n step there) (run.each n step (within_get graph.steps n step there) there) t)
 
   tells_before : (bound n : ℕ) → n < bound → n < length graph.steps → TellsAt n

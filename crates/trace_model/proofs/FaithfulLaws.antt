@@ -1,6 +1,7 @@
 -- The lists of a run are faithful.
 use Rattle.std.proofs.Common.{◌≡◌, ◌≢◌, inl, inr, ℕ, ◌<◌, List, [], ◌∷◌, ◌++◌, map, Some, refl, sym, ap, ◌∙◌, subst, append_assoc, arith}
 use Rattle.std.specs.List.{slice_get}
+use Rattle.context_model.specs.declared.Form.{Form}
 use Rattle.context_model.specs.Atoms.{Atom}
 use Rattle.context_model.specs.Orders.{Path, IsIn}
 use Rattle.context_model.specs.WellFormed.{IsWellFormed}
@@ -29,7 +30,7 @@ use Rattle.bag_model.proofs.MergeReadingLaws.{PathsOf-headers}
 use Rattle.bag_model.proofs.SlotsBelow.{in_map, get_in}
 use Rattle.bag_model.proofs.NormalLaws.{normal_form_keeps}
 use Rattle.bag_model.proofs.EachSlot.{ReadsSlot, each_slot-at, ReadsEach-slots}
-use Rattle.trace_model.specs.Graphs.{Act, Start, Recv, Set, Branch, Forward, Trim, Join, Step, Graph, parents_of, HasStep, view_at}
+use Rattle.trace_model.specs.Graphs.{Act, Start, Recv, Set, Branch, Forward, Trim, Join, Step, Graph, parents_of, HasStep, view_at, form_at}
 use Rattle.trace_model.specs.Runs.{list_at, parents_lists, Gives}
 use Rattle.trace_model.specs.Truth.{IsAdded, IsTruth, IsTruthAt, WasCut, ReceivesForeign, IsForeignOf, AreReachedAlike}
 use Rattle.trace_model.specs.Faithful.{IsRunStep, IsFaithful, RunsAreFaithful, EndsInParents, AlikeStepsSayTheSame}
@@ -128,7 +129,7 @@ module _ (nodes : Nodes) (graph : Graph) (lists : List (List Atom)) (n : ℕ) (s
   received_there p f = by (ends_plainly p f.1)
     where
       by : EndsPlainly p → IsForeignOf nodes graph n p
-      by e = reached_so graph n (Carries nodes p) (ReceivesForeign nodes p) (λ act c. foreign_of nodes p act f.1 f.2 c)
+      by e = reached_so graph n (λ step. Carries nodes p step.act) (λ step. ReceivesForeign nodes p step.act) (λ step c. foreign_of nodes p step.act f.1 f.2 c)
           (subst arriving (sym e.3) ((tells).arrived e.0 e.1 e.2 (subst (PathsOf the_list) e.3 f.0)))
 
   kept_there : (HasMarker the_list → ⊥) → (p : Path) → IsForeignOf nodes graph n p → IsForeign nodes the_list p
@@ -137,7 +138,7 @@ module _ (nodes : Nodes) (graph : Graph) (lists : List (List Atom)) (n : ℕ) (s
       here : last_atom p ≢ [] → (AreUsed nodes [] p → ⊥) → EndsPlainly p → IsForeign nodes the_list p
       here plain unused e = (
         subst (PathsOf the_list) (sym e.3) ((tells).unused none e.0 e.1 e.2 (λ u. unused (subst (AreUsed nodes []) (sym e.3) u))
-            (subst arriving e.3 (reached_so graph n (ReceivesForeign nodes p) (Carries nodes p) (λ act f. (foreign_parts nodes p act f).0) r))),
+            (subst arriving e.3 (reached_so graph n (λ step. ReceivesForeign nodes p step.act) (λ step. Carries nodes p step.act) (λ step f. (foreign_parts nodes p step.act f).0) r))),
         plain,
         unused,
       )
@@ -175,19 +176,19 @@ module _ (nodes : Nodes) (table : IsTable nodes) (lists : List (List Atom)) (at 
   only_parent own parent (inl e) f = subst (λ m. EndedIn (list_at lists m)) (sym e) f
   only_parent own parent (inr none) f = elim none [ ]
 
-  ended_parent : (view : View) (act : Act) (list : List Atom) → Gives nodes view act (parents_lists lists act) list
+  ended_parent : (form : Form) (view : View) (act : Act) (list : List Atom) → Gives nodes form view act (parents_lists lists act) list
       → ((parent : ℕ) → IsIn parent (parents_of act) → IsWellFormed (list_at lists parent))
       → (parent : ℕ) → IsIn parent (parents_of act) → EndedIn list → EndedIn (list_at lists parent)
-  ended_parent view Start list g w parent j e = elim j [ ]
-  ended_parent view (Recv received) list g w parent j e = elim j [ ]
-  ended_parent view (Set own slot v) list g w parent j e = only_parent own parent j
+  ended_parent form view Start list g w parent j e = elim j [ ]
+  ended_parent form view (Recv received) list g w parent j e = elim j [ ]
+  ended_parent form view (Set own slot v) list g w parent j e = only_parent own parent j
       (IsEnded-fewer (list_at lists own ∷ g.written ∷ []) (g.normal).merged (list_at lists own) (field_path at.numbers) (w own (inl refl), ((g.encoding).well_formed, tt)) (g.normal).merge (inl refl)
       (normal_ended nodes view (g.normal).merged list at table ((g.normal).merge).well_formed (g.normal).normal i e))
-  ended_parent view (Branch own) list g w parent j e = only_parent own parent j (subst EndedIn g e)
-  ended_parent view (Forward own) list g w parent j e = only_parent own parent j (normal_ended nodes view (list_at lists own) list at table (w own (inl refl)) g i e)
-  ended_parent view (Trim own budget) list g w parent j e =
-      only_parent own parent j (trimmed_ended (list_at lists own) budget (field_path at.numbers) (w own (inl refl)) (subst EndedIn g e))
-  ended_parent view (Join parents) list g w parent j e =
+  ended_parent form view (Branch own) list g w parent j e = only_parent own parent j (subst EndedIn g e)
+  ended_parent form view (Forward own) list g w parent j e = only_parent own parent j (normal_ended nodes view (list_at lists own) list at table (w own (inl refl)) g i e)
+  ended_parent form view (Trim own budget) list g w parent j e =
+      only_parent own parent j (trimmed_ended form (list_at lists own) budget (field_path at.numbers) (w own (inl refl)) (subst EndedIn g e))
+  ended_parent form view (Join parents) list g w parent j e =
       IsEnded-fewer (map (list_at lists) parents) g.merged (list_at lists parent) (field_path at.numbers)
       (All-from IsWellFormed (map (list_at lists) parents) (λ l k. let m = in_map (list_at lists) parents l k in subst IsWellFormed (sym m.2) (w m.0 m.1)))
       g.merge (map_in (list_at lists) parents parent j) (normal_ended nodes view g.merged list at table (g.merge).well_formed g.normal i e)
@@ -201,7 +202,7 @@ parents_well_formed nodes graph lists n step s there parent i =
 
 pub ends_in_parents : EndsInParents
 ends_in_parents nodes graph lists n parent slot step at s there i has e =
-    ended_parent nodes (s.recorded).table lists at (get_in (slots_of nodes) slot at has) (view_at graph step.service) step.act (list_at lists n)
+    ended_parent nodes (s.recorded).table lists at (get_in (slots_of nodes) slot at has) (form_at graph step.service) (view_at graph step.service) step.act (list_at lists n)
     ((s.run).each n step s.within there) (parents_well_formed nodes graph lists n step s there) parent i e
 
 -- ---- two steps that are reached alike

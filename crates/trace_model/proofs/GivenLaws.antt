@@ -2,6 +2,7 @@
 use Rattle.std.proofs.Common.{◌⊎◌, inl, inr, ℕ, ◌<◌, ◌≤◌, List, [], ◌∷◌, sym, subst}
 use Rattle.std.proofs.lemmas.Bool.{cases_lt}
 use Rattle.std.specs.List.{AllByRecursion}
+use Rattle.context_model.specs.declared.Form.{Form}
 use Rattle.context_model.specs.Atoms.{Atom}
 use Rattle.context_model.specs.Framing.{size_of}
 use Rattle.context_model.specs.Trimmed.{cut_at, kept_of, trimmed}
@@ -47,25 +48,25 @@ module _ (nodes : Nodes) (table : IsTable nodes) where
         (All-from (λ l. AreTyped nodes (PathsOf l) []) lists (λ l i. (All-at (IsTypedContext nodes) lists l each i).typed));
   }) m.normal
 
-  trimmed_context : (list : List Atom) (budget : ℕ) → IsTypedContext nodes list → IsTypedContext nodes (trimmed list budget)
-  trimmed_context list budget c = record { well_formed = trimmed-well_formed list budget c.well_formed; typed = by (cases_lt budget (size_of list)) }
+  trimmed_context : (form : Form) (list : List Atom) (budget : ℕ) → IsTypedContext nodes list → IsTypedContext nodes (trimmed form list budget)
+  trimmed_context form list budget c = record { well_formed = trimmed-well_formed form list budget c.well_formed; typed = by (cases_lt budget (size_of form list)) }
     where
-      by : (budget < size_of list) ⊎ (size_of list ≤ budget) → AreTyped nodes (PathsOf (trimmed list budget)) []
-      by (inl over) = subst (λ l. AreTyped nodes (PathsOf l) []) (sym (trimmed-cut list budget over))
-          (AreTyped-fewer nodes (PathsOf (cut_at (kept_of list budget) list)) (PathsOf list) [] (cut_fewer list (kept_of list budget) c.well_formed) c.typed)
-      by (inr fits) = subst (λ l. AreTyped nodes (PathsOf l) []) (sym (trimmed-fits list budget fits)) c.typed
+      by : (budget < size_of form list) ⊎ (size_of form list ≤ budget) → AreTyped nodes (PathsOf (trimmed form list budget)) []
+      by (inl over) = subst (λ l. AreTyped nodes (PathsOf l) []) (sym (trimmed-cut form list budget over))
+          (AreTyped-fewer nodes (PathsOf (cut_at (kept_of form list budget) list)) (PathsOf list) [] (cut_fewer list (kept_of form list budget) c.well_formed) c.typed)
+      by (inr fits) = subst (λ l. AreTyped nodes (PathsOf l) []) (sym (trimmed-fits form list budget fits)) c.typed
 
 pub gives_contexts : GivesContexts
-gives_contexts nodes view Start parents list table may each g = subst (IsTypedContext nodes) (sym g) (empty_context nodes table)
-gives_contexts nodes view (Recv received) parents list table may each g = normal_context nodes table view received list may g
-gives_contexts nodes view (Set parent slot v) parents list table may each g = merged_context nodes table view (list_at parents 0 ∷ g.written ∷ []) list (first_context nodes table parents each, (written, tt)) g.normal
+gives_contexts nodes form view Start parents list table may each g = subst (IsTypedContext nodes) (sym g) (empty_context nodes table)
+gives_contexts nodes form view (Recv received) parents list table may each g = normal_context nodes table view received list may g
+gives_contexts nodes form view (Set parent slot v) parents list table may each g = merged_context nodes table view (list_at parents 0 ∷ g.written ∷ []) list (first_context nodes table parents each, (written, tt)) g.normal
   where
     encoded : IsEncodingOf nodes (only nodes slot v) g.written
     encoded = record { table = table; shapes = (only_fits).shapes nodes slot may.at v may.there may.shape; encoding = g.encoding }
 
     written : IsTypedContext nodes g.written
     written = record { well_formed = (g.encoding).well_formed; typed = (encodings_read_back).typed nodes (only nodes slot v) g.written encoded }
-gives_contexts nodes view (Branch parent) parents list table may each g = subst (IsTypedContext nodes) (sym g) (first_context nodes table parents each)
-gives_contexts nodes view (Forward parent) parents list table may each g = normal_context nodes table view (list_at parents 0) list (first_context nodes table parents each) g
-gives_contexts nodes view (Trim parent budget) parents list table may each g = subst (IsTypedContext nodes) (sym g) (trimmed_context nodes table (list_at parents 0) budget (first_context nodes table parents each))
-gives_contexts nodes view (Join named) parents list table may each g = merged_context nodes table view parents list each g
+gives_contexts nodes form view (Branch parent) parents list table may each g = subst (IsTypedContext nodes) (sym g) (first_context nodes table parents each)
+gives_contexts nodes form view (Forward parent) parents list table may each g = normal_context nodes table view (list_at parents 0) list (first_context nodes table parents each) g
+gives_contexts nodes form view (Trim parent budget) parents list table may each g = subst (IsTypedContext nodes) (sym g) (trimmed_context nodes table form (list_at parents 0) budget (first_context nodes table parents each))
+gives_contexts nodes form view (Join named) parents list table may each g = merged_context nodes table view parents list each g

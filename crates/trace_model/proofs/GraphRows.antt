@@ -2,8 +2,9 @@
 -- and a join with a list that was received.
 use Rattle.std.proofs.Common.{◌≡◌, inl, inr, ℕ, zero, suc, ◌+◌, ◌<◌, ◌≤◌, true, false, List, [], ◌∷◌, length, Some, Less, Equal, Greater, refl, sym, ap, ◌∙◌, subst, arith}
 use Rattle.std.specs.List.{slice_get}
+use Rattle.context_model.specs.declared.Form.TheVariants.{One, Two}
 use Rattle.context_model.specs.Atoms.{Atom}
-use Rattle.context_model.specs.Framing.{length_code}
+use Rattle.context_model.specs.Framing.{base_128}
 use Rattle.context_model.specs.Kinds.{HasKind}
 use Rattle.context_model.specs.Kinds.Kind.{Datum, Indexed}
 use Rattle.context_model.specs.Orders.{Path, path_cmp, IsIn}
@@ -29,7 +30,7 @@ use Rattle.bag_model.specs.Normal.{Keeping, EachDatum, SomeHoldsData, GivesWay, 
 use Rattle.bag_model.proofs.Finite.{bytes_at-back}
 use Rattle.bag_model.proofs.SlotsBelow.{get_in}
 use Rattle.bag_model.proofs.DataPlaces.{slots_place}
-use Rattle.trace_model.specs.Graphs.{Act, Start, Recv, Set, Branch, Forward, Trim, Join, Service, Step, Graph, parents_of, HasStep, HasService, view_at, IsSoundAct, StaysAt, IsGraph, IsActOf, IsViewOf, IsOfTable, IsRecorded}
+use Rattle.trace_model.specs.Graphs.{Act, Start, Recv, Set, Branch, Forward, Trim, Join, Service, Step, Graph, parents_of, HasStep, HasService, view_at, IsSoundAct, StaysAt, IsGraph, IsActOf, IsViewOf, IsOfTable, IsRecorded, form_at}
 use Rattle.trace_model.specs.Runs.{list_at, StepGives, IsRun, IsNormalMerge}
 use Rattle.trace_model.specs.Truth.{itself, IsReachedBy, Adds, IsAdded, IsTruth, IsTruthAt, WasCut, AreReachedAlike}
 use Rattle.trace_model.specs.Faithful.{IsRunStep}
@@ -55,7 +56,7 @@ on = 0 ∷ []
 
 -- A service that knows all, and one that knows nothing.
 abbrev row_services : List Service
-row_services = record { name = 99 ∷ []; view = All } ∷ record { name = 100 ∷ []; view = Nothing } ∷ []
+row_services = record { name = 99 ∷ []; form = One; view = All } ∷ record { name = 100 ∷ []; form = One; view = Nothing } ∷ []
 
 abbrev at : ℕ → Act → Step
 at service act = record { service = service; act = act }
@@ -164,8 +165,8 @@ encodes_b = record { well_formed = b_on_sound; exact = λ p. (there p, back p) }
 normal_merge : (view : View) (a b merged : List Atom) → IsMerged (a ∷ b ∷ []) merged → IsNormalMerge row_nodes view (a ∷ b ∷ []) merged
 normal_merge view a b merged m = record { merged = merged; merge = m; normal = taints_stay view merged }
 
-cuts : cut ≡ trimmed both_on 9
-unfolding trimmed kept_of length_code
+cuts : cut ≡ trimmed One both_on 9
+unfolding trimmed kept_of base_128
 cuts = refl
 
 -- ---- the run
@@ -196,7 +197,7 @@ row_run = record { as_many = refl; each = row_each }
 
 -- The trim cut something off.
 pub row_cut : WasCut row_graph row_lists 3
-unfolding length_code
+unfolding base_128
 row_cut = record { from = 3; step = at 0 (Trim 2 9); there = refl; reaches = itself; does = omega arith }
 
 -- ---- the graph is sound
@@ -230,7 +231,7 @@ stands_at service own parent there is (inr none) has s at = elim none [ ]
 
 row_sound : IsGraph row_graph
 row_sound = record {
-  acts = each_at (λ n step. IsSoundAct step.act) row_steps (tt, (tt, (tt, (omega arith, (tt, (tt, (tt, (omega arith, tt))))))));
+  acts = each_at (λ n step. IsSoundAct (form_at row_graph step.service) step.act) row_steps (tt, (tt, (tt, (omega arith, (tt, (tt, (tt, (omega arith, tt))))))));
   earlier = λ n parent step e. each_at (λ n step. (parent : ℕ) → IsIn parent (parents_of step.act) → parent < n) row_steps (
     λ parent i. no_parent parent i,
     (
@@ -333,8 +334,8 @@ row_of_table = record {
 }
   where
     views : (n : ℕ) (service : Service) → HasService row_graph n service → IsViewOf row_nodes service.view
-    views zero service e = let same : record { name = 99 ∷ []; view = All } ≡ service = cc in subst (λ (s : Service). IsViewOf row_nodes s.view) same tt
-    views (suc zero) service e = let same : record { name = 100 ∷ []; view = Nothing } ≡ service = cc in subst (λ (s : Service). IsViewOf row_nodes s.view) same tt
+    views zero service e = let same : record { name = 99 ∷ []; form = One; view = All } ≡ service = cc in subst (λ (s : Service). IsViewOf row_nodes s.view) same tt
+    views (suc zero) service e = let same : record { name = 100 ∷ []; form = One; view = Nothing } ≡ service = cc in subst (λ (s : Service). IsViewOf row_nodes s.view) same tt
     views (suc (suc n)) service e = absurd (cc e)
 
     none : (payload : List ℕ) → IsIn payload [] → payload ≡ []
@@ -350,10 +351,13 @@ row_recorded = record { table = row_table; sound = row_sound; fits = row_of_tabl
 
 -- ---- what no sound graph does
 
-row_no_budget : IsSoundAct (Trim 0 0) → ⊥
+row_no_head : IsSoundAct Two (Trim 0 12) → ⊥
+row_no_head l = omega (arith, l)
+
+row_no_budget : IsSoundAct One (Trim 0 0) → ⊥
 row_no_budget l = omega (arith, l)
 
-row_no_parents : IsSoundAct (Join []) → ⊥
+row_no_parents : IsSoundAct One (Join []) → ⊥
 row_no_parents l = omega (arith, l)
 
 -- A trim or a join elsewhere than at its parents' service.
@@ -456,11 +460,11 @@ row_b_truth = by ((has_one_truth).some row_nodes row_graph 3 row_recorded (omega
     -- a trim adds nothing
     alike : AreReachedAlike row_nodes row_graph 2 row_graph 3
     alike vs = (
-      (λ r. reached_from row_graph 3 (at 0 (Trim 2 9)) refl (Adds row_nodes vs) 2 (inl refl) r),
-      λ r. elim (reached_split row_graph 3 (at 0 (Trim 2 9)) refl (Adds row_nodes vs) r) [ inl none ↦ absurd none | inr s ↦ one s ],
+      (λ r. reached_from row_graph 3 (at 0 (Trim 2 9)) refl (λ step. Adds row_nodes vs step.act) 2 (inl refl) r),
+      λ r. elim (reached_split row_graph 3 (at 0 (Trim 2 9)) refl (λ step. Adds row_nodes vs step.act) r) [ inl none ↦ absurd none | inr s ↦ one s ],
     )
       where
-        one : (parent : ℕ) × IsIn parent (2 ∷ []) × IsReachedBy row_graph parent (Adds row_nodes vs) → IsAdded row_nodes row_graph 2 vs
+        one : (parent : ℕ) × IsIn parent (2 ∷ []) × IsReachedBy row_graph parent (λ step. Adds row_nodes vs step.act) → IsAdded row_nodes row_graph 2 vs
         one s = elim s.1 [ inl e ↦ subst (λ n. IsAdded row_nodes row_graph n vs) e s.2 | inr i ↦ elim i [ ] ]
 
     by : (truth : Values) × IsTruth row_nodes row_graph 3 truth → IsTruthAt row_nodes row_graph 2 1 (Taint true) → IsTruthAt row_nodes row_graph 3 1 (Taint true)

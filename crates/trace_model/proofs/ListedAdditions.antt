@@ -82,7 +82,7 @@ module _ (nodes : Nodes) (graph : Graph) (recorded : IsRecorded nodes graph) whe
   step_listed : (n : ℕ) (step : Step) → HasStep graph n step → ((parent : ℕ) → IsIn parent (parents_of step.act) → CanBeListed (IsAdded nodes graph parent)) → CanBeListed (IsAdded nodes graph n)
   step_listed n step there f =
       both_listed (λ vs. Adds nodes vs step.act) (SomeAdds (parents_of step.act)) (IsAdded nodes graph n)
-      (λ vs. reached_split graph n step there (Adds nodes vs)) (λ vs. reached_joined graph n step there (Adds nodes vs))
+      (λ vs. reached_split graph n step there (λ step. Adds nodes vs step.act)) (λ vs. reached_joined graph n step there (λ step. Adds nodes vs step.act))
       (act_listed nodes (view_at graph step.service) step.act recorded.table ((recorded.fits).acts n step there)) (parents_listed (parents_of step.act) f)
 
   listed_before : (bound n : ℕ) → n < bound → n < length graph.steps → CanBeListed (IsAdded nodes graph n)

@@ -1,6 +1,7 @@
 -- A graph has one run, and a run grows by one list after another.
 use Rattle.std.proofs.Common.{◌≡◌, ◌⊎◌, inl, inr, ℕ, zero, suc, ◌<◌, ◌≤◌, List, [], ◌∷◌, ◌++◌, length, map, refl, sym, ◌∙◌, subst, length-append, arith}
 use Rattle.std.proofs.lemmas.Bool.{cases_lt}
+use Rattle.context_model.specs.declared.Form.{Form}
 use Rattle.context_model.specs.Atoms.{Atom}
 use Rattle.context_model.specs.Orders.{IsIn}
 use Rattle.context_model.specs.WellFormed.{IsWellFormed}
@@ -12,7 +13,7 @@ use Rattle.bag_model.specs.Views.{View}
 use Rattle.bag_model.specs.Normal.{IsNormalOf}
 use Rattle.bag_model.proofs.LayoutLaws.{encodings_read_back}
 use Rattle.bag_model.proofs.NormalLaws.{normal_form_keeps}
-use Rattle.trace_model.specs.Graphs.{Act, Start, Recv, Set, Branch, Forward, Trim, Join, Step, Graph, parents_of, HasStep, view_at, IsActOf, IsRecorded}
+use Rattle.trace_model.specs.Graphs.{Act, Start, Recv, Set, Branch, Forward, Trim, Join, Step, Graph, parents_of, HasStep, view_at, IsActOf, IsRecorded, form_at}
 use Rattle.trace_model.specs.Runs.{list_at, parents_lists, IsNormalMerge, Gives, StepGives, RunsTo, IsRun, HasOneRun, RunsGrow}
 use Rattle.trace_model.proofs.ReachLaws.{one_step}
 use Rattle.trace_model.proofs.Arrivals.{get_within}
@@ -29,18 +30,18 @@ one_normal_merge nodes view lists a b table f g =
     one_normal nodes view f.merged a b table (f.merge).well_formed f.normal (subst (λ l. IsNormalOf nodes view l b) same g.normal)
 
 -- Two lists that an act gives are equal.
-pub gives_one : (nodes : Nodes) (view : View) (act : Act) (lists : List (List Atom)) (a b : List Atom) → IsTable nodes → IsActOf nodes view act
+pub gives_one : (nodes : Nodes) (form : Form) (view : View) (act : Act) (lists : List (List Atom)) (a b : List Atom) → IsTable nodes → IsActOf nodes view act
     → ((parent : ℕ) → IsIn parent (parents_of act) → IsWellFormed (list_at lists parent))
-    → Gives nodes view act (parents_lists lists act) a → Gives nodes view act (parents_lists lists act) b → a ≡ b
-gives_one nodes view Start lists a b table may w f g = f ∙ sym g
-gives_one nodes view (Recv received) lists a b table may w f g = one_normal nodes view received a b table may.well_formed f g
-gives_one nodes view (Set parent slot v) lists a b table may w f g =
+    → Gives nodes form view act (parents_lists lists act) a → Gives nodes form view act (parents_lists lists act) b → a ≡ b
+gives_one nodes form view Start lists a b table may w f g = f ∙ sym g
+gives_one nodes form view (Recv received) lists a b table may w f g = one_normal nodes view received a b table may.well_formed f g
+gives_one nodes form view (Set parent slot v) lists a b table may w f g =
     let same : g.written ≡ f.written = (encodings_read_back).one nodes (only nodes slot v) g.written f.written g.encoding f.encoding in
     one_normal_merge nodes view (list_at lists parent ∷ f.written ∷ []) a b table f.normal (subst (λ l. IsNormalMerge nodes view (list_at lists parent ∷ l ∷ []) b) same g.normal)
-gives_one nodes view (Branch parent) lists a b table may w f g = f ∙ sym g
-gives_one nodes view (Forward parent) lists a b table may w f g = one_normal nodes view (list_at lists parent) a b table (w parent (inl refl)) f g
-gives_one nodes view (Trim parent budget) lists a b table may w f g = f ∙ sym g
-gives_one nodes view (Join parents) lists a b table may w f g = one_normal_merge nodes view (map (list_at lists) parents) a b table f g
+gives_one nodes form view (Branch parent) lists a b table may w f g = f ∙ sym g
+gives_one nodes form view (Forward parent) lists a b table may w f g = one_normal nodes view (list_at lists parent) a b table (w parent (inl refl)) f g
+gives_one nodes form view (Trim parent budget) lists a b table may w f g = f ∙ sym g
+gives_one nodes form view (Join parents) lists a b table may w f g = one_normal_merge nodes view (map (list_at lists) parents) a b table f g
 
 -- ---- lists by their places
 
@@ -80,10 +81,10 @@ module _ (nodes : Nodes) (graph : Graph) (a b : List (List Atom)) (recorded : Is
       let parents : parents_lists a (s.0).act ≡ parents_lists b (s.0).act = parents_same a b (parents_of (s.0).act) (λ parent i.
       let earlier : parent < n = (recorded.sound).earlier n parent s.0 s.1 i in
       same_before bound parent (omega (arith, earlier, less)) (omega (arith, earlier, within))) in
-      gives_one nodes (view_at graph (s.0).service) (s.0).act a (list_at a n) (list_at b n) recorded.table ((recorded.fits).acts n s.0 s.1)
+      gives_one nodes (form_at graph (s.0).service) (view_at graph (s.0).service) (s.0).act a (list_at a n) (list_at b n) recorded.table ((recorded.fits).acts n s.0 s.1)
       (parents_well_formed nodes graph a n s.0 (record { recorded = recorded; run = f; within = within }) s.1)
       (f.each n s.0 within s.1)
-      (subst (λ ls. Gives nodes (view_at graph (s.0).service) (s.0).act ls (list_at b n)) (sym parents) (g.each n s.0 within s.1))
+      (subst (λ ls. Gives nodes (form_at graph (s.0).service) (view_at graph (s.0).service) (s.0).act ls (list_at b n)) (sym parents) (g.each n s.0 within s.1))
 
 pub has_one_run : HasOneRun
 has_one_run nodes graph a b recorded f g =
@@ -95,7 +96,7 @@ has_one_run nodes graph a b recorded f g =
 pub gives_moved : (nodes : Nodes) (graph : Graph) (a b : List (List Atom)) (step : Step) (list : List Atom)
     → ((parent : ℕ) → IsIn parent (parents_of step.act) → list_at a parent ≡ list_at b parent)
     → StepGives nodes graph a step list → StepGives nodes graph b step list
-gives_moved nodes graph a b step list f g = subst (λ ls. Gives nodes (view_at graph step.service) step.act ls list) (parents_same a b (parents_of step.act) f) g
+gives_moved nodes graph a b step list f g = subst (λ ls. Gives nodes (form_at graph step.service) (view_at graph step.service) step.act ls list) (parents_same a b (parents_of step.act) f) g
 
 run_more : (nodes : Nodes) (graph : Graph) (lists : List (List Atom)) (n : ℕ) (step : Step) (list : List Atom)
     → IsRecorded nodes graph → RunsTo nodes graph lists n → HasStep graph n step

@@ -54,16 +54,16 @@ module _ (nodes : Nodes) where
   received_adds vs list says (Trim parent budget) r = r
   received_adds vs list says (Join parents) r = r
 
-  added_there : (graph other : Graph) (n m : ℕ) → ((slot : ℕ) (v : Value) → IsReachedBy graph n (Writes slot v) → IsReachedBy other m (Writes slot v))
-      → ((list : List Atom) → IsReachedBy graph n (Receives list) → IsReachedBy other m (Receives list)) → (vs : Values) → IsAdded nodes graph n vs → IsAdded nodes other m vs
+  added_there : (graph other : Graph) (n m : ℕ) → ((slot : ℕ) (v : Value) → IsReachedBy graph n (λ step. Writes slot v step.act) → IsReachedBy other m (λ step. Writes slot v step.act))
+      → ((list : List Atom) → IsReachedBy graph n (λ step. Receives list step.act) → IsReachedBy other m (λ step. Receives list step.act)) → (vs : Values) → IsAdded nodes graph n vs → IsAdded nodes other m vs
   added_there graph other n m writes received vs r = by (added_by vs (r.step).act r.does)
     where
-      said : (Does : Act → Type 0) → Does (r.step).act → IsReachedBy graph n Does
+      said : (Does : Act → Type 0) → Does (r.step).act → IsReachedBy graph n (λ step. Does step.act)
       said Does d = record { from = r.from; step = r.step; there = r.there; reaches = r.reaches; does = d }
 
       by : ((slot : ℕ) × (v : Value) × Writes slot v (r.step).act × (vs ≡ only nodes slot v)) ⊎ ((list : List Atom) × Receives list (r.step).act × SaysValues nodes list vs) → IsAdded nodes other m vs
-      by (inl w) = subst (IsAdded nodes other m) (sym w.3) (reached_so other m (Writes w.0 w.1) (Adds nodes (only nodes w.0 w.1)) (write_adds w.0 w.1) (writes w.0 w.1 (said (Writes w.0 w.1) w.2)))
-      by (inr l) = reached_so other m (Receives l.0) (Adds nodes vs) (received_adds vs l.0 l.2) (received l.0 (said (Receives l.0) l.1))
+      by (inl w) = subst (IsAdded nodes other m) (sym w.3) (reached_so other m (λ step. Writes w.0 w.1 step.act) (λ step. Adds nodes (only nodes w.0 w.1) step.act) (λ step. write_adds w.0 w.1 step.act) (writes w.0 w.1 (said (Writes w.0 w.1) w.2)))
+      by (inr l) = reached_so other m (λ step. Receives l.0 step.act) (λ step. Adds nodes vs step.act) (λ step. received_adds vs l.0 l.2 step.act) (received l.0 (said (Receives l.0) l.1))
 
 pub same_writes_reach_alike : SameWritesReachAlike
 same_writes_reach_alike nodes graph n other m s vs = (

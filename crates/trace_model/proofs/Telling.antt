@@ -1,6 +1,7 @@
 -- What a list tells of the paths that arrive where it stands, and how each operation on lists keeps it.
 use Rattle.std.proofs.Common.{◌⊎◌, inl, inr, ◌↔◌, ℕ, ◌<◌, ◌≤◌, List, [], ◌∷◌, ◌++◌, take, refl, sym, subst, arith}
 use Rattle.std.proofs.lemmas.Bool.{cases_lt}
+use Rattle.context_model.specs.declared.Form.{Form}
 use Rattle.context_model.specs.Atoms.{Atom}
 use Rattle.context_model.specs.Framing.{size_of}
 use Rattle.context_model.specs.Orders.{Path, IsIn}
@@ -160,18 +161,18 @@ tells_cut nodes list keep A C t = record {
     marker : HasMarker (cut_at keep list)
     marker = in_append_second [] (take keep list) ([] ∷ []) (inl refl)
 
-pub Tells-trimmed : (nodes : Nodes) (list : List Atom) (budget : ℕ) (A : Path → Type 0) (C : Type 0) → Tells nodes list A C → Tells nodes (trimmed list budget) A ((budget < size_of list) ⊎ C)
-Tells-trimmed nodes list budget A C t = by (cases_lt budget (size_of list))
+pub Tells-trimmed : (nodes : Nodes) (form : Form) (list : List Atom) (budget : ℕ) (A : Path → Type 0) (C : Type 0) → Tells nodes list A C → Tells nodes (trimmed form list budget) A ((budget < size_of form list) ⊎ C)
+Tells-trimmed nodes form list budget A C t = by (cases_lt budget (size_of form list))
   where
-    by : (budget < size_of list) ⊎ (size_of list ≤ budget) → Tells nodes (trimmed list budget) A ((budget < size_of list) ⊎ C)
-    by (inl over) = subst (λ l. Tells nodes l A ((budget < size_of list) ⊎ C)) (sym (trimmed-cut list budget over))
-        (Tells-same nodes (cut_at (kept_of list budget) list) A A Unit ((budget < size_of list) ⊎ C) (λ p. ((λ a. a), λ a. a)) ((λ u. inl over), λ c. tt) (tells_cut nodes list (kept_of list budget) A C t))
-    by (inr fits) = subst (λ l. Tells nodes l A ((budget < size_of list) ⊎ C)) (sym (trimmed-fits list budget fits))
-        (Tells-same nodes list A A C ((budget < size_of list) ⊎ C) (λ p. ((λ a. a), λ a. a)) ((λ c. inr c), λ c. elim c [ inl over ↦ absurd (omega (arith, over, fits)) | inr d ↦ d ]) t)
+    by : (budget < size_of form list) ⊎ (size_of form list ≤ budget) → Tells nodes (trimmed form list budget) A ((budget < size_of form list) ⊎ C)
+    by (inl over) = subst (λ l. Tells nodes l A ((budget < size_of form list) ⊎ C)) (sym (trimmed-cut form list budget over))
+        (Tells-same nodes (cut_at (kept_of form list budget) list) A A Unit ((budget < size_of form list) ⊎ C) (λ p. ((λ a. a), λ a. a)) ((λ u. inl over), λ c. tt) (tells_cut nodes list (kept_of form list budget) A C t))
+    by (inr fits) = subst (λ l. Tells nodes l A ((budget < size_of form list) ⊎ C)) (sym (trimmed-fits form list budget fits))
+        (Tells-same nodes list A A C ((budget < size_of form list) ⊎ C) (λ p. ((λ a. a), λ a. a)) ((λ c. inr c), λ c. elim c [ inl over ↦ absurd (omega (arith, over, fits)) | inr d ↦ d ]) t)
 
 -- What is ended in a trimmed list was ended.
-pub trimmed_ended : (list : List Atom) (budget : ℕ) (s : Path) → IsWellFormed list → IsEnded (trimmed list budget) s → IsEnded list s
-trimmed_ended list budget s w e = elim (cases_lt budget (size_of list)) [
-  | inl over ↦ cut_ended list (kept_of list budget) w s (subst (λ l. IsEnded l s) (trimmed-cut list budget over) e)
-  | inr fits ↦ subst (λ l. IsEnded l s) (trimmed-fits list budget fits) e
+pub trimmed_ended : (form : Form) (list : List Atom) (budget : ℕ) (s : Path) → IsWellFormed list → IsEnded (trimmed form list budget) s → IsEnded list s
+trimmed_ended form list budget s w e = elim (cases_lt budget (size_of form list)) [
+  | inl over ↦ cut_ended list (kept_of form list budget) w s (subst (λ l. IsEnded l s) (trimmed-cut form list budget over) e)
+  | inr fits ↦ subst (λ l. IsEnded l s) (trimmed-fits form list budget fits) e
 ]

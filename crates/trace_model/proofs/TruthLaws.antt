@@ -213,8 +213,8 @@ module _ (nodes : Nodes) (graph : Graph) (recorded : IsRecorded nodes graph) whe
         join_values s.0 t.0,
         sums_same nodes (Both (λ p. Carries nodes p step.act) (SomeArrives (parents_of step.act))) (Arrives nodes graph n) (EitherOf nodes (λ vs. Adds nodes vs step.act) (SomeAdds (parents_of step.act)))
             (IsAdded nodes graph n) (join_values s.0 t.0)
-            (λ p. (reached_joined graph n step there (Carries nodes p), reached_split graph n step there (Carries nodes p)))
-            (λ vs. (reached_joined graph n step there (Adds nodes vs), reached_split graph n step there (Adds nodes vs)))
+            (λ p. (reached_joined graph n step there (λ step. Carries nodes p step.act), reached_split graph n step there (λ step. Carries nodes p step.act)))
+            (λ vs. (reached_joined graph n step there (λ step. Adds nodes vs step.act), reached_split graph n step there (λ step. Adds nodes vs step.act)))
             (sums_both nodes (λ p. Carries nodes p step.act) (SomeArrives (parents_of step.act)) (λ vs. Adds nodes vs step.act) (SomeAdds (parents_of step.act)) s.0 t.0 s.1 t.1),
       )
 
@@ -236,14 +236,14 @@ module _ (nodes : Nodes) (graph : Graph) (recorded : IsRecorded nodes graph) whe
   -- ---- what arrives is typed
 
   -- what a step that reaches n brings
-  abbrev BroughtBy : (n : ℕ) → IsReachedBy graph n (λ act. Unit {0}) → Path → Type 0
+  abbrev BroughtBy : (n : ℕ) → IsReachedBy graph n (λ (step : Step). Unit {0}) → Path → Type 0
   BroughtBy n r p = Carries nodes p (r.step).act
 
   pub arriving_typed : (n : ℕ) → AreTyped nodes (Arrives nodes graph n) []
   arriving_typed n =
       AreTyped-fewer nodes (Arrives nodes graph n) (AnyOf (BroughtBy n)) []
       (λ p b bytes a. (record { from = a.from; step = a.step; there = a.there; reaches = a.reaches; does = tt }, a.does))
-      (AreTyped-any nodes (IsReachedBy graph n (λ act. Unit {0})) (BroughtBy n) []
+      (AreTyped-any nodes (IsReachedBy graph n (λ (step : Step). Unit {0})) (BroughtBy n) []
       (λ r. (act_sums nodes (view_at graph (r.step).service) (r.step).act recorded.table ((recorded.fits).acts r.from r.step r.there)).1.headers)
       (λ r below. act_typed nodes (view_at graph (r.step).service) (r.step).act recorded.table ((recorded.fits).acts r.from r.step r.there)))
 

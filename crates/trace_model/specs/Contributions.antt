@@ -20,7 +20,7 @@ Contributes slot at (Join parents) x = x ≡ bottom at.shape
 
 -- Some step that reaches n contributes it.
 abbrev pub IsContributed : Graph → ℕ → ℕ → SlotAt → Value → Type 0
-IsContributed graph n slot at x = IsReachedBy graph n (λ act. Contributes slot at act x)
+IsContributed graph n slot at x = IsReachedBy graph n (λ step. Contributes slot at step.act x)
 
 -- Of the values of a shape it is the least that says all that those say of which D holds: it is their join, in whatever order they are joined.
 pub record IsLeastAbove (shape : Shape) (D : Value → Type 0) (least : Value) : Type 0 where

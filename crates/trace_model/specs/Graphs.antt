@@ -1,7 +1,10 @@
 -- Recorded graphs of steps.
-use Rattle.std.specs.Prelude.{◌≡◌, ℕ, ◌<◌, List, [], ◌∷◌, length, Option, Some, None}
+use Rattle.std.specs.Prelude.{◌≡◌, ℕ, ◌<◌, ◌≤◌, List, [], ◌∷◌, length, Option, Some, None}
 use Rattle.std.specs.List.{slice_get, AllByRecursion}
+use Rattle.context_model.specs.declared.Form.{Form}
+use Rattle.context_model.specs.declared.Form.TheVariants.{One}
 use Rattle.context_model.specs.Atoms.{Atom}
+use Rattle.context_model.specs.Framing.{least_budget}
 use Rattle.context_model.specs.Orders.{IsIn}
 use Rattle.context_model.specs.WellFormed.{IsWellFormed}
 use Rattle.bag_model.specs.Shapes.{Nodes}
@@ -25,9 +28,10 @@ pub data Act : Type 0 where
   Trim : ℕ → ℕ → Act
   Join : List ℕ → Act
 
--- A service with its name, and the slots that it knows.
+-- A service with its name, the form in which it writes lists, and the slots that it knows.
 pub record Service : Type 0 where
   pub name : List ℕ
+  pub form : Form
   pub view : View
 
 -- A step: the number of the service where it stands, and what it does.
@@ -68,17 +72,35 @@ view_of (Some service) = service.view
 abbrev pub view_at : Graph → ℕ → View
 view_at graph n = view_of (slice_get graph.services n)
 
+-- The form of a service, and form one where there is none.
+abbrev pub form_of_service : Option Service → Form
+form_of_service None = One
+form_of_service (Some service) = service.form
+
+-- The form of the service with this number.
+abbrev pub form_at : Graph → ℕ → Form
+form_at graph n = form_of_service (slice_get graph.services n)
+
+-- The form of the service where a step stands, and form one where there is none.
+abbrev pub form_of_step : Graph → Option Step → Form
+form_of_step graph None = One
+form_of_step graph (Some step) = form_at graph step.service
+
+-- The form of the service where the step with this number stands.
+abbrev pub step_form : Graph → ℕ → Form
+step_form graph n = form_of_step graph (slice_get graph.steps n)
+
 -- ---- sound graphs
 
--- A budget is at least 1, and a join has at least one parent.
-abbrev pub IsSoundAct : Act → Type 0
-IsSoundAct Start = Unit {0}
-IsSoundAct (Recv received) = Unit {0}
-IsSoundAct (Set parent slot v) = Unit {0}
-IsSoundAct (Branch parent) = Unit {0}
-IsSoundAct (Forward parent) = Unit {0}
-IsSoundAct (Trim parent budget) = 0 < budget
-IsSoundAct (Join parents) = 0 < length parents
+-- At a service of the form a budget is at least the least that a list can be cut to, and a join has at least one parent.
+abbrev pub IsSoundAct : Form → Act → Type 0
+IsSoundAct form Start = Unit {0}
+IsSoundAct form (Recv received) = Unit {0}
+IsSoundAct form (Set parent slot v) = Unit {0}
+IsSoundAct form (Branch parent) = Unit {0}
+IsSoundAct form (Forward parent) = Unit {0}
+IsSoundAct form (Trim parent budget) = least_budget form ≤ budget
+IsSoundAct form (Join parents) = 0 < length parents
 
 -- A step that does this may stand at the second service where a parent stands at the first: only a forward changes it.
 abbrev pub StaysAt : Act → ℕ → ℕ → Type 0
@@ -93,7 +115,7 @@ StaysAt (Join parents) old new = new ≡ old
 -- Each step is sound, names only earlier steps as parents, and stands at a service of the graph, at that of its parents
 -- where it must; and what is shown are steps of the graph.
 pub record IsGraph (graph : Graph) : Type 0 where
-  pub acts : (n : ℕ) (step : Step) → HasStep graph n step → IsSoundAct step.act
+  pub acts : (n : ℕ) (step : Step) → HasStep graph n step → IsSoundAct (form_at graph step.service) step.act
   pub earlier : (n parent : ℕ) (step : Step)
       → HasStep graph n step → IsIn parent (parents_of step.act) → parent < n
   pub services : (n : ℕ) (step : Step)

@@ -1,6 +1,7 @@
 -- The list of each step of a graph.
 use Rattle.std.specs.Prelude.{◌≡◌, ℕ, suc, ◌<◌, List, [], ◌∷◌, ◌++◌, length, map, slice_index_or}
 use Rattle.std.specs.List.{AllByRecursion}
+use Rattle.context_model.specs.declared.Form.{Form}
 use Rattle.context_model.specs.Atoms.{Atom}
 use Rattle.context_model.specs.Merged.{IsMerged}
 use Rattle.context_model.specs.Trimmed.{trimmed}
@@ -11,7 +12,7 @@ use Rattle.bag_model.specs.Tables.{IsTable}
 use Rattle.bag_model.specs.Views.{View}
 use Rattle.bag_model.specs.Encodings.{IsEncoding}
 use Rattle.bag_model.specs.Normal.{IsNormalOf}
-use Rattle.trace_model.specs.Graphs.{Act, Start, Recv, Set, Branch, Forward, Trim, Join, Step, Graph, parents_of, HasStep, view_at, IsTypedContext, IsActOf, IsRecorded}
+use Rattle.trace_model.specs.Graphs.{Act, Start, Recv, Set, Branch, Forward, Trim, Join, Step, Graph, parents_of, HasStep, form_at, view_at, IsTypedContext, IsActOf, IsRecorded}
 
 -- Lists of atoms; those of steps stand there by the numbers of the steps.
 abbrev pub Lists : Type 0
@@ -39,27 +40,27 @@ pub record IsNormalWrite (nodes : Nodes) (view : View) (slot : ℕ) (v : Value)
   pub encoding : IsEncoding nodes (only nodes slot v) written
   pub normal : IsNormalMerge nodes view (before ∷ written ∷ []) list
 
--- An act at a service with the view gives the list, where these are the lists of its parents.
-abbrev pub Gives : Nodes → View → Act → Lists → List Atom → Type 0
-Gives nodes view Start parents list = list ≡ []
-Gives nodes view (Recv received) parents list = IsNormalOf nodes view received list
-Gives nodes view (Set parent slot v) parents list =
+-- An act at a service with the form and the view gives the list, where these are the lists of its parents.
+abbrev pub Gives : Nodes → Form → View → Act → Lists → List Atom → Type 0
+Gives nodes form view Start parents list = list ≡ []
+Gives nodes form view (Recv received) parents list = IsNormalOf nodes view received list
+Gives nodes form view (Set parent slot v) parents list =
     IsNormalWrite nodes view slot v (list_at parents 0) list
-Gives nodes view (Branch parent) parents list = list ≡ list_at parents 0
-Gives nodes view (Forward parent) parents list = IsNormalOf nodes view (list_at parents 0) list
-Gives nodes view (Trim parent budget) parents list = list ≡ trimmed (list_at parents 0) budget
-Gives nodes view (Join named) parents list = IsNormalMerge nodes view parents list
+Gives nodes form view (Branch parent) parents list = list ≡ list_at parents 0
+Gives nodes form view (Forward parent) parents list = IsNormalOf nodes view (list_at parents 0) list
+Gives nodes form view (Trim parent budget) parents list = list ≡ trimmed form (list_at parents 0) budget
+Gives nodes form view (Join named) parents list = IsNormalMerge nodes view parents list
 
 -- What an act gives from typed contexts is a typed context.
 abbrev pub GivesContexts : Type 0
-GivesContexts = (nodes : Nodes) (view : View) (act : Act) (parents : Lists) (list : List Atom)
+GivesContexts = (nodes : Nodes) (form : Form) (view : View) (act : Act) (parents : Lists) (list : List Atom)
     → IsTable nodes → IsActOf nodes view act → AllByRecursion (IsTypedContext nodes) parents
-    → Gives nodes view act parents list → IsTypedContext nodes list
+    → Gives nodes form view act parents list → IsTypedContext nodes list
 
 -- A step of the graph gives the list, where the other steps have these lists.
 abbrev pub StepGives : Nodes → Graph → Lists → Step → List Atom → Type 0
 StepGives nodes graph lists step list =
-    Gives nodes (view_at graph step.service) step.act (parents_lists lists step.act) list
+    Gives nodes (form_at graph step.service) (view_at graph step.service) step.act (parents_lists lists step.act) list
 
 -- These are the lists of the first n steps: each is what its step gives.
 pub record RunsTo (nodes : Nodes) (graph : Graph) (lists : Lists) (n : ℕ) : Type 0 where

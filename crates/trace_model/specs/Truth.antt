@@ -1,5 +1,6 @@
 -- What was written and received on the way to a step of a graph.
 use Rattle.std.specs.Prelude.{◌≡◌, ◌↔◌, ℕ, ◌<◌, List, [], ◌∷◌, length}
+use Rattle.context_model.specs.declared.Form.{Form}
 use Rattle.context_model.specs.Atoms.{Atom}
 use Rattle.context_model.specs.Orders.{Path, IsIn}
 use Rattle.context_model.specs.Framing.{size_of}
@@ -10,7 +11,7 @@ use Rattle.bag_model.specs.Joins.{join_values}
 use Rattle.bag_model.specs.SlotValues.{only, HasSlotValue}
 use Rattle.bag_model.specs.Readings.{SaysValues}
 use Rattle.bag_model.specs.Encodings.{IsForeign}
-use Rattle.trace_model.specs.Graphs.{Act, Start, Recv, Set, Branch, Forward, Trim, Join, Step, Graph, parents_of, HasStep, IsRecorded}
+use Rattle.trace_model.specs.Graphs.{Act, Start, Recv, Set, Branch, Forward, Trim, Join, Step, Graph, parents_of, HasStep, form_at, IsRecorded}
 use Rattle.trace_model.specs.Runs.{Lists, list_at}
 
 -- The step with the first number reaches that with the second: they are one, or it reaches a parent.
@@ -21,12 +22,12 @@ pub data Reaches (graph : Graph) (w : ℕ) : ℕ → Type 0 where
       → Reaches graph w parent → Reaches graph w n
 
 -- Step n is reached by a step that does something of this kind.
-pub record IsReachedBy (graph : Graph) (n : ℕ) (Does : Act → Type 0) : Type 0 where
+pub record IsReachedBy (graph : Graph) (n : ℕ) (Does : Step → Type 0) : Type 0 where
   pub from : ℕ
   pub step : Step
   pub there : HasStep graph from step
   pub reaches : Reaches graph from n
-  pub does : Does step.act
+  pub does : Does step
 
 -- ---- the truth
 
@@ -42,7 +43,7 @@ Adds nodes vs (Join parents) = ⊥
 
 -- A step that reaches n adds these values.
 abbrev pub IsAdded : Nodes → Graph → ℕ → Values → Type 0
-IsAdded nodes graph n vs = IsReachedBy graph n (Adds nodes vs)
+IsAdded nodes graph n vs = IsReachedBy graph n (λ step. Adds nodes vs step.act)
 
 -- All that the first values of a bag say the second say too.
 abbrev pub AreValuesBelow : Values → Values → Type 0
@@ -93,20 +94,24 @@ AdditionsAreListed = (nodes : Nodes) (graph : Graph) (n : ℕ) → IsRecorded no
 
 -- ---- what was cut off, and what no table names
 
--- An act cuts something off, where the steps have these lists: it trims a list that doesn't fit. A received list with a
--- marker was cut before.
-abbrev pub Cuts : Lists → Act → Type 0
-Cuts lists Start = ⊥
-Cuts lists (Recv received) = HasMarker received
-Cuts lists (Set parent slot v) = ⊥
-Cuts lists (Branch parent) = ⊥
-Cuts lists (Forward parent) = ⊥
-Cuts lists (Trim parent budget) = budget < size_of (list_at lists parent)
-Cuts lists (Join parents) = ⊥
+-- An act at a service of the form cuts something off, where the steps have these lists: it trims a list that doesn't fit. A
+-- received list with a marker was cut before.
+abbrev pub CutsIn : Form → Lists → Act → Type 0
+CutsIn form lists Start = ⊥
+CutsIn form lists (Recv received) = HasMarker received
+CutsIn form lists (Set parent slot v) = ⊥
+CutsIn form lists (Branch parent) = ⊥
+CutsIn form lists (Forward parent) = ⊥
+CutsIn form lists (Trim parent budget) = budget < size_of form (list_at lists parent)
+CutsIn form lists (Join parents) = ⊥
+
+-- A step cuts something off.
+abbrev pub Cuts : Graph → Lists → Step → Type 0
+Cuts graph lists step = CutsIn (form_at graph step.service) lists step.act
 
 -- Something was cut off on the way to step n.
 abbrev pub WasCut : Graph → Lists → ℕ → Type 0
-WasCut graph lists n = IsReachedBy graph n (Cuts lists)
+WasCut graph lists n = IsReachedBy graph n (Cuts graph lists)
 
 -- An act receives a path that the table doesn't name.
 abbrev pub ReceivesForeign : Nodes → Path → Act → Type 0
@@ -120,7 +125,7 @@ ReceivesForeign nodes p (Join parents) = ⊥
 
 -- A step that reaches n receives a path that the table doesn't name.
 abbrev pub IsForeignOf : Nodes → Graph → ℕ → Path → Type 0
-IsForeignOf nodes graph n p = IsReachedBy graph n (ReceivesForeign nodes p)
+IsForeignOf nodes graph n p = IsReachedBy graph n (λ step. ReceivesForeign nodes p step.act)
 
 -- ---- two steps
 
@@ -152,9 +157,9 @@ Receives list (Join parents) = ⊥
 -- Two steps are reached by the same writes and the same received lists.
 pub record AreReachedBySame (graph : Graph) (n : ℕ) (other : Graph) (m : ℕ) : Type 0 where
   pub writes : (slot : ℕ) (v : Value)
-      → IsReachedBy graph n (Writes slot v) ↔ IsReachedBy other m (Writes slot v)
+      → IsReachedBy graph n (λ step. Writes slot v step.act) ↔ IsReachedBy other m (λ step. Writes slot v step.act)
   pub received : (list : List Atom)
-      → IsReachedBy graph n (Receives list) ↔ IsReachedBy other m (Receives list)
+      → IsReachedBy graph n (λ step. Receives list step.act) ↔ IsReachedBy other m (λ step. Receives list step.act)
 
 -- Then they are reached by the same additions.
 abbrev pub SameWritesReachAlike : Type 0
