@@ -59,7 +59,7 @@ mutual
 
   pub count_inside : (depth : ℕ) (shape : Shape) → length (rows_in depth shape) ≡ nodes_under shape
   count_inside depth Taint = refl
-  count_inside depth (Scalar kind) = refl
+  count_inside depth (Scalar pick kind) = refl
   count_inside depth (Set kind) = refl
   count_inside depth Counter = refl
   count_inside depth (Map key value) = count_inside depth value

@@ -56,7 +56,7 @@ bag_deep base row ends =
 
 told_ends : (shape : Shape) → ends_in_bag (told shape) ≡ ends_in_bag shape
 told_ends Taint = refl
-told_ends (Scalar kind) = refl
+told_ends (Scalar pick kind) = refl
 told_ends (Set kind) = refl
 told_ends Counter = refl
 told_ends (Map key value) = told_ends value
@@ -111,7 +111,7 @@ levels_inside _ = 0
 
 split_levels : (shape : Shape) → levels_under shape ≡ levels_under (told shape) + levels_inside shape
 split_levels Taint = refl
-split_levels (Scalar kind) = refl
+split_levels (Scalar pick kind) = refl
 split_levels (Set kind) = refl
 split_levels Counter = refl
 split_levels (Map key value) = omega (arith, split_levels value)
@@ -189,7 +189,7 @@ mutual
   good_inside : (base : List Row) (depth level : ℕ) (shape : Shape) → IsPoint base depth level → (ends_in_bag shape ≡ true → depth ≤ deepest (reverse base))
       → IsShape shape → level + levels_inside shape ≤ MAX_LEVELS → length base + nodes_under shape ≤ MAX_FIELDS → AllGood base (rows_in depth shape)
   good_inside base depth level Taint point deep shaped few small = tt
-  good_inside base depth level (Scalar kind) point deep shaped few small = tt
+  good_inside base depth level (Scalar pick kind) point deep shaped few small = tt
   good_inside base depth level (Set kind) point deep shaped few small = tt
   good_inside base depth level Counter point deep shaped few small = tt
   good_inside base depth level (Map key value) point deep shaped few small = good_inside base depth level value point deep shaped.1 few small

@@ -30,7 +30,7 @@ rows_text-append (x ∷ xs) ys = ap (λ (l : List ℕ). row_line x ++ l) (rows_t
 
 pub shape_told : (shape : Shape) → shape_text (told shape) ≡ shape_text shape
 shape_told Taint = refl
-shape_told (Scalar kind) = refl
+shape_told (Scalar pick kind) = refl
 shape_told (Set kind) = refl
 shape_told Counter = refl
 shape_told (Map key value) = ap (λ (l : List ℕ). codes "map " ++ kind_text key ++ codes " " ++ l) (shape_told value)
@@ -53,7 +53,7 @@ mutual
 
   pub text_inside : (depth : ℕ) (shape : Shape) → rows_text (rows_in depth shape) ≡ bag_text depth shape
   text_inside depth Taint = refl
-  text_inside depth (Scalar kind) = refl
+  text_inside depth (Scalar pick kind) = refl
   text_inside depth (Set kind) = refl
   text_inside depth Counter = refl
   text_inside depth (Map key value) = text_inside depth value

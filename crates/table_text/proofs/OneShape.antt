@@ -4,6 +4,7 @@ use Rattle.std.specs.Prelude.{codes}
 use Rattle.std.specs.Fmt.{decimal}
 use Rattle.std.specs.List.{join_with_byte}
 use Rattle.std.specs.Str.Parse.{digits_value}
+use Rattle.bag_model.specs.declared.Pick.TheVariants.{Least, Greatest}
 use Rattle.bag_model.specs.Scalars.{Word, ScalarKind}
 use Rattle.bag_model.specs.Scalars as scalars
 use Rattle.bag_model.specs.Shapes.{Shape, Taint, Scalar, Set, Counter, Map, Bag}
@@ -45,14 +46,26 @@ one_kind (scalars.ScalarKind.Packed xs) (scalars.ScalarKind.Packed ys) p q e =
 
 pub one_shape : (a b : Shape) → IsToldShape a → IsToldShape b → shape_text a ≡ shape_text b → a ≡ b
 one_shape Taint Taint p q e = refl
+one_shape Taint (Scalar Least k) p q e = absurd (differ (codes "taint") (shape_text (Scalar Least k)) refl e)
+one_shape Taint (Scalar Greatest k) p q e = absurd (differ (codes "taint") (shape_text (Scalar Greatest k)) refl e)
 one_shape Taint b p q e = absurd (differ (codes "taint") (shape_text b) refl e)
 one_shape Counter Counter p q e = refl
+one_shape Counter (Scalar Least k) p q e = absurd (differ (codes "counter") (shape_text (Scalar Least k)) refl e)
+one_shape Counter (Scalar Greatest k) p q e = absurd (differ (codes "counter") (shape_text (Scalar Greatest k)) refl e)
 one_shape Counter b p q e = absurd (differ (codes "counter") (shape_text b) refl e)
 one_shape (Bag m) (Bag n) p q e = ap Bag (p ∙ sym q)
+one_shape (Bag m) (Scalar Least k) p q e = absurd (differ (codes "bag") (shape_text (Scalar Least k)) refl e)
+one_shape (Bag m) (Scalar Greatest k) p q e = absurd (differ (codes "bag") (shape_text (Scalar Greatest k)) refl e)
 one_shape (Bag m) b p q e = absurd (differ (codes "bag") (shape_text b) refl e)
-one_shape (Scalar j) (Scalar k) p q e = let texts : kind_text j ≡ kind_text k = cc e in ap Scalar (one_kind j k p q texts)
-one_shape (Scalar j) b p q e = absurd (differ (shape_text (Scalar j)) (shape_text b) refl e)
+one_shape (Scalar Least j) (Scalar Least k) p q e = let texts : kind_text j ≡ kind_text k = cc e in ap (Scalar Least) (one_kind j k p q texts)
+one_shape (Scalar Least j) (Scalar Greatest k) p q e = absurd (differ (shape_text (Scalar Least j)) (shape_text (Scalar Greatest k)) refl e)
+one_shape (Scalar Least j) b p q e = absurd (differ (shape_text (Scalar Least j)) (shape_text b) refl e)
+one_shape (Scalar Greatest j) (Scalar Greatest k) p q e = let texts : kind_text j ≡ kind_text k = cc e in ap (Scalar Greatest) (one_kind j k p q texts)
+one_shape (Scalar Greatest j) (Scalar Least k) p q e = absurd (differ (shape_text (Scalar Greatest j)) (shape_text (Scalar Least k)) refl e)
+one_shape (Scalar Greatest j) b p q e = absurd (differ (shape_text (Scalar Greatest j)) (shape_text b) refl e)
 one_shape (Set j) (Set k) p q e = let texts : kind_text j ≡ kind_text k = cc e in ap Set (one_kind j k p q texts)
+one_shape (Set j) (Scalar Least k) p q e = absurd (differ (shape_text (Set j)) (shape_text (Scalar Least k)) refl e)
+one_shape (Set j) (Scalar Greatest k) p q e = absurd (differ (shape_text (Set j)) (shape_text (Scalar Greatest k)) refl e)
 one_shape (Set j) b p q e = absurd (differ (shape_text (Set j)) (shape_text b) refl e)
 one_shape (Map (scalars.ScalarKind.One j) s) (Map (scalars.ScalarKind.One k) t) p q e =
     let behind : word_text j ++ codes " " ++ shape_text s ≡ word_text k ++ codes " " ++ shape_text t = cc e in
@@ -63,6 +76,8 @@ one_shape (Map (scalars.ScalarKind.One j) s) (Map (scalars.ScalarKind.One k) t) 
     cc (keys, values)
 one_shape (Map (scalars.ScalarKind.One j) s) (Map (scalars.ScalarKind.Packed ks) t) p q e = absurd q.0
 one_shape (Map (scalars.ScalarKind.Packed js) s) b p q e = absurd p.0
+one_shape (Map (scalars.ScalarKind.One j) s) (Scalar Least k) p q e = absurd (differ (shape_text (Map (scalars.ScalarKind.One j) s)) (shape_text (Scalar Least k)) refl e)
+one_shape (Map (scalars.ScalarKind.One j) s) (Scalar Greatest k) p q e = absurd (differ (shape_text (Map (scalars.ScalarKind.One j) s)) (shape_text (Scalar Greatest k)) refl e)
 one_shape (Map (scalars.ScalarKind.One j) s) b p q e = absurd (differ (shape_text (Map (scalars.ScalarKind.One j) s)) (shape_text b) refl e)
 
 -- What a line says is one.

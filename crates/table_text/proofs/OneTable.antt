@@ -39,8 +39,8 @@ mutual
   same_inside depth Taint t x y is p q e = absurd (cc is)
   same_inside depth Counter Counter x y is p q e = (refl, e)
   same_inside depth Counter t x y is p q e = absurd (cc is)
-  same_inside depth (Scalar j) (Scalar k) x y is p q e = (is, e)
-  same_inside depth (Scalar j) t x y is p q e = absurd (cc is)
+  same_inside depth (Scalar a j) (Scalar b k) x y is p q e = (is, e)
+  same_inside depth (Scalar a j) t x y is p q e = absurd (cc is)
   same_inside depth (Set j) (Set k) x y is p q e = (is, e)
   same_inside depth (Set j) t x y is p q e = absurd (cc is)
   same_inside depth (Map j s) (Map k t) x y is p q e =

@@ -7,6 +7,7 @@ use Rattle.std.specs.Str.Parse.{AllDigits}
 use Rattle.std.proofs.lemmas.Bool.{and_parts, ne_eqb}
 use Rattle.std.proofs.lemmas.Fmt.{decimal_is_IsNumeral}
 use Rattle.std.proofs.lemmas.Str.Parse.{digit_from_value}
+use Rattle.bag_model.specs.declared.Pick.TheVariants.{Least, Greatest}
 use Rattle.bag_model.specs.Scalars as scalars
 use Rattle.bag_model.specs.Scalars.{Word, ScalarKind, Boolean, Int32, Int64, Sint32, Sint64, Uint32, Uint64, Fixed32, Fixed64, Sfixed32, Sfixed64, Str, Bytes}
 use Rattle.bag_model.specs.Shapes.{Shape, Taint, Scalar, Set, Counter, Map, Bag}
@@ -69,7 +70,8 @@ kind_fed (scalars.ScalarKind.Packed words) = free_append 10 (40 ∷ join_with_by
 
 shape_fed : (shape : Shape) → IsFree 10 (shape_text shape)
 shape_fed Taint = refl
-shape_fed (Scalar kind) = kind_fed kind
+shape_fed (Scalar Least kind) = kind_fed kind
+shape_fed (Scalar Greatest kind) = kind_fed kind
 shape_fed (Set kind) = kind_fed kind
 shape_fed Counter = refl
 shape_fed (Map key value) =

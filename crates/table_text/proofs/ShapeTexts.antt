@@ -7,6 +7,8 @@ use Rattle.std.specs.Str.{bytes_eq}
 use Rattle.std.proofs.lemmas.List.{take_more, take_all}
 use Rattle.std.proofs.lemmas.List.Splits.{length-slice_split, join_with_byte-slice_split}
 use Rattle.std.proofs.lemmas.Slice.Eq.{bytes_eq-Decides}
+use Rattle.bag_model.specs.declared.Pick.{Pick}
+use Rattle.bag_model.specs.declared.Pick.TheVariants.{Least, Greatest}
 use Rattle.bag_model.specs.Scalars as scalars
 use Rattle.bag_model.specs.Scalars.{Word, Boolean, Int32, Int64, Sint32, Sint64, Uint32, Uint64, Fixed32, Fixed64, Sfixed32, Sfixed64, Str, Bytes}
 use Rattle.bag_model.specs.Shapes.{Shape, Taint, Scalar, Set, Counter, Map, Bag}
@@ -15,7 +17,7 @@ use Rattle.decimal_text.specs.Answers.{Answers}
 use Rattle.scalar_types.specs.declared.kinds.ScalarKind as code
 use Rattle.scalar_types.specs.declared.kinds.ScalarKind.TheVariants as kinds
 use Rattle.scalar_types.specs.KindViews.{IsWord, word_of, kind_of}
-use Rattle.table_text.specs.TableTexts.{kind_text, shape_text}
+use Rattle.table_text.specs.TableTexts.{kind_text, pick_word, shape_text}
 use Rattle.table_text.specs.Words.{IsFree, AreWords, IsKindText, IsShapeText, word_named}
 use Rattle.table_text.specs.ShapeReads.{IsBareText, IsMapBehind}
 use Rattle.table_text.proofs.Free.{free_there, same_cut, unsnoc, pieces, pieces_joined}
@@ -159,8 +161,12 @@ kind_none text inner opened none (scalars.ScalarKind.Packed words) h =
 
 -- ---- shapes, by what stands behind the first word
 
+pub pick_free : (pick : Pick) → IsFree 32 (pick_word pick)
+pick_free Least = refl
+pick_free Greatest = refl
+
 abbrev pub IsBehind : ℕ → List ℕ → List ℕ → Shape → Type 0
-IsBehind maps word rest (Scalar kind) = (word ≡ codes "scalar") × IsKindText rest kind
+IsBehind maps word rest (Scalar pick kind) = (word ≡ pick_word pick) × IsKindText rest kind
 IsBehind maps word rest (Set kind) = (word ≡ codes "set") × IsKindText rest kind
 IsBehind maps word rest (Map key value) = (word ≡ codes "map") × IsMapBehind maps rest (Map key value)
 IsBehind maps word rest other = ⊥
@@ -169,8 +175,8 @@ pub behind : (maps : ℕ) (text word rest : List ℕ) → IsFree 32 word → tex
 behind maps text word rest free cut Taint h = free_there 32 (codes "taint") word rest refl (sym h.2 ∙ cut)
 behind maps text word rest free cut Counter h = free_there 32 (codes "counter") word rest refl (sym h.2 ∙ cut)
 behind maps text word rest free cut (Bag nodes) h = free_there 32 (codes "bag") word rest refl (sym h.2 ∙ cut)
-behind maps text word rest free cut (Scalar kind) h =
-    let parts = same_cut 32 word (codes "scalar") rest (kind_text kind) free refl (sym cut ∙ h.2) in (parts.0, (h.0, parts.1))
+behind maps text word rest free cut (Scalar pick kind) h =
+    let parts = same_cut 32 word (pick_word pick) rest (kind_text kind) free (pick_free pick) (sym cut ∙ h.2) in (parts.0, (h.0, parts.1))
 behind maps text word rest free cut (Set kind) h =
     let parts = same_cut 32 word (codes "set") rest (kind_text kind) free refl (sym cut ∙ h.2) in (parts.0, (h.0, parts.1))
 behind maps text word rest free cut (Map key value) h =
@@ -178,44 +184,28 @@ behind maps text word rest free cut (Map key value) h =
 
 -- Another first word than these begins no shape.
 pub no_shape : (maps : ℕ) (text word rest : List ℕ) → IsFree 32 word → text ≡ word ++ 32 ∷ rest
-    → bytes_eq word (codes "map") ≡ false → bytes_eq word (codes "scalar") ≡ false → bytes_eq word (codes "set") ≡ false → (shape : Shape) → IsShapeText maps text shape → ⊥
-no_shape maps text word rest free cut a b c shape h = by shape (behind maps text word rest free cut shape h)
+    → bytes_eq word (codes "map") ≡ false → bytes_eq word (codes "scalar") ≡ false → bytes_eq word (codes "greatest") ≡ false → bytes_eq word (codes "set") ≡ false
+    → (shape : Shape) → IsShapeText maps text shape → ⊥
+no_shape maps text word rest free cut a b c d shape h = by shape (behind maps text word rest free cut shape h)
   where
     by : (shape : Shape) → IsBehind maps word rest shape → ⊥
-    by (Scalar kind) p = differ word (codes "scalar") b p.0
-    by (Set kind) p = differ word (codes "set") c p.0
+    by (Scalar Least kind) p = differ word (codes "scalar") b p.0
+    by (Scalar Greatest kind) p = differ word (codes "greatest") c p.0
+    by (Set kind) p = differ word (codes "set") d p.0
     by (Map key value) p = differ word (codes "map") a p.0
     by Taint p = p
     by Counter p = p
     by (Bag nodes) p = p
 
--- The words of a scalar, of a set and of a map.
-pub scalar_none : (maps : ℕ) (text word rest : List ℕ) → IsFree 32 word → text ≡ word ++ 32 ∷ rest → bytes_eq word (codes "scalar") ≡ true
+-- Nor does any but that of a map where no kind stands behind it.
+pub no_kind : (maps : ℕ) (text word rest : List ℕ) → IsFree 32 word → text ≡ word ++ 32 ∷ rest → bytes_eq word (codes "map") ≡ false
     → ((kind : scalars.ScalarKind) → IsKindText rest kind → ⊥) → (shape : Shape) → IsShapeText maps text shape → ⊥
-scalar_none maps text word rest free cut is none shape h = by shape (behind maps text word rest free cut shape h)
+no_kind maps text word rest free cut a none shape h = by shape (behind maps text word rest free cut shape h)
   where
-    own : word ≡ codes "scalar"
-    own = (bytes_eq-Decides word (codes "scalar")).0 is
-
     by : (shape : Shape) → IsBehind maps word rest shape → ⊥
-    by (Scalar kind) p = none kind p.1
-    by (Set kind) p = differ (codes "scalar") (codes "set") refl (sym own ∙ p.0)
-    by (Map key value) p = differ (codes "scalar") (codes "map") refl (sym own ∙ p.0)
-    by Taint p = p
-    by Counter p = p
-    by (Bag nodes) p = p
-
-pub set_none : (maps : ℕ) (text word rest : List ℕ) → IsFree 32 word → text ≡ word ++ 32 ∷ rest → bytes_eq word (codes "set") ≡ true
-    → ((kind : scalars.ScalarKind) → IsKindText rest kind → ⊥) → (shape : Shape) → IsShapeText maps text shape → ⊥
-set_none maps text word rest free cut is none shape h = by shape (behind maps text word rest free cut shape h)
-  where
-    own : word ≡ codes "set"
-    own = (bytes_eq-Decides word (codes "set")).0 is
-
-    by : (shape : Shape) → IsBehind maps word rest shape → ⊥
-    by (Scalar kind) p = differ (codes "set") (codes "scalar") refl (sym own ∙ p.0)
+    by (Scalar pick kind) p = none kind p.1
     by (Set kind) p = none kind p.1
-    by (Map key value) p = differ (codes "set") (codes "map") refl (sym own ∙ p.0)
+    by (Map key value) p = differ word (codes "map") a p.0
     by Taint p = p
     by Counter p = p
     by (Bag nodes) p = p
@@ -226,7 +216,7 @@ map_answers maps text word rest free cut is (Some (Map key value)) h =
     (h.0, h.1, cut ∙ ap (λ (w : List ℕ). w ++ 32 ∷ rest) ((bytes_eq-Decides word (codes "map")).0 is) ∙ ap (λ (r : List ℕ). codes "map " ++ r) h.2)
 map_answers maps text word rest free cut is (Some Taint) h = absurd h
 map_answers maps text word rest free cut is (Some Counter) h = absurd h
-map_answers maps text word rest free cut is (Some (Scalar kind)) h = absurd h
+map_answers maps text word rest free cut is (Some (Scalar pick kind)) h = absurd h
 map_answers maps text word rest free cut is (Some (Set kind)) h = absurd h
 map_answers maps text word rest free cut is (Some (Bag nodes)) h = absurd h
 map_answers maps text word rest free cut is None none = λ shape h. by shape (behind maps text word rest free cut shape h)
@@ -235,7 +225,8 @@ map_answers maps text word rest free cut is None none = λ shape h. by shape (be
     own = (bytes_eq-Decides word (codes "map")).0 is
 
     by : (shape : Shape) → IsBehind maps word rest shape → ⊥
-    by (Scalar kind) p = differ (codes "map") (codes "scalar") refl (sym own ∙ p.0)
+    by (Scalar Least kind) p = differ (codes "map") (codes "scalar") refl (sym own ∙ p.0)
+    by (Scalar Greatest kind) p = differ (codes "map") (codes "greatest") refl (sym own ∙ p.0)
     by (Set kind) p = differ (codes "map") (codes "set") refl (sym own ∙ p.0)
     by (Map key value) p = none (Map key value) p.1
     by Taint p = p
@@ -246,7 +237,7 @@ pub bare_answers : (maps : ℕ) (text : List ℕ) → IsFree 32 text → (read :
 bare_answers maps text free (Some Taint) h = (h.0, omega arith, h.1)
 bare_answers maps text free (Some Counter) h = (h.0, omega arith, h.1)
 bare_answers maps text free (Some (Bag nodes)) h = (h.0, omega arith, h.1)
-bare_answers maps text free (Some (Scalar kind)) h = absurd h
+bare_answers maps text free (Some (Scalar pick kind)) h = absurd h
 bare_answers maps text free (Some (Set kind)) h = absurd h
 bare_answers maps text free (Some (Map key value)) h = absurd h
 bare_answers maps text free None none = by
@@ -255,7 +246,7 @@ bare_answers maps text free None none = by
     by Taint h = none Taint (h.0, h.2)
     by Counter h = none Counter (h.0, h.2)
     by (Bag nodes) h = none (Bag nodes) (h.0, h.2)
-    by (Scalar kind) h = free_there 32 text (codes "scalar") (kind_text kind) free h.2
+    by (Scalar pick kind) h = free_there 32 text (pick_word pick) (kind_text kind) free h.2
     by (Set kind) h = free_there 32 text (codes "set") (kind_text kind) free h.2
     by (Map key value) h = free_there 32 text (codes "map") (kind_text key ++ codes " " ++ shape_text value) free h.2
 
@@ -273,7 +264,7 @@ map_no_space maps text free (Map (scalars.ScalarKind.One key) value) h =
 map_no_space maps text free (Map (scalars.ScalarKind.Packed words) value) h = absurd h.0.0
 map_no_space maps text free Taint h = h
 map_no_space maps text free Counter h = h
-map_no_space maps text free (Scalar kind) h = h
+map_no_space maps text free (Scalar pick kind) h = h
 map_no_space maps text free (Set kind) h = h
 map_no_space maps text free (Bag nodes) h = h
 
@@ -282,7 +273,7 @@ map_no_key maps text word rest free cut none (Map (scalars.ScalarKind.One key) v
 map_no_key maps text word rest free cut none (Map (scalars.ScalarKind.Packed words) value) h = absurd h.0.0
 map_no_key maps text word rest free cut none Taint h = h
 map_no_key maps text word rest free cut none Counter h = h
-map_no_key maps text word rest free cut none (Scalar kind) h = h
+map_no_key maps text word rest free cut none (Scalar pick kind) h = h
 map_no_key maps text word rest free cut none (Set kind) h = h
 map_no_key maps text word rest free cut none (Bag nodes) h = h
 
@@ -294,7 +285,7 @@ map_no_value maps text word rest free cut none (Map (scalars.ScalarKind.One key)
 map_no_value maps text word rest free cut none (Map (scalars.ScalarKind.Packed words) value) h = absurd h.0.0
 map_no_value maps text word rest free cut none Taint h = h
 map_no_value maps text word rest free cut none Counter h = h
-map_no_value maps text word rest free cut none (Scalar kind) h = h
+map_no_value maps text word rest free cut none (Scalar pick kind) h = h
 map_no_value maps text word rest free cut none (Set kind) h = h
 map_no_value maps text word rest free cut none (Bag nodes) h = h
 

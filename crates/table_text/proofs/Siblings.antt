@@ -34,7 +34,7 @@ mutual
 
   pub inside_below : (depth : ℕ) (shape : Shape) → AllByRecursion (IsBelow depth) (rows_in depth shape)
   inside_below depth Taint = tt
-  inside_below depth (Scalar kind) = tt
+  inside_below depth (Scalar pick kind) = tt
   inside_below depth (Set kind) = tt
   inside_below depth Counter = tt
   inside_below depth (Map key value) = inside_below depth value

@@ -16,7 +16,7 @@ pub record Row : Type 0 where
 -- The shape is one that a line can say.
 abbrev pub IsToldShape : Shape → Type 0
 IsToldShape Taint = Unit {0}
-IsToldShape (Scalar kind) = IsScalarKind kind
+IsToldShape (Scalar pick kind) = IsScalarKind kind
 IsToldShape (Set kind) = IsScalarKind kind
 IsToldShape Counter = Unit {0}
 IsToldShape (Map key value) = IsKeyKind key × IsToldShape value

@@ -6,7 +6,7 @@ use Rattle.table_text.specs.TableTexts.{kind_text, shape_text}
 
 -- The shape has one word, which is the text.
 abbrev pub IsBareText : List ℕ → Shape → Type 0
-IsBareText text (Scalar kind) = ⊥
+IsBareText text (Scalar pick kind) = ⊥
 IsBareText text (Set kind) = ⊥
 IsBareText text (Map key value) = ⊥
 IsBareText text shape = IsToldShape shape × (text ≡ shape_text shape)

@@ -6,7 +6,7 @@ use Rattle.table_text.specs.Rows.{Row}
 -- The shape as its line tells it.
 abbrev pub told : Shape → Shape
 told Taint = Taint
-told (Scalar kind) = Scalar kind
+told (Scalar pick kind) = Scalar pick kind
 told (Set kind) = Set kind
 told Counter = Counter
 told (Map key value) = Map key (told value)
@@ -15,7 +15,7 @@ told (Bag nodes) = Bag no_node
 -- The shape with these fields in the bag that it ends in, if it ends in one.
 abbrev pub filled : Nodes → Shape → Shape
 filled nodes Taint = Taint
-filled nodes (Scalar kind) = Scalar kind
+filled nodes (Scalar pick kind) = Scalar pick kind
 filled nodes (Set kind) = Set kind
 filled nodes Counter = Counter
 filled nodes (Map key value) = Map key (filled nodes value)
@@ -35,7 +35,7 @@ abbrev mutual
   -- What the lines of the fields of the bag say that a shape ends in.
   pub rows_in : ℕ → Shape → List Row
   rows_in depth Taint = []
-  rows_in depth (Scalar kind) = []
+  rows_in depth (Scalar pick kind) = []
   rows_in depth (Set kind) = []
   rows_in depth Counter = []
   rows_in depth (Map key value) = rows_in depth value

@@ -2,6 +2,8 @@
 use Rattle.std.specs.Prelude.{ℕ, ◌+◌, List, [], ◌∷◌, ◌++◌, map, codes}
 use Rattle.std.specs.Fmt.{decimal}
 use Rattle.std.specs.List.{join_with_byte}
+use Rattle.bag_model.specs.declared.Pick.{Pick}
+use Rattle.bag_model.specs.declared.Pick.TheVariants.{Least, Greatest}
 use Rattle.bag_model.specs.Scalars as scalars
 use Rattle.bag_model.specs.Shapes.{Shape, Nodes, Taint, Scalar, Set, Counter, Map, Bag, no_node, node}
 use Rattle.bag_model.specs.Words.{word_text}
@@ -11,10 +13,15 @@ abbrev pub kind_text : scalars.ScalarKind → List ℕ
 kind_text (scalars.ScalarKind.One word) = word_text word
 kind_text (scalars.ScalarKind.Packed words) = codes "(" ++ join_with_byte 44 (map word_text words) ++ codes ")"
 
+-- The word of a scalar of which this value stays.
+abbrev pub pick_word : Pick → List ℕ
+pick_word Least = codes "scalar"
+pick_word Greatest = codes "greatest"
+
 -- The words of a shape; of a bag they say no more than that it is one.
 abbrev pub shape_text : Shape → List ℕ
 shape_text Taint = codes "taint"
-shape_text (Scalar kind) = codes "scalar " ++ kind_text kind
+shape_text (Scalar pick kind) = pick_word pick ++ 32 ∷ kind_text kind
 shape_text (Set kind) = codes "set " ++ kind_text kind
 shape_text Counter = codes "counter"
 shape_text (Map key value) = codes "map " ++ kind_text key ++ codes " " ++ shape_text value
@@ -36,7 +43,7 @@ abbrev mutual
   -- The lines of the fields of the bag that a shape ends in, if it ends in one.
   pub bag_text : ℕ → Shape → List ℕ
   bag_text depth Taint = []
-  bag_text depth (Scalar kind) = []
+  bag_text depth (Scalar pick kind) = []
   bag_text depth (Set kind) = []
   bag_text depth Counter = []
   bag_text depth (Map key value) = bag_text depth value

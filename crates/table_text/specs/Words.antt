@@ -20,7 +20,7 @@ IsFree sep text = list_any (λ byte. byte == sep) text ≡ false
 -- The words of the definition language that are reserved and no scalar words.
 abbrev pub keywords : List (List ℕ)
 keywords =
-    codes "import" ∷ codes "bag" ∷ codes "struct" ∷ codes "set" ∷ codes "map" ∷ codes "counter" ∷ codes "taint" ∷ codes "float"
+    codes "import" ∷ codes "bag" ∷ codes "struct" ∷ codes "set" ∷ codes "greatest" ∷ codes "map" ∷ codes "counter" ∷ codes "taint" ∷ codes "float"
     ∷ codes "double" ∷ []
 
 -- The first of these words that has the text.

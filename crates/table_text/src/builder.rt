@@ -30,7 +30,8 @@ fn ends_in_bag(shape: &Shape) -> bool
     match shape {
         Shape::Map(_, value) => ends_in_bag(value),
         Shape::Bag(_) => true,
-        Shape::Taint | Shape::Scalar(_) | Shape::Set(_) | Shape::Counter => false,
+        Shape::Taint | Shape::Scalar(_) | Shape::Greatest(_) | Shape::Set(_) | Shape::Counter =>
+            false,
     }
 }
 
@@ -44,7 +45,7 @@ fn levels_under(shape: &Shape) -> usize
     match shape {
         Shape::Map(_, value) => 1 + levels_under(value),
         Shape::Counter => 1,
-        Shape::Taint | Shape::Scalar(_) | Shape::Set(_) | Shape::Bag(_) => 0,
+        Shape::Taint | Shape::Scalar(_) | Shape::Greatest(_) | Shape::Set(_) | Shape::Bag(_) => 0,
     }
 }
 
@@ -56,7 +57,7 @@ fn fill(shape: &mut Shape, fields: Slots)
     match shape {
         Shape::Map(_, value) => fill(value, fields),
         Shape::Bag(inner) => *inner = fields,
-        Shape::Taint | Shape::Scalar(_) | Shape::Set(_) | Shape::Counter => {}
+        Shape::Taint | Shape::Scalar(_) | Shape::Greatest(_) | Shape::Set(_) | Shape::Counter => {}
     }
 }
 

@@ -49,7 +49,9 @@ fn put_bag(depth: usize, shape: &Shape, into: &mut Vec<u8>) -> Result<(), Memory
     match shape {
         Shape::Map(_, value) => put_bag(depth, value, into),
         Shape::Bag(fields) => put_fields(depth, fields, into),
-        Shape::Taint | Shape::Scalar(_) | Shape::Set(_) | Shape::Counter => Ok(()),
+        Shape::Taint | Shape::Scalar(_) | Shape::Greatest(_) | Shape::Set(_) | Shape::Counter => Ok(
+            (),
+        ),
     }
 }
 
@@ -88,6 +90,10 @@ fn put_shape(shape: &Shape, into: &mut Vec<u8>) -> Result<(), Memory>
         Shape::Bag(_) => into.extend_from_slice(b"bag")?,
         Shape::Scalar(kind) => {
             into.extend_from_slice(b"scalar ")?;
+            put_kind(kind, into)?;
+        }
+        Shape::Greatest(kind) => {
+            into.extend_from_slice(b"greatest ")?;
             put_kind(kind, into)?;
         }
         Shape::Set(kind) => {

@@ -81,19 +81,18 @@ pub(crate) fn read_shape(alloc: Global, text: &[u8], maps: usize) -> Result<Opti
     if is(word, "map") {
         return read_map(alloc, rest, maps);
     }
+    let Some(kind) = read_kind(alloc, rest)? else {
+        return Ok(None);
+    };
     if is(word, "scalar") {
-        return match read_kind(alloc, rest)? {
-            Some(kind) => Ok(Some(Shape::Scalar(kind))),
-            None => Ok(None),
-        };
+        Ok(Some(Shape::Scalar(kind)))
+    } else if is(word, "greatest") {
+        Ok(Some(Shape::Greatest(kind)))
+    } else if is(word, "set") {
+        Ok(Some(Shape::Set(kind)))
+    } else {
+        Ok(None)
     }
-    if is(word, "set") {
-        return match read_kind(alloc, rest)? {
-            Some(kind) => Ok(Some(Shape::Set(kind))),
-            None => Ok(None),
-        };
-    }
-    Ok(None)
 }
 
 /// The map that its key's word and its value's words say, with at most so many maps in one another.

@@ -88,6 +88,7 @@ fn is_keyword(text: &[u8]) -> bool
         || is(text, "bag")
         || is(text, "struct")
         || is(text, "set")
+        || is(text, "greatest")
         || is(text, "map")
         || is(text, "counter")
         || is(text, "taint")

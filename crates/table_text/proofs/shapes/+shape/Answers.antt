@@ -6,7 +6,7 @@ use Rattle.field_table.specs.Plain.{shape_of}
 use Rattle.field_table.proofs.Shown.{map_shown}
 use Rattle.scalar_types.specs.KindViews.{kind_of}
 use Rattle.table_text.specs.ShapeReads.{IsMapBehind}
-use Rattle.table_text.proofs.ShapeTexts.{none_named, read_text, no_shape, scalar_none, set_none, map_read, bare_answers, map_no_key, map_no_value, map_some}
+use Rattle.table_text.proofs.ShapeTexts.{none_named, read_text, no_shape, no_kind, map_read, bare_answers, map_no_key, map_no_value, map_some}
 use Rattle.table_text.proofs.shapes.+shape.Goals as goal
 
 pub read_map-returns-in_default-read_word-clause-shape : goal.read_map-returns-in_default-read_word-clause-shape
@@ -36,17 +36,12 @@ read_shape-returns-then-is-clause-shape t c =
     map_read c.args.maps c.args.text.now c.in-Some.word.now c.in-Some.rest.now c.in-Some.ensures.0 c.in-Some.ensures.1 (sym c.is.ensures ∙ c.if-is.true)
     shape_of c.read_map.result c.read_map.ensures.shape
 
-pub read_shape-returns-in-None-clause-shape : goal.read_shape-returns-in-None-clause-shape
-read_shape-returns-in-None-clause-shape t c =
-    scalar_none c.args.maps c.args.text.now c.in-Some.word.now c.in-Some.rest.now c.in-Some.ensures.0 c.in-Some.ensures.1 (sym c.is-2.ensures ∙ c.if-is-2.true)
-    (rw c.in-None.is at c.in_ok-kind.ensures)
+pub read_shape-returns-in_default-2-clause-shape : goal.read_shape-returns-in_default-2-clause-shape
+read_shape-returns-in_default-2-clause-shape t c =
+    no_kind c.args.maps c.args.text.now c.in-Some.word.now c.in-Some.rest.now c.in-Some.ensures.0 c.in-Some.ensures.1 (sym c.is.ensures ∙ c.if-is.false)
+    (rw c.in_default-2.is at c.in_ok-kind.ensures)
 
-pub read_shape-returns-in-None-2-clause-shape : goal.read_shape-returns-in-None-2-clause-shape
-read_shape-returns-in-None-2-clause-shape t c =
-    set_none c.args.maps c.args.text.now c.in-Some.word.now c.in-Some.rest.now c.in-Some.ensures.0 c.in-Some.ensures.1 (sym c.is-3.ensures ∙ c.if-is-3.true)
-    (rw c.in-None-2.is at c.in_ok-kind-2.ensures)
-
-pub read_shape-returns-clause-shape : goal.read_shape-returns-clause-shape
-read_shape-returns-clause-shape t c =
+pub read_shape-returns-else-is-4-clause-shape : goal.read_shape-returns-else-is-4-clause-shape
+read_shape-returns-else-is-4-clause-shape t c =
     no_shape c.args.maps c.args.text.now c.in-Some.word.now c.in-Some.rest.now c.in-Some.ensures.0 c.in-Some.ensures.1
-    (sym c.is.ensures ∙ c.if-is.false) (sym c.is-2.ensures ∙ c.if-is-2.false) (sym c.is-3.ensures ∙ c.if-is-3.false)
+    (sym c.is.ensures ∙ c.if-is.false) (sym c.is-2.ensures ∙ c.if-is-2.false) (sym c.is-else-is-2.ensures ∙ c.if-is-3.false) (sym c.is-else-is-3.ensures ∙ c.if-is-4.false)
