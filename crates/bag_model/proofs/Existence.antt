@@ -1,4 +1,4 @@
--- Typed paths say a value.
+-- All paths say a value, typed or not.
 use Rattle.std.proofs.Common.{◌≡◌, ◌≢◌, ◌⊎◌, inl, inr, ◌↔◌, ℕ, ◌-◌, ◌*◌, ◌^◌, ◌<◌, ◌≤◌, true, false, List, [], ◌∷◌, length, Option, Some, None, Ordering, Less, Equal, Greater, refl, sym, ap, ◌∙◌, subst, arith}
 use Rattle.std.specs.Cmp.{IsTotalOrder, tied_itself}
 use Rattle.std.specs.Ordering.{ordering_reverse}
@@ -15,9 +15,10 @@ use Rattle.bag_model.specs.Scalars.{ScalarKind, ScalarValue, scalar_cmp, IsScala
 use Rattle.bag_model.specs.Shapes.{Shape, Nodes, Taint, Scalar, Set, Counter, Map, Bag, no_node, node}
 use Rattle.bag_model.specs.Values.{Value, Values, Taint, Scalar, Set, Counter, Map, Bag, no_value, value}
 use Rattle.bag_model.specs.Readings.{datum_path, key_path, node_path, HasScalar, IsFirst, IsGreatest, HasKey, Reads, ReadsEach}
-use Rattle.bag_model.specs.Typed.{IsSpelling, IsCount, IsTyped, AreTyped, TypedListsSay}
+use Rattle.bag_model.specs.Typed.{IsSpelling, IsCount, AllListsSay, TypedListsSay}
 use Rattle.bag_model.proofs.ScalarOrder.{scalar_total, scalar_exact, pick_total}
 use Rattle.bag_model.proofs.SpellingOrder.{spelling-one}
+use Rattle.bag_model.proofs.SpellingTests.{Decided, spelling_or_not, count_or_not}
 use Rattle.bag_model.proofs.PairLaws.{entries_from, pairs-entries}
 use Rattle.bag_model.proofs.Finite.{bytes_at, bytes_at-there, bytes_at-back}
 
@@ -49,13 +50,20 @@ sorted (x ∷ xs) = by (sorted xs)
     }
 
 -- The values that some bytes spell, in order.
-pub spelled : (kind : ScalarKind) (all : List (List ℕ)) → ((bytes : List ℕ) → IsIn bytes all → IsSpelling kind bytes)
-    → InOrder scalar_cmp (λ v. IsScalarOf kind v × IsIn (spelling kind v) all)
-spelled kind [] each = record { items = []; rises = tt; are = λ v. ((λ none. absurd none), λ h. h.1) }
-spelled kind (bytes ∷ all) each = by (each bytes (inl refl)) (spelled kind all (λ b i. each b (inr i)))
+pub spelled : (kind : ScalarKind) (all : List (List ℕ)) → InOrder scalar_cmp (λ v. IsScalarOf kind v × IsIn (spelling kind v) all)
+spelled kind [] = record { items = []; rises = tt; are = λ v. ((λ none. absurd none), λ h. h.1) }
+spelled kind (bytes ∷ all) = by (spelling_or_not kind bytes) (spelled kind all)
   where
-    by : IsSpelling kind bytes → InOrder scalar_cmp (λ v. IsScalarOf kind v × IsIn (spelling kind v) all) → InOrder scalar_cmp (λ v. IsScalarOf kind v × IsIn (spelling kind v) (bytes ∷ all))
-    by s rest = record {
+    by : Decided (IsSpelling kind bytes) → InOrder scalar_cmp (λ v. IsScalarOf kind v × IsIn (spelling kind v) all) → InOrder scalar_cmp (λ v. IsScalarOf kind v × IsIn (spelling kind v) (bytes ∷ all))
+    by (inr none) rest = record {
+      items = rest.items;
+      rises = rest.rises;
+      are = λ v. (
+        λ i. let h = (rest.are v).0 i in (h.0, inr h.1),
+        λ h. (rest.are v).1 (h.0, elim h.1 [ inl e ↦ absurd (none (v, h.0, sym e)) | inr j ↦ j ]),
+      );
+    }
+    by (inl s) rest = record {
       items = greedy_merge scalar_cmp (s.0 ∷ []) rest.items;
       rises = Rises-greedy scalar_cmp scalar_total (s.0 ∷ []) rest.items tt rest.rises;
       are = λ v. (
@@ -116,27 +124,27 @@ module _ (ps : List Path) (q : Path) where
   keys_all : List (List ℕ)
   keys_all = bytes_at (249 - 8 * length q) q ps
 
-  pub scalars_there : (kind : ScalarKind) → ((payload : List ℕ) → Among ps (datum_path q payload) → IsSpelling kind payload) → InOrder scalar_cmp (HasScalar kind (Among ps) q)
+  pub scalars_there : (kind : ScalarKind) → InOrder scalar_cmp (HasScalar kind (Among ps) q)
   unfolding data_all
-  scalars_there kind t = record {
+  scalars_there kind = record {
     items = s.items;
     rises = s.rises;
     are = λ v. ((λ i. let h = (s.are v).0 i in (h.0, bytes_at-there 0 q ps (spelling kind v) h.1)), λ h. (s.are v).1 (h.0, bytes_at-back 0 q ps (spelling kind v) h.1));
   }
     where
       s : InOrder scalar_cmp (λ v. IsScalarOf kind v × IsIn (spelling kind v) data_all)
-      s = spelled kind data_all (λ bytes i. t bytes (bytes_at-there 0 q ps bytes i))
+      s = spelled kind data_all
 
-  pub keys_there : (kind : ScalarKind) → ((key : List ℕ) → Among ps (key_path q key) → IsSpelling kind key) → InOrder scalar_cmp (HasKey kind (Among ps) q)
+  pub keys_there : (kind : ScalarKind) → InOrder scalar_cmp (HasKey kind (Among ps) q)
   unfolding keys_all
-  keys_there kind t = record {
+  keys_there kind = record {
     items = s.items;
     rises = s.rises;
     are = λ v. ((λ i. let h = (s.are v).0 i in (h.0, bytes_at-there (249 - 8 * length q) q ps (spelling kind v) h.1)), λ h. (s.are v).1 (h.0, bytes_at-back (249 - 8 * length q) q ps (spelling kind v) h.1));
   }
     where
       s : InOrder scalar_cmp (λ v. IsScalarOf kind v × IsIn (spelling kind v) keys_all)
-      s = spelled kind keys_all (λ bytes i. t bytes (bytes_at-there (249 - 8 * length q) q ps bytes i))
+      s = spelled kind keys_all
 
   pub writers_there : InOrder atom_cmp (λ w. Among ps (key_path q w))
   unfolding keys_all
@@ -149,12 +157,11 @@ module _ (ps : List Path) (q : Path) where
       s : InOrder atom_cmp (λ w. IsIn w keys_all)
       s = sorted keys_all
 
-  pub first_there : (R : ScalarValue → ScalarValue → Ordering) → IsTotalOrder R → (kind : ScalarKind) → ((payload : List ℕ) → Among ps (datum_path q payload) → IsSpelling kind payload)
-      → (o : Option ScalarValue) × IsFirst R kind (Among ps) q o
-  first_there R total kind t = by (first_in R total s.items)
+  pub first_there : (R : ScalarValue → ScalarValue → Ordering) → IsTotalOrder R → (kind : ScalarKind) → (o : Option ScalarValue) × IsFirst R kind (Among ps) q o
+  first_there R total kind = by (first_in R total s.items)
     where
       s : InOrder scalar_cmp (HasScalar kind (Among ps) q)
-      s = scalars_there kind t
+      s = scalars_there kind
 
       is : (o : Option ScalarValue) → IsFirstIn R total s.items o → IsFirst R kind (Among ps) q o
       is None f = λ w h. f w ((s.are w).1 h)
@@ -167,26 +174,27 @@ module _ (ps : List Path) (q : Path) where
 abbrev IsGreatestIn : List (List ℕ) → ℕ → Type 0
 IsGreatestIn all n = (((n < 2 ^ 64) × IsIn (unsigned_varint n) all) ⊎ (n ≡ 0)) × ((m : ℕ) → m < 2 ^ 64 → IsIn (unsigned_varint m) all → m ≤ n)
 
-greatest_in : (all : List (List ℕ)) → ((bytes : List ℕ) → IsIn bytes all → IsCount bytes) → (n : ℕ) × IsGreatestIn all n
-greatest_in [] each = (0, (inr refl, λ m l none. absurd none))
-greatest_in (bytes ∷ all) each = by (each bytes (inl refl)) (greatest_in all (λ b i. each b (inr i)))
+greatest_in : (all : List (List ℕ)) → (n : ℕ) × IsGreatestIn all n
+greatest_in [] = (0, (inr refl, λ m l none. absurd none))
+greatest_in (bytes ∷ all) = by (count_or_not bytes) (greatest_in all)
   where
-    by : IsCount bytes → (n : ℕ) × IsGreatestIn all n → (n : ℕ) × IsGreatestIn (bytes ∷ all) n
-    by c g = pick (grind arith)
+    own : (n : ℕ) → ((n < 2 ^ 64) × IsIn (unsigned_varint n) all) ⊎ (n ≡ 0) → ((n < 2 ^ 64) × IsIn (unsigned_varint n) (bytes ∷ all)) ⊎ (n ≡ 0)
+    own n (inl h) = inl (h.0, inr h.1)
+    own n (inr e) = inr e
+
+    by : Decided (IsCount bytes) → (n : ℕ) × IsGreatestIn all n → (n : ℕ) × IsGreatestIn (bytes ∷ all) n
+    by (inr none) g = (g.0, (own g.0 g.1.0, λ m h i. elim i [ inl e ↦ absurd (none (m, h, sym e)) | inr j ↦ g.1.1 m h j ]))
+    by (inl c) g = pick (grind arith)
       where
         same : (m : ℕ) → m < 2 ^ 64 → unsigned_varint m ≡ bytes → m ≡ c.0
         same m l e = unsigned_varint-injective m c.0 l c.1 (e ∙ c.2)
 
         pick : (g.0 ≤ c.0) ⊎ (c.0 ≤ g.0) → (n : ℕ) × IsGreatestIn (bytes ∷ all) n
         pick (inl l) = (c.0, (inl (c.1, inl (sym c.2)), λ m h i. elim i [ inl e ↦ let s : m ≡ c.0 = same m h e in omega arith | inr j ↦ let s : m ≤ g.0 = g.1.1 m h j in omega arith ]))
-        pick (inr l) = (g.0, (own g.1.0, λ m h i. elim i [ inl e ↦ let s : m ≡ c.0 = same m h e in omega arith | inr j ↦ g.1.1 m h j ]))
-          where
-            own : ((g.0 < 2 ^ 64) × IsIn (unsigned_varint g.0) all) ⊎ (g.0 ≡ 0) → ((g.0 < 2 ^ 64) × IsIn (unsigned_varint g.0) (bytes ∷ all)) ⊎ (g.0 ≡ 0)
-            own (inl h) = inl (h.0, inr h.1)
-            own (inr e) = inr e
+        pick (inr l) = (g.0, (own g.0 g.1.0, λ m h i. elim i [ inl e ↦ let s : m ≡ c.0 = same m h e in omega arith | inr j ↦ g.1.1 m h j ]))
 
-greatest_there : (ps : List Path) (q : Path) → ((payload : List ℕ) → Among ps (datum_path q payload) → IsCount payload) → (n : ℕ) × IsGreatest (Among ps) q n
-greatest_there ps q t = by (greatest_in (bytes_at 0 q ps) (λ bytes i. t bytes (bytes_at-there 0 q ps bytes i)))
+greatest_there : (ps : List Path) (q : Path) → (n : ℕ) × IsGreatest (Among ps) q n
+greatest_there ps q = by (greatest_in (bytes_at 0 q ps))
   where
     by : (n : ℕ) × IsGreatestIn (bytes_at 0 q ps) n → (n : ℕ) × IsGreatest (Among ps) q n
     by g = (g.0, (elim g.1.0 [ inl h ↦ inl (h.0, bytes_at-there 0 q ps (unsigned_varint g.0) h.1) | inr e ↦ inr e ], λ m h. g.1.1 m h.0 (bytes_at-back 0 q ps (unsigned_varint m) h.1)))
@@ -209,8 +217,8 @@ some_taint ps q = by (bytes_at 0 q ps) refl
     by [] e = (Taint false, ((λ t. absurd (cc t)), λ d. absurd (subst (IsIn d.0) e (bytes_at-back 0 q ps d.0 d.1))))
     by (bytes ∷ all) e = (Taint true, ((λ t. (bytes, bytes_at-there 0 q ps bytes (subst (IsIn bytes) (sym e) (inl refl)))), λ d. refl))
 
-some_counter : (ps : List Path) (q : Path) → IsTyped Counter (Among ps) q → (v : Value) × Reads Counter (Among ps) q v
-some_counter ps q t = by (paired (λ w n. IsGreatest (Among ps) (key_path q w) n) s.items (λ w i. greatest_there ps (key_path q w) (λ payload j. t w payload ((s.are w).0 i) j)))
+some_counter : (ps : List Path) (q : Path) → (v : Value) × Reads Counter (Among ps) q v
+some_counter ps q = by (paired (λ w n. IsGreatest (Among ps) (key_path q w) n) s.items (λ w i. greatest_there ps (key_path q w)))
   where
     s : InOrder atom_cmp (λ w. Among ps (key_path q w))
     s = writers_there ps q
@@ -225,13 +233,13 @@ some_counter ps q t = by (paired (λ w n. IsGreatest (Among ps) (key_path q w) n
       ),
     )
 
-some_map : (ps : List Path) (q : Path) (kind : ScalarKind) (shape : Shape) → IsTyped (Map kind shape) (Among ps) q
-    → ((key : List ℕ) → IsTyped shape (Among ps) (key_path q key) → (v : Value) × Reads shape (Among ps) (key_path q key) v)
+some_map : (ps : List Path) (q : Path) (kind : ScalarKind) (shape : Shape)
+    → ((key : List ℕ) → (v : Value) × Reads shape (Among ps) (key_path q key) v)
     → (v : Value) × Reads (Map kind shape) (Among ps) q v
-some_map ps q kind shape t below = by (paired (λ k v. Reads shape (Among ps) (key_path q (spelling kind k)) v) s.items (λ k i. below (spelling kind k) (t (spelling kind k) ((s.are k).0 i).1).1))
+some_map ps q kind shape below = by (paired (λ k v. Reads shape (Among ps) (key_path q (spelling kind k)) v) s.items (λ k i. below (spelling kind k)))
   where
     s : InOrder scalar_cmp (HasKey kind (Among ps) q)
-    s = keys_there ps q kind (λ key i. (t key i).0)
+    s = keys_there ps q kind
 
     by : (es : List (ScalarValue × Value)) × (keys_of es ≡ s.items) × EachPair (λ k v. Reads shape (Among ps) (key_path q (spelling kind k)) v) es → (v : Value) × Reads (Map kind shape) (Among ps) q v
     by es = (
@@ -245,21 +253,24 @@ some_map ps q kind shape t below = by (paired (λ k v. Reads shape (Among ps) (k
     )
 
 mutual
-  -- Typed paths say a value.
-  pub Reads-exists : (shape : Shape) (ps : List Path) (q : Path) → IsTyped shape (Among ps) q → (v : Value) × Reads shape (Among ps) q v
-  Reads-exists Taint ps q t = some_taint ps q
-  Reads-exists (Scalar pick kind) ps q t = let o = first_there ps q (pick_cmp pick) (pick_total pick) kind t in (Scalar pick o.0, (refl, o.1))
-  Reads-exists (Set kind) ps q t = let s = scalars_there ps q kind t in (Set kind s.items, (refl, s.rises, s.are))
-  Reads-exists Counter ps q t = some_counter ps q t
-  Reads-exists (Map kind shape) ps q t = some_map ps q kind shape t (λ key typed. Reads-exists shape ps (key_path q key) typed)
-  Reads-exists (Bag nodes) ps q t = let vs = ReadsEach-exists nodes ps q t in (Bag vs.0, vs.1)
+  -- Some paths say a value, whether they are typed or not.
+  pub Reads-all : (shape : Shape) (ps : List Path) (q : Path) → (v : Value) × Reads shape (Among ps) q v
+  Reads-all Taint ps q = some_taint ps q
+  Reads-all (Scalar pick kind) ps q = let o = first_there ps q (pick_cmp pick) (pick_total pick) kind in (Scalar pick o.0, (refl, o.1))
+  Reads-all (Set kind) ps q = let s = scalars_there ps q kind in (Set kind s.items, (refl, s.rises, s.are))
+  Reads-all Counter ps q = some_counter ps q
+  Reads-all (Map kind shape) ps q = some_map ps q kind shape (λ key. Reads-all shape ps (key_path q key))
+  Reads-all (Bag nodes) ps q = let vs = ReadsEach-all nodes ps q in (Bag vs.0, vs.1)
 
-  pub ReadsEach-exists : (nodes : Nodes) (ps : List Path) (q : Path) → AreTyped nodes (Among ps) q → (vs : Values) × ReadsEach nodes (Among ps) q vs
-  ReadsEach-exists no_node ps q t = (no_value, tt)
-  ReadsEach-exists (node name number shape nodes) ps q t =
-      let v = Reads-exists shape ps (node_path q number) t.0 in
-      let vs = ReadsEach-exists nodes ps q t.1 in
+  pub ReadsEach-all : (nodes : Nodes) (ps : List Path) (q : Path) → (vs : Values) × ReadsEach nodes (Among ps) q vs
+  ReadsEach-all no_node ps q = (no_value, tt)
+  ReadsEach-all (node name number shape nodes) ps q =
+      let v = Reads-all shape ps (node_path q number) in
+      let vs = ReadsEach-all nodes ps q in
       (value v.0 vs.0, (v.1, vs.1))
 
+pub all_lists_say : AllListsSay
+all_lists_say nodes list = ReadsEach-all nodes (paths list) []
+
 pub typed_lists_say : TypedListsSay
-typed_lists_say nodes list t = ReadsEach-exists nodes (paths list) [] t
+typed_lists_say nodes list t = all_lists_say nodes list

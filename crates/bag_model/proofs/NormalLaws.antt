@@ -29,7 +29,7 @@ use Rattle.bag_model.specs.NormalForms.{NormalKeepsList, NormalFormKeeps}
 use Rattle.bag_model.proofs.PathSets.{FewerBelow}
 use Rattle.bag_model.proofs.TypedLaws.{AreTyped-fewer}
 use Rattle.bag_model.proofs.Uniqueness.{ReadsEach-unique}
-use Rattle.bag_model.proofs.Existence.{ReadsEach-exists}
+use Rattle.bag_model.proofs.Existence.{ReadsEach-all}
 use Rattle.bag_model.proofs.Covering.{CoversData, AreCovered, ReadsEach-covers}
 use Rattle.bag_model.proofs.SlotsBelow.{get_in, slot_headers}
 use Rattle.bag_model.proofs.DataPlaces.{SomeHoldsData-one, SomeHoldsData-used, slots_place, best_there, AreCovered-places}
@@ -166,7 +166,7 @@ module _ (nodes : Nodes) (t : IsTable nodes) (view : View) (list normal : List A
   normal_typed typed = AreTyped-fewer nodes (PathsOf normal) (PathsOf list) [] (normal_fewer []) typed
 
   normal_says : AreTyped nodes (PathsOf list) [] → (vs : Values) → SaysValues nodes normal vs ↔ SaysValues nodes list vs
-  normal_says typed vs = (λ r. there vs r, λ r. back r (ReadsEach-exists nodes (paths normal) [] (normal_typed typed)))
+  normal_says typed vs = (λ r. there vs r, λ r. back r (ReadsEach-all nodes (paths normal) []))
     where
       there : (us : Values) → SaysValues nodes normal us → SaysValues nodes list us
       there us r = ReadsEach-covers nodes (PathsOf normal) (PathsOf list) [] us typed normal_covers r

@@ -73,7 +73,11 @@ TypedWhereNoneMisspells = (nodes : Nodes) (list : List Atom)
     → AreTyped nodes (PathsOf list) []
     ↔ ((p : Path) → PathsOf list p → SomeMisspells nodes [] p → ⊥)
 
--- A typed list says values of all fields.
+-- Each list says values of all fields of each bag, whether it is typed or not: what isn't spelled as a field says counts for nothing.
+abbrev pub AllListsSay : Type 0
+AllListsSay = (nodes : Nodes) (list : List Atom) → (vs : Values) × SaysValues nodes list vs
+
+-- So does a typed list.
 abbrev pub TypedListsSay : Type 0
 TypedListsSay = (nodes : Nodes) (list : List Atom) → AreTyped nodes (PathsOf list) []
     → (vs : Values) × SaysValues nodes list vs
