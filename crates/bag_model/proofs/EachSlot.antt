@@ -255,13 +255,13 @@ mutual
           subst (λ n. EachSlot (IsOnly n v) (i + length front) (slots_of nodes) (slot_values nodes (only nodes (place - slot_count shape) v))) same rest)
 
 -- an element of a list that was mapped, by its place
-get_map : {A B : Type 0} (f : A → B) (xs : List A) (k : ℕ) (y : B) → slice_get (map f xs) k ≡ Some y → (x : A) × (slice_get xs k ≡ Some x) × (y ≡ f x)
+pub get_map : {A B : Type 0} (f : A → B) (xs : List A) (k : ℕ) (y : B) → slice_get (map f xs) k ≡ Some y → (x : A) × (slice_get xs k ≡ Some x) × (y ≡ f x)
 get_map f [] k y e = absurd (cc e)
 get_map f (x ∷ xs) zero y e = let same : f x ≡ y = cc in (x, refl, sym same)
 get_map f (x ∷ xs) (suc k) y e = get_map f xs k y e
 
 -- the shape of the one slot of a field that is no bag
-one_shape : (shape : Shape) (place : ℕ) (at : SlotAt) (v : Value) → slice_get (record { names = []; numbers = []; shape = shape } ∷ []) place ≡ Some at → IsOfShape at.shape v → IsOfShape shape v
+pub one_shape : (shape : Shape) (place : ℕ) (at : SlotAt) (v : Value) → slice_get (record { names = []; numbers = []; shape = shape } ∷ []) place ≡ Some at → IsOfShape at.shape v → IsOfShape shape v
 one_shape shape zero at v e p = let same : record { names = []; numbers = []; shape = shape } ≡ at = cc in subst (λ (x : SlotAt). IsOfShape x.shape v) (sym same) p
 one_shape shape (suc place) at v e p = absurd (cc e)
 

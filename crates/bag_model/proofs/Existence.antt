@@ -14,7 +14,7 @@ use Rattle.context_model.proofs.VarintLaws.{unsigned_varint-injective}
 use Rattle.bag_model.specs.Scalars.{ScalarKind, ScalarValue, scalar_cmp, IsScalarOf, spelling, pick_cmp}
 use Rattle.bag_model.specs.Shapes.{Shape, Nodes, Taint, Scalar, Set, Counter, Map, Bag, no_node, node}
 use Rattle.bag_model.specs.Values.{Value, Values, Taint, Scalar, Set, Counter, Map, Bag, no_value, value}
-use Rattle.bag_model.specs.Readings.{datum_path, key_path, node_path, HasScalar, IsFirst, IsGreatest, HasKey, Reads, ReadsEach}
+use Rattle.bag_model.specs.Readings.{key_path, node_path, HasScalar, IsFirst, IsGreatest, HasKey, Reads, ReadsEach}
 use Rattle.bag_model.specs.Typed.{IsSpelling, IsCount, AllListsSay, TypedListsSay}
 use Rattle.bag_model.proofs.ScalarOrder.{scalar_total, scalar_exact, pick_total}
 use Rattle.bag_model.proofs.SpellingOrder.{spelling-one}

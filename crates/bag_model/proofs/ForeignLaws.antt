@@ -4,7 +4,7 @@ use Rattle.context_model.specs.Atoms.{Atom}
 use Rattle.context_model.specs.Orders.{Path}
 use Rattle.context_model.specs.Varints.{unsigned_varint}
 use Rattle.context_model.proofs.MergeLaws.{EachPair-at, EachPair-from}
-use Rattle.bag_model.specs.Scalars.{ScalarKind, ScalarValue, scalar_cmp, spelling, pick_cmp}
+use Rattle.bag_model.specs.Scalars.{ScalarKind, ScalarValue, spelling, pick_cmp}
 use Rattle.bag_model.specs.Shapes.{Shape, Nodes, Taint, Scalar, Set, Counter, Map, Bag, no_node, node}
 use Rattle.bag_model.specs.Values.{Value, Values, Taint, Scalar, Set, Counter, Map, Bag, no_value, value, pairs}
 use Rattle.bag_model.specs.Readings.{datum_path, key_path, node_path, HasScalar, IsFirst, IsGreatest, Reads, ReadsEach, PathsOf, SaysValues}

@@ -4,7 +4,7 @@ use Rattle.context_model.specs.Atoms.{Atom}
 use Rattle.context_model.specs.Kinds.{atom_of}
 use Rattle.context_model.specs.Kinds.Kind.{Indexed}
 use Rattle.context_model.specs.Orders.{Path, atom_cmp, IsIn}
-use Rattle.context_model.specs.Paths.{paths, path_at}
+use Rattle.context_model.specs.Paths.{path_at}
 use Rattle.context_model.specs.Varints.{unsigned_varint}
 use Rattle.context_model.specs.WellFormed.{IsWellFormed}
 use Rattle.context_model.specs.Ended.{IsBelow, IsBeyond, field_path_from, field_path}

@@ -1,5 +1,5 @@
 -- The join of two values is the union of what they hold.
-use Rattle.std.proofs.Common.{◌≡◌, ◌⊎◌, inl, inr, ℕ, zero, suc, max, Bool, true, false, ◌||◌, Option, Some, None, Ordering, Less, Equal, Greater, List, [], ◌∷◌, length, refl, sym, ap, ◌∙◌, subst}
+use Rattle.std.proofs.Common.{◌≡◌, inl, inr, ℕ, zero, suc, max, Bool, true, false, ◌||◌, Option, Some, None, Ordering, Less, Equal, Greater, length, refl, sym, ap, ◌∙◌, subst}
 use Rattle.std.specs.Cmp.{IsTotalOrder, tied_itself}
 use Rattle.std.specs.List.{slice_get}
 use Rattle.std.specs.Ordering.{ordering_reverse}
@@ -11,8 +11,8 @@ use Rattle.context_model.proofs.GreedyElements.{IsIn-greedy}
 use Rattle.context_model.proofs.Rising.{Rises-greedy}
 use Rattle.bag_model.specs.Scalars.{ScalarValue, scalar_cmp, pick_cmp}
 use Rattle.bag_model.specs.Values.{Value, Entries, Values, no_value, value, pairs, values_list}
-use Rattle.bag_model.specs.Joins.{join, join_entries, join_values, AreAlike, Proper}
-use Rattle.bag_model.specs.JoinUnions.{IsEither, IsFirstOfTwo, IsMapUnion, AreJoinedEach, JoinsAreUnions, BottomSaysNothing}
+use Rattle.bag_model.specs.Joins.{join, join_entries, join_values, AreAlike}
+use Rattle.bag_model.specs.JoinUnions.{IsEither, IsFirstOfTwo, IsMapUnion, JoinsAreUnions, BottomSaysNothing}
 use Rattle.bag_model.proofs.ScalarOrder.{scalar_total, scalar_exact, pick_total}
 use Rattle.bag_model.proofs.PairLaws.{Rises-merged, keys-merged, pairs-join}
 use Rattle.bag_model.proofs.OfShape.{IsOfShape-bottom, IsBottom-bottom, bottom-one}

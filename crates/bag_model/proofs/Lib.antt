@@ -34,6 +34,7 @@ pub mod DataPlaces
 pub mod NormalLaws
 pub mod GoneDataLaws
 pub mod EachSlot
+pub mod PlacedSlots
 pub mod SpellingTests
 pub mod NormalRows
 pub mod ForeignLaws

@@ -12,7 +12,7 @@ use Rattle.bag_model.specs.Scalars.{ScalarKind, ScalarValue, scalar_cmp, spellin
 use Rattle.bag_model.specs.Shapes.{Shape, Nodes, Taint, Scalar, Set, Counter, Map, Bag, no_node, node}
 use Rattle.bag_model.specs.Values.{Value, Values, Taint, Scalar, Set, Counter, Map, Bag, no_value, value, pairs}
 use Rattle.bag_model.specs.Readings.{key_path, node_path, IsFirst, IsGreatest, Reads, ReadsEach}
-use Rattle.bag_model.proofs.ScalarOrder.{scalar_total, scalar_exact, pick_total, pick_exact}
+use Rattle.bag_model.proofs.ScalarOrder.{scalar_total, pick_total, pick_exact}
 use Rattle.bag_model.proofs.PairLaws.{pairs_one, pairs-injective}
 
 module _ (R : ScalarValue → ScalarValue → Ordering) (total : IsTotalOrder R) (anti : IsAntisymmetric R) (kind : ScalarKind) (P : Path → Type 0) (q : Path) where

@@ -1,11 +1,12 @@
 -- The values of a bag slot by slot, and the bag that is bottom but for one slot.
-use Rattle.std.specs.Prelude.{◌≡◌, ◌≢◌, ℕ, ◌-◌, nat_lt, if◌then◌else◌, List, [], ◌∷◌, ◌++◌, Some}
+use Rattle.std.specs.Prelude.{◌≡◌, ◌≢◌, ◌↔◌, ℕ, ◌-◌, nat_lt, if◌then◌else◌, List, [], ◌∷◌, ◌++◌, Some}
 use Rattle.std.specs.List.{slice_get}
 use Rattle.context_model.specs.Atoms.{Atom}
 use Rattle.context_model.specs.Ended.{field_path}
 use Rattle.bag_model.specs.Shapes.{Shape, Nodes, Taint, Scalar, Set, Counter, Map, Bag, no_node, node}
 use Rattle.bag_model.specs.Slots.{SlotAt, slots_of, slot_count}
 use Rattle.bag_model.specs.Values.{Value, Values, Bag, no_value, value, bottom, bottoms, IsOfShape, AreOfShapes}
+use Rattle.bag_model.specs.Joins.{join_values, IsValueBelow}
 use Rattle.bag_model.specs.Readings.{PathsOf, Reads, SaysValues}
 
 -- The values of the slots of a field that has this value, in the order of its slots.
@@ -44,6 +45,26 @@ abbrev mutual
       then value (only_in shape slot v) (bottoms nodes)
       else value (bottom shape) (only nodes (slot - slot_count shape) v)
 
+-- The value of a field, with the value v in place of what it has at a slot of the field.
+abbrev mutual
+  pub with_slot_in : Shape → ℕ → Value → Value → Value
+  with_slot_in Taint slot v own = v
+  with_slot_in (Scalar pick kind) slot v own = v
+  with_slot_in (Set kind) slot v own = v
+  with_slot_in Counter slot v own = v
+  with_slot_in (Map key shape) slot v own = v
+  with_slot_in (Bag nodes) slot v (Bag vs) = Bag (with_slot nodes slot v vs)
+  with_slot_in (Bag nodes) slot v other = other
+
+  -- The values of a bag's fields, with the value v in place of what they have at a slot of the bag.
+  pub with_slot : Nodes → ℕ → Value → Values → Values
+  with_slot no_node slot v vs = vs
+  with_slot (node name number shape nodes) slot v no_value = no_value
+  with_slot (node name number shape nodes) slot v (value own vs) =
+      if nat_lt slot (slot_count shape)
+      then value (with_slot_in shape slot v own) vs
+      else value own (with_slot nodes (slot - slot_count shape) v vs)
+
 -- The table has this slot at this place.
 abbrev pub HasSlot : Nodes → ℕ → SlotAt → Type 0
 HasSlot nodes place slot = slice_get (slots_of nodes) place ≡ Some slot
@@ -75,3 +96,29 @@ pub record OnlyFits : Type 0 where
   pub others : (nodes : Nodes) (place : ℕ) (at : SlotAt) (v : Value) (other : ℕ) (there : SlotAt)
       → HasSlot nodes place at → HasSlot nodes other there → other ≢ place
       → HasSlotValue nodes (only nodes place v) other (bottom there.shape)
+
+-- A value of a slot's shape in place of what values of a table's shapes have there makes values of these shapes, which have it there and are
+-- the same at all other slots.
+pub record WithSlotFits : Type 0 where
+  pub shapes : (nodes : Nodes) (place : ℕ) (at : SlotAt) (v : Value) (vs : Values)
+      → HasSlot nodes place at → IsOfShape at.shape v → AreOfShapes nodes vs
+      → AreOfShapes nodes (with_slot nodes place v vs)
+  pub own : (nodes : Nodes) (place : ℕ) (at : SlotAt) (v : Value) (vs : Values)
+      → HasSlot nodes place at → AreOfShapes nodes vs
+      → HasSlotValue nodes (with_slot nodes place v vs) place v
+  pub others : (nodes : Nodes) (place : ℕ) (v : Value) (vs : Values) (other : ℕ) (w : Value)
+      → AreOfShapes nodes vs → other ≢ place
+      → HasSlotValue nodes (with_slot nodes place v vs) other w → HasSlotValue nodes vs other w
+
+-- Values of a table's shapes have a value of its shape at each slot.
+abbrev pub SlotsHaveValues : Type 0
+SlotsHaveValues = (nodes : Nodes) (vs : Values) (place : ℕ) (at : SlotAt)
+    → AreOfShapes nodes vs → HasSlot nodes place at
+    → (v : Value) × HasSlotValue nodes vs place v × IsOfShape at.shape v
+
+-- Some values of a bag's fields say what others say exactly where it is so at each slot.
+abbrev pub BelowAtSlots : Type 0
+BelowAtSlots = (nodes : Nodes) (vs ws : Values) → AreOfShapes nodes vs → AreOfShapes nodes ws
+    → (join_values vs ws ≡ ws)
+    ↔ ((place : ℕ) (v w : Value)
+    → HasSlotValue nodes vs place v → HasSlotValue nodes ws place w → IsValueBelow v w)
