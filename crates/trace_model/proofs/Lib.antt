@@ -6,6 +6,7 @@ pub mod CutLists
 pub mod Telling
 pub mod Arrivals
 pub mod TruthLaws
+pub mod ContributedLaws
 pub mod ListedAdditions
 pub mod FaithfulLaws
 pub mod RunLaws

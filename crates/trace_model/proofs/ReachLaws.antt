@@ -42,3 +42,8 @@ module _ (graph : Graph) (n : ℕ) (step : Step) (there : HasStep graph n step) 
 -- What a step that reaches n does may be said in other words.
 pub reached_so : (graph : Graph) (n : ℕ) (Does Do : Act → Type 0) → ((act : Act) → Does act → Do act) → IsReachedBy graph n Does → IsReachedBy graph n Do
 reached_so graph n Does Do f r = record { from = r.from; step = r.step; there = r.there; reaches = r.reaches; does = f (r.step).act r.does }
+
+-- What reaches a step that reaches another reaches that.
+pub reaches_on : (graph : Graph) (a b c : ℕ) → Reaches graph a b → Reaches graph b c → Reaches graph a c
+reaches_on graph a b c r itself = r
+reaches_on graph a b c r (through {parent = parent} step there i s) = through step there i (reaches_on graph a b parent r s)

@@ -1,5 +1,6 @@
 pub mod Graphs
 pub mod Runs
 pub mod Truth
+pub mod Contributions
 pub mod Faithful
 pub mod Shown

@@ -1,5 +1,6 @@
 //! Laws of recorded graphs of steps, each the contract of a function that does nothing.
 
+ghost use Rattle.trace_model.specs.Contributions.{TruthsAreContributed};
 ghost use Rattle.trace_model.specs.Faithful.{RunsAreFaithful, EndsInParents, AlikeStepsSayTheSame};
 ghost use Rattle.trace_model.specs.Runs.{GivesContexts, HasOneRun, RunsGrow};
 ghost use Rattle.trace_model.specs.Shown.{ShownIsHonest};
@@ -11,6 +12,11 @@ pub fn truth_is_the_join()
     ensures one { HasOneTruth }
     ensures listed { AdditionsAreListed }
     ensures join { TruthIsJoin }
+{}
+
+/// The truth of a slot at a step is the least value above all that the steps on the way contribute to the slot alone.
+pub fn truths_are_contributed()
+    ensures { TruthsAreContributed }
 {}
 
 /// A sound graph of a table has at most one run, and a run grows by one list after another.
