@@ -13,7 +13,8 @@ use Rattle.text_lines.specs.Readings.{AllSay}
 use Rattle.table_text.specs.OpenBags.{IsBehind, name_of, least_behind}
 use Rattle.table_text.specs.Rows.{Row, SaysRow}
 use Rattle.table_text.specs.Rules.{deepest, ends_in_bag, IsGood, field_lines}
-use Rattle.table_text.specs.TableFaults.{fed_lines, lines_behind}
+use Rattle.text_lines.specs.FedLines.{fed_lines}
+use Rattle.table_text.specs.TableFaults.{lines_behind}
 use Rattle.table_text.specs.TableRows.{told, told_row, rows_of, rows_in}
 use Rattle.table_text.specs.TableTexts.{fields_text}
 use Rattle.table_text.proofs.Appended.{all_push, with_field, fields_with, rows_with, count_inside}

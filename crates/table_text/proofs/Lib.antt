@@ -14,7 +14,6 @@ mod RuleTests
 mod Building
 mod BagRules
 mod Growing
-mod FedLines
 mod LineTexts
 mod Finished
 mod LineRefusals

@@ -12,7 +12,8 @@ use Rattle.table_text.specs.FaultNames.{fault_at}
 use Rattle.table_text.specs.OpenBags.{IsSoundRow}
 use Rattle.table_text.specs.Rows.{Row, SaysRow}
 use Rattle.table_text.specs.Rules.{deepest, IsGood, field_lines}
-use Rattle.table_text.specs.TableFaults.{fed_lines, lines_behind, IsRefusalBehind}
+use Rattle.text_lines.specs.FedLines.{fed_lines}
+use Rattle.table_text.specs.TableFaults.{lines_behind, IsRefusalBehind}
 use Rattle.table_text.specs.Views.{row_of, IsUnread, IsRefused, IsAddRefused}
 
 pub sound_row : (text : List ℕ) (row : CodeRow) → SaysRow text (row_of row) → IsIndexedShape row.shape → IsSoundRow row

@@ -12,8 +12,9 @@ use Rattle.table_text.specs.TableRows.{told, rows_of, rows_in}
 use Rattle.table_text.specs.TableTexts.{kind_text, shape_text, field_line, fields_text, bag_text}
 use Rattle.std.specs.Prelude.{codes}
 use Rattle.table_text.proofs.Depths.{depth_decimal}
-use Rattle.table_text.proofs.FedLines.{whole, fed_whole}
-use Rattle.table_text.specs.TableFaults.{fed_lines, lines_behind}
+use Rattle.text_lines.proofs.FedLines.{whole, fed_whole}
+use Rattle.text_lines.specs.FedLines.{fed_lines}
+use Rattle.table_text.specs.TableFaults.{lines_behind}
 use Rattle.table_text.proofs.Siblings.{latest}
 
 -- The line that is printed for what a line says.

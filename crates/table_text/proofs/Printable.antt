@@ -13,10 +13,10 @@ use Rattle.bag_model.specs.Scalars.{Word, ScalarKind, Boolean, Int32, Int64, Sin
 use Rattle.bag_model.specs.Shapes.{Shape, Taint, Scalar, Set, Counter, Map, Bag}
 use Rattle.bag_model.specs.Words.{is_name, word_text}
 use Rattle.table_text.specs.Rows.{Row, SaysRow}
-use Rattle.table_text.specs.TableFaults.{fed_lines}
+use Rattle.text_lines.specs.FedLines.{fed_lines}
 use Rattle.table_text.specs.TableTexts.{kind_text, shape_text}
 use Rattle.table_text.specs.Words.{IsFree}
-use Rattle.table_text.proofs.FedLines.{fed_line}
+use Rattle.text_lines.proofs.FedLines.{fed_line}
 use Rattle.table_text.proofs.Free.{or_false, free_append}
 use Rattle.table_text.proofs.NameBytes.{is_of_word, all_of_word, name_word}
 

@@ -1,5 +1,6 @@
 -- The first fault of a text that is no table's.
-use Rattle.std.specs.Prelude.{◌≡◌, ◌≢◌, ◌⊎◌, ℕ, ◌==◌, List, [], ◌∷◌, ◌++◌, codes, if◌then◌else◌}
+use Rattle.std.specs.Prelude.{◌≡◌, ◌≢◌, ◌⊎◌, ℕ, List, ◌∷◌, ◌++◌, codes}
+use Rattle.text_lines.specs.FedLines.{fed_lines}
 use Rattle.text_lines.specs.Lines.{Line, numbered}
 use Rattle.text_lines.specs.Readings.{IsFirstBad}
 use Rattle.table_text.specs.declared.faults.TableCode.{TableCode}
@@ -7,16 +8,6 @@ use Rattle.table_text.specs.declared.faults.TableCode.TheVariants.{Head, Form}
 use Rattle.table_text.specs.declared.faults.TableFault.{TableFault}
 use Rattle.table_text.specs.declared.faults.TableFault.TheVariants.{At, Memory}
 use Rattle.table_text.specs.Rules.{field_lines}
-
--- A byte before the first of some lines.
-abbrev pub onto_first : ℕ → List (List ℕ) → List (List ℕ)
-onto_first byte [] = (byte ∷ []) ∷ []
-onto_first byte (line ∷ lines) = (byte ∷ line) ∷ lines
-
--- The lines of a text, each with the line feed at its end; the last may be without one.
-abbrev pub fed_lines : List ℕ → List (List ℕ)
-fed_lines [] = []
-fed_lines (byte ∷ bytes) = if byte == 10 then (byte ∷ []) ∷ fed_lines bytes else onto_first byte (fed_lines bytes)
 
 -- The lines behind the first, with their numbers.
 abbrev pub lines_behind : List ℕ → List Line

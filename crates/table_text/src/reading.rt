@@ -5,30 +5,16 @@ ghost use Rattle.text_lines.specs.Readings.{AllSay};
 ghost use Rattle.table_text.specs.Rows.{Row as SaidRow};
 ghost use Rattle.table_text.specs.Rules.{IsGood, field_lines};
 ghost use Rattle.table_text.specs.OpenBags.{IsSound, IsFresh, rows_so_far};
-ghost use Rattle.table_text.specs.TableFaults.{fed_lines, head, lines_behind, IsHeadFault, IsRefusalOf, IsRefusalBehind};
+ghost use Rattle.table_text.specs.TableFaults.{head, lines_behind, IsHeadFault, IsRefusalOf, IsRefusalBehind};
 ghost use Rattle.table_text.specs.TableTexts.{table_text};
 ghost use Rattle.table_text.specs.Views.{IsRefused};
 
 use crate::builder::Builder;
 use crate::faults::{Refusal, TableCode, TableFault};
 use crate::rows::read_row;
-use crate::words::place_of;
 use field_table::Table;
 use std::alloc::Global;
-
-/// The first line of some bytes with its line feed, and the bytes behind it; none where there are no bytes. The last line
-/// may be without a line feed.
-fn cut_line(bytes: &[u8]) -> Option<(&[u8], &[u8])>
-    ensures lines { MatchOption result (bytes.now ≡ [])
-        (λ cut. fed_lines bytes.now ≡ cut.0.now ∷ fed_lines cut.1.now) }
-    ensures shorter { IfSome result (λ cut. length cut.1.now < length bytes.now) }
-{
-    match place_of(b'\n', bytes) {
-        Some(at) => Some(bytes.split_at(at + 1)),
-        None if bytes.is_empty() => None,
-        None => Some((bytes, &[])),
-    }
-}
+use text_lines::cut_fed_line;
 
 /// What is wrong with the first line of a text that doesn't begin with that of a table.
 fn head_code(text: &[u8]) -> TableCode
@@ -67,7 +53,7 @@ fn read_lines(alloc: Global, text: &[u8]) -> Result<Builder<'_>, TableFault>
     let mut builder = Builder::new(alloc);
     let mut rest = text;
     let mut number = 2;
-    while let Some((line, behind)) = cut_line(rest) {
+    while let Some((line, behind)) = cut_fed_line(rest) {
         builder = match builder.read_line(alloc, line) {
             Ok(next) => next,
             Err(refusal) => return Err(refusal.at(number)),

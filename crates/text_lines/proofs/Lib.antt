@@ -1,3 +1,4 @@
 pub mod LineLaws
+pub mod FedLines
 pub mod ReadingLaws
 pub mod HexLaws

@@ -58,7 +58,7 @@ fn without_return(text: &[u8]) -> &[u8]
 }
 
 /// Where the first line feed stands.
-fn feed_at(bytes: &[u8]) -> Option<usize>
+pub(crate) fn feed_at(bytes: &[u8]) -> Option<usize>
     ensures none { result ≡ None → (k : ℕ) → k < length bytes.now → slice_index bytes.now k ≢ 10 }
     ensures within { IfSome result (λ at. at < length bytes.now) }
     ensures first { IfSome result (λ at. (k : ℕ) → k < at → slice_index bytes.now k ≢ 10) }
