@@ -1,6 +1,6 @@
-mod Separated
-mod Names
-mod Decimals
+pub mod Separated
+pub mod Names
+pub mod Decimals
 mod FirstWords
 mod OneForm
 mod Paths

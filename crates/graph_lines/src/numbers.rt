@@ -10,15 +10,15 @@ use decimal_text::read_decimal;
 use outside::Memory;
 use std::alloc::Global;
 
-/// The number that is a text.
-pub(crate) fn read_number(text: &str) -> Option<u64>
+/// The number that is a text: 1 to 10 decimal digits, without a leading zero unless it is `0`.
+pub fn read_number(text: &str) -> Option<u64>
     ensures { Answers (IsNumberText text.now) result }
 {
     read_decimal(text.as_bytes()).filter(|number| *number < 10_000_000_000)
 }
 
 /// A number at the front of a text, and what stands behind the space after it.
-pub(crate) fn take_number(text: &str) -> Option<(u64, &str)>
+pub fn take_number(text: &str) -> Option<(u64, &str)>
     ensures { Takes (NumberThen text.now) (option_map (λ cut. (cut.0, cut.1.now)) result) }
 {
     let (digits, rest) = cut_word(text)?;
@@ -27,7 +27,7 @@ pub(crate) fn take_number(text: &str) -> Option<(u64, &str)>
 }
 
 /// The numbers that are a text, with one space between two of them.
-pub(crate) fn read_numbers(alloc: Global, text: &str) -> Result<Option<Vec<u64>>, Memory>
+pub fn read_numbers(alloc: Global, text: &str) -> Result<Option<Vec<u64>>, Memory>
     ensures { IfOk result (λ read. Answers (AreNumbers text.now) (option_map (λ numbers. numbers.items) read)) }
 {
     let mut numbers = Vec::new(alloc);

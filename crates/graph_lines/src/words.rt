@@ -13,7 +13,7 @@ use outside::Memory;
 use std::alloc::Global;
 
 /// The first word of a text, and what stands behind the space after it; none where there is no space.
-pub(crate) fn cut_word(text: &str) -> Option<(&str, &str)>
+pub fn cut_word(text: &str) -> Option<(&str, &str)>
     ensures { MatchOption result (HasNoSpace text.now)
         (λ cut. HasNoSpace cut.0.now × IsCut text.now cut.0.now cut.1.now) }
 {
@@ -47,7 +47,7 @@ pub(crate) fn is_name(text: &[u8]) -> bool
 }
 
 /// Whether the text is names with dots between them.
-fn is_path(text: &[u8]) -> bool
+pub fn is_path(text: &[u8]) -> bool
     ensures { IsTrue result ↔ IsPath text.now }
 {
     text.split(|byte| *byte == b'.').all(is_name)
