@@ -16,7 +16,7 @@ no_text old text none = sym (ap (λ (l : List ℕ). old ++ l) none ∙ append-ni
 
 no_bag_text : (shape : model.Shape) (vs : values.Values) → ((nodes : model.Nodes) → shape ≢ model.Shape.Bag nodes) → value_text shape (values.Value.Bag vs) ≡ []
 no_bag_text model.Shape.Taint vs h = refl
-no_bag_text (model.Shape.Scalar kind) vs h = refl
+no_bag_text (model.Shape.Scalar pick kind) vs h = refl
 no_bag_text (model.Shape.Set kind) vs h = refl
 no_bag_text model.Shape.Counter vs h = refl
 no_bag_text (model.Shape.Map kind inner) vs h = refl

@@ -2,6 +2,7 @@
 use Rattle.std.proofs.Common.{◌≡◌, pos, negsuc, true, false, [], ◌∷◌, ◌++◌, Some, None, codes, refl}
 use Rattle.std.specs.Fmt.{digits}
 use Rattle.hex.specs.Hex.{encode_with}
+use Rattle.bag_model.specs.declared.Pick.TheVariants.{Least, Greatest}
 use Rattle.bag_model.specs.Scalars as scalars
 use Rattle.bag_model.specs.Scalars.{ScalarValue, Uint64, Str, Truth, Signed, Unsigned, Text, Octets}
 use Rattle.bag_model.specs.Shapes.{Shape, Nodes, no_node, node}
@@ -12,7 +13,10 @@ use Rattle.report_text.specs.ValueTexts.{value_text}
 on_row : value_text Shape.Taint (Taint true) ≡ codes "on"
 on_row = refl
 
-absent_row : value_text Shape.Counter (Scalar None) ≡ codes "-"
+absent_greatest_row : value_text Shape.Counter (Scalar Greatest None) ≡ codes "-"
+absent_greatest_row = refl
+
+absent_row : value_text Shape.Counter (Scalar Least None) ≡ codes "-"
 absent_row = refl
 
 truth_row : scalar_text (ScalarValue.One (Truth false)) ≡ codes "false"
@@ -70,12 +74,12 @@ unfolding digits encode_with
 map_row = refl
 
 abbrev row_nodes : Nodes
-row_nodes = node (codes "a") 1 Shape.Taint (node (codes "b") 4 (Shape.Scalar (scalars.ScalarKind.One Str)) no_node)
+row_nodes = node (codes "a") 1 Shape.Taint (node (codes "b") 4 (Shape.Scalar Least (scalars.ScalarKind.One Str)) no_node)
 
-bag_row : value_text (Shape.Bag row_nodes) (Bag (value (Taint true) (value (Scalar None) no_value))) ≡ codes "[a=on,b=-]"
+bag_row : value_text (Shape.Bag row_nodes) (Bag (value (Taint true) (value (Scalar Least None) no_value))) ≡ codes "[a=on,b=-]"
 bag_row = refl
 
 -- a map of bags
-nested_row : value_text (Shape.Map (scalars.ScalarKind.One Uint64) (Shape.Bag row_nodes)) (Map (entry (ScalarValue.One (Unsigned 7)) (Bag (value (Taint false) (value (Scalar (Some (ScalarValue.One (Text [])))) no_value))) no_entry)) ≡ codes "{7:[a=off,b=\"\"]}"
+nested_row : value_text (Shape.Map (scalars.ScalarKind.One Uint64) (Shape.Bag row_nodes)) (Map (entry (ScalarValue.One (Unsigned 7)) (Bag (value (Taint false) (value (Scalar Least (Some (ScalarValue.One (Text [])))) no_value))) no_entry)) ≡ codes "{7:[a=off,b=\"\"]}"
 unfolding digits
 nested_row = refl

@@ -34,7 +34,7 @@ abbrev mutual
   -- that is none has no text.
   pub value_text : Shape → Value → List ℕ
   value_text shape (Taint on) = taint_text on
-  value_text shape (Scalar v) = scalar_or_dash v
+  value_text shape (Scalar pick v) = scalar_or_dash v
   value_text shape (Set kind vs) = set_text vs
   value_text shape (Counter counts) = counts_text counts
   value_text (Shape.Map kind shape) (Map es) = in_braces (entry_texts shape es)
