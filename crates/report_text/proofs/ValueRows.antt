@@ -2,7 +2,7 @@
 use Rattle.std.proofs.Common.{◌≡◌, pos, negsuc, true, false, [], ◌∷◌, ◌++◌, Some, None, codes, refl}
 use Rattle.std.specs.Fmt.{digits}
 use Rattle.hex.specs.Hex.{encode_with}
-use Rattle.bag_model.specs.declared.Pick.TheVariants.{Least}
+use Rattle.bag_model.specs.declared.Pick.TheVariants.{Least, Greatest}
 use Rattle.bag_model.specs.Scalars as scalars
 use Rattle.bag_model.specs.Scalars.{ScalarValue, Uint64, Str, Truth, Signed, Unsigned, Text, Octets}
 use Rattle.bag_model.specs.Shapes.{Shape, Nodes, no_node, node}
@@ -12,6 +12,9 @@ use Rattle.report_text.specs.ValueTexts.{value_text}
 
 on_row : value_text Shape.Taint (Taint true) ≡ codes "on"
 on_row = refl
+
+absent_greatest_row : value_text Shape.Counter (Scalar Greatest None) ≡ codes "-"
+absent_greatest_row = refl
 
 absent_row : value_text Shape.Counter (Scalar Least None) ≡ codes "-"
 absent_row = refl
