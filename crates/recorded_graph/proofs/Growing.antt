@@ -6,7 +6,7 @@ use Rattle.std.proofs.lemmas.Option.{slice_get_within}
 use Rattle.context_model.specs.Orders.{IsIn}
 use Rattle.bag_model.specs.Shapes.{Nodes}
 use Rattle.trace_model.specs.Graphs as model
-use Rattle.trace_model.specs.Graphs.{Graph, parents_of, HasStep, view_of, view_at, IsSoundAct, StaysAt, IsGraph, IsActOf, IsViewOf, IsOfTable}
+use Rattle.trace_model.specs.Graphs.{Graph, parents_of, HasStep, form_of_service, form_at, view_of, view_at, IsSoundAct, StaysAt, IsGraph, IsActOf, IsViewOf, IsOfTable}
 use Rattle.recorded_graph.specs.declared.graphs.TheConstants.{STEPS_MAX}
 use Rattle.recorded_graph.specs.declared.steps.Service.{Service}
 use Rattle.recorded_graph.specs.declared.steps.Step.{Step}
@@ -47,7 +47,9 @@ empty_sound = record {
 
 pub service_sound : (graph : Graph) (service : model.Service) → IsGraph graph → IsGraph (with_service graph service)
 service_sound graph service g = record {
-  acts = g.acts;
+  acts = λ n step e.
+      let same = get_kept graph.services service step.service (g.services n step e) in
+      subst (λ s. IsSoundAct (form_of_service s) step.act) (sym same) (g.acts n step e);
   earlier = g.earlier;
   services = λ n step e. longer graph.services service step.service (g.services n step e);
   stays = g.stays;
@@ -82,7 +84,7 @@ module _ (graph : Graph) (step : model.Step) (g : IsGraph graph) (f : MayFollow 
 
   pub step_sound : IsGraph (with_step graph step)
   step_sound = record {
-    acts = each_step graph step (λ n s. IsSoundAct s.act) g.acts f.act;
+    acts = each_step graph step (λ n s. IsSoundAct (form_at graph s.service) s.act) g.acts f.act;
     earlier = λ n parent. each_step graph step (λ m s. IsIn parent (parents_of s.act) → parent < m) (λ m s h. g.earlier m parent s h) (λ j. (f.parents parent j).earlier) n;
     services = each_step graph step (λ n s. s.service < length graph.services) g.services f.service;
     stays = λ n parent s own e i o.

@@ -1,7 +1,9 @@
 -- Codes of graphs, by which a proof tells two of them apart. They say nothing of a graph.
-use Rattle.std.specs.Prelude.{◌≡◌, ℕ, List, ◌⊎◌}
+use Rattle.std.specs.Prelude.{◌≡◌, ℕ, List, ◌⊎◌, ◌==◌, if◌then◌else◌}
 use Rattle.std.specs.Coded.{Coded, code_by, coded⊎, coded×, coded_ℕ, coded_list}
 use Rattle.std.proofs.Common.{refl, inl, inr}
+use Rattle.context_model.specs.declared.Form.{Form}
+use Rattle.context_model.specs.declared.Form.TheVariants.{One, Two}
 use Rattle.bag_model.specs.Values.{Value}
 use Rattle.bag_model.specs.ValueCode.{value_code}
 use Rattle.bag_model.specs.Views.{View, All, Nothing, Only}
@@ -68,10 +70,24 @@ view_code =
     code_by (ℕ ⊎ (ℕ ⊎ List ℕ)) (coded⊎ coded_ℕ (coded⊎ coded_ℕ numbers_code))
     view_parts view_back view_undone
 
+abbrev pub form_number : Form → ℕ
+form_number One = 0
+form_number Two = 1
+
+abbrev pub form_back : ℕ → Form
+form_back n = if n == 0 then One else Two
+
+pub form_undone : (form : Form) → form_back (form_number form) ≡ form
+form_undone One = refl
+form_undone Two = refl
+
+abbrev pub form_code : Coded Form
+form_code = code_by ℕ coded_ℕ form_number form_back form_undone
+
 abbrev pub service_code : Coded Service
 service_code =
-    code_by (List ℕ × View) (coded× numbers_code view_code)
-    (λ service. (service.name, service.view)) (λ parts. record { name = parts.0; view = parts.1 }) (λ _. refl)
+    code_by (List ℕ × (Form × View)) (coded× numbers_code (coded× form_code view_code))
+    (λ service. (service.name, (service.form, service.view))) (λ parts. record { name = parts.0; form = (parts.1).0; view = (parts.1).1 }) (λ _. refl)
 
 abbrev pub step_code : Coded Step
 step_code =

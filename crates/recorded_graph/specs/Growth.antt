@@ -2,7 +2,7 @@
 use Rattle.std.specs.Prelude.{ℕ, ◌<◌, [], ◌∷◌, ◌++◌, length}
 use Rattle.context_model.specs.Orders.{IsIn}
 use Rattle.bag_model.specs.Shapes.{Nodes}
-use Rattle.trace_model.specs.Graphs.{Service, Step, Graph, parents_of, HasStep, view_at, IsSoundAct, StaysAt, IsGraph, IsActOf, IsViewOf, IsOfTable}
+use Rattle.trace_model.specs.Graphs.{Service, Step, Graph, parents_of, HasStep, form_at, view_at, IsSoundAct, StaysAt, IsGraph, IsActOf, IsViewOf, IsOfTable}
 
 -- The graph without services and steps.
 abbrev pub empty_graph : Graph
@@ -28,7 +28,7 @@ pub record MayHaveParent (graph : Graph) (step : Step) (parent : ℕ) : Type 0 w
 -- The step may be the graph's next: it is sound, stands at a service of the graph, and its parents are steps of the graph, at
 -- whose service it stands where it must.
 pub record MayFollow (graph : Graph) (step : Step) : Type 0 where
-  pub act : IsSoundAct step.act
+  pub act : IsSoundAct (form_at graph step.service) step.act
   pub service : step.service < length graph.services
   pub parents : (parent : ℕ) → IsIn parent (parents_of step.act) → MayHaveParent graph step parent
 

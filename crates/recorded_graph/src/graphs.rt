@@ -119,7 +119,9 @@ impl Graph {
     pub fn may_follow(&self, step: &Step) -> bool
         ensures { IsTrue result ↔ MayFollow self.now (step_of step.now) }
     {
-        step.act.is_sound() && step.service < self.services.len() && self.may_have_parents(step)
+        step.service < self.services.len()
+            && step.act.is_sound(self.services[step.service].form)
+            && self.may_have_parents(step)
     }
 
     /// Adds a service at the end. Want of memory leaves the graph unchanged.

@@ -7,13 +7,15 @@ ghost use Rattle.recorded_graph.specs.Plain.{act_of};
 use crate::places::Places;
 use atom_list::Context;
 use bag_value::Val;
+use context_model::Form;
 use field_table::View;
 use outside::Text;
 
-/// A service with its name, and the slots that it knows.
+/// A service with its name, the form in which it writes contexts, and the slots that it knows.
 #[derive(Drop)]
 pub struct Service {
     pub name: Text,
+    pub form: Form,
     pub view: View,
 }
 
@@ -76,12 +78,12 @@ impl Act {
         }
     }
 
-    /// Whether a budget is above 0, and a join has a parent.
-    pub fn is_sound(&self) -> bool
-        ensures { IsTrue result ↔ IsSoundAct (act_of self.now) }
+    /// Whether a budget is one that a context can be cut to in the form, and a join has a parent.
+    pub fn is_sound(&self, form: Form) -> bool
+        ensures { IsTrue result ↔ IsSoundAct form (act_of self.now) }
     {
         match self {
-            Act::Trim { parent: _, budget } => 0 < *budget,
+            Act::Trim { parent: _, budget } => form.least_budget() <= *budget,
             Act::Join { parents } => !parents.is_empty(),
             _ => true,
         }
