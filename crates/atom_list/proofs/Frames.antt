@@ -1,15 +1,17 @@
 -- The atom that stands first in bytes, where they begin with its frame.
-use Rattle.std.proofs.Common.{◌≡◌, ℕ, ◌+◌, ◌-◌, ◌/◌, ◌%◌, ◌<◌, ◌≤◌, List, [], ◌∷◌, ◌++◌, length, take, drop, slice_range, get_or, refl, sym, ◌∙◌, ap, append_assoc, length-append, arith, inl, inr, ◌⊎◌}
-use Rattle.std.proofs.lemmas.List.{take_at, drop_at, length-drop, drop-drop, drop_all, get_or-drop, get_or_append_left}
+use Rattle.std.proofs.Common.{◌≡◌, ℕ, ◌+◌, ◌-◌, ◌/◌, ◌%◌, ◌<◌, ◌≤◌, zero, suc, Bool, true, false, ◌||◌, nat_lt, List, [], ◌∷◌, ◌++◌, length, take, drop, slice_range, get_or, refl, sym, ◌∙◌, ap, append_assoc, length-append, arith, inl, inr, ◌⊎◌}
+use Rattle.std.proofs.lemmas.List.{take_at, drop_at, take_more, map-append, length-take, length-drop, drop-drop, drop_all, get_or-drop, get_or_append_left}
 use Rattle.std.proofs.lemmas.Bool.{cases_lt}
+use Rattle.std.proofs.lemmas.Bool.Decides.{nat_tests}
 use Rattle.outside.specs.declared.TheConstants.{ATOM_MAX}
+use Rattle.context_model.specs.declared.TheConstants.{LENGTH_MAX}
 use Rattle.context_model.specs.Atoms.{Atom}
 use Rattle.context_model.specs.declared.Form.TheVariants.{One}
-use Rattle.context_model.specs.Framing.{base_128, frame}
-use Rattle.context_model.proofs.FramingLaws.{length-base_128}
+use Rattle.context_model.specs.Framing.{base_128, frame, has_long}
+use Rattle.context_model.proofs.FramingLaws.{length-base_128, long-append}
 use Rattle.context_model.specs.WireFault.{length_front, length_said}
 use Rattle.context_model.proofs.LengthCodes.{code_one, code_two, code_three, length_front-code, length_said-code}
-use Rattle.atom_list.specs.Starts.{first_atom, atom_at, BeginsFrame, IsStart}
+use Rattle.atom_list.specs.Starts.{first_atom, atom_at, atoms_at, BeginsFrame, IsStart}
 
 -- ---- the atom
 
@@ -38,6 +40,41 @@ atom_at-behind bytes start behind = ap first_atom (drop_all start bytes behind) 
 pub short_atom : (bytes : List ℕ) (start : ℕ) → IsStart bytes start → length (atom_at bytes start) ≤ ATOM_MAX
 short_atom bytes start (inl behind) = omega (arith, ap length (atom_at-behind bytes start behind))
 short_atom bytes start (inr (atom, rest, short, e)) = omega (arith, ap length (ap first_atom e ∙ first_atom-framed atom rest short))
+
+-- An atom isn't longer than its buffer, so a buffer that is short enough has no long atom.
+first_within : (bytes : List ℕ) → length (first_atom bytes) ≤ length bytes
+unfolding first_atom
+first_within bytes =
+    let code = length_front bytes in
+    let skip = length code in
+    omega (arith, length-take (skip + length_said code - skip) (drop skip bytes), length-drop skip bytes)
+
+pub none_long : (bytes starts : List ℕ) → length bytes ≤ LENGTH_MAX → has_long (atoms_at bytes starts) ≡ false
+none_long bytes [] few = refl
+none_long bytes (start ∷ starts) few =
+    let short : nat_lt LENGTH_MAX (length (atom_at bytes start)) ≡ false = grind (arith, nat_tests, first_within (drop start bytes), length-drop start bytes) in
+    ap (λ long. long || has_long (atoms_at bytes starts)) short ∙ none_long bytes starts few
+
+-- One start more, of an atom that isn't long.
+pub none_more : (bytes starts : List ℕ) (i : ℕ) → i < length starts → has_long (atoms_at bytes (take i starts)) ≡ false → length (atom_at bytes (get_or starts i 0)) ≤ LENGTH_MAX
+    → has_long (atoms_at bytes (take (i + 1) starts)) ≡ false
+none_more bytes starts i within none few =
+    let atom = atom_at bytes (get_or starts i 0) in
+    let short : nat_lt LENGTH_MAX (length atom) ≡ false = grind (arith, nat_tests) in
+    ap (λ v. has_long (atoms_at bytes v)) (take_more starts i 0 within) ∙ ap has_long (map-append (atom_at bytes) (take i starts) (get_or starts i 0 ∷ []))
+    ∙ long-append (atoms_at bytes (take i starts)) (atom ∷ []) ∙ ap (λ long. long || has_long (atom ∷ [])) none ∙ ap (λ long. long || false) short
+
+-- A start of a long atom.
+pub some_long : (bytes starts : List ℕ) (i : ℕ) → i < length starts → LENGTH_MAX < length (atom_at bytes (get_or starts i 0)) → has_long (atoms_at bytes starts) ≡ true
+some_long bytes [] i within more = absurd (omega arith)
+some_long bytes (start ∷ starts) zero within more =
+    let long : nat_lt LENGTH_MAX (length (atom_at bytes start)) ≡ true = grind (arith, nat_tests) in
+    ap (λ long. long || has_long (atoms_at bytes starts)) long
+some_long bytes (start ∷ starts) (suc i) within more = or_true (nat_lt LENGTH_MAX (length (atom_at bytes start))) (has_long (atoms_at bytes starts)) (some_long bytes starts i (omega arith) more)
+  where
+    or_true : (a b : Bool) → b ≡ true → (a || b) ≡ true
+    or_true true b e = refl
+    or_true false b e = e
 
 -- ---- a length that is read byte by byte
 

@@ -1,6 +1,6 @@
 //! Frames of atoms in a vector that has room for them.
 
-ghost use Rattle.std.specs.Prelude.{◌≡◌, ◌+◌, ◌≤◌, ◌++◌, length, vec_len, vec_capacity};
+ghost use Rattle.std.specs.Prelude.{◌≡◌, ◌+◌, ◌≤◌, ◌++◌, length, take, vec_len, vec_capacity};
 ghost use Rattle.context_model.specs.Framing.{base_128};
 
 use outside::ATOM_MAX;
@@ -23,6 +23,26 @@ pub(crate) fn put_length(bytes: &mut Vec<u8>, len: usize)
         bytes.push_reserved(low + 128);
         bytes.push_reserved((len / 128 % 128) as u8 + 128);
         bytes.push_reserved((len / 16_384) as u8);
+    }
+}
+
+/// The length of an atom in base 128, and zeros behind it.
+#[tactic(auto, unfolding(context_model::specs::Framing::base_128))]
+pub(crate) fn length_bytes(len: usize) -> [u8; 3]
+    requires { len ≤ ATOM_MAX }
+    ensures { take (length (base_128 len)) result ≡ base_128 len }
+{
+    let low = (len % 128) as u8;
+    if len < 128 {
+        [low, 0, 0]
+    } else if len < 16_384 {
+        [low + 128, (len / 128) as u8, 0]
+    } else {
+        [
+            low + 128,
+            (len / 128 % 128) as u8 + 128,
+            (len / 16_384) as u8,
+        ]
     }
 }
 

@@ -4,6 +4,7 @@ ghost use Rattle.std.specs.Prelude.{◌≡◌, ◌+◌, ◌*◌, ◌<◌, ◌≤
 ghost use Rattle.std.specs.Ordering.{nat_cmp};
 ghost use Rattle.std.specs.Option.{option_copied};
 ghost use Rattle.context_model.specs.Atoms.{AreAtoms};
+ghost use Rattle.context_model.specs.Framing.{has_long};
 ghost use Rattle.context_model.specs.Orders.{Rises};
 ghost use Rattle.context_model.specs.WithoutData.{without};
 ghost use Rattle.atom_list.specs.Builder.{room_of};
@@ -11,6 +12,7 @@ ghost use Rattle.atom_list.specs.Builder.{room_of};
 use crate::builder::Builder;
 use crate::starts::{atom_at, keep_others};
 use bytes::Bytes;
+use context_model::LENGTH_MAX;
 use outside::{ATOM_MAX, Memory};
 use std::alloc::Global;
 use std::marker::Model;
@@ -75,6 +77,22 @@ impl AtomList {
     {
         let start = self.starts.get(at)?;
         Some(atom_at(self.bytes.as_slice(), *start))
+    }
+
+    /// Whether an atom of the list is too long for form one. None is looked at where the buffer is no longer than such an atom.
+    pub fn is_long(&self) -> bool
+        ensures { result ≡ has_long self.now }
+    {
+        let bytes = self.bytes.as_slice();
+        if bytes.len() <= LENGTH_MAX {
+            return false;
+        }
+        for start in &self.starts {
+            if LENGTH_MAX < atom_at(bytes, *start).len() {
+                return true;
+            }
+        }
+        false
     }
 
     /// Adds an atom at the end, in a new buffer. Want of memory leaves the list as it was.

@@ -7,6 +7,7 @@ ghost use Rattle.context_model.specs.Framing.{base_128, frames};
 ghost use Rattle.atom_list.specs.Scan.{with_part};
 
 use crate::builder::BUFFER_MAX;
+use crate::lengths::length_bytes;
 use crate::lists::AtomList;
 use bytes::Bytes;
 use outside::{ATOM_MAX, Memory};
@@ -67,6 +68,18 @@ impl Scan {
         ensures { result ≡ length (frames One self.now.atoms) }
     {
         self.at
+    }
+
+    /// Writes `len` in base 128 over the `skip` bytes at the front of the rest, which are as many as it takes.
+    pub fn respell(&mut self, skip: usize, len: usize)
+        requires within { skip ≤ length self.old.rest }
+        requires short { len ≤ ATOM_MAX }
+        requires skip { skip ≡ length (base_128 len) }
+        ensures atoms { self.new.atoms ≡ self.old.atoms }
+        ensures rest { self.new.rest ≡ base_128 len ++ drop skip self.old.rest }
+    {
+        let code = length_bytes(len);
+        self.bytes[self.at..self.at + skip].copy_from_slice(&code[..skip]);
     }
 
     /// Notes the frame at the front of the rest: `skip` bytes of a length, and `len` bytes of an atom. Want of memory leaves
