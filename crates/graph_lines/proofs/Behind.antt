@@ -29,17 +29,17 @@ behind_first text first rest s none cut q =
     let parts = same_cut 32 (first_word s) first (behind_of s) rest (first_free s) none (sym (words_cut s) ∙ sym q.1 ∙ cut) in
     (q.0, parts.0, sym parts.1)
 
-from_step : (text first rest : List ℕ) → HasNoSpace first → IsCut text first rest → (first ≡ codes "service" → ⊥) → (first ≡ codes "show" → ⊥) → (read : Option code.Statement)
+from_step : (text first rest : List ℕ) → HasNoSpace first → IsCut text first rest → (first ≡ codes "service" → ⊥) → (first ≡ codes "service2" → ⊥) → (first ≡ codes "show" → ⊥) → (read : Option code.Statement)
     → MatchOption read ((number : ℕ) (act : NamedAct) → IsBehind first rest (Step number act) → ⊥) (λ s. IsBehind first rest (statement_of s))
     → Answers (IsStatementText text) (option_map statement_of read)
-from_step text first rest none cut a b None h =
+from_step text first rest none cut a b d None h =
     λ s q. (
     let behind = behind_first text first rest s none cut q in
-    only_step (λ (s : Statement). IsBehind first rest s → ⊥) h s (λ e. a (sym behind.1 ∙ e)) (λ e. b (sym behind.1 ∙ e)) behind)
-from_step text first rest none cut a b (Some s) h = whole_statement text first rest (statement_of s) cut h
+    only_step (λ (s : Statement). IsBehind first rest s → ⊥) h s (λ e. a (sym behind.1 ∙ e)) (λ e. b (sym behind.1 ∙ e)) (λ e. d (sym behind.1 ∙ e)) behind)
+from_step text first rest none cut a b d (Some s) h = whole_statement text first rest (statement_of s) cut h
 
-pub from_step_read : {E : Type 0} (text first rest : List ℕ) → HasNoSpace first → IsCut text first rest → (first ≡ codes "service" → ⊥) → (first ≡ codes "show" → ⊥) → (result : Result (Option code.Statement) E)
+pub from_step_read : {E : Type 0} (text first rest : List ℕ) → HasNoSpace first → IsCut text first rest → (first ≡ codes "service" → ⊥) → (first ≡ codes "service2" → ⊥) → (first ≡ codes "show" → ⊥) → (result : Result (Option code.Statement) E)
     → IfOk result (λ read. MatchOption read ((number : ℕ) (act : NamedAct) → IsBehind first rest (Step number act) → ⊥) (λ s. IsBehind first rest (statement_of s)))
     → IfOk result (λ read. Answers (IsStatementText text) (option_map statement_of read))
-from_step_read text first rest none cut a b (Err e) h = tt
-from_step_read text first rest none cut a b (Ok read) h = from_step text first rest none cut a b read h
+from_step_read text first rest none cut a b d (Err e) h = tt
+from_step_read text first rest none cut a b d (Ok read) h = from_step text first rest none cut a b d read h

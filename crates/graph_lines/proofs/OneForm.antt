@@ -86,14 +86,14 @@ abbrev BehindSame : Statement → Statement → Type 0
 BehindSame a b = IsSound b → first_word a ≡ first_word b → behind_of a ≡ behind_of b → a ≡ b
 
 one_behind : (a b : Statement) → IsSound a → BehindSame a b
-one_behind (Service name view) b p q first e =
-    only_service (BehindSame (Service name view)) (λ other saw r f d.
+one_behind (Service form name view) b p q first e =
+    only_service form (BehindSame (Service form name view)) (λ other saw r f d.
     let both = sym (joined_more name (view_words view) (view_some view)) ∙ d ∙ joined_more other (view_words saw) (view_some saw) in
     let cut = same_cut 32 name other (join_with_byte 32 (view_words view)) (join_with_byte 32 (view_words saw)) (name_no_space name p.0) (name_no_space other r.0) both in
     let n : name ≡ other = cut.0 in let v : view ≡ saw = one_view view saw p.1 r.1 cut.1 in cc (n, v)) b (sym first) q first e
 one_behind (Show step) b p q first e =
     only_show (BehindSame (Show step)) (λ other r f d. ap Show (same_number step other p r d)) b (sym first) q first e
-one_behind (Step number act) (Service name view) p q first e = absurd (not_service act first)
+one_behind (Step number act) (Service form name view) p q first e = absurd (not_service form act first)
 one_behind (Step number act) (Show step) p q first e = absurd (not_show act first)
 one_behind (Step number act) (Step other what) p q first e =
     let both = sym (joined_more (decimal number) (act_words act) (act_some act p.1)) ∙ e ∙ joined_more (decimal other) (act_words what) (act_some what q.1) in

@@ -3,6 +3,8 @@ use Rattle.std.specs.Prelude.{◌≡◌, ℕ, ◌^◌, ◌<◌, ◌==◌, true, 
 use Rattle.std.specs.Fmt.{decimal}
 use Rattle.std.specs.List.{AllByRecursion, join_with_byte, list_any}
 use Rattle.std.specs.Str.{IsUtf8}
+use Rattle.context_model.specs.declared.Form.{Form as WireForm}
+use Rattle.context_model.specs.declared.Form.TheVariants.{One, Two}
 use Rattle.bag_model.specs.Slots.{dotted}
 use Rattle.bag_model.specs.Words.{is_word}
 use Rattle.graph_lines.specs.Statements.{NamedView, NamedAct, Statement, All, Nothing, Only, Start, Recv, Set, Branch, Forward, Trim, Join, Service, Step, Show}
@@ -33,9 +35,14 @@ act_words (Forward parent service) = decimal parent ∷ service ∷ []
 act_words (Trim parent budget) = decimal parent ∷ decimal budget ∷ []
 act_words (Join parents) = map decimal parents
 
+-- The word that declares a service of the form.
+abbrev pub service_word : WireForm → List ℕ
+service_word One = codes "service"
+service_word Two = codes "service2"
+
 -- The words of a line.
 abbrev pub words_of : Statement → List (List ℕ)
-words_of (Service name view) = codes "service" ∷ name ∷ view_words view
+words_of (Service form name view) = service_word form ∷ name ∷ view_words view
 words_of (Step number act) = act_name act ∷ decimal number ∷ act_words act
 words_of (Show step) = codes "show" ∷ decimal step ∷ []
 
@@ -77,7 +84,7 @@ IsSoundAct (Join parents) = (0 < length parents) × AllByRecursion IsNumber pare
 
 -- Each part of what a line says is as its kind wants it.
 abbrev pub IsSound : Statement → Type 0
-IsSound (Service name view) = IsName name × IsSoundView view
+IsSound (Service form name view) = IsName name × IsSoundView view
 IsSound (Step number act) = IsNumber number × IsSoundAct act
 IsSound (Show step) = IsNumber step
 

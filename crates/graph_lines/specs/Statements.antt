@@ -1,5 +1,6 @@
 -- What a line of a recorded graph says, before any name is looked up.
 use Rattle.std.specs.Prelude.{ℕ, List}
+use Rattle.context_model.specs.declared.Form.{Form as WireForm}
 
 -- What a service may see: all, nothing, or what stands at these paths.
 pub data NamedView : Type 0 where
@@ -17,8 +18,8 @@ pub data NamedAct : Type 0 where
   Trim : ℕ → ℕ → NamedAct
   Join : List ℕ → NamedAct
 
--- What a line says: a service and its view, a numbered step, or a step that is to be shown.
+-- What a line says: a service with the form in which it writes, and its view, a numbered step, or a step that is to be shown.
 pub data Statement : Type 0 where
-  Service : List ℕ → NamedView → Statement
+  Service : WireForm → List ℕ → NamedView → Statement
   Step : ℕ → NamedAct → Statement
   Show : ℕ → Statement

@@ -3,7 +3,7 @@ use Rattle.std.specs.Prelude.{◌≡◌, ℕ, ◌<◌, List, [], ◌∷◌, ◌+
 use Rattle.std.specs.Fmt.{decimal}
 use Rattle.std.specs.List.{AllByRecursion, join_with_byte}
 use Rattle.graph_lines.specs.Statements.{NamedView, NamedAct, Statement, Service, Step, Show}
-use Rattle.graph_lines.specs.Forms.{IsNumber, IsName, IsPath, IsSoundView, IsSoundAct, IsSound, view_words, act_name, act_words, words_of}
+use Rattle.graph_lines.specs.Forms.{IsNumber, IsName, IsPath, IsSoundView, IsSoundAct, IsSound, view_words, service_word, act_name, act_words, words_of}
 
 -- What was taken from the front of a text, with the rest of the text, is the one pair of which the fact holds; nothing was
 -- taken where it holds of none.
@@ -52,13 +52,13 @@ IsActText name text act =
 
 -- The first word of a line.
 abbrev pub first_word : Statement → List ℕ
-first_word (Service name view) = codes "service"
+first_word (Service form name view) = service_word form
 first_word (Step number act) = act_name act
 first_word (Show step) = codes "show"
 
 -- The words behind the first.
 abbrev pub more_words : Statement → List (List ℕ)
-more_words (Service name view) = name ∷ view_words view
+more_words (Service form name view) = name ∷ view_words view
 more_words (Step number act) = decimal number ∷ act_words act
 more_words (Show step) = decimal step ∷ []
 

@@ -26,6 +26,6 @@ act_of (Join parents) = plain.Join parents.items
 
 -- The statement that the code's stands for.
 abbrev pub statement_of : Statement → plain.Statement
-statement_of (Service name view) = plain.Service name.now (view_of view)
+statement_of (Service form name view) = plain.Service form name.now (view_of view)
 statement_of (Step number act) = plain.Step number (act_of act)
 statement_of (Show step) = plain.Show step

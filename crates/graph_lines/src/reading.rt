@@ -4,7 +4,7 @@ ghost use Rattle.std.specs.Prelude.{ℕ, codes, IfOk, MatchOption};
 ghost use Rattle.std.specs.Option.{option_map};
 ghost use Rattle.decimal_text.specs.Answers.{Answers};
 ghost use Rattle.graph_lines.specs.Statements as plain;
-ghost use Rattle.graph_lines.specs.Forms.{HasForm};
+ghost use Rattle.graph_lines.specs.Forms.{service_word, HasForm};
 ghost use Rattle.graph_lines.specs.Taken.{IsViewText, IsBehind, IsStatementText};
 ghost use Rattle.graph_lines.specs.Views.{view_of, statement_of};
 
@@ -12,6 +12,7 @@ use crate::acts::read_act;
 use crate::numbers::{read_number, take_number};
 use crate::words::{cut_word, read_paths, take_name};
 use crate::{NamedView, Statement};
+use context_model::Form;
 use outside::Memory;
 use std::alloc::Global;
 
@@ -35,15 +36,15 @@ fn read_view(alloc: Global, text: &str) -> Result<Option<NamedView<'_>>, Memory>
     }
 }
 
-/// `service NAME` and a view
-fn read_service(alloc: Global, text: &str) -> Result<Option<Statement<'_>>, Memory>
-    ensures { IfOk result (λ read. Answers (IsBehind (codes "service") text.now) (option_map statement_of read)) }
+/// What stands behind the word for a service of this form: `NAME` and a view
+fn read_service(alloc: Global, form: Form, text: &str) -> Result<Option<Statement<'_>>, Memory>
+    ensures { IfOk result (λ read. Answers (IsBehind (service_word form) text.now) (option_map statement_of read)) }
 {
     let Some((name, rest)) = take_name(text) else {
         return Ok(None);
     };
     match read_view(alloc, rest)? {
-        Some(view) => Ok(Some(Statement::Service { name, view })),
+        Some(view) => Ok(Some(Statement::Service { form, name, view })),
         None => Ok(None),
     }
 }
@@ -79,7 +80,8 @@ fn read_words(alloc: Global, text: &str) -> Result<Option<Statement<'_>>, Memory
         return Ok(None);
     };
     match first {
-        "service" => read_service(alloc, rest),
+        "service" => read_service(alloc, Form::One, rest),
+        "service2" => read_service(alloc, Form::Two, rest),
         "show" => Ok(read_show(rest)),
         _ => read_step(alloc, first, rest),
     }

@@ -1,14 +1,25 @@
 //! What a line says.
 
+use context_model::Form;
+
 /// What a line of a recorded graph says, before any name is looked up. Its texts are parts of the line.
 #[derive(Debug, Drop)]
 pub enum Statement<'a> {
-    /// A service and what it may see of a context.
-    Service { name: &'a str, view: NamedView<'a> },
+    /// A service, the form in which it writes contexts, and what it may see of them.
+    Service {
+        form: Form,
+        name: &'a str,
+        view: NamedView<'a>,
+    },
     /// A step: its number, as the line tells it, and what happens in it.
-    Step { number: u64, act: NamedAct<'a> },
+    Step {
+        number: u64,
+        act: NamedAct<'a>,
+    },
     /// A step whose context is to be shown.
-    Show { step: u64 },
+    Show {
+        step: u64,
+    },
 }
 
 /// What a service may see, by name.
