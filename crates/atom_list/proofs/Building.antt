@@ -78,6 +78,7 @@ flat_built bytes starts laid built e =
         there = starts_all ∙ built.there ∙ ap (starts_from 0) (sym list_all);
         framed = ap (λ v. take (length (frames One v)) bytes) list_all ∙ take_all (length (frames One list)) bytes (omega arith) ∙ built.framed ∙ ap (frames One) (sym list_all);
       };
+      light = omega (arith, built.few);
     }
 
 -- ---- frames that are moved from another buffer

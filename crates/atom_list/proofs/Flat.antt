@@ -5,7 +5,7 @@ use Rattle.std.proofs.lemmas.List.{length-map, length-set, length-take, length-d
 use Rattle.std.proofs.lemmas.Slice.{between_is}
 use Rattle.context_model.specs.Atoms.{Atom, AreAtoms}
 use Rattle.context_model.specs.declared.Form.TheVariants.{One}
-use Rattle.context_model.specs.Framing.{length_code, frame, frames}
+use Rattle.context_model.specs.Framing.{base_128, length_code, frame, frames}
 use Rattle.context_model.proofs.FramingLaws.{frames-append, frames-more, frames_len-append, frames_len-front, length_code-some}
 use Rattle.atom_list.specs.Starts.{first_atom, atom_at, atoms_at, IsStart, AreStarts, BeginsFrame, starts_from, BeginsWith, IsFlat, IsPieceOf}
 use Rattle.atom_list.proofs.Frames.{first_atom-framed, short_atom}
@@ -118,8 +118,9 @@ begins_with_fewer n bytes starts front begins =
     }
 
 -- A list keeps what it has of its front while other starts change.
-pub flat_front : (bytes starts starts' : List ℕ) (laid n : ℕ) → IsFlat bytes starts laid → n ≤ laid → n ≤ length starts' → take n starts' ≡ take n starts → AreStarts bytes starts' → IsFlat bytes starts' n
-flat_front bytes starts starts' laid n flat fewer within same fit =
+pub flat_front : (bytes starts starts' : List ℕ) (laid n : ℕ) → IsFlat bytes starts laid → n ≤ laid → n ≤ length starts' → take n starts' ≡ take n starts → AreStarts bytes starts'
+    → length (frames One (atoms_at bytes starts')) ≤ length (frames One (atoms_at bytes starts)) → IsFlat bytes starts' n
+flat_front bytes starts starts' laid n flat fewer within same fit lighter =
     let list = atoms_at bytes starts in
     let front : BeginsWith bytes (take n (take laid starts)) (take n (take laid list)) = begins_with_fewer n bytes (take laid starts) (take laid list) flat.front in
     let these : take n (take laid starts) ≡ take n starts' = take-take n laid starts fewer ∙ sym same in
@@ -130,6 +131,7 @@ flat_front bytes starts starts' laid n flat fewer within same fit =
       few = flat.few;
       within = within;
       front = subst (λ v. BeginsWith bytes (take n starts') v) those (subst (λ v. BeginsWith bytes v (take n (take laid list))) these front);
+      light = omega (arith, flat.light);
     }
 
 -- ---- a cut
@@ -144,15 +146,29 @@ atoms_at-marked bytes starts keep start within none =
     ap (atoms_at bytes) (marked starts keep start within) ∙ map-append (atom_at bytes) (take keep starts) (start ∷ [])
     ∙ ap (λ v. map (atom_at bytes) (take keep starts) ++ v ∷ []) none ∙ ap (λ v. v ++ [] ∷ []) (sym (take-map (atom_at bytes) keep starts))
 
-pub flat_marked : (bytes starts : List ℕ) (laid keep n : ℕ) (start : ℕ) → IsFlat bytes starts laid → keep < length starts → n ≤ laid → n ≤ keep → IsStart bytes start
+-- A marker has one byte.
+marker_len : length (frames One ([] ∷ [])) ≡ 1
+unfolding base_128
+marker_len = refl
+
+-- The frames of a front and a marker take no more bytes than those of a longer list.
+light_marked : (bytes starts : List ℕ) (keep : ℕ) (start : ℕ) → keep < length starts → atom_at bytes start ≡ []
+    → length (frames One (atoms_at bytes (set (take (keep + 1) starts) keep start))) ≤ length (frames One (atoms_at bytes starts))
+light_marked bytes starts keep start within none =
+    let list = atoms_at bytes starts in
+    let cut : length (frames One (atoms_at bytes (set (take (keep + 1) starts) keep start))) ≡ length (frames One (take keep list)) + length (frames One ([] ∷ [])) =
+    ap (λ v. length (frames One v)) (atoms_at-marked bytes starts keep start within none) ∙ frames_len-append One (take keep list) ([] ∷ []) in
+    omega (arith, marker_len, frames_len-grows list keep (omega (arith, length-map starts (atom_at bytes))), frames_len-front One (keep + 1) list)
+
+pub flat_marked : (bytes starts : List ℕ) (laid keep n : ℕ) (start : ℕ) → IsFlat bytes starts laid → keep < length starts → n ≤ laid → n ≤ keep → IsStart bytes start → atom_at bytes start ≡ []
     → IsFlat bytes (set (take (keep + 1) starts) keep start) n
-flat_marked bytes starts laid keep n start flat within fewer upto one =
+flat_marked bytes starts laid keep n start flat within fewer upto one none =
     let cut = set (take (keep + 1) starts) keep start in
     let long : length (take keep starts) ≡ keep = length-take-le keep starts (omega arith) in
     let same : take n cut ≡ take n starts =
     ap (take n) (marked starts keep start within) ∙ take-append-le n (take keep starts) (start ∷ []) (omega arith) ∙ take-take n keep starts upto in
     flat_front bytes starts cut laid n flat fewer (omega (arith, length-set (take (keep + 1) starts) keep start, length-take (keep + 1) starts)) same
-    (AreStarts-set bytes keep start (take (keep + 1) starts) one (AreStarts-take bytes (keep + 1) starts flat.fit))
+    (AreStarts-set bytes keep start (take (keep + 1) starts) one (AreStarts-take bytes (keep + 1) starts flat.fit)) (light_marked bytes starts keep start within none)
 
 -- ---- a piece of the front
 

@@ -1,12 +1,14 @@
 -- What a step of taking atoms out of a list leaves.
-use Rattle.std.proofs.Common.{◌≡◌, ℕ, zero, suc, ◌+◌, ◌<◌, ◌≤◌, ◌==◌, ◌||◌, None, slice_get, Bool, true, false, cond, List, [], ◌∷◌, ◌++◌, length, take, drop, get_or, set, Less, refl, sym, ◌∙◌, ap, arith, eq-eqb, ne_eqb, ◌⊎◌, inl, inr}
+use Rattle.std.proofs.Common.{◌≡◌, ℕ, zero, suc, ◌+◌, ◌<◌, ◌≤◌, ◌==◌, ◌||◌, None, slice_get, Bool, true, false, cond, List, [], ◌∷◌, ◌++◌, length, length-append, take, drop, get_or, set, Less, refl, sym, ◌∙◌, ap, arith, eq-eqb, ne_eqb, ◌⊎◌, inl, inr}
 use Rattle.std.specs.List.{list_any}
 use Rattle.std.specs.Ordering.{nat_cmp}
 use Rattle.std.proofs.lemmas.Bool.{cases_eq, cases_order}
 use Rattle.std.proofs.lemmas.Cmp.{ranked}
 use Rattle.std.proofs.lemmas.List.{take_more, take_more_set, drop-set-lt, append-nil, drop_more, length-set, length-map, map-set, get_or-map, take-map, take_all}
 use Rattle.std.proofs.lemmas.Option.{slice_get_within}
+use Rattle.context_model.specs.declared.Form.TheVariants.{One}
 use Rattle.context_model.specs.Atoms.{Atom}
+use Rattle.context_model.specs.Framing.{frame, frames}
 use Rattle.context_model.specs.Orders.{Rises}
 use Rattle.atom_list.specs.Starts.{atom_at, atoms_at}
 use Rattle.context_model.specs.WithoutData.{without_from, without, AreDataPlaces}
@@ -93,6 +95,16 @@ without-before gone list (suc n) within none =
     ∙ without-kept gone list n (omega arith) (λ k below there. absurd (omega (arith, none k below, there)))
     ∙ ap (λ v. v ++ get_or list n [] ∷ []) (without-before gone list n (omega arith) (λ k below. omega (arith, none k below)))
     ∙ sym (take_more list n [] (omega arith)) ∙ ap (λ m. take m list) (sym next)
+
+-- What is left has no more bytes of frames.
+pub without-lighter : (i : ℕ) (gone : List ℕ) (list : List Atom) → length (frames One (without_from i gone list)) ≤ length (frames One list)
+without-lighter i gone [] = omega arith
+without-lighter i gone (a ∷ list) = by (list_any (λ place. place == i) gone) (without-lighter (i + 1) gone list)
+  where
+    by : (b : Bool) → length (frames One (without_from (i + 1) gone list)) ≤ length (frames One list)
+        → length (frames One (cond b (without_from (i + 1) gone list) (a ∷ without_from (i + 1) gone list))) ≤ length (frames One (a ∷ list))
+    by true less = omega (arith, length-append (frame One a) (frames One list))
+    by false less = omega (arith, length-append (frame One a) (frames One list), length-append (frame One a) (frames One (without_from (i + 1) gone list)))
 
 -- two lists that are one from a place on are one there and behind
 pub same_at : (xs ys : List Atom) (at : ℕ) → at < length xs → at < length ys → drop at xs ≡ drop at ys → (get_or xs at [] ≡ get_or ys at []) × (drop (at + 1) xs ≡ drop (at + 1) ys)

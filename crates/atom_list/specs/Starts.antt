@@ -51,6 +51,8 @@ pub record IsFlat (bytes : List ℕ) (starts : List ℕ) (laid : ℕ) : Type 0 w
   pub few : length bytes ≤ BUFFER_MAX
   pub within : laid ≤ length starts
   pub front : BeginsWith bytes (take laid starts) (take laid (atoms_at bytes starts))
+  -- all frames together, also where some begin at one place, are no more than a buffer may have
+  pub light : length (frames One (atoms_at bytes starts)) ≤ BUFFER_MAX
 
 -- These are the frames of the list one behind the other, with their starts in a buffer where they
 -- begin at this place.

@@ -1,10 +1,11 @@
 //! Lists of atoms, whatever they hold.
 
-ghost use Rattle.std.specs.Prelude.{◌≡◌, ◌+◌, ◌*◌, ◌<◌, ◌≤◌, ◌↔◌, [], ◌∷◌, ◌++◌, length, take, IsTrue, IsSome, IfOk, IfSome, OnOk, OnErr, slice_get, slice_index, ℕ};
+ghost use Rattle.std.specs.Prelude.{◌≡◌, ◌+◌, ◌*◌, ◌^◌, ◌<◌, ◌≤◌, ◌↔◌, [], ◌∷◌, ◌++◌, length, take, IsTrue, IsSome, IfOk, IfSome, OnOk, OnErr, slice_get, slice_index, ℕ};
 ghost use Rattle.std.specs.Ordering.{nat_cmp};
 ghost use Rattle.std.specs.Option.{option_copied};
 ghost use Rattle.context_model.specs.Atoms.{AreAtoms};
-ghost use Rattle.context_model.specs.Framing.{has_long};
+ghost use Rattle.context_model.specs.declared.Form.TheVariants.{Two};
+ghost use Rattle.context_model.specs.Framing.{frames, has_long};
 ghost use Rattle.context_model.specs.Orders.{Rises};
 ghost use Rattle.context_model.specs.WithoutData.{without};
 ghost use Rattle.atom_list.specs.Builder.{room_of};
@@ -58,6 +59,7 @@ impl AtomList {
     pub fn len(&self) -> usize
         ensures len { result ≡ length self.now }
         ensures atoms { AreAtoms self.now }
+        ensures light { length (frames Two self.now) < 2 ^ 32 }
     {
         self.starts.len()
     }

@@ -19,7 +19,7 @@ invariant_of-self c =
     let one : IsStart bytes marker = inl (omega (arith, c.self.invariant.few)) in
     let cut : c.shrink_to_fit.new.self.items ≡ set (take (keep + 1) starts) keep marker = c.shrink_to_fit.ensures.items ∙ ap (λ v. set v keep marker) c.truncate.ensures.items in
     subst (λ v. IsFlat bytes v c.min-self-inside.result) (sym cut)
-    (flat_marked bytes starts c.self.inside.laid keep c.min-self-inside.result marker c.self.invariant within (omega arith) (omega arith) one)
+    (flat_marked bytes starts c.self.inside.laid keep c.min-self-inside.result marker c.self.invariant within (omega arith) (omega arith) one (atom_at-behind bytes marker (omega (arith, c.self.invariant.few))))
 
 pub returns : goal.returns
 unfolding marker
