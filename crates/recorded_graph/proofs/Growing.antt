@@ -6,12 +6,12 @@ use Rattle.std.proofs.lemmas.Option.{slice_get_within}
 use Rattle.context_model.specs.Orders.{IsIn}
 use Rattle.bag_model.specs.Shapes.{Nodes}
 use Rattle.trace_model.specs.Graphs as model
-use Rattle.trace_model.specs.Graphs.{Graph, parents_of, HasStep, form_of_service, form_at, view_of, view_at, IsSoundAct, StaysAt, IsGraph, IsActOf, IsViewOf, IsOfTable}
+use Rattle.trace_model.specs.Graphs.{Graph, parents_of, HasStep, HasService, form_of_service, form_at, view_of, view_at, IsSoundAct, StaysAt, IsGraph, IsActOf, IsViewOf, IsOfTable}
 use Rattle.recorded_graph.specs.declared.graphs.TheConstants.{STEPS_MAX}
 use Rattle.recorded_graph.specs.declared.steps.Service.{Service}
 use Rattle.recorded_graph.specs.declared.steps.Step.{Step}
 use Rattle.recorded_graph.specs.Plain.{service_of, step_of, plain_graph, IsKeptGraph}
-use Rattle.recorded_graph.specs.Growth.{empty_graph, with_service, with_step, with_show, MayFollow, GraphsOfTablesGrow}
+use Rattle.recorded_graph.specs.Growth.{empty_graph, with_service, with_step, with_show, MayHaveParent, MayFollow, GraphsOfTablesGrow}
 
 -- An element of a list with one more is one of the list, or the last.
 get_more : {A : Type 0} (xs : List A) (x y : A) (n : ℕ) → slice_get (xs ++ x ∷ []) n ≡ Some y → (slice_get xs n ≡ Some y) ⊎ ((n ≡ length xs) × (x ≡ y))
@@ -92,6 +92,11 @@ module _ (graph : Graph) (step : model.Step) (g : IsGraph graph) (f : MayFollow 
         each_step graph step (λ m t. IsIn parent (parents_of t.act) → StaysAt t.act own.service t.service) (λ m t h j. g.stays m parent t own h j before) (λ j. (f.parents parent j).stays own before) n s e i;
     shows = λ n i. longer graph.steps step n (g.shows n i);
   }
+
+-- A step that is sound at its service, and has its parents, may follow.
+pub may_follow : (graph : Graph) (step : model.Step) (service : model.Service) → HasService graph step.service service → step.service < length graph.services
+    → IsSoundAct service.form step.act → ((parent : ℕ) → IsIn parent (parents_of step.act) → MayHaveParent graph step parent) → MayFollow graph step
+may_follow graph step service at within sound parents = record { act = subst (λ s. IsSoundAct (form_of_service s) step.act) (sym at) sound; service = within; parents = parents }
 
 -- ---- graphs of a table
 

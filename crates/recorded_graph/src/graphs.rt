@@ -119,9 +119,11 @@ impl Graph {
     pub fn may_follow(&self, step: &Step) -> bool
         ensures { IsTrue result ↔ MayFollow self.now (step_of step.now) }
     {
-        step.service < self.services.len()
-            && step.act.is_sound(self.services[step.service].form)
-            && self.may_have_parents(step)
+        if self.services() <= step.service {
+            return false;
+        }
+        let form = self.service(step.service).form;
+        step.act.is_sound(form) && self.may_have_parents(step)
     }
 
     /// Adds a service at the end. Want of memory leaves the graph unchanged.

@@ -5,6 +5,7 @@ use Rattle.std.specs.List.{slice_get, AllByRecursion, list_all}
 use Rattle.std.specs.Option.{option_map}
 use Rattle.std.specs.Char.{is_ascii_digit}
 use Rattle.std.proofs.lemmas.List.Elements.{All-cons, All-nil, recursion_from_All, All-from_recursion}
+use Rattle.context_model.specs.declared.Form.{Form as WireForm}
 use Rattle.bag_model.specs.Shapes.{Nodes, Field, fields, no_node, node}
 use Rattle.bag_model.specs.Sizes.{shape_size, nodes_size}
 use Rattle.bag_model.specs.Tables.{AreFields}
@@ -62,33 +63,33 @@ names_apart text a b s r p plain q other =
 
 -- ---- the field of a name
 
-pub written_at : (nodes : Nodes) (vs : Values) (name text : List ℕ) (place : ℕ) (f : Field) (v : Value) → IsFirstNamed (fields nodes) name (Some place)
-    → slice_get (fields nodes) place ≡ Some f → IsWrite f.shape v text → vs ≡ one_at nodes place v → AreWritten nodes vs name text
-written_at no_node vs name text place f v first there write e = absurd (cc there)
-written_at (node own number shape nodes) vs name text zero f v first there write e =
+pub written_at : (form : WireForm) (nodes : Nodes) (vs : Values) (name text : List ℕ) (place : ℕ) (f : Field) (v : Value) → IsFirstNamed (fields nodes) name (Some place)
+    → slice_get (fields nodes) place ≡ Some f → IsWrite form f.shape v text → vs ≡ one_at nodes place v → AreWritten form nodes vs name text
+written_at form no_node vs name text place f v first there write e = absurd (cc there)
+written_at form (node own number shape nodes) vs name text zero f v first there write e =
     let same : record { name = own; number = number; shape = shape } ≡ f = cc there in
     let named : record { name = own; number = number; shape = shape } ≡ first.0.0 = cc first.0.1 in
-    inl (ap (λ (g : Field). g.name) named ∙ first.0.2, (v, subst (λ (g : Field). IsWrite g.shape v text) (sym same) write, e))
-written_at (node own number shape nodes) vs name text (suc place) f v first there write e =
+    inl (ap (λ (g : Field). g.name) named ∙ first.0.2, (v, subst (λ (g : Field). IsWrite form g.shape v text) (sym same) write, e))
+written_at form (node own number shape nodes) vs name text (suc place) f v first there write e =
     inr (
       λ h. first.1 0 (record { name = own; number = number; shape = shape }) (omega arith) refl h,
       (
         one_at nodes place v,
-        written_at nodes (one_at nodes place v) name text place f v
+        written_at form nodes (one_at nodes place v) name text place f v
             ((first.0.0, first.0.1, first.0.2), λ i g less at. first.1 (suc i) g (omega (arith, less)) at) there write refl,
         e,
       ),
     )
 
 -- The field that is written.
-pub record IsWrittenAt (nodes : Nodes) (vs : Values) (name text : List ℕ) : Type 0 where
+pub record IsWrittenAt (form : WireForm) (nodes : Nodes) (vs : Values) (name text : List ℕ) : Type 0 where
   pub place : ℕ
   pub field : Field
   pub v : Value
   pub there : slice_get (fields nodes) place ≡ Some field
   pub named : field.name ≡ name
   pub first : IsFirstNamed (fields nodes) name (Some place)
-  pub write : IsWrite field.shape v text
+  pub write : IsWrite form field.shape v text
   pub is : vs ≡ one_at nodes place v
 
 before : (fs : List Field) (name : List ℕ) (f : Field) → f.name ≢ name → (place : ℕ) → ((i : ℕ) (g : Field) → i < place → slice_get fs i ≡ Some g → g.name ≢ name)
@@ -99,9 +100,9 @@ before fs name f other place first (suc i) g less at h = first i g (omega (arith
 later_first : (fs : List Field) (name : List ℕ) (f : Field) → f.name ≢ name → (place : ℕ) → IsFirstNamed fs name (Some place) → IsFirstNamed (f ∷ fs) name (Some (suc place))
 later_first fs name f other place first = (first.0, before fs name f other place first.1)
 
-pub written_back : (nodes : Nodes) (vs : Values) (name text : List ℕ) → AreWritten nodes vs name text → IsWrittenAt nodes vs name text
-written_back no_node vs name text p = absurd p
-written_back (node own number shape nodes) vs name text p =
+pub written_back : (form : WireForm) (nodes : Nodes) (vs : Values) (name text : List ℕ) → AreWritten form nodes vs name text → IsWrittenAt form nodes vs name text
+written_back form no_node vs name text p = absurd p
+written_back form (node own number shape nodes) vs name text p =
     let f : Field = record { name = own; number = number; shape = shape } in
     elim p [
       | inl w ↦ record {
@@ -115,7 +116,7 @@ written_back (node own number shape nodes) vs name text p =
         is = w.1.2;
       }
       | inr w ↦ (
-          let more = written_back nodes w.1.0 name text w.1.1 in
+          let more = written_back form nodes w.1.0 name text w.1.1 in
           record {
             place = suc more.place;
             field = more.field;
@@ -129,9 +130,9 @@ written_back (node own number shape nodes) vs name text p =
     ]
 
 -- Its name is one of the definition language.
-pub written_name : (nodes : Nodes) (vs : Values) (name text : List ℕ) → AreFields nodes → AreWritten nodes vs name text → HasNoEquals name
-written_name nodes vs name text are p =
-    let w = written_back nodes vs name text p in
+pub written_name : (form : WireForm) (nodes : Nodes) (vs : Values) (name text : List ℕ) → AreFields nodes → AreWritten form nodes vs name text → HasNoEquals name
+written_name form nodes vs name text are p =
+    let w = written_back form nodes vs name text p in
     subst HasNoEquals w.named (name_plain w.field.name (is_field nodes w.place w.field are w.there).0)
 
 order : (i j : ℕ) → (i < j) ⊎ ((i ≡ j) ⊎ (j < i))

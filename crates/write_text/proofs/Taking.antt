@@ -2,6 +2,7 @@
 use Rattle.std.proofs.Common.{◌≡◌, ℕ, zero, suc, ◌<◌, ◌≤◌, List, [], ◌∷◌, ◌++◌, All, map, drop, length, get_or, codes, inl, inr, refl, sym, ap, ◌∙◌, subst, append_assoc, arith}
 use Rattle.std.specs.Prelude.{IsUtf8}
 use Rattle.std.proofs.lemmas.List.Elements.{recursion_from_All}
+use Rattle.context_model.specs.declared.Form.{Form as WireForm}
 use Rattle.bag_model.specs.Scalars as scalars
 use Rattle.bag_model.specs.Scalars.{Word, Plain, Signed, Unsigned, Text, Octets, ArePlainsOf, plain_bytes, spelling}
 use Rattle.report_text.specs.Commas.{comma_joined}
@@ -12,7 +13,6 @@ use Rattle.scalar_types.specs.declared.scalars.Scalar.{Scalar}
 use Rattle.scalar_types.specs.declared.scalars.Scalar.TheVariants as values
 use Rattle.scalar_types.specs.KindViews.{IsWord, word_of}
 use Rattle.scalar_types.specs.ScalarViews.{IsPlain, plain_of, value_of}
-use Rattle.write_text.specs.declared.TheConstants.{PAYLOAD_MAX}
 use Rattle.write_text.specs.Literals.{IsPlainText, ArePlainTexts, IsScalarText, IsLiteral, IsWriter}
 use Rattle.write_text.specs.Taken.{IsInside, IsEnd, Begins}
 use Rattle.write_text.proofs.Quoted.{InsideThen, inside_apart}
@@ -153,31 +153,31 @@ word_scalar word v text rest p = record { front = p.front; fact = p.fact; same =
 pub struct_scalar : (words : List Word) (vs : List Plain) (text rest : List ℕ) → Begins (StructFront words vs) text rest → Begins (SaysScalar (scalars.ScalarKind.Packed words) (scalars.ScalarValue.Packed vs)) text rest
 struct_scalar words vs text rest p = record { front = p.front; fact = p.fact; same = p.same; end = p.end }
 
-pub literal_begins : (kind : scalars.ScalarKind) (v : scalars.ScalarValue) (text rest : List ℕ) → Begins (SaysScalar kind v) text rest → length (spelling kind v) ≤ PAYLOAD_MAX → Begins (IsLiteral kind v) text rest
-literal_begins kind v text rest p short = record { front = p.front; fact = (p.fact.0, short, p.fact.1); same = p.same; end = p.end }
+pub literal_begins : (form : WireForm) (kind : scalars.ScalarKind) (v : scalars.ScalarValue) (text rest : List ℕ) → Begins (SaysScalar kind v) text rest → length (spelling kind v) ≤ most_payload form → Begins (IsLiteral form kind v) text rest
+literal_begins form kind v text rest p short = record { front = p.front; fact = (p.fact.0, short, p.fact.1); same = p.same; end = p.end }
 
-pub no_scalar_literal : (kind : scalars.ScalarKind) (text : List ℕ) → ((v : scalars.ScalarValue) (rest : List ℕ) → Begins (SaysScalar kind v) text rest → ⊥)
-    → (v : scalars.ScalarValue) (rest : List ℕ) → Begins (IsLiteral kind v) text rest → ⊥
-no_scalar_literal kind text none v rest p = none v rest (literal_says kind v text rest p)
+pub no_scalar_literal : (form : WireForm) (kind : scalars.ScalarKind) (text : List ℕ) → ((v : scalars.ScalarValue) (rest : List ℕ) → Begins (SaysScalar kind v) text rest → ⊥)
+    → (v : scalars.ScalarValue) (rest : List ℕ) → Begins (IsLiteral form kind v) text rest → ⊥
+no_scalar_literal form kind text none v rest p = none v rest (literal_says form kind v text rest p)
 
 -- A scalar for which an atom has no room is the only one that stands there.
-pub no_long_literal : (kind : scalars.ScalarKind) (text : List ℕ) (own : scalars.ScalarValue) (behind : List ℕ) → Begins (SaysScalar kind own) text behind → (length (spelling kind own) ≤ PAYLOAD_MAX → ⊥)
-    → (v : scalars.ScalarValue) (rest : List ℕ) → Begins (IsLiteral kind v) text rest → ⊥
-no_long_literal kind text own behind here none v rest p =
-    let same = scalar_apart kind v own text rest behind (literal_says kind v text rest p) here in
-    none (subst (λ (s : scalars.ScalarValue). length (spelling kind s) ≤ PAYLOAD_MAX) same.0 p.fact.1)
+pub no_long_literal : (form : WireForm) (kind : scalars.ScalarKind) (text : List ℕ) (own : scalars.ScalarValue) (behind : List ℕ) → Begins (SaysScalar kind own) text behind → (length (spelling kind own) ≤ most_payload form → ⊥)
+    → (v : scalars.ScalarValue) (rest : List ℕ) → Begins (IsLiteral form kind v) text rest → ⊥
+no_long_literal form kind text own behind here none v rest p =
+    let same = scalar_apart kind v own text rest behind (literal_says form kind v text rest p) here in
+    none (subst (λ (s : scalars.ScalarValue). length (spelling kind s) ≤ most_payload form) same.0 p.fact.1)
 
 -- ---- writers
 
-pub string_writer : (scalar : Scalar) (text rest : List ℕ) → Begins (IsLiteral string_kind (value_of scalar)) text rest → Begins (IsWriter (plain_bytes (plain_of scalar))) text rest
-string_writer (values.Str bytes) text rest p = record { front = p.front; fact = inl p.fact; same = p.same; end = p.end }
-string_writer _ text rest p = absurd p.fact.0
+pub string_writer : (form : WireForm) (scalar : Scalar) (text rest : List ℕ) → Begins (IsLiteral form string_kind (value_of scalar)) text rest → Begins (IsWriter form (plain_bytes (plain_of scalar))) text rest
+string_writer form (values.Str bytes) text rest p = record { front = p.front; fact = inl p.fact; same = p.same; end = p.end }
+string_writer form _ text rest p = absurd p.fact.0
 
-pub octets_writer : (scalar : Scalar) (text rest : List ℕ) → Begins (IsLiteral bytes_kind (value_of scalar)) text rest → Begins (IsWriter (plain_bytes (plain_of scalar))) text rest
-octets_writer (values.Bytes bytes) text rest p = record { front = p.front; fact = inr p.fact; same = p.same; end = p.end }
-octets_writer _ text rest p = absurd p.fact.0
+pub octets_writer : (form : WireForm) (scalar : Scalar) (text rest : List ℕ) → Begins (IsLiteral form bytes_kind (value_of scalar)) text rest → Begins (IsWriter form (plain_bytes (plain_of scalar))) text rest
+octets_writer form (values.Bytes bytes) text rest p = record { front = p.front; fact = inr p.fact; same = p.same; end = p.end }
+octets_writer form _ text rest p = absurd p.fact.0
 
-pub no_writer : (text : List ℕ) → ((v : scalars.ScalarValue) (rest : List ℕ) → Begins (IsLiteral string_kind v) text rest → ⊥)
-    → ((v : scalars.ScalarValue) (rest : List ℕ) → Begins (IsLiteral bytes_kind v) text rest → ⊥) → (bytes rest : List ℕ) → Begins (IsWriter bytes) text rest → ⊥
-no_writer text none other bytes rest p =
-    elim (writer_cases bytes text rest p) [ inl w ↦ none (scalars.ScalarValue.One (Text bytes)) rest w | inr w ↦ other (scalars.ScalarValue.One (Octets bytes)) rest w ]
+pub no_writer : (form : WireForm) (text : List ℕ) → ((v : scalars.ScalarValue) (rest : List ℕ) → Begins (IsLiteral form string_kind v) text rest → ⊥)
+    → ((v : scalars.ScalarValue) (rest : List ℕ) → Begins (IsLiteral form bytes_kind v) text rest → ⊥) → (bytes rest : List ℕ) → Begins (IsWriter form bytes) text rest → ⊥
+no_writer form text none other bytes rest p =
+    elim (writer_cases form bytes text rest p) [ inl w ↦ none (scalars.ScalarValue.One (Text bytes)) rest w | inr w ↦ other (scalars.ScalarValue.One (Octets bytes)) rest w ]

@@ -1,6 +1,7 @@
 -- A text is at most one literal of a kind, and at most one write of a shape.
 use Rattle.std.proofs.Common.{◌≡◌, ◌⊎◌, ℕ, List, [], ◌∷◌, ◌++◌, inl, inr, sym, ap, ◌∙◌, subst, append_assoc, arith}
 use Rattle.std.proofs.lemmas.List.{append-nil}
+use Rattle.context_model.specs.declared.Form.{Form as WireForm}
 use Rattle.bag_model.specs.Scalars as scalars
 use Rattle.bag_model.specs.Scalars.{ScalarKind, ScalarValue, Text, Octets, IsScalarOf}
 use Rattle.report_text.specs.Commas.{comma_joined}
@@ -40,11 +41,11 @@ scalar_apart (ScalarKind.Packed words) (ScalarValue.One v) w text s r p q = absu
 scalar_apart (ScalarKind.Packed words) (ScalarValue.Packed vs) (ScalarValue.One w) text s r p q = absurd q.fact.0
 
 -- Of a literal the text says the scalar.
-pub literal_says : (kind : ScalarKind) (v : ScalarValue) (text rest : List ℕ) → Begins (IsLiteral kind v) text rest → Begins (SaysScalar kind v) text rest
-literal_says kind v text rest p = record { front = p.front; fact = (p.fact.0, p.fact.2); same = p.same; end = p.end }
+pub literal_says : (form : WireForm) (kind : ScalarKind) (v : ScalarValue) (text rest : List ℕ) → Begins (IsLiteral form kind v) text rest → Begins (SaysScalar kind v) text rest
+literal_says form kind v text rest p = record { front = p.front; fact = (p.fact.0, p.fact.2); same = p.same; end = p.end }
 
-pub literal_apart : (kind : ScalarKind) (v w : ScalarValue) (text s r : List ℕ) → Begins (IsLiteral kind v) text s → Begins (IsLiteral kind w) text r → (v ≡ w) × (s ≡ r)
-literal_apart kind v w text s r p q = scalar_apart kind v w text s r (literal_says kind v text s p) (literal_says kind w text r q)
+pub literal_apart : (form : WireForm) (kind : ScalarKind) (v w : ScalarValue) (text s r : List ℕ) → Begins (IsLiteral form kind v) text s → Begins (IsLiteral form kind w) text r → (v ≡ w) × (s ≡ r)
+literal_apart form kind v w text s r p q = scalar_apart kind v w text s r (literal_says form kind v text s p) (literal_says form kind w text r q)
 
 -- A whole text as one that begins with a literal.
 pub whole_begins : (holds : List ℕ → Type 0) (text : List ℕ) → holds text → Begins holds text []
@@ -53,8 +54,8 @@ whole_begins holds text p = record { front = text; fact = p; same = sym (append-
 pub begins_whole : (holds : List ℕ → Type 0) (text : List ℕ) → Begins holds text [] → holds text
 begins_whole holds text p = subst holds (sym (append-nil p.front) ∙ sym p.same) p.fact
 
-pub one_literal : (kind : ScalarKind) (v w : ScalarValue) (text : List ℕ) → IsLiteral kind v text → IsLiteral kind w text → v ≡ w
-one_literal kind v w text p q = (literal_apart kind v w text [] [] (whole_begins (IsLiteral kind v) text p) (whole_begins (IsLiteral kind w) text q)).0
+pub one_literal : (form : WireForm) (kind : ScalarKind) (v w : ScalarValue) (text : List ℕ) → IsLiteral form kind v text → IsLiteral form kind w text → v ≡ w
+one_literal form kind v w text p q = (literal_apart form kind v w text [] [] (whole_begins (IsLiteral form kind v) text p) (whole_begins (IsLiteral form kind w) text q)).0
 
 -- ---- writers
 
@@ -71,20 +72,20 @@ abbrev pub octets_of : List ℕ → ScalarValue
 octets_of bytes = ScalarValue.One (Octets bytes)
 
 -- A writer's literal is a string's or a byte string's.
-pub writer_cases : (bytes text rest : List ℕ) → Begins (IsWriter bytes) text rest
-    → Begins (IsLiteral string_kind (text_of bytes)) text rest ⊎ Begins (IsLiteral bytes_kind (octets_of bytes)) text rest
-writer_cases bytes text rest p =
+pub writer_cases : (form : WireForm) (bytes text rest : List ℕ) → Begins (IsWriter form bytes) text rest
+    → Begins (IsLiteral form string_kind (text_of bytes)) text rest ⊎ Begins (IsLiteral form bytes_kind (octets_of bytes)) text rest
+writer_cases form bytes text rest p =
     elim p.fact [
       | inl w ↦ inl (record { front = p.front; fact = w; same = p.same; end = p.end })
       | inr w ↦ inr (record { front = p.front; fact = w; same = p.same; end = p.end })
     ]
 
 -- A string begins with a quotation mark, and a byte string with a zero.
-pub string_first : (bytes text rest : List ℕ) → Begins (IsLiteral string_kind (text_of bytes)) text rest → (tail : List ℕ) × (text ≡ 34 ∷ tail)
-string_first bytes text rest p = let inside = p.fact.2 in ((inside.0 ++ 34 ∷ []) ++ rest, p.same ∙ ap (λ l. l ++ rest) inside.2)
+pub string_first : (form : WireForm) (bytes text rest : List ℕ) → Begins (IsLiteral form string_kind (text_of bytes)) text rest → (tail : List ℕ) × (text ≡ 34 ∷ tail)
+string_first form bytes text rest p = let inside = p.fact.2 in ((inside.0 ++ 34 ∷ []) ++ rest, p.same ∙ ap (λ l. l ++ rest) inside.2)
 
-pub octets_first : (bytes text rest : List ℕ) → Begins (IsLiteral bytes_kind (octets_of bytes)) text rest → (tail : List ℕ) × (text ≡ 48 ∷ tail)
-octets_first bytes text rest p = let digits = p.fact.2 in ((120 ∷ digits.0) ++ rest, p.same ∙ ap (λ l. l ++ rest) digits.1)
+pub octets_first : (form : WireForm) (bytes text rest : List ℕ) → Begins (IsLiteral form bytes_kind (octets_of bytes)) text rest → (tail : List ℕ) × (text ≡ 48 ∷ tail)
+octets_first form bytes text rest p = let digits = p.fact.2 in ((120 ∷ digits.0) ++ rest, p.same ∙ ap (λ l. l ++ rest) digits.1)
 
 first_apart : (text s r : List ℕ) → text ≡ 34 ∷ s → text ≡ 48 ∷ r → ⊥
 first_apart text s r e h = let two : 34 ∷ s ≡ 48 ∷ r = sym e ∙ h in let bad : ◌≡◌ {A = ℕ} 34 48 = cc two in absurd (omega (arith, bad))
@@ -93,16 +94,16 @@ bytes_in : ScalarValue → List ℕ
 bytes_in (ScalarValue.One v) = scalars.plain_bytes v
 bytes_in (ScalarValue.Packed vs) = []
 
-pub writer_apart : (a b text s r : List ℕ) → Begins (IsWriter a) text s → Begins (IsWriter b) text r → (a ≡ b) × (s ≡ r)
+pub writer_apart : (form : WireForm) (a b text s r : List ℕ) → Begins (IsWriter form a) text s → Begins (IsWriter form b) text r → (a ≡ b) × (s ≡ r)
 unfolding bytes_in
-writer_apart a b text s r p q =
-    elim (writer_cases a text s p) [
-      | inl v ↦ (elim (writer_cases b text r q) [
-        | inl w ↦ (let same = literal_apart string_kind (text_of a) (text_of b) text s r v w in (ap bytes_in same.0, same.1))
-        | inr w ↦ absurd (first_apart text (string_first a text s v).0 (octets_first b text r w).0 (string_first a text s v).1 (octets_first b text r w).1)
+writer_apart form a b text s r p q =
+    elim (writer_cases form a text s p) [
+      | inl v ↦ (elim (writer_cases form b text r q) [
+        | inl w ↦ (let same = literal_apart form string_kind (text_of a) (text_of b) text s r v w in (ap bytes_in same.0, same.1))
+        | inr w ↦ absurd (first_apart text (string_first form a text s v).0 (octets_first form b text r w).0 (string_first form a text s v).1 (octets_first form b text r w).1)
       ])
-      | inr v ↦ (elim (writer_cases b text r q) [
-        | inl w ↦ absurd (first_apart text (string_first b text r w).0 (octets_first a text s v).0 (string_first b text r w).1 (octets_first a text s v).1)
-        | inr w ↦ (let same = literal_apart bytes_kind (octets_of a) (octets_of b) text s r v w in (ap bytes_in same.0, same.1))
+      | inr v ↦ (elim (writer_cases form b text r q) [
+        | inl w ↦ absurd (first_apart text (string_first form b text r w).0 (octets_first form a text s v).0 (string_first form b text r w).1 (octets_first form a text s v).1)
+        | inr w ↦ (let same = literal_apart form bytes_kind (octets_of a) (octets_of b) text s r v w in (ap bytes_in same.0, same.1))
       ])
     ]

@@ -1,12 +1,13 @@
 -- Literals of scalars.
-use Rattle.std.specs.Prelude.{◌≡◌, ◌⊎◌, ℕ, ◌+◌, ◌*◌, ◌<◌, ◌≤◌, Bool, false, IsTrue, List, [], ◌∷◌, ◌++◌, length, codes, Ok}
+use Rattle.std.specs.Prelude.{◌≡◌, ◌⊎◌, ℕ, ◌+◌, ◌-◌, ◌*◌, ◌<◌, ◌≤◌, Bool, false, IsTrue, List, [], ◌∷◌, ◌++◌, length, codes, Ok}
 use Rattle.std.specs.Char.{digit_value}
 use Rattle.std.specs.Fmt.{decimal, signed_decimal}
 use Rattle.hex.specs.Hex.{decode_of}
+use Rattle.context_model.specs.declared.Form.{Form as WireForm}
+use Rattle.context_model.specs.Framing.{most}
 use Rattle.bag_model.specs.Scalars.{Word, ScalarKind, Plain, ScalarValue, Truth, Signed, Unsigned, Text, Octets, IsScalarOf, spelling, Str, Bytes, form_of, SignedVarint, SignedFixedBytes, UnsignedVarint, FixedBytes}
 use Rattle.report_text.specs.Commas.{in_parentheses}
 use Rattle.report_text.specs.ScalarTexts.{is_marked, truth_text}
-use Rattle.write_text.specs.declared.TheConstants.{PAYLOAD_MAX}
 
 -- The two digits, of either case, are those of this byte, which is below 128.
 abbrev pub AreDigitsOf : ℕ → ℕ → ℕ → Type 0
@@ -63,12 +64,16 @@ IsScalarText (ScalarValue.One v) text = IsPlainText v text
 IsScalarText (ScalarValue.Packed vs) text =
     (texts : List (List ℕ)) × ArePlainTexts vs texts × (text ≡ in_parentheses texts)
 
--- The text is a literal of the kind for this value, which fits an atom.
-abbrev pub IsLiteral : ScalarKind → ScalarValue → List ℕ → Type 0
-IsLiteral kind v text = IsScalarOf kind v × (length (spelling kind v) ≤ PAYLOAD_MAX) × IsScalarText v text
+-- The most bytes of a payload or a key that is written where this form is asked for: an atom has one more.
+abbrev pub most_payload : WireForm → ℕ
+most_payload form = most form - 1
+
+-- The text is a literal of the kind for this value, which an atom has room for where this form is asked for.
+abbrev pub IsLiteral : WireForm → ScalarKind → ScalarValue → List ℕ → Type 0
+IsLiteral form kind v text = IsScalarOf kind v × (length (spelling kind v) ≤ most_payload form) × IsScalarText v text
 
 -- The text names this writer of a counter: it is a string's or a byte string's literal for the writer's bytes.
-abbrev pub IsWriter : List ℕ → List ℕ → Type 0
-IsWriter bytes text =
-    IsLiteral (ScalarKind.One Str) (ScalarValue.One (Text bytes)) text
-    ⊎ IsLiteral (ScalarKind.One Bytes) (ScalarValue.One (Octets bytes)) text
+abbrev pub IsWriter : WireForm → List ℕ → List ℕ → Type 0
+IsWriter form bytes text =
+    IsLiteral form (ScalarKind.One Str) (ScalarValue.One (Text bytes)) text
+    ⊎ IsLiteral form (ScalarKind.One Bytes) (ScalarValue.One (Octets bytes)) text

@@ -9,6 +9,3 @@ mod strings;
 mod writes;
 
 pub use writes::read_write;
-
-/// The most bytes of the payload of a key, a writer or a datum: those of an atom but for its first.
-pub const PAYLOAD_MAX: usize = 65_534;

@@ -8,15 +8,15 @@ ghost use Rattle.scalar_types.specs.KindViews.{IsWord, kind_of, word_of};
 ghost use Rattle.scalar_types.specs.ScalarViews.{IsPlain, plain_of, value_of};
 ghost use Rattle.decimal_text.specs.Answers.{Answers};
 ghost use Rattle.report_text.specs.Commas.{comma_before, comma_joined};
-ghost use Rattle.write_text.specs.Literals.{ArePlainTexts, HasNoSign, HasSign, IsLiteral, IsPlainText, IsScalarText, IsWriter};
+ghost use Rattle.write_text.specs.Literals.{ArePlainTexts, HasNoSign, HasSign, IsLiteral, IsPlainText, IsScalarText, IsWriter, most_payload};
 ghost use Rattle.write_text.specs.Taken.{Begins, Takes};
 
-use crate::PAYLOAD_MAX;
 use crate::ends::{behind, is_end, split_at_stop};
 use crate::numbers::{read_octets, read_signed, read_truth};
 use crate::strings::take_string;
+use context_model::{Form, LENGTH_MAX};
 use decimal_text::read_decimal;
-use outside::{Memory, Octets};
+use outside::{ATOM_MAX, Memory, Octets};
 use scalar_types::{Codec, Scalar, ScalarKind, ScalarList};
 use std::alloc::Global;
 
@@ -189,29 +189,40 @@ fn take_scalar<'a>(
     }
 }
 
-/// Whether an atom has room for the scalar.
-fn is_short(alloc: Global, kind: &ScalarKind, scalar: &Scalar) -> Result<bool, Memory>
+/// The most bytes of a payload or a key that is written where this form is asked for: those of an atom but for its first.
+fn most_payload(form: Form) -> usize
+    ensures { result ≡ most_payload form }
+{
+    match form {
+        Form::One => LENGTH_MAX - 1,
+        Form::Two => ATOM_MAX - 1,
+    }
+}
+
+/// Whether an atom has room for the scalar, where this form is asked for.
+fn is_short(alloc: Global, form: Form, kind: &ScalarKind, scalar: &Scalar) -> Result<bool, Memory>
     requires { IsScalarOf (kind_of kind.now) (value_of scalar.now) }
-    ensures { IfOk result (λ short. IsTrue short ↔ (length (spelling (kind_of kind.now) (value_of scalar.now)) ≤ PAYLOAD_MAX)) }
+    ensures { IfOk result (λ short. IsTrue short ↔ (length (spelling (kind_of kind.now) (value_of scalar.now)) ≤ most_payload form)) }
 {
     let mut payload = Vec::new(alloc);
     kind.put(scalar, &mut payload)?;
-    Ok(payload.len() <= PAYLOAD_MAX)
+    Ok(payload.len() <= most_payload(form))
 }
 
 /// The literal of this kind that the text begins with, by its value, and the rest.
 pub(crate) fn take_literal<'a>(
     alloc: Global,
+    form: Form,
     kind: &ScalarKind,
     text: &'a [u8],
 ) -> Result<Option<(Scalar, &'a [u8])>, Memory>
-    ensures { IfOk result (λ taken. Takes (λ v rest. Begins (IsLiteral (kind_of kind.now) v) text.now rest)
+    ensures { IfOk result (λ taken. Takes (λ v rest. Begins (IsLiteral form (kind_of kind.now) v) text.now rest)
         (option_map (λ taken. (value_of taken.0, taken.1.now)) taken)) }
 {
     let Some((scalar, rest)) = take_scalar(alloc, kind, text)? else {
         return Ok(None);
     };
-    let short = is_short(alloc, kind, &scalar)?;
+    let short = is_short(alloc, form, kind, &scalar)?;
     if short {
         Ok(Some((scalar, rest)))
     } else {
@@ -222,12 +233,13 @@ pub(crate) fn take_literal<'a>(
 /// The value of which the text is a literal of this kind.
 pub(crate) fn read_literal(
     alloc: Global,
+    form: Form,
     kind: &ScalarKind,
     text: &[u8],
 ) -> Result<Option<Scalar>, Memory>
-    ensures { IfOk result (λ read. Answers (λ v. IsLiteral (kind_of kind.now) v text.now) (option_map value_of read)) }
+    ensures { IfOk result (λ read. Answers (λ v. IsLiteral form (kind_of kind.now) v text.now) (option_map value_of read)) }
 {
-    let Some((scalar, rest)) = take_literal(alloc, kind, text)? else {
+    let Some((scalar, rest)) = take_literal(alloc, form, kind, text)? else {
         return Ok(None);
     };
     if rest.is_empty() {
@@ -249,14 +261,18 @@ fn bytes_of(scalar: &Scalar) -> &[u8]
 }
 
 /// The writer that the text begins with, and the rest.
-pub(crate) fn take_writer(alloc: Global, text: &[u8]) -> Result<Option<(Octets, &[u8])>, Memory>
-    ensures { IfOk result (λ taken. Takes (λ bytes rest. Begins (IsWriter bytes) text.now rest)
+pub(crate) fn take_writer(
+    alloc: Global,
+    form: Form,
+    text: &[u8],
+) -> Result<Option<(Octets, &[u8])>, Memory>
+    ensures { IfOk result (λ taken. Takes (λ bytes rest. Begins (IsWriter form bytes) text.now rest)
         (option_map (λ taken. (taken.0, taken.1.now)) taken)) }
 {
-    if let Some((writer, rest)) = take_literal(alloc, &ScalarKind::Str, text)? {
+    if let Some((writer, rest)) = take_literal(alloc, form, &ScalarKind::Str, text)? {
         return Ok(Some((Octets::of(alloc, bytes_of(&writer))?, rest)));
     }
-    match take_literal(alloc, &ScalarKind::Bytes, text)? {
+    match take_literal(alloc, form, &ScalarKind::Bytes, text)? {
         Some((writer, rest)) => Ok(Some((Octets::of(alloc, bytes_of(&writer))?, rest))),
         None => Ok(None),
     }

@@ -1,6 +1,6 @@
 //! Writes to fields of every shape.
 
-ghost use Rattle.std.specs.Prelude.{◌≡◌, ◌++◌, ◌-◌, ◌≤◌, ◌<◌, codes, drop, length, map, take, IfOk, OnOk};
+ghost use Rattle.std.specs.Prelude.{◌≡◌, ◌++◌, ◌-◌, true, ◌≤◌, ◌<◌, codes, drop, length, map, take, IfOk, OnOk};
 ghost use Rattle.std.specs.Option.{option_map};
 ghost use Rattle.bag_model.specs.Shapes as shapes;
 ghost use Rattle.bag_model.specs.Tables.{AreFields, IsShape};
@@ -18,6 +18,7 @@ use crate::ends::behind;
 use crate::literals::{read_literal, take_literal, take_writer};
 use bag_decode::bottom_of;
 use bag_value::{Entries, Entry, ScalarSet, Val, Vals};
+use context_model::Form;
 use counter_type::Counts;
 use decimal_text::read_decimal;
 use field_table::{Shape, Slots};
@@ -26,35 +27,41 @@ use scalar_types::ScalarKind;
 use set_map_types::SetOf;
 use std::alloc::Global;
 
-/// The value that a text writes to a field of this shape, or none where the text is no write of it.
+/// The value that a text writes to a field of this shape, or none where the text is no write of it. Of a write's payloads and keys
+/// none is longer than those of the form.
 #[cycle(read)]
-pub fn read_write(alloc: Global, shape: &Shape, text: &[u8]) -> Result<Option<Val>, Memory>
+pub fn read_write(
+    alloc: Global,
+    form: Form,
+    shape: &Shape,
+    text: &[u8],
+) -> Result<Option<Val>, Memory>
     requires { IsShape (shape_of shape.now) }
-    ensures { IfOk result (λ read. Answers (λ v. IsWrite (shape_of shape.now) v text.now) (option_map plain read)) }
+    ensures { IfOk result (λ read. Answers (λ v. IsWrite form (shape_of shape.now) v text.now) (option_map plain read)) }
 {
     match shape {
         Shape::Taint => Ok(read_mark(text)),
-        Shape::Scalar(kind) => match read_literal(alloc, kind, text)? {
+        Shape::Scalar(kind) => match read_literal(alloc, form, kind, text)? {
             Some(scalar) => Ok(Some(Val::Scalar(Some(scalar)))),
             None => Ok(None),
         },
-        Shape::Greatest(kind) => match read_literal(alloc, kind, text)? {
+        Shape::Greatest(kind) => match read_literal(alloc, form, kind, text)? {
             Some(scalar) => Ok(Some(Val::Greatest(Some(scalar)))),
             None => Ok(None),
         },
-        Shape::Set(kind) => match read_element(alloc, kind, text)? {
+        Shape::Set(kind) => match read_element(alloc, form, kind, text)? {
             Some(set) => Ok(Some(Val::Set(set))),
             None => Ok(None),
         },
-        Shape::Counter => match read_count(alloc, text)? {
+        Shape::Counter => match read_count(alloc, form, text)? {
             Some(counts) => Ok(Some(Val::Counter(counts))),
             None => Ok(None),
         },
-        Shape::Map(kind, value) => match read_entry(alloc, kind, value, text)? {
+        Shape::Map(kind, value) => match read_entry(alloc, form, kind, value, text)? {
             Some(entries) => Ok(Some(Val::Map(entries))),
             None => Ok(None),
         },
-        Shape::Bag(fields) => match read_field(alloc, fields, text)? {
+        Shape::Bag(fields) => match read_field(alloc, form, fields, text)? {
             Some(values) => Ok(Some(Val::Bag(values))),
             None => Ok(None),
         },
@@ -65,21 +72,22 @@ pub fn read_write(alloc: Global, shape: &Shape, text: &[u8]) -> Result<Option<Va
 #[cycle(read)]
 fn read_entry(
     alloc: Global,
+    form: Form,
     kind: &ScalarKind,
     shape: &Shape,
     text: &[u8],
 ) -> Result<Option<Entries>, Memory>
     requires { IsShape (shape_of shape.now) }
     ensures { IfOk result (λ read. Answers
-        (λ es. IsWrite (shapes.Shape.Map (kind_of kind.now) (shape_of shape.now)) (values.Value.Map es) text.now) read) }
+        (λ es. IsWrite form (shapes.Shape.Map (kind_of kind.now) (shape_of shape.now)) (values.Value.Map es) text.now) read) }
 {
-    let Some((key, rest)) = take_literal(alloc, kind, text)? else {
+    let Some((key, rest)) = take_literal(alloc, form, kind, text)? else {
         return Ok(None);
     };
     let Some(rest) = behind(b':', rest) else {
         return Ok(None);
     };
-    let Some(value) = read_write(alloc, shape, rest)? else {
+    let Some(value) = read_write(alloc, form, shape, rest)? else {
         return Ok(None);
     };
     let mut entries = Entries::new(alloc);
@@ -89,10 +97,15 @@ fn read_entry(
 
 /// The values of a bag with one field that is written.
 #[cycle(read)]
-fn read_field(alloc: Global, fields: &Slots, text: &[u8]) -> Result<Option<Vals>, Memory>
+fn read_field(
+    alloc: Global,
+    form: Form,
+    fields: &Slots,
+    text: &[u8],
+) -> Result<Option<Vals>, Memory>
     requires { AreFields (nodes_of fields.now) }
     ensures { IfOk result (λ read. Answers
-        (λ vs. IsWrite (shapes.Shape.Bag (nodes_of fields.now)) (values.Value.Bag vs) text.now) read) }
+        (λ vs. IsWrite form (shapes.Shape.Bag (nodes_of fields.now)) (values.Value.Bag vs) text.now) read) }
 {
     let Some((name, rest)) = split_name(text) else {
         return Ok(None);
@@ -101,7 +114,7 @@ fn read_field(alloc: Global, fields: &Slots, text: &[u8]) -> Result<Option<Vals>
         return Ok(None);
     };
     let field = fields.get(place).unwrap();
-    let Some(value) = read_write(alloc, &field.shape, rest)? else {
+    let Some(value) = read_write(alloc, form, &field.shape, rest)? else {
         return Ok(None);
     };
     Ok(Some(with_one(alloc, fields, place, value)?))
@@ -109,7 +122,7 @@ fn read_field(alloc: Global, fields: &Slots, text: &[u8]) -> Result<Option<Vals>
 
 /// A taint that is put on.
 fn read_mark(text: &[u8]) -> Option<Val>
-    ensures { Answers (λ v. IsWrite shapes.Shape.Taint v text.now) (option_map plain result) }
+    ensures { Answers (λ v. (v ≡ values.Value.Taint true) × (text.now ≡ codes "on")) (option_map plain result) }
 {
     match text {
         b"on" => Some(Val::Taint(true)),
@@ -118,21 +131,26 @@ fn read_mark(text: &[u8]) -> Option<Val>
 }
 
 /// A set of one element.
-fn read_element(alloc: Global, kind: &ScalarKind, text: &[u8]) -> Result<Option<ScalarSet>, Memory>
-    ensures { IfOk result (λ read. Answers (λ v. IsWrite (shapes.Shape.Set (kind_of kind.now)) v text.now)
+fn read_element(
+    alloc: Global,
+    form: Form,
+    kind: &ScalarKind,
+    text: &[u8],
+) -> Result<Option<ScalarSet>, Memory>
+    ensures { IfOk result (λ read. Answers (λ v. IsWrite form (shapes.Shape.Set (kind_of kind.now)) v text.now)
         (option_map (λ set. values.Value.Set (kind_of set.codec) (map value_of set.items)) read)) }
 {
-    match read_literal(alloc, kind, text)? {
+    match read_literal(alloc, form, kind, text)? {
         Some(scalar) => Ok(Some(SetOf::of(alloc, kind.copy()?, scalar)?)),
         None => Ok(None),
     }
 }
 
 /// The count of one writer.
-fn read_count(alloc: Global, text: &[u8]) -> Result<Option<Counts>, Memory>
-    ensures { IfOk result (λ read. Answers (λ counts. IsWrite shapes.Shape.Counter (values.Value.Counter counts) text.now) read) }
+fn read_count(alloc: Global, form: Form, text: &[u8]) -> Result<Option<Counts>, Memory>
+    ensures { IfOk result (λ read. Answers (λ counts. IsWrite form shapes.Shape.Counter (values.Value.Counter counts) text.now) read) }
 {
-    let Some((writer, rest)) = take_writer(alloc, text)? else {
+    let Some((writer, rest)) = take_writer(alloc, form, text)? else {
         return Ok(None);
     };
     let Some(digits) = behind(b':', rest) else {

@@ -5,14 +5,14 @@ use Rattle.write_text.proofs.Taking.{literal_begins, no_scalar_literal, no_long_
 use Rattle.write_text.proofs.literals.take_literal.Goals as goal
 
 pub returns-in_default : goal.returns-in_default
-returns-in_default c = no_scalar_literal (kind_of c.args.kind.now) c.args.text.now (rw c.in_default.is at c.in_ok-scalar.ensures)
+returns-in_default c = no_scalar_literal c.args.form (kind_of c.args.kind.now) c.args.text.now (rw c.in_default.is at c.in_ok-scalar.ensures)
 
 pub returns-then-short : goal.returns-then-short
 returns-then-short c =
-    literal_begins (kind_of c.args.kind.now) (value_of c.in-Some.scalar) c.args.text.now c.in-Some.rest.now (rw c.in-Some.is at c.in_ok-scalar.ensures)
+    literal_begins c.args.form (kind_of c.args.kind.now) (value_of c.in-Some.scalar) c.args.text.now c.in-Some.rest.now (rw c.in-Some.is at c.in_ok-scalar.ensures)
     (c.in_ok-short.ensures.0 c.if-short.true)
 
 pub returns : goal.returns
 returns c =
-    no_long_literal (kind_of c.args.kind.now) c.args.text.now (value_of c.in-Some.scalar) c.in-Some.rest.now (rw c.in-Some.is at c.in_ok-scalar.ensures)
+    no_long_literal c.args.form (kind_of c.args.kind.now) c.args.text.now (value_of c.in-Some.scalar) c.in-Some.rest.now (rw c.in-Some.is at c.in_ok-scalar.ensures)
     (λ few. (let bad : true ≡ false = sym (c.in_ok-short.ensures.1 few) ∙ c.if-short.false in cc bad))
