@@ -4,7 +4,7 @@ use Rattle.std.proofs.lemmas.List.{get_or_default}
 use Rattle.context_model.specs.Atoms.{Atom}
 use Rattle.context_model.specs.Orders.{IsIn}
 use Rattle.bag_model.specs.Shapes.{Nodes}
-use Rattle.trace_model.specs.Graphs.{Step, Graph, parents_of, HasStep, view_at, IsGraph}
+use Rattle.trace_model.specs.Graphs.{Step, Graph, parents_of, HasStep, form_at, view_at, IsGraph}
 use Rattle.trace_model.specs.Runs.{Lists, list_at, Gives}
 use Rattle.trace_model.proofs.ReachLaws.{one_step}
 use Rattle.trace_model.proofs.RunLaws.{gives_moved}
@@ -21,11 +21,11 @@ given_moved nodes graph old new n list same given step has =
 -- What a step gives from the lists at the places of its parents.
 pub given_at : (nodes : Nodes) (graph : Graph) (lists : Lists) (n : ℕ) (own : Step) (places : List ℕ) (list : List Atom)
     → HasStep graph n own → places ≡ parents_of own.act
-    → ((step : Step) → HasStep graph n step → Gives nodes (view_at graph step.service) step.act (map (list_at lists) places) list)
+    → ((step : Step) → HasStep graph n step → Gives nodes (form_at graph step.service) (view_at graph step.service) step.act (map (list_at lists) places) list)
     → IsGiven nodes graph lists n list
 given_at nodes graph lists n own places list there same gives step has =
     let one : own ≡ step = one_step graph n own step there has in
-    subst (λ (ps : List ℕ). Gives nodes (view_at graph step.service) step.act (map (list_at lists) ps) list) (same ∙ ap (λ (s : Step). parents_of s.act) one) (gives step has)
+    subst (λ (ps : List ℕ). Gives nodes (form_at graph step.service) (view_at graph step.service) step.act (map (list_at lists) ps) list) (same ∙ ap (λ (s : Step). parents_of s.act) one) (gives step has)
 
 -- The parents of a step stand before it.
 pub parents_before : (graph : Graph) (n : ℕ) (own : Step) (places : List ℕ) (bound : ℕ) → IsGraph graph → HasStep graph n own → places ≡ parents_of own.act → n ≤ bound

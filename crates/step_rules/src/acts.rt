@@ -1,6 +1,7 @@
 //! What each act gives.
 
-ghost use Rattle.std.specs.Prelude.{◌≡◌, ◌<◌, map, IfOk};
+ghost use Rattle.std.specs.Prelude.{◌≡◌, ◌≤◌, map, IfOk};
+ghost use Rattle.context_model.specs.Framing.{least_budget};
 ghost use Rattle.context_model.specs.Trimmed.{trimmed};
 ghost use Rattle.bag_model.specs.Normal.{IsNormalOf};
 ghost use Rattle.bag_value.specs.Plain.{plain};
@@ -15,12 +16,13 @@ use atom_list::Context;
 use bag_encode::encode_slot;
 use bag_normal::normal;
 use bag_value::Val;
+use context_model::Form;
 use fan_in::{merge_all, merge_alone};
 use field_table::{Table, View};
 use lex_merge::merge;
 use outside::{Memory, Open};
 use overflow_trim::trim_context;
-use recorded_graph::Act;
+use recorded_graph::{Act, Service};
 use std::alloc::Global;
 use std::thread::Threads;
 
@@ -54,13 +56,13 @@ fn written(
     normal(alloc, table, view, merged)
 }
 
-/// A copy of a context, cut to a budget of bytes.
-fn trimmed_copy(context: &Context, budget: u64) -> Result<Context, Memory>
-    requires { 0 < budget }
-    ensures { IfOk result (λ cut. cut ≡ trimmed context.now budget) }
+/// A copy of a context, cut to a budget of bytes in the form.
+fn trimmed_copy(form: Form, context: &Context, budget: u64) -> Result<Context, Memory>
+    requires { least_budget form ≤ budget }
+    ensures { IfOk result (λ cut. cut ≡ trimmed form context.now budget) }
 {
     let mut cut = context.copy()?;
-    trim_context(&mut cut, budget);
+    trim_context(form, &mut cut, budget);
     Ok(cut)
 }
 
@@ -95,32 +97,32 @@ fn joined_beside<R: Threads + Sync>(
     normal(alloc, table, view, merged)
 }
 
-/// What an act gives at a service with this view, where its parents' lists stand at the places.
+/// What an act gives at a service, where its parents' lists stand at the places.
 pub(crate) fn give(
     alloc: Global,
     table: &Table,
-    view: &View,
+    service: &Service,
     act: &Act,
     pool: &[Context],
     places: &[usize],
 ) -> Result<Context, Memory>
-    requires sound { IsSoundAct (act_of act.now) }
-    requires may { IsActOf table.now (view_of view.now) (act_of act.now) }
+    requires sound { IsSoundAct service.now.form (act_of act.now) }
+    requires may { IsActOf table.now (view_of service.now.view) (act_of act.now) }
     requires places { ArePlacesOf (parents_of (act_of act.now)) pool.now places.now }
-    ensures { IfOk result (Gives table.now (view_of view.now) (act_of act.now) (map (list_at pool.now) places.now)) }
+    ensures { IfOk result (Gives table.now service.now.form (view_of service.now.view) (act_of act.now) (map (list_at pool.now) places.now)) }
 {
     match act {
         Act::Start => Ok(Context::empty(alloc)),
-        Act::Recv(received) => normal_copy(alloc, table, view, received),
+        Act::Recv(received) => normal_copy(alloc, table, &service.view, received),
         Act::Set {
             parent: _,
             slot,
             write,
-        } => written(alloc, table, view, *slot, write, first(pool, places)),
+        } => written(alloc, table, &service.view, *slot, write, first(pool, places)),
         Act::Branch { parent: _ } => first(pool, places).copy(),
-        Act::Forward { parent: _ } => normal_copy(alloc, table, view, first(pool, places)),
-        Act::Trim { parent: _, budget } => trimmed_copy(first(pool, places), *budget),
-        Act::Join { parents: _ } => joined(alloc, table, view, pool, places),
+        Act::Forward { parent: _ } => normal_copy(alloc, table, &service.view, first(pool, places)),
+        Act::Trim { parent: _, budget } => trimmed_copy(service.form, first(pool, places), *budget),
+        Act::Join { parents: _ } => joined(alloc, table, &service.view, pool, places),
     }
 }
 
@@ -129,18 +131,18 @@ pub(crate) fn give_beside<R: Threads + Sync>(
     rt: &R,
     alloc: Global,
     table: &Table,
-    view: &View,
+    service: &Service,
     act: &Act,
     pool: &[Context],
     places: &[usize],
 ) -> Result<Context, Memory>
-    requires sound { IsSoundAct (act_of act.now) }
-    requires may { IsActOf table.now (view_of view.now) (act_of act.now) }
+    requires sound { IsSoundAct service.now.form (act_of act.now) }
+    requires may { IsActOf table.now (view_of service.now.view) (act_of act.now) }
     requires places { ArePlacesOf (parents_of (act_of act.now)) pool.now places.now }
-    ensures { IfOk result (Gives table.now (view_of view.now) (act_of act.now) (map (list_at pool.now) places.now)) }
+    ensures { IfOk result (Gives table.now service.now.form (view_of service.now.view) (act_of act.now) (map (list_at pool.now) places.now)) }
 {
     match act {
-        Act::Join { parents: _ } => joined_beside(rt, alloc, table, view, pool, places),
-        alone => give(alloc, table, view, alone, pool, places),
+        Act::Join { parents: _ } => joined_beside(rt, alloc, table, &service.view, pool, places),
+        alone => give(alloc, table, service, alone, pool, places),
     }
 }

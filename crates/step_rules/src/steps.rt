@@ -2,7 +2,7 @@
 
 ghost use Rattle.std.specs.Prelude.{◌<◌, length, map, IfOk};
 ghost use Rattle.std.specs.List.{AllByRecursion};
-ghost use Rattle.trace_model.specs.Graphs.{Step, HasStep, parents_of, view_at, IsOfTable, IsTypedContext};
+ghost use Rattle.trace_model.specs.Graphs.{Step, HasStep, parents_of, form_at, view_at, IsOfTable, IsTypedContext};
 ghost use Rattle.trace_model.specs.Runs.{list_at, Gives};
 ghost use Rattle.step_rules.specs.Parents.{ArePlacesOf};
 
@@ -29,7 +29,7 @@ pub fn run_step_alone(
     requires table { IsOfTable table.now graph.now }
     requires places { (own : Step) → HasStep graph.now step own → ArePlacesOf (parents_of own.act) pool.now places.now }
     ensures gives { IfOk result (λ list. (own : Step) → HasStep graph.now step own →
-        Gives table.now (view_at graph.now own.service) own.act (map (list_at pool.now) places.now) list) }
+        Gives table.now (form_at graph.now own.service) (view_at graph.now own.service) own.act (map (list_at pool.now) places.now) list) }
     ensures typed { AllByRecursion (IsTypedContext table.now) (map (list_at pool.now) places.now) → IfOk result (IsTypedContext table.now) }
 {
     // The proof learns here that the graph is sound, that the fields make a table, and what steps make of typed contexts.
@@ -37,8 +37,8 @@ pub fn run_step_alone(
     let _ = table.nodes();
     steps_give_contexts();
     let own = graph.step(step);
-    let view = &graph.service(own.service).view;
-    give(alloc, table, view, &own.act, pool, places)
+    let service = graph.service(own.service);
+    give(alloc, table, service, &own.act, pool, places)
 }
 
 /// The list of a step, as [`run_step_alone`] gives it, where the lists of a join of 64 parents or more are merged in several
@@ -56,13 +56,13 @@ pub fn run_step<R: Threads + Sync>(
     requires table { IsOfTable table.now graph.now }
     requires places { (own : Step) → HasStep graph.now step own → ArePlacesOf (parents_of own.act) pool.now places.now }
     ensures gives { IfOk result (λ list. (own : Step) → HasStep graph.now step own →
-        Gives table.now (view_at graph.now own.service) own.act (map (list_at pool.now) places.now) list) }
+        Gives table.now (form_at graph.now own.service) (view_at graph.now own.service) own.act (map (list_at pool.now) places.now) list) }
     ensures typed { AllByRecursion (IsTypedContext table.now) (map (list_at pool.now) places.now) → IfOk result (IsTypedContext table.now) }
 {
     graph.known();
     let _ = table.nodes();
     steps_give_contexts();
     let own = graph.step(step);
-    let view = &graph.service(own.service).view;
-    give_beside(rt, alloc, table, view, &own.act, pool, places)
+    let service = graph.service(own.service);
+    give_beside(rt, alloc, table, service, &own.act, pool, places)
 }

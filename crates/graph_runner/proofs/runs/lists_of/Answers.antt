@@ -1,6 +1,6 @@
 use Rattle.std.proofs.Common.{◌≡◌, ℕ, ◌+◌, length, map, ap, sym, ◌∙◌, subst, arith}
 use Rattle.recorded_graph.specs.Plain.{step_of}
-use Rattle.trace_model.specs.Graphs.{Step, HasStep, view_at, IsRecorded}
+use Rattle.trace_model.specs.Graphs.{Step, HasStep, form_at, view_at, IsRecorded}
 use Rattle.trace_model.specs.Runs.{Lists, list_at, Gives, RunsTo}
 use Rattle.graph_runner.proofs.Growing.{places_fit, run_grows}
 use Rattle.graph_runner.proofs.runs.lists_of.Goals as goal
@@ -25,8 +25,8 @@ loop-number-preserved g c =
     let places = c.parents-parents.result.now in
     let list = c.in_ok-list.list in
     let recorded : IsRecorded nodes graph = record { table = c.nodes.ensures.table; sound = c.known.ensures.sound; fits = c.requires } in
-    let gives : (own : Step) → HasStep graph n own → Gives nodes (view_at graph own.service) own.act (map (list_at lists) places) list =
-    subst (λ (pool : Lists). (own : Step) → HasStep graph n own → Gives nodes (view_at graph own.service) own.act (map (list_at pool) places) list) c.as_slice.ensures.value c.in_ok-list.ensures.gives in
+    let gives : (own : Step) → HasStep graph n own → Gives nodes (form_at graph own.service) (view_at graph own.service) own.act (map (list_at lists) places) list =
+    subst (λ (pool : Lists). (own : Step) → HasStep graph n own → Gives nodes (form_at graph own.service) (view_at graph own.service) own.act (map (list_at pool) places) list) c.as_slice.ensures.value c.in_ok-list.ensures.gives in
     subst (λ (after : Lists). RunsTo nodes graph after (n + 1)) (sym c.in_ok-push.ensures.items)
     (run_grows c.graphs_have_one_run.ensures.grow nodes graph lists n (step_of c.step-own.result.now) places list recorded c.loop-number.invariant c.step-own.ensures c.parents-parents.ensures gives)
 

@@ -1,7 +1,7 @@
 use Rattle.std.proofs.Common.{map, arith}
 use Rattle.std.proofs.lemmas.Result.{IfOk-weaker}
 use Rattle.recorded_graph.specs.Plain.{step_of}
-use Rattle.trace_model.specs.Graphs.{Step, HasStep, view_at}
+use Rattle.trace_model.specs.Graphs.{Step, HasStep, form_at, view_at}
 use Rattle.trace_model.specs.Runs.{list_at, Gives}
 use Rattle.graph_runner.proofs.Growing.{places_fit}
 use Rattle.par_ranks.specs.Rows.{IsGiven}
@@ -19,6 +19,6 @@ returns g c =
     let lists = c.args.lists.now in
     let n = c.args.step in
     let places = c.parents-parents.result.now in
-    IfOk-weaker c.run_step.result (λ list. (own : Step) → HasStep graph n own → Gives nodes (view_at graph own.service) own.act (map (list_at lists) places) list) (IsGiven nodes graph lists n)
+    IfOk-weaker c.run_step.result (λ list. (own : Step) → HasStep graph n own → Gives nodes (form_at graph own.service) (view_at graph own.service) own.act (map (list_at lists) places) list) (IsGiven nodes graph lists n)
     (λ list gives. given_at nodes graph lists n (step_of c.step-own.result.now) places list c.step-own.ensures c.parents-parents.ensures gives)
     c.run_step.ensures.gives

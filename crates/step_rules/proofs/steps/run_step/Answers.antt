@@ -1,16 +1,16 @@
 use Rattle.std.proofs.Common.{map}
 use Rattle.std.proofs.lemmas.Result.{IfOk-weaker}
 use Rattle.recorded_graph.specs.Plain.{service_of, step_of}
-use Rattle.trace_model.specs.Graphs.{Step, HasStep, view_at, IsTypedContext}
+use Rattle.trace_model.specs.Graphs.{Step, HasStep, form_at, view_at, IsTypedContext}
 use Rattle.trace_model.specs.Runs.{list_at, Gives}
-use Rattle.step_rules.proofs.Slots.{act_of_view, given_by}
+use Rattle.step_rules.proofs.Slots.{act_of_view, sound_at, given_by}
 use Rattle.step_rules.proofs.steps.run_step.Goals as goal
 
 pub service-requires : goal.service-requires
 service-requires g c = c.known.ensures.sound.services c.args.step (step_of c.step-own.result.now) c.step-own.ensures
 
 pub give_beside-requires-clause-sound : goal.give_beside-requires-clause-sound
-give_beside-requires-clause-sound g c κs lives = c.known.ensures.sound.acts c.args.step (step_of c.step-own.result.now) c.step-own.ensures
+give_beside-requires-clause-sound g c κs lives = sound_at c.args.graph.now (step_of c.step-own.result.now) (service_of c.service.result.now) c.service.ensures (c.known.ensures.sound.acts c.args.step (step_of c.step-own.result.now) c.step-own.ensures)
 
 pub give_beside-requires-clause-may : goal.give_beside-requires-clause-may
 give_beside-requires-clause-may g c κs lives =
@@ -27,8 +27,8 @@ returns-clause-gives g c =
     let own = step_of c.step-own.result.now in
     let service = service_of c.service.result.now in
     let parents = map (list_at c.args.pool.now) c.args.places.now in
-    IfOk-weaker c.give_beside.result (Gives nodes service.view own.act parents)
-    (λ list. (step : Step) → HasStep graph c.args.step step → Gives nodes (view_at graph step.service) step.act parents list)
+    IfOk-weaker c.give_beside.result (Gives nodes service.form service.view own.act parents)
+    (λ list. (step : Step) → HasStep graph c.args.step step → Gives nodes (form_at graph step.service) (view_at graph step.service) step.act parents list)
     (λ list gives. given_by nodes graph c.args.step own service parents list c.step-own.ensures c.service.ensures gives)
     c.give_beside.ensures
 
@@ -40,6 +40,6 @@ returns-clause-typed g c =
     let service = service_of c.service.result.now in
     let parents = map (list_at c.args.pool.now) c.args.places.now in
     let may = act_of_view nodes graph own service c.service.ensures (c.requires.table.acts c.args.step own c.step-own.ensures) in
-    λ typed. IfOk-weaker c.give_beside.result (Gives nodes service.view own.act parents) (IsTypedContext nodes)
-    (λ list gives. c.steps_give_contexts.ensures nodes service.view own.act parents list c.nodes.ensures.table may typed gives)
+    λ typed. IfOk-weaker c.give_beside.result (Gives nodes service.form service.view own.act parents) (IsTypedContext nodes)
+    (λ list gives. c.steps_give_contexts.ensures nodes service.form service.view own.act parents list c.nodes.ensures.table may typed gives)
     c.give_beside.ensures

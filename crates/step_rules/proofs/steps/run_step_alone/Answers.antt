@@ -1,9 +1,9 @@
 use Rattle.std.proofs.Common.{map}
 use Rattle.std.proofs.lemmas.Result.{IfOk-weaker}
 use Rattle.recorded_graph.specs.Plain.{service_of, step_of}
-use Rattle.trace_model.specs.Graphs.{Step, HasStep, view_at, IsTypedContext}
+use Rattle.trace_model.specs.Graphs.{Step, HasStep, form_at, view_at, IsTypedContext}
 use Rattle.trace_model.specs.Runs.{list_at, Gives}
-use Rattle.step_rules.proofs.Slots.{act_of_view, given_by}
+use Rattle.step_rules.proofs.Slots.{act_of_view, sound_at, given_by}
 use Rattle.step_rules.proofs.steps.run_step_alone.Goals as goal
 
 pub service-requires : goal.service-requires
@@ -25,8 +25,8 @@ returns-clause-gives c =
     let own = step_of c.step-own.result.now in
     let service = service_of c.service.result.now in
     let parents = map (list_at c.args.pool.now) c.args.places.now in
-    IfOk-weaker c.give.result (Gives nodes service.view own.act parents)
-    (λ list. (step : Step) → HasStep graph c.args.step step → Gives nodes (view_at graph step.service) step.act parents list)
+    IfOk-weaker c.give.result (Gives nodes service.form service.view own.act parents)
+    (λ list. (step : Step) → HasStep graph c.args.step step → Gives nodes (form_at graph step.service) (view_at graph step.service) step.act parents list)
     (λ list gives. given_by nodes graph c.args.step own service parents list c.step-own.ensures c.service.ensures gives)
     c.give.ensures
 
@@ -38,6 +38,6 @@ returns-clause-typed c =
     let service = service_of c.service.result.now in
     let parents = map (list_at c.args.pool.now) c.args.places.now in
     let may = act_of_view nodes graph own service c.service.ensures (c.requires.table.acts c.args.step own c.step-own.ensures) in
-    λ typed. IfOk-weaker c.give.result (Gives nodes service.view own.act parents) (IsTypedContext nodes)
-    (λ list gives. c.steps_give_contexts.ensures nodes service.view own.act parents list c.nodes.ensures.table may typed gives)
+    λ typed. IfOk-weaker c.give.result (Gives nodes service.form service.view own.act parents) (IsTypedContext nodes)
+    (λ list gives. c.steps_give_contexts.ensures nodes service.form service.view own.act parents list c.nodes.ensures.table may typed gives)
     c.give.ensures
