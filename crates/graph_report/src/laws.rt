@@ -4,7 +4,7 @@ ghost use Rattle.graph_report.specs.Reports.{HasOneReport};
 
 use report_text::laws::lists_have_one_block;
 
-/// Some lists and some steps have one report.
+/// A graph with its lists has one report.
 pub fn lists_have_one_report()
     ensures { HasOneReport }
 {

@@ -13,26 +13,32 @@ use recorded_graph::Graph;
 use report_text::put_block;
 use std::alloc::Global;
 
-/// Appends the number of a step, and the block of its list.
+/// Appends the number of a step, and the block of its list in the form of the step's service.
 fn put_step(
     alloc: Global,
     table: &Table,
+    graph: &Graph,
     lists: &[Context],
     number: usize,
     into: &mut Vec<u8>,
 ) -> Result<(), Memory>
+    requires step { number < length graph.now.steps }
     requires within { number < length lists.now }
     requires typed { IsTypedContext table.now (list_at lists.now number) }
-    ensures { OnOk result (AddsStep table.now lists.now number into.old.items into.new.items) }
+    ensures { OnOk result (AddsStep table.now graph.now lists.now number into.old.items into.new.items) }
 {
+    // The proof learns here that the graph is sound.
+    graph.known();
+    let form = graph.service(graph.step(number).service).form;
     let mut digits = Buffer::new();
     into.extend_from_slice(b"step ")?;
     into.extend_from_slice(digits.format(number).as_bytes())?;
     into.push(b'\n')?;
-    put_block(alloc, table, &lists[number], into)
+    put_block(alloc, table, form, &lists[number], into)
 }
 
-/// The report of a graph's shown steps: for each of them in order its number and the block of its list.
+/// The report of a graph's shown steps: for each of them in order its number and the block of its list, in the form of the service
+/// where it stands.
 pub fn report(
     alloc: Global,
     table: &Table,
@@ -41,13 +47,13 @@ pub fn report(
 ) -> Result<Vec<u8>, Memory>
     requires as_many { length lists.now ≡ length graph.now.steps }
     requires typed { (n : ℕ) → n < length lists.now → IsTypedContext table.now (list_at lists.now n) }
-    ensures { IfOk result (λ text. IsReport table.now lists.now graph.now.shows text.items) }
+    ensures { IfOk result (λ text. IsReport table.now graph.now lists.now text.items) }
 {
     // The proof learns here that only steps of the graph are shown.
     graph.known();
     let mut text = Vec::new(alloc);
     for number in graph.shows() {
-        put_step(alloc, table, lists, *number, &mut text)?;
+        put_step(alloc, table, graph, lists, *number, &mut text)?;
     }
     Ok(text)
 }

@@ -3,7 +3,8 @@ use Rattle.std.proofs.Common.{◌≡◌, [], ◌∷◌, ◌++◌, Some, codes, r
 use Rattle.std.specs.Fmt.{digits}
 use Rattle.hex.specs.Hex.{encode_with}
 use Rattle.serde_json.proofs.OnLiterals.{serde_json_on_literals}
-use Rattle.context_model.specs.Framing.{length_code}
+use Rattle.context_model.specs.Framing.{base_128}
+use Rattle.context_model.specs.declared.Form.TheVariants.{One}
 use Rattle.bag_model.specs.declared.Pick.TheVariants.{Least}
 use Rattle.bag_model.specs.Scalars as scalars
 use Rattle.bag_model.specs.Scalars.{ScalarValue, Str, Text}
@@ -31,7 +32,7 @@ slot_row = refl
 line_row : object_line marked ≡ codes "sub.note partial \"a\\\"\\\\\"" ++ 10 ∷ []
 line_row = refl
 
-step_row : compact_text (array (items_of (step_object [] [] 7 ∷ step_object ((248 ∷ 1 ∷ []) ∷ []) (slot_object note Exact (Scalar Least (Some (ScalarValue.One (Text [])))) ∷ []) 10 ∷ [])))
+step_row : compact_text (array (items_of (step_object One [] [] 7 ∷ step_object One ((248 ∷ 1 ∷ []) ∷ []) (slot_object note Exact (Scalar Least (Some (ScalarValue.One (Text [])))) ∷ []) 10 ∷ [])))
     ≡ codes "[{\"bytes\":\"-\",\"fields\":[],\"step\":7},{\"bytes\":\"02f801\",\"fields\":[{\"path\":\"sub.note\",\"state\":\"exact\",\"text\":\"\\\"\\\"\"}],\"step\":10}]"
-unfolding serde_json_on_literals hex_text encode_with length_code digits
+unfolding serde_json_on_literals hex_text encode_with base_128 digits
 step_row = refl

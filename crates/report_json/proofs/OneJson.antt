@@ -9,6 +9,7 @@ use Rattle.bag_model.specs.Slots.{SlotAt, slots_of}
 use Rattle.bag_model.specs.SlotValues.{SaysSlot}
 use Rattle.bag_model.specs.Values.{Value}
 use Rattle.bag_model.proofs.Uniqueness.{Reads-unique}
+use Rattle.trace_model.specs.Graphs.{Graph}
 use Rattle.trace_model.specs.Runs.{Lists, list_at}
 use Rattle.trace_model.specs.Shown.{IsShown}
 use Rattle.bag_scan.specs.declared.states.State.{State}
@@ -47,15 +48,15 @@ one_slot nodes list slot a b m n =
     ∙ ap (λ at. slot_object at m.state m.value) same.0 ∙ ap (λ s. slot_object n.shown.at s m.value) same.1 ∙ ap (slot_object n.shown.at n.state) same.2
     ∙ sym n.object_is
 
-one_step : (nodes : Nodes) (lists : Lists) (n : ℕ) (a b : Data) → IsStepObject nodes lists n a → IsStepObject nodes lists n b → a ≡ b
-one_step nodes lists n a b (fields, are, is) (others, too, also) =
+one_step : (nodes : Nodes) (graph : Graph) (lists : Lists) (n : ℕ) (a b : Data) → IsStepObject nodes graph lists n a → IsStepObject nodes graph lists n b → a ≡ b
+one_step nodes graph lists n a b (fields, are, is) (others, too, also) =
     is
-    ∙ ap (λ (l : List Data). step_object (list_at lists n) l n) (one_list (IsSlotObject nodes (list_at lists n)) (length (slots_of nodes)) fields others (one_slot nodes (list_at lists n)) are too)
+    ∙ ap (λ (l : List Data). step_object (step_form graph n) (list_at lists n) l n) (one_list (IsSlotObject nodes (list_at lists n)) (length (slots_of nodes)) fields others (one_slot nodes (list_at lists n)) are too)
     ∙ sym also
 
 pub one_json_report : HasOneJsonReport
-one_json_report nodes lists shows a b (objects, are, is) (others, too, also) =
+one_json_report nodes graph lists a b (objects, are, is) (others, too, also) =
     is
     ∙ ap (λ (l : List Data). compact_text (array (items_of l)))
-    (one_list (λ place d. IsStepObject nodes lists (slice_index shows place) d) (length shows) objects others (λ place. one_step nodes lists (slice_index shows place)) are too)
+    (one_list (λ place d. IsStepObject nodes graph lists (slice_index graph.shows place) d) (length graph.shows) objects others (λ place. one_step nodes graph lists (slice_index graph.shows place)) are too)
     ∙ sym also

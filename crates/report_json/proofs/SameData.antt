@@ -42,8 +42,8 @@ lines_are nodes list objects (suc slot) text each within (before, line, is, earl
     ∙ sym (flat_more object_line objects slot d there)
 
 pub same_data : BlocksHaveSameData
-same_data nodes list objects block (many, each) (lines, is, are) =
+same_data nodes form list objects block (many, each) (lines, is, are) =
     is
-    ∙ ap (λ (l : List ℕ). bytes_line list ++ l)
+    ∙ ap (λ (l : List ℕ). bytes_line form list ++ l)
     (lines_are nodes list objects (length (slots_of nodes)) lines each (omega (arith, many)) are
     ∙ ap (λ (l : List Data). flat_map object_line l) (take_all (length (slots_of nodes)) objects (omega (arith, many))))

@@ -16,36 +16,36 @@ use Rattle.report_json.proofs.Placed.{row_text, row_more, row_closed, none_place
 slot_floatless : (nodes : Nodes) (lists : Lists) (n : ℕ) (slot : ℕ) (d : Data) → IsSlotObject nodes (list_at lists n) slot d → has_float d ≡ false
 slot_floatless nodes lists n slot d is = ap has_float is.object_is
 
-pub step_floatless : (nodes : Nodes) (lists : Lists) (n : ℕ) (d : Data) → IsStepObject nodes lists n d → has_float d ≡ false
-step_floatless nodes lists n d (fields, are, is) =
+pub step_floatless : (nodes : Nodes) (graph : Graph) (lists : Lists) (n : ℕ) (d : Data) → IsStepObject nodes graph lists n d → has_float d ≡ false
+step_floatless nodes graph lists n d (fields, are, is) =
     let none = no_floats fields (λ slot e there. slot_floatless nodes lists n slot e (are.1 slot e there)) in
     ap has_float is ∙ cc
 
 -- ---- the text so far
 
 -- The objects of the first so many shown steps stand behind the opening bracket.
-abbrev pub IsBegun : Nodes → Lists → List ℕ → ℕ → List ℕ → Type 0
-IsBegun nodes lists shows count text =
-    (objects : List Data) × AreInPlace count (λ place d. IsStepObject nodes lists (slice_index shows place) d) objects
+abbrev pub IsBegun : (graph : Graph) → Nodes → Lists → List ℕ → ℕ → List ℕ → Type 0
+IsBegun nodes graph lists shows count text =
+    (objects : List Data) × AreInPlace count (λ place d. IsStepObject nodes graph lists (slice_index shows place) d) objects
     × (text ≡ 91 ∷ row_text false objects)
 
-pub none_begun : (nodes : Nodes) (lists : Lists) (shows text : List ℕ) → text ≡ 91 ∷ [] → IsBegun nodes lists shows 0 text
-none_begun nodes lists shows text is = ([], none_placed (λ place d. IsStepObject nodes lists (slice_index shows place) d), is)
+pub none_begun : (nodes : Nodes) (graph : Graph) (lists : Lists) (shows text : List ℕ) → text ≡ 91 ∷ [] → IsBegun nodes graph lists shows 0 text
+none_begun nodes graph lists shows text is = ([], none_placed (λ place d. IsStepObject nodes graph lists (slice_index shows place) d), is)
 
 -- A comma, but for the first, and the object of the next step.
-pub one_begun : (nodes : Nodes) (lists : Lists) (shows : List ℕ) (at n : ℕ) (before middle after : List ℕ) → IsBegun nodes lists shows at before → middle ≡ before ++ comma_before at
-    → slice_index shows at ≡ n → AddsStepObject nodes lists n middle after → IsBegun nodes lists shows (at + 1) after
-one_begun nodes lists shows at n before middle after (objects, are, is) comma here (d, right, added) = (
+pub one_begun : (nodes : Nodes) (graph : Graph) (lists : Lists) (shows : List ℕ) (at n : ℕ) (before middle after : List ℕ) → IsBegun nodes graph lists shows at before → middle ≡ before ++ comma_before at
+    → slice_index shows at ≡ n → AddsStepObject nodes graph lists n middle after → IsBegun nodes graph lists shows (at + 1) after
+one_begun nodes graph lists shows at n before middle after (objects, are, is) comma here (d, right, added) = (
   objects ++ d ∷ [],
-  one_placed (λ place d. IsStepObject nodes lists (slice_index shows place) d) at objects d are (subst (λ (m : ℕ). IsStepObject nodes lists m d) (sym here) right),
+  one_placed (λ place d. IsStepObject nodes graph lists (slice_index shows place) d) at objects d are (subst (λ (m : ℕ). IsStepObject nodes graph lists m d) (sym here) right),
   added
       ∙ ap (λ (l : List ℕ). l ++ compact_text d) (comma ∙ ap (λ (l : List ℕ). l ++ comma_before at) is)
       ∙ ap (λ (l : List ℕ). 91 ∷ l) (sym (row_more at objects d are.0)),
 )
 
 -- The closing bracket makes the report.
-pub all_begun : (nodes : Nodes) (lists : Lists) (shows : List ℕ) (at : ℕ) (before after : List ℕ) → IsBegun nodes lists shows at before → at ≡ length shows → after ≡ before ++ 93 ∷ [] → IsJsonReport nodes lists shows after
-all_begun nodes lists shows at before after (objects, are, is) all closed = (
+pub all_begun : (nodes : Nodes) (graph : Graph) (lists : Lists) (shows : List ℕ) (at : ℕ) (before after : List ℕ) → IsBegun nodes graph lists shows at before → at ≡ length shows → after ≡ before ++ 93 ∷ [] → IsJsonReport nodes graph lists shows after
+all_begun nodes graph lists shows at before after (objects, are, is) all closed = (
   objects,
   (are.0 ∙ all, are.1),
   closed ∙ ap (λ (l : List ℕ). l ++ 93 ∷ []) is ∙ ap (λ (l : List ℕ). 91 ∷ l) (sym (row_closed false objects)),

@@ -1,11 +1,13 @@
 -- The report of some steps as JSON: for each of them an object with the data of its number and its block.
 use Rattle.std.specs.Prelude.{◌≡◌, ℕ, List, [], ◌∷◌, ◌++◌, length, slice_index, codes, Some}
 use Rattle.std.specs.List.{slice_get, flat_map}
+use Rattle.context_model.specs.declared.Form.{Form}
 use Rattle.context_model.specs.Atoms.{Atom}
 use Rattle.context_model.specs.Framing.{bytes_of}
 use Rattle.bag_model.specs.Shapes.{Nodes}
 use Rattle.bag_model.specs.Slots.{SlotAt, slots_of, name_path}
 use Rattle.bag_model.specs.Values.{Value}
+use Rattle.trace_model.specs.Graphs.{Graph, step_form}
 use Rattle.trace_model.specs.Runs.{Lists, list_at}
 use Rattle.trace_model.specs.Shown.{IsShown}
 use Rattle.text_lines.specs.HexLines.{hex_text}
@@ -29,10 +31,10 @@ slot_object at state v = object
     (member (codes "state") (string (state_word state))
     (member (codes "text") (string (value_text at.shape v)) no_members)))
 
--- The digits of the bytes of a list, what it says of each slot, and the number of its step.
-abbrev pub step_object : List Atom → List Data → ℕ → Data
-step_object list fields n = object
-    (member (codes "bytes") (string (hex_text (bytes_of list)))
+-- The digits of the bytes of a list in this form, what it says of each slot, and the number of its step.
+abbrev pub step_object : Form → List Atom → List Data → ℕ → Data
+step_object form list fields n = object
+    (member (codes "bytes") (string (hex_text (bytes_of form list)))
     (member (codes "fields") (array (items_of fields))
     (member (codes "step") (number (unsigned n)) no_members)))
 
@@ -54,27 +56,27 @@ abbrev pub AreSlotObjects : Nodes → List Atom → List Data → Type 0
 AreSlotObjects nodes list objects =
     AreInPlace (length (slots_of nodes)) (IsSlotObject nodes list) objects
 
--- The object is that of the step with this number, where all steps have these lists.
-abbrev pub IsStepObject : Nodes → Lists → ℕ → Data → Type 0
-IsStepObject nodes lists n d =
+-- The object is that of the step with this number, where all steps have these lists, in the form of the service where it stands.
+abbrev pub IsStepObject : Nodes → Graph → Lists → ℕ → Data → Type 0
+IsStepObject nodes graph lists n d =
     (fields : List Data) × AreSlotObjects nodes (list_at lists n) fields
-    × (d ≡ step_object (list_at lists n) fields n)
+    × (d ≡ step_object (step_form graph n) (list_at lists n) fields n)
 
 -- There is an object for each of these steps, in their order.
-abbrev pub AreStepObjects : Nodes → Lists → List ℕ → List Data → Type 0
-AreStepObjects nodes lists shows objects =
-    AreInPlace (length shows) (λ place d. IsStepObject nodes lists (slice_index shows place) d) objects
+abbrev pub AreStepObjects : Nodes → Graph → Lists → List ℕ → List Data → Type 0
+AreStepObjects nodes graph lists shows objects =
+    AreInPlace (length shows) (λ place d. IsStepObject nodes graph lists (slice_index shows place) d) objects
 
--- The text is the compact text of the array of the objects of these steps.
-abbrev pub IsJsonReport : Nodes → Lists → List ℕ → List ℕ → Type 0
-IsJsonReport nodes lists shows text =
-    (objects : List Data) × AreStepObjects nodes lists shows objects
+-- The text is the compact text of the array of the objects of the graph's shown steps.
+abbrev pub IsJsonReport : Nodes → Graph → Lists → List ℕ → Type 0
+IsJsonReport nodes graph lists text =
+    (objects : List Data) × AreStepObjects nodes graph lists graph.shows objects
     × (text ≡ compact_text (array (items_of objects)))
 
--- Lists and steps have one report as JSON.
+-- A graph with its lists has one report as JSON.
 abbrev pub HasOneJsonReport : Type 0
-HasOneJsonReport = (nodes : Nodes) (lists : Lists) (shows : List ℕ) (a b : List ℕ)
-    → IsJsonReport nodes lists shows a → IsJsonReport nodes lists shows b → a ≡ b
+HasOneJsonReport = (nodes : Nodes) (graph : Graph) (lists : Lists) (a b : List ℕ)
+    → IsJsonReport nodes graph lists a → IsJsonReport nodes graph lists b → a ≡ b
 
 -- The line of a block with the data of a slot's object: its path, its state and its text, with blanks between them.
 abbrev pub object_line : Data → List ℕ
@@ -84,11 +86,11 @@ object_line _ = []
 
 -- The block of a list has the data of the objects of its slots, one after another, and no other.
 abbrev pub BlocksHaveSameData : Type 0
-BlocksHaveSameData = (nodes : Nodes) (list : List Atom) (objects : List Data) (block : List ℕ)
-    → AreSlotObjects nodes list objects → IsBlock nodes list block
-    → block ≡ bytes_line list ++ flat_map object_line objects
+BlocksHaveSameData = (nodes : Nodes) (form : Form) (list : List Atom) (objects : List Data) (block : List ℕ)
+    → AreSlotObjects nodes list objects → IsBlock nodes form list block
+    → block ≡ bytes_line form list ++ flat_map object_line objects
 
 -- Behind a text stands the compact text of the object of a step.
-abbrev pub AddsStepObject : Nodes → Lists → ℕ → List ℕ → List ℕ → Type 0
-AddsStepObject nodes lists n before after =
-    (d : Data) × IsStepObject nodes lists n d × (after ≡ before ++ compact_text d)
+abbrev pub AddsStepObject : Nodes → Graph → Lists → ℕ → List ℕ → List ℕ → Type 0
+AddsStepObject nodes graph lists n before after =
+    (d : Data) × IsStepObject nodes graph lists n d × (after ≡ before ++ compact_text d)

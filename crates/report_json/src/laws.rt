@@ -2,12 +2,12 @@
 
 ghost use Rattle.report_json.specs.JsonReports.{BlocksHaveSameData, HasOneJsonReport};
 
-/// Some lists and some steps have one report as JSON.
+/// A graph with its lists has one report as JSON.
 pub fn lists_have_one_json_report()
     ensures { HasOneJsonReport }
 {}
 
-/// The block of a list has the same data as the objects of its slots.
+/// The block of a list, in each form, has the same data as the objects of its slots.
 pub fn blocks_have_the_same_data()
     ensures { BlocksHaveSameData }
 {}

@@ -23,11 +23,12 @@ use bag_scan::{State, first_marker, spans_of};
 use bag_value::Val;
 use field_table::{Shape, Table};
 use outside::Memory;
+use recorded_graph::Graph;
 use report_text::put_value;
 use serde_json::{Value, json};
 use std::alloc::Global;
 use text_lines::push_hex;
-use wire_bytes::write;
+use wire_bytes::{Form, write};
 
 /// The word of a state.
 fn word_of(state: State) -> &'static str
@@ -50,12 +51,12 @@ fn text_of(alloc: Global, shape: &Shape, value: &Val) -> Result<String, Memory>
     Ok(String::from_utf8(text).unwrap())
 }
 
-/// The digits of the bytes of a context.
-fn digits_of(alloc: Global, context: &Context) -> Result<String, Memory>
-    ensures { IfOk result (λ digits. string_bytes digits ≡ hex_text (bytes_of context.now)) }
+/// The digits of the bytes of a context in this form.
+fn digits_of(alloc: Global, form: Form, context: &Context) -> Result<String, Memory>
+    ensures { IfOk result (λ digits. string_bytes digits ≡ hex_text (bytes_of form context.now)) }
 {
     let mut digits = Vec::new(alloc);
-    push_hex(&mut digits, write(alloc, context.list())?.as_slice())?;
+    push_hex(&mut digits, write(alloc, form, context.list())?.as_slice())?;
     Ok(String::from_utf8(digits).unwrap())
 }
 
@@ -98,15 +99,20 @@ fn slots_json(alloc: Global, table: &Table, context: &Context) -> Result<Vec<Val
 pub(crate) fn step_json(
     alloc: Global,
     table: &Table,
+    graph: &Graph,
     lists: &[Context],
     number: usize,
 ) -> Result<Value, Memory>
+    requires step { number < length graph.now.steps }
     requires within { number < length lists.now }
     requires typed { IsTypedContext table.now (list_at lists.now number) }
-    ensures { IfOk result (λ json. IsStepObject table.now lists.now number (view json)) }
+    ensures { IfOk result (λ json. IsStepObject table.now graph.now lists.now number (view json)) }
 {
+    // The proof learns here that the graph is sound.
+    graph.known();
+    let form = graph.service(graph.step(number).service).form;
     let context = &lists[number];
-    let bytes = digits_of(alloc, context)?;
+    let bytes = digits_of(alloc, form, context)?;
     let fields = slots_json(alloc, table, context)?;
     Ok(json!(in alloc; {"bytes": bytes, "fields": fields, "step": number})?)
 }

@@ -39,4 +39,4 @@ one_text nodes list (suc slot) a b (before, line, is, earlier, last) (other, end
     ∙ sym also
 
 pub one_block : HasOneBlock
-one_block nodes list a b (lines, is, are) (others, also, too) = is ∙ ap (λ l. bytes_line list ++ l) (one_text nodes list (length (slots_of nodes)) lines others are too) ∙ sym also
+one_block nodes form list a b (lines, is, are) (others, also, too) = is ∙ ap (λ l. bytes_line form list ++ l) (one_text nodes list (length (slots_of nodes)) lines others are too) ∙ sym also

@@ -1,5 +1,6 @@
 -- The block of a list: its bytes, and what it says of each slot of a table.
 use Rattle.std.specs.Prelude.{◌≡◌, ℕ, zero, suc, Bool, true, false, List, [], ◌∷◌, ◌++◌, length, codes}
+use Rattle.context_model.specs.declared.Form.{Form}
 use Rattle.context_model.specs.Atoms.{Atom}
 use Rattle.context_model.specs.Framing.{bytes_of}
 use Rattle.bag_model.specs.Shapes.{Nodes}
@@ -11,9 +12,9 @@ use Rattle.bag_scan.specs.declared.states.State.{State}
 use Rattle.bag_scan.specs.declared.states.State.TheVariants.{Exact, Partial}
 use Rattle.report_text.specs.ValueTexts.{value_text}
 
--- The line of the bytes of a list.
-abbrev pub bytes_line : List Atom → List ℕ
-bytes_line list = codes "bytes " ++ hex_line (bytes_of list)
+-- The line of the bytes of a list, where this form is asked for.
+abbrev pub bytes_line : Form → List Atom → List ℕ
+bytes_line form list = codes "bytes " ++ hex_line (bytes_of form list)
 
 -- The word of a state, between blanks.
 abbrev pub state_text : State → List ℕ
@@ -43,10 +44,10 @@ AreSlotLines nodes list (suc slot) text =
     (before line : List ℕ) × (text ≡ before ++ line)
     × AreSlotLines nodes list slot before × IsSlotLine nodes list slot line
 
--- The text is the block of the list: the line of its bytes, and a line for each slot.
-abbrev pub IsBlock : Nodes → List Atom → List ℕ → Type 0
-IsBlock nodes list text =
-    (lines : List ℕ) × (text ≡ bytes_line list ++ lines)
+-- The text is the block of the list in this form: the line of its bytes, and a line for each slot.
+abbrev pub IsBlock : Nodes → Form → List Atom → List ℕ → Type 0
+IsBlock nodes form list text =
+    (lines : List ℕ) × (text ≡ bytes_line form list ++ lines)
     × AreSlotLines nodes list (length (slots_of nodes)) lines
 
 -- Behind a text stand the lines of the first so many slots.
@@ -55,9 +56,9 @@ AddsSlotLines nodes list slots before after =
     (lines : List ℕ) × (after ≡ before ++ lines) × AreSlotLines nodes list slots lines
 
 -- Behind a text stands the block of the list.
-abbrev pub AddsBlock : Nodes → List Atom → List ℕ → List ℕ → Type 0
-AddsBlock nodes list before after = (text : List ℕ) × (after ≡ before ++ text) × IsBlock nodes list text
+abbrev pub AddsBlock : Nodes → Form → List Atom → List ℕ → List ℕ → Type 0
+AddsBlock nodes form list before after = (text : List ℕ) × (after ≡ before ++ text) × IsBlock nodes form list text
 
--- A list has one block.
+-- A list has one block in each form.
 abbrev pub HasOneBlock : Type 0
-HasOneBlock = (nodes : Nodes) (list : List Atom) (a b : List ℕ) → IsBlock nodes list a → IsBlock nodes list b → a ≡ b
+HasOneBlock = (nodes : Nodes) (form : Form) (list : List Atom) (a b : List ℕ) → IsBlock nodes form list a → IsBlock nodes form list b → a ≡ b

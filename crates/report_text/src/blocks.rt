@@ -18,7 +18,7 @@ use field_table::Table;
 use outside::Memory;
 use std::alloc::Global;
 use text_lines::push_hex;
-use wire_bytes::write;
+use wire_bytes::{Form, write};
 
 /// Appends the line of a slot that has this state and this value.
 fn put_slot(
@@ -68,26 +68,32 @@ fn put_slots(
 pub fn put_block(
     alloc: Global,
     table: &Table,
+    form: Form,
     context: &Context,
     into: &mut Vec<u8>,
 ) -> Result<(), Memory>
     requires { AreTyped table.now (PathsOf context.now) [] }
-    ensures ok { OnOk result (AddsBlock table.now context.now into.old.items into.new.items) }
+    ensures ok { OnOk result (AddsBlock table.now form context.now into.old.items into.new.items) }
     ensures err { OnErr result (Extends into.old.items into.new.items) }
 {
     into.extend_from_slice(b"bytes ")?;
-    push_hex(into, write(alloc, context.list())?.as_slice())?;
+    push_hex(into, write(alloc, form, context.list())?.as_slice())?;
     into.push(b'\n')?;
     put_slots(alloc, table, context, into)
 }
 
-/// The block of a typed context: the line of its bytes, and a line for each slot with its name path, whether it is exact or
+/// The block of a typed context: the line of its bytes in this form, and a line for each slot with its name path, whether it is exact or
 /// partial, and its value.
-pub fn block(alloc: Global, table: &Table, context: &Context) -> Result<Vec<u8>, Memory>
+pub fn block(
+    alloc: Global,
+    table: &Table,
+    form: Form,
+    context: &Context,
+) -> Result<Vec<u8>, Memory>
     requires { AreTyped table.now (PathsOf context.now) [] }
-    ensures { IfOk result (λ text. IsBlock table.now context.now text.items) }
+    ensures { IfOk result (λ text. IsBlock table.now form context.now text.items) }
 {
     let mut text = Vec::new(alloc);
-    put_block(alloc, table, context, &mut text)?;
+    put_block(alloc, table, form, context, &mut text)?;
     Ok(text)
 }

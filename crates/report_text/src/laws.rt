@@ -2,7 +2,7 @@
 
 ghost use Rattle.report_text.specs.Blocks.{HasOneBlock};
 
-/// A list has one block.
+/// A list has one block in each form.
 pub fn lists_have_one_block()
     ensures { HasOneBlock }
 {}

@@ -1,7 +1,7 @@
 -- What is shown are steps of the graph.
-use Rattle.std.proofs.Common.{◌≡◌, inl, inr, ℕ, zero, suc, ◌<◌, List, [], ◌∷◌, length, get_or, refl, subst, arith}
+use Rattle.std.proofs.Common.{◌≡◌, inl, inr, ℕ, zero, suc, ◌<◌, List, [], ◌∷◌, length, get_or, refl, subst, arith, ap}
 use Rattle.context_model.specs.Orders.{IsIn}
-use Rattle.trace_model.specs.Graphs.{Graph, IsGraph}
+use Rattle.trace_model.specs.Graphs.{Graph, IsGraph, Step, Service, HasStep, HasService, step_form}
 
 pub shown_within : (graph : Graph) (items : List ℕ) (k : ℕ) → IsGraph graph → items ≡ graph.shows → k < length items → get_or items k 0 < length graph.steps
 shown_within graph items k sound same l =
@@ -11,3 +11,7 @@ shown_within graph items k sound same l =
     in_at [] n less = absurd (omega (arith, less))
     in_at (x ∷ xs) zero less = inl refl
     in_at (x ∷ xs) (suc n) less = inr (in_at xs n (omega (arith, less)))
+
+-- The form of a step is that of the service where it stands.
+pub form_there : (graph : Graph) (n : ℕ) (step : Step) (service : Service) → HasStep graph n step → HasService graph step.service service → service.form ≡ step_form graph n
+form_there graph n step service there stands = ap form_of_service (sym stands) ∙ ap (form_of_step graph) (sym there)

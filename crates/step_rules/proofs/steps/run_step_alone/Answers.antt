@@ -13,7 +13,7 @@ pub give-requires : goal.give-requires
 give-requires c =
     let own = step_of c.step-own.result.now in
     record {
-      sound = c.known.ensures.sound.acts c.args.step own c.step-own.ensures;
+      sound = sound_at c.args.graph.now own (service_of c.service.result.now) c.service.ensures (c.known.ensures.sound.acts c.args.step own c.step-own.ensures);
       may = act_of_view c.args.table.now c.args.graph.now own (service_of c.service.result.now) c.service.ensures (c.requires.table.acts c.args.step own c.step-own.ensures);
       places = c.requires.places own c.step-own.ensures;
     }
