@@ -1,9 +1,10 @@
 -- What a good line adds to a graph.
-use Rattle.std.specs.Prelude.{◌≡◌, ◌⊎◌, ◌↔◌, ℕ, List, [], ◌∷◌, length, take, None, Some}
+use Rattle.std.specs.Prelude.{◌≡◌, ◌⊎◌, ◌↔◌, ℕ, List, [], ◌∷◌, length, None, Some}
 use Rattle.std.specs.Ordering.{nat_cmp}
+use Rattle.context_model.specs.declared.Form.{Form as WireForm}
 use Rattle.context_model.specs.Atoms.{Atom}
 use Rattle.context_model.specs.ContextFault.{IsContextOf, IsFirstContextFault}
-use Rattle.context_model.specs.Framing.{size_of}
+use Rattle.context_model.specs.Framing.{form_of, offset_of}
 use Rattle.context_model.specs.Orders.{IsIn, Rises}
 use Rattle.bag_model.specs.Readings.{PathsOf}
 use Rattle.bag_model.specs.Shapes.{Nodes}
@@ -18,7 +19,7 @@ use Rattle.text_lines.specs.declared.hex_lines.HexCode.TheVariants as digits
 use Rattle.text_lines.specs.HexLines.{hex_bytes, hex_codes, BreaksHex, IsHexFault}
 use Rattle.text_lines.specs.Readings.{IsFirstOf, NoneOf}
 use Rattle.trace_model.specs.Graphs as graphs
-use Rattle.trace_model.specs.Graphs.{Act, Graph, view_at}
+use Rattle.trace_model.specs.Graphs.{Act, Graph, form_at, view_at}
 use Rattle.wire_bytes.specs.declared.contexts.ByteCode.{ByteCode}
 use Rattle.wire_bytes.specs.Codes.{byte_code_of}
 use Rattle.write_text.specs.Writes.{IsWrite}
@@ -91,25 +92,25 @@ FindsKnown table graph step path slot =
     (service : ℕ) × FindsSlot table path (Some slot) × (service_at graph step ≡ Some service)
     × Knows (view_at graph service) slot
 
--- The text is a write of this value to this slot.
-abbrev pub IsWriteAt : Nodes → ℕ → Value → List ℕ → Type 0
-IsWriteAt table slot v write = (at : SlotAt) × HasSlot table slot at × IsWrite at.shape v write
+-- The text is a write of this value to this slot, in the form.
+abbrev pub IsWriteAt : Nodes → WireForm → ℕ → Value → List ℕ → Type 0
+IsWriteAt table form slot v write = (at : SlotAt) × HasSlot table slot at × IsWrite form at.shape v write
 
--- The text is a write of this value to the slot that has this path and this number.
-abbrev pub SaysWrite : Nodes → List ℕ → List ℕ → ℕ → Value → Type 0
-SaysWrite table path write slot v =
-    (at : SlotAt) × FindsSlot table path (Some slot) × HasSlot table slot at × IsWrite at.shape v write
+-- The text is a write of this value, in the form, to the slot that has this path and this number.
+abbrev pub SaysWrite : Nodes → WireForm → List ℕ → List ℕ → ℕ → Value → Type 0
+SaysWrite table form path write slot v =
+    (at : SlotAt) × FindsSlot table path (Some slot) × HasSlot table slot at × IsWrite form at.shape v write
 
--- An act with its names is this act.
-abbrev pub MeansAct : Nodes → NamedAct → Act → Type 0
-MeansAct table (Start name) act = act ≡ graphs.Start
-MeansAct table (Recv name hex) act = (list : List Atom) × SaysTyped table hex list × (act ≡ graphs.Recv list)
-MeansAct table (Set parent path write) act =
-    (slot : ℕ) × (v : Value) × SaysWrite table path write slot v × (act ≡ graphs.Set parent slot v)
-MeansAct table (Branch parent) act = act ≡ graphs.Branch parent
-MeansAct table (Forward parent name) act = act ≡ graphs.Forward parent
-MeansAct table (Trim parent budget) act = act ≡ graphs.Trim parent budget
-MeansAct table (Join parents) act = act ≡ graphs.Join parents
+-- An act with its names is this act at a service of the form.
+abbrev pub MeansAct : Nodes → WireForm → NamedAct → Act → Type 0
+MeansAct table form (Start name) act = act ≡ graphs.Start
+MeansAct table form (Recv name hex) act = (list : List Atom) × SaysTyped table hex list × (act ≡ graphs.Recv list)
+MeansAct table form (Set parent path write) act =
+    (slot : ℕ) × (v : Value) × SaysWrite table form path write slot v × (act ≡ graphs.Set parent slot v)
+MeansAct table form (Branch parent) act = act ≡ graphs.Branch parent
+MeansAct table form (Forward parent name) act = act ≡ graphs.Forward parent
+MeansAct table form (Trim parent budget) act = act ≡ graphs.Trim parent budget
+MeansAct table form (Join parents) act = act ≡ graphs.Join parents
 
 -- The act stands at the service with this number: the one that it goes to, or else that of its first parent.
 abbrev pub StandsAt : Graph → NamedAct → ℕ → Type 0
@@ -124,10 +125,10 @@ StandsAt graph (Join (parent ∷ parents)) service = service_at graph parent ≡
 
 -- What a line adds, behind lines that said this graph.
 abbrev pub Adds : Nodes → Graph → Statement → Addition → Type 0
-Adds table graph (Service name named) addition =
-    (view : View) × MeansView table named view × (addition ≡ AddService (record { name = name; view = view }))
+Adds table graph (Service form name named) addition =
+    (view : View) × MeansView table named view × (addition ≡ AddService (record { name = name; form = form; view = view }))
 Adds table graph (Step number named) addition =
-    (service : ℕ) × (act : Act) × StandsAt graph named service × MeansAct table named act
+    (service : ℕ) × (act : Act) × StandsAt graph named service × MeansAct table (form_at graph service) named act
     × (addition ≡ AddStep (record { service = service; act = act }))
 Adds table graph (Show n) addition = addition ≡ AddShow n
 
@@ -152,7 +153,7 @@ HasBadBytes table hex fault =
     (bytes : List ℕ) × (hex_bytes hex ≡ Some bytes)
     × (((offset : ℕ) × (code : ByteCode) × IsFirstContextFault bytes offset (byte_code_of code) × (fault ≡ Bytes offset code))
     ⊎ ((list : List Atom) × (place : ℕ) × IsContextOf list bytes × IsFirstIllTyped table list place
-    × (fault ≡ IllTyped (size_of (take place list)))))
+    × (fault ≡ IllTyped (offset_of (form_of bytes) list place))))
 
 -- A fault of digits as that of a line.
 abbrev pub hex_rule : HexCode → GraphCode
@@ -173,11 +174,11 @@ IsRefusedPath table graph step path code =
     ⊎ ((code ≡ NotKnown) × ((slot service : ℕ) × FindsSlot table path (Some slot) × (service_at graph step ≡ Some service)
     × ¬ (Knows (view_at graph service) slot)))
 
--- A text is refused as a write to a slot: it is no write of its shape, or memory is wanting for it.
-abbrev pub IsRefusedWrite : Nodes → ℕ → List ℕ → Refusal → Type 0
-IsRefusedWrite table slot write (Fault fault) =
-    ((at : SlotAt) × HasSlot table slot at × ((v : Value) → ¬ (IsWrite at.shape v write))) × (fault ≡ Code BadValue)
-IsRefusedWrite table slot write Memory = Unit {0}
+-- A text is refused as a write to a slot: it is no write of its shape in the form, or memory is wanting for it.
+abbrev pub IsRefusedWrite : Nodes → WireForm → ℕ → List ℕ → Refusal → Type 0
+IsRefusedWrite table form slot write (Fault fault) =
+    ((at : SlotAt) × HasSlot table slot at × ((v : Value) → ¬ (IsWrite form at.shape v write))) × (fault ≡ Code BadValue)
+IsRefusedWrite table form slot write Memory = Unit {0}
 
 -- A view is refused: a path of it finds no field, or memory is wanting for it.
 abbrev pub IsRefusedView : Nodes → NamedView → Refusal → Type 0

@@ -42,7 +42,7 @@ parents_named (Join parents) = parents
 
 -- The steps that a line names, but for its own.
 abbrev pub steps_named : Statement → List ℕ
-steps_named (Service name view) = []
+steps_named (Service form name view) = []
 steps_named (Step number act) = parents_named act
 steps_named (Show step) = step ∷ []
 

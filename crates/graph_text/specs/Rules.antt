@@ -1,5 +1,6 @@
 -- The rules for a line that has a form, by what the lines before it said. Each may speak as if the line kept those before it.
 use Rattle.std.specs.Prelude.{◌≡◌, ◌≢◌, ◌⊎◌, ℕ, ◌<◌, ◌≤◌, List, [], ◌∷◌, length, None, Some}
+use Rattle.context_model.specs.Framing.{least_budget}
 use Rattle.context_model.specs.Orders.{IsIn}
 use Rattle.bag_model.specs.Shapes.{Nodes}
 use Rattle.bag_model.specs.Slots.{SlotAt, FindsSlot, FindsRange}
@@ -8,7 +9,7 @@ use Rattle.bag_model.specs.Values.{Value}
 use Rattle.bag_model.specs.Views.{Knows}
 use Rattle.text_lines.specs.HexLines.{hex_bytes}
 use Rattle.text_lines.specs.declared.TheConstants.{DIGITS_MAX}
-use Rattle.trace_model.specs.Graphs.{Graph, view_at}
+use Rattle.trace_model.specs.Graphs.{Graph, form_at, view_at}
 use Rattle.write_text.specs.Writes.{IsWrite}
 use Rattle.recorded_graph.specs.declared.graphs.TheConstants.{STEPS_MAX}
 use Rattle.graph_lines.specs.Statements.{NamedView, Statement, Only, Recv, Set, Trim, Join, Service, Step}
@@ -31,9 +32,9 @@ abbrev pub GoesNowhere : Graph → Statement → Type 0
 GoesNowhere graph (Step number act) = (name : List ℕ) × (goes_to act ≡ Some name) × (service_named graph name ≡ None)
 GoesNowhere graph other = ⊥
 
--- A service is declared that was declared before.
+-- A service is declared that was declared before, in whatever form.
 abbrev pub Redeclares : Graph → Statement → Type 0
-Redeclares graph (Service name view) = (n : ℕ) × (service_named graph name ≡ Some n)
+Redeclares graph (Service form name view) = (n : ℕ) × (service_named graph name ≡ Some n)
 Redeclares graph other = ⊥
 
 -- The parents of a join don't all stand at one service.
@@ -50,7 +51,7 @@ MissesPath table other = ⊥
 -- A write's path is no slot's, or a view's path is that of no field that is reached through bags.
 abbrev pub NamesNoPath : Nodes → Statement → Type 0
 NamesNoPath table (Step number (Set parent path write)) = FindsSlot table path None
-NamesNoPath table (Service name view) = MissesPath table view
+NamesNoPath table (Service form name view) = MissesPath table view
 NamesNoPath table other = ⊥
 
 -- A write is to a slot that the service doesn't know.
@@ -60,17 +61,19 @@ WritesUnknown table graph (Step number (Set parent path write)) =
     × ¬ (Knows (view_at graph service) slot)
 WritesUnknown table graph other = ⊥
 
--- A write's text is no write of the slot's shape.
-abbrev pub Miswrites : Nodes → Statement → Type 0
-Miswrites table (Step number (Set parent path write)) =
-    (slot : ℕ) × (at : SlotAt) × FindsSlot table path (Some slot) × HasSlot table slot at
-    × ((v : Value) → ¬ (IsWrite at.shape v write))
-Miswrites table other = ⊥
+-- A write's text is no write of the slot's shape in the form of the step's service.
+abbrev pub Miswrites : Nodes → Graph → Statement → Type 0
+Miswrites table graph (Step number (Set parent path write)) =
+    (slot service : ℕ) × (at : SlotAt) × FindsSlot table path (Some slot) × HasSlot table slot at
+    × (service_at graph parent ≡ Some service) × ((v : Value) → ¬ (IsWrite (form_at graph service) at.shape v write))
+Miswrites table graph other = ⊥
 
--- The budget of a trim is 0, or above the greatest.
-abbrev pub HasNoBudget : Statement → Type 0
-HasNoBudget (Step number (Trim parent budget)) = (budget ≡ 0) ⊎ (BUDGET_MAX < budget)
-HasNoBudget other = ⊥
+-- The budget of a trim is below the least that a list can be cut to in the form of the step's service, or above the greatest.
+abbrev pub HasNoBudget : Graph → Statement → Type 0
+HasNoBudget graph (Step number (Trim parent budget)) =
+    ((service : ℕ) × (service_at graph parent ≡ Some service) × (budget < least_budget (form_at graph service)))
+    ⊎ (BUDGET_MAX < budget)
+HasNoBudget graph other = ⊥
 
 -- A step stands behind as many steps as there may be.
 abbrev pub IsOneTooMany : Graph → Statement → Type 0
@@ -102,8 +105,8 @@ Breaks table graph line DuplicateService = Redeclares graph line
 Breaks table graph line WrongService = JoinsApart graph line
 Breaks table graph line NoSuchPath = NamesNoPath table line
 Breaks table graph line NotKnown = WritesUnknown table graph line
-Breaks table graph line BadValue = Miswrites table line
-Breaks table graph line BudgetRange = HasNoBudget line
+Breaks table graph line BadValue = Miswrites table graph line
+Breaks table graph line BudgetRange = HasNoBudget graph line
 Breaks table graph line TooManySteps = IsOneTooMany graph line
 Breaks table graph line TooManyParents = JoinsTooMany line
 Breaks table graph line HexTooLong = ReceivesTooMuch line

@@ -11,7 +11,7 @@ use bag_typed::check_typed;
 use field_table::Table;
 use std::alloc::Global;
 use text_lines::{HexCode, HexFault, hex_bytes};
-use wire_bytes::{ContextFault, offset, read_context_owned};
+use wire_bytes::{ContextFault, form_of, offset, read_context_owned};
 
 /// The context that digits say, which is typed under the table.
 pub(crate) fn read_received(alloc: Global, table: &Table, hex: &[u8]) -> Result<Context, Refusal>
@@ -25,6 +25,7 @@ pub(crate) fn read_received(alloc: Global, table: &Table, hex: &[u8]) -> Result<
         Err(HexFault::Bad(HexCode::BadHex)) => return Err(GraphCode::BadHex.into()),
         Err(HexFault::Memory) => return Err(Refusal::Memory),
     };
+    let form = form_of(bytes.as_slice());
     let context = match read_context_owned(alloc, bytes) {
         Ok(context) => context,
         Err(ContextFault::At { offset, code }) => {
@@ -35,7 +36,7 @@ pub(crate) fn read_received(alloc: Global, table: &Table, hex: &[u8]) -> Result<
     match check_typed(table, &context) {
         Ok(()) => Ok(context),
         Err(place) => Err(Refusal::Fault(LineFault::IllTyped {
-            offset: offset(context.list(), place),
+            offset: offset(form, context.list(), place),
         })),
     }
 }

@@ -17,6 +17,7 @@ use crate::reader::Reader;
 use crate::received::read_received;
 use crate::{BUDGET_MAX, PARENTS_MAX};
 use bag_value::Val;
+use context_model::Form;
 use field_table::Table;
 use graph_lines::NamedAct;
 use outside::Memory;
@@ -35,15 +36,21 @@ fn places_of(alloc: Global, numbers: &[u64]) -> Result<Places, Memory>
     Ok(places)
 }
 
-/// The value that a text writes to a slot.
-fn read_value(alloc: Global, table: &Table, slot: usize, write: &str) -> Result<Val, Refusal>
+/// The value that a text writes to a slot, in the form.
+fn read_value(
+    alloc: Global,
+    table: &Table,
+    form: Form,
+    slot: usize,
+    write: &str,
+) -> Result<Val, Refusal>
     requires { slot < length (slots_of table.now) }
-    ensures ok { IfOk result (λ v. IsWriteAt table.now slot (plain v) write.now) }
-    ensures err { IfErr result (IsRefusedWrite table.now slot write.now) }
+    ensures ok { IfOk result (λ v. IsWriteAt table.now form slot (plain v) write.now) }
+    ensures err { IfErr result (IsRefusedWrite table.now form slot write.now) }
 {
     // It says that the table is one, so that each slot has a shape.
     table.nodes();
-    let read = read_write(alloc, table.shape(slot), write.as_bytes())?;
+    let read = read_write(alloc, form, table.shape(slot), write.as_bytes())?;
     read.ok_or(GraphCode::BadValue.into())
 }
 
@@ -135,9 +142,10 @@ impl<'a> Reader<'a> {
         table.nodes();
         let parent = self.earlier(parent)?;
         let slot = self.known_slot(table, parent, path)?;
-        let write = read_value(alloc, table, slot, write)?;
-        self.check_room()?;
         let service = self.service_of(parent);
+        let form = self.graph().service(service).form;
+        let write = read_value(alloc, table, form, slot, write)?;
+        self.check_room()?;
         Ok(Step {
             service,
             act: Act::Set {
@@ -181,12 +189,14 @@ impl<'a> Reader<'a> {
         ensures err { (table : Nodes) → IfErr result (IsRefusedNext table self.now (lines.Trim parent budget)) }
     {
         let parent = self.earlier(parent)?;
-        if budget == 0 || BUDGET_MAX < budget {
+        let service = self.service_of(parent);
+        let form = self.graph().service(service).form;
+        if budget < form.least_budget() || BUDGET_MAX < budget {
             return Err(GraphCode::BudgetRange.into());
         }
         self.check_room()?;
         Ok(Step {
-            service: self.service_of(parent),
+            service,
             act: Act::Trim { parent, budget },
         })
     }

@@ -1,7 +1,7 @@
 -- What is shown are steps of the graph, each in the form of its service.
-use Rattle.std.proofs.Common.{◌≡◌, inl, inr, ℕ, zero, suc, ◌<◌, List, [], ◌∷◌, length, get_or, refl, subst, arith, ap, sym}
+use Rattle.std.proofs.Common.{◌≡◌, ◌∙◌, inl, inr, ℕ, zero, suc, ◌<◌, List, [], ◌∷◌, length, get_or, refl, subst, arith, ap, sym}
 use Rattle.context_model.specs.Orders.{IsIn}
-use Rattle.trace_model.specs.Graphs.{Graph, IsGraph, Step, Service, HasStep, HasService, step_form, form_of_service}
+use Rattle.trace_model.specs.Graphs.{Graph, IsGraph, Step, Service, HasStep, HasService, step_form, form_of_service, form_of_step}
 
 pub shown_within : (graph : Graph) (items : List ℕ) (k : ℕ) → IsGraph graph → items ≡ graph.shows → k < length items → get_or items k 0 < length graph.steps
 shown_within graph items k sound same l =
