@@ -1,2 +1,3 @@
+mod Codings
 mod Stops
 pub mod OneCode

@@ -1,13 +1,14 @@
 -- What the enums of faults say.
-use Rattle.std.specs.Prelude.{◌≡◌, ℕ, ◌<◌, List, ◌++◌, length, Option, Some, None, Result, MatchResult}
+use Rattle.std.specs.Prelude.{◌≡◌, ℕ, ◌<◌, List, ◌≤◌, ◌++◌, length, drop, Option, Some, None, Result, MatchResult}
 use Rattle.context_model.specs.Atoms.{Atom, AreAtoms}
-use Rattle.context_model.specs.Framing.{bytes_of}
+use Rattle.context_model.specs.declared.Form.{Form}
+use Rattle.context_model.specs.Framing.{frames, form_of, head_len, bytes_of, AreWithin}
 use Rattle.context_model.specs.ByteCodes.{ByteCode as PlainCode}
 use Rattle.context_model.specs.ByteCodes as plain
-use Rattle.context_model.specs.WireFault.{wire_code, IsFirstWireFault}
+use Rattle.context_model.specs.WireFault.{head_code, IsUnframed, IsFirstWireFault}
 use Rattle.context_model.specs.ContextFault.{IsContextOf, IsFirstContextFault}
 use Rattle.wire_bytes.specs.declared.reading.WireCode.{WireCode}
-use Rattle.wire_bytes.specs.declared.reading.WireCode.TheVariants.{CutLength, AtomTooLong, LongForm, CutBody}
+use Rattle.wire_bytes.specs.declared.reading.WireCode.TheVariants.{CutLength, BadCount, AtomTooLong, LongForm, CutBody}
 use Rattle.wire_bytes.specs.declared.reading.WireFault.{WireFault}
 use Rattle.wire_bytes.specs.declared.reading.WireFault.TheVariants.{At, Memory}
 use Rattle.wire_bytes.specs.declared.contexts.ByteCode.{ByteCode}
@@ -18,6 +19,7 @@ use Rattle.wire_bytes.specs.declared.contexts.ContextFault.TheVariants as contex
 -- What a code of bytes says.
 abbrev pub code_of : WireCode → PlainCode
 code_of CutLength = plain.ByteCode.CutLength
+code_of BadCount = plain.ByteCode.BadCount
 code_of AtomTooLong = plain.ByteCode.AtomTooLong
 code_of LongForm = plain.ByteCode.LongForm
 code_of CutBody = plain.ByteCode.CutBody
@@ -25,6 +27,7 @@ code_of CutBody = plain.ByteCode.CutBody
 -- What a code of a context's bytes says.
 abbrev pub byte_code_of : ByteCode → PlainCode
 byte_code_of bytes.CutLength = plain.ByteCode.CutLength
+byte_code_of bytes.BadCount = plain.ByteCode.BadCount
 byte_code_of bytes.AtomTooLong = plain.ByteCode.AtomTooLong
 byte_code_of bytes.LongForm = plain.ByteCode.LongForm
 byte_code_of bytes.CutBody = plain.ByteCode.CutBody
@@ -44,10 +47,16 @@ IsContextFaultOf input (contexts.At offset code) =
     IsFirstContextFault input offset (byte_code_of code)
 IsContextFaultOf input contexts.Memory = Unit {0}
 
--- A list whose bytes these are is the answer, unless there was no memory.
+-- A fault of a context says the same as one of a list.
+abbrev pub SaysFault : WireFault → ContextFault → Type 0
+SaysFault (At offset code) (contexts.At offset' code') = (offset' ≡ offset) × (byte_code_of code' ≡ code_of code)
+SaysFault Memory contexts.Memory = Unit {0}
+SaysFault other fault = ⊥
+
+-- A list whose bytes these are, in whatever form, is the answer, unless there was no memory.
 abbrev pub ReadsAny : List ℕ → Result (List Atom) WireFault → Type 0
 ReadsAny input answer =
-    (list : List Atom) → AreAtoms list → input ≡ bytes_of list
+    (form : Form) (list : List Atom) → AreAtoms list → input ≡ bytes_of form list
     → MatchResult answer (λ made. made ≡ list) (λ fault. fault ≡ Memory)
 
 -- A context whose bytes these are is the answer, unless there was no memory.
@@ -56,10 +65,23 @@ ReadsAnyContext input answer =
     (list : List Atom) → IsContextOf list input
     → MatchResult answer (λ made. made ≡ list) (λ fault. fault ≡ contexts.Memory)
 
--- The input is the bytes of the list, or it goes on behind them with what can't be read.
-abbrev pub StopsAt : List ℕ → List Atom → Option (ℕ × WireCode) → Type 0
-StopsAt input list None = input ≡ bytes_of list
-StopsAt input list (Some fault) =
-    (fault.0 ≡ length (bytes_of list))
-    × ((rest : List ℕ) × (input ≡ bytes_of list ++ rest) × (0 < length rest)
-    × (wire_code rest ≡ Some (code_of fault.1)))
+-- ---- where a reader stops
+
+-- The bytes are the frames of the list, or they go on behind them with what can't be read.
+abbrev pub StopsAt : Form → List ℕ → List Atom → Option (ℕ × WireCode) → Type 0
+StopsAt form bytes list None = bytes ≡ frames form list
+StopsAt form bytes list (Some fault) =
+    (fault.0 ≡ length (frames form list))
+    × ((rest : List ℕ) × (bytes ≡ frames form list ++ rest) × (0 < length rest) × IsUnframed form rest (code_of fault.1))
+
+-- The input has a right head, and behind it the reader stops there.
+pub record ReadsUpTo (input : List ℕ) (list : List Atom) (stop : Option (ℕ × WireCode)) : Type 0 where
+  pub right : head_code (form_of input) input ≡ None
+  pub long : head_len (form_of input) ≤ length input
+  pub within : AreWithin (form_of input) list
+  pub stops : StopsAt (form_of input) (drop (head_len (form_of input)) input) list stop
+
+-- The answer names what is wrong with the head, at its number; want of memory claims nothing.
+abbrev pub IsHeadFaultOf : List ℕ → WireFault → Type 0
+IsHeadFaultOf input (At offset code) = (offset ≡ 4) × (head_code (form_of input) input ≡ Some (code_of code))
+IsHeadFaultOf input Memory = Unit {0}

@@ -1,12 +1,11 @@
 //! A context from its bytes, or their first fault.
 
 ghost use Rattle.std.specs.Prelude.{◌≡◌, List, ℕ, IfOk, IfErr};
-ghost use Rattle.context_model.specs.Framing.{bytes_of};
 ghost use Rattle.context_model.specs.ContextFault.{IsContextOf, HasOneContext};
 ghost use Rattle.wire_bytes.specs.Codes.{IsContextFaultOf, ReadsAnyContext};
 
-use crate::reading::{FrontList, WireCode, read_front};
-use crate::writing::offset;
+use crate::reading::{FrontList, WireCode, WireFault, read_front};
+use crate::writing::frames_before;
 use atom_list::{Context, ShapeFault};
 use outside::Memory;
 use std::alloc::Global;
@@ -15,9 +14,12 @@ use std::fmt;
 /// What is wrong where bytes cease to be those of a context. At one place the first of these counts.
 #[derive(Clone, Copy, Debug, PartialEq, Eq)]
 pub enum ByteCode {
-    /// The input ends inside a length.
+    /// The input ends inside the head or a length.
     CutLength,
-    /// A length is above [`crate::LENGTH_MAX`], or a fourth byte of it would follow.
+    /// The number in the head isn't that of the bytes behind it.
+    BadCount,
+    /// A length is above the form's limit, [`crate::LENGTH_MAX`] or [`outside::ATOM_MAX`], or in form one a fourth byte of it would
+    /// follow.
     AtomTooLong,
     /// A length has more bytes than it needs.
     LongForm,
@@ -36,7 +38,7 @@ pub enum ByteCode {
 /// Why bytes weren't read as a context.
 #[derive(Clone, Copy, Debug, PartialEq, Eq)]
 pub enum ContextFault {
-    /// The bytes from `offset` on begin with no atom that may stand there; those before are a context.
+    /// The head is wrong at `offset`, or the bytes from there on begin with no atom that may stand there and those before are a context.
     At { offset: usize, code: ByteCode },
     /// There is no memory for the context.
     Memory,
@@ -52,6 +54,7 @@ impl fmt::Display for ByteCode {
     fn fmt<W: fmt::Write>(&self, f: &mut fmt::Formatter<W>) -> fmt::Result {
         match self {
             ByteCode::CutLength => write!(f, "CutLength"),
+            ByteCode::BadCount => write!(f, "BadCount"),
             ByteCode::AtomTooLong => write!(f, "AtomTooLong"),
             ByteCode::LongForm => write!(f, "LongForm"),
             ByteCode::CutBody => write!(f, "CutBody"),
@@ -72,6 +75,7 @@ impl From<WireCode> for ByteCode {
     fn from(wire: WireCode) -> ByteCode {
         match wire {
             WireCode::CutLength => ByteCode::CutLength,
+            WireCode::BadCount => ByteCode::BadCount,
             WireCode::AtomTooLong => ByteCode::AtomTooLong,
             WireCode::LongForm => ByteCode::LongForm,
             WireCode::CutBody => ByteCode::CutBody,
@@ -107,27 +111,43 @@ impl From<Memory> for ContextFault {
     }
 }
 
-/// The context whose bytes these are, which become its buffer and aren't copied. The refusal is the first fault: the
-/// longest front that is the bytes of a context ends at its offset.
+impl From<WireFault> for ContextFault {
+    ghost use Rattle.wire_bytes.specs.Codes.{SaysFault};
+
+    ghost from_gives = { SaysFault };
+
+    fn from(fault: WireFault) -> ContextFault {
+        match fault {
+            WireFault::At { offset, code } => ContextFault::At {
+                offset,
+                code: ByteCode::from(code),
+            },
+            WireFault::Memory => ContextFault::Memory,
+        }
+    }
+}
+
+/// The context whose bytes these are, in the form that they begin with. They become its buffer and aren't copied. The refusal is the
+/// first fault: what is wrong with the head, at its number, or where the longest front behind it that is the frames of a context ends.
 pub fn read_context_owned(alloc: Global, bytes: Vec<u8>) -> Result<Context, ContextFault>
     ensures found { IfOk result (λ context. IsContextOf context bytes.items) }
     ensures fault { IfErr result (IsContextFaultOf bytes.items) }
     ensures only { ReadsAnyContext bytes.items result }
 {
-    let FrontList { list, fault } = read_front(alloc, bytes)?;
+    let FrontList { form, list, fault } = read_front(alloc, bytes)?;
     let context = match Context::check(list) {
         Ok(context) => context,
         Err((shape, place, list)) => {
             return Err(ContextFault::At {
-                offset: offset(&list, place) as usize,
+                offset: form.head_len() + frames_before(&list, place) as usize,
                 code: ByteCode::from(shape),
             });
         }
     };
     match fault {
         None => Ok(context),
-        Some((offset, wire)) => Err(ContextFault::At {
-            offset,
+        Some((behind, wire)) => Err(ContextFault::At {
+            offset: form.head_len() + behind,
             code: ByteCode::from(wire),
         }),
     }

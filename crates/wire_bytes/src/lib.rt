@@ -1,12 +1,17 @@
-//! Lists of atoms as bytes: each atom behind its length, in base 128, the least significant group first.
+//! Lists of atoms as bytes, in two forms. In form one each atom stands behind its length in base 128, the least significant group
+//! first; in form two behind its length as a varint, and all of them behind a head: four bytes that mark the form, and the number of
+//! bytes that follow, as eight bytes, most significant first. A list with an atom above [`LENGTH_MAX`] bytes is always written in form
+//! two.
 #![tactic(auto)]
 
 mod contexts;
+mod heads;
 mod lengths;
 mod reading;
 mod writing;
 
-pub use context_model::LENGTH_MAX;
+pub use context_model::{Form, LENGTH_MAX};
 pub use contexts::{ByteCode, ContextFault, read_context, read_context_owned, reads_one_context};
+pub use heads::form_of;
 pub use reading::{WireCode, WireFault, read, read_owned, reads_one_way};
 pub use writing::{frame_len, offset, size, write};

@@ -1,24 +1,29 @@
 //! A list from its bytes, or their first fault.
 
-ghost use Rattle.std.specs.Prelude.{◌≡◌, ◌+◌, ◌≤◌, length, take, Some, IfOk, IfErr};
+ghost use Rattle.std.specs.Prelude.{◌≡◌, ◌+◌, ◌≤◌, length, take, drop, Some, IfOk, IfErr, OnOk};
+ghost use Rattle.context_model.specs.declared.Form.TheVariants.{Two};
 ghost use Rattle.context_model.specs.Atoms.{AreAtoms};
-ghost use Rattle.context_model.specs.Framing.{length_code, bytes_of};
-ghost use Rattle.context_model.specs.WireFault.{wire_code, ReadsOneWay};
-ghost use Rattle.wire_bytes.specs.Codes.{code_of, IsFaultOf, ReadsAny, StopsAt};
+ghost use Rattle.context_model.specs.Framing.{base_128, length_code, most, form_of, AreWithin, IsBytesOf};
+ghost use Rattle.context_model.specs.WireFault.{wire_code, IsUnframed, ReadsOneWay};
+ghost use Rattle.atom_list.specs.Scan.{with_part};
+ghost use Rattle.wire_bytes.specs.Codes.{code_of, IsFaultOf, IsHeadFaultOf, ReadsAny, ReadsUpTo, StopsAt};
 
-use crate::lengths::front_length;
+use crate::heads::{check_head, form_of, without_head};
+use crate::lengths::{front_length, front_varint};
 use atom_list::{AtomList, Scan};
-use context_model::LENGTH_MAX;
-use outside::Memory;
+use context_model::{Form, LENGTH_MAX};
+use outside::{ATOM_MAX, Memory};
 use std::alloc::Global;
 use std::fmt;
 
 /// What is wrong where bytes cease to be those of a list. At one place the first of these counts.
 #[derive(Clone, Copy, Debug, PartialEq, Eq)]
 pub enum WireCode {
-    /// The input ends inside a length.
+    /// The input ends inside the head or a length.
     CutLength,
-    /// A length is above [`LENGTH_MAX`], or a fourth byte of it would follow.
+    /// The number in the head isn't that of the bytes behind it.
+    BadCount,
+    /// A length is above the form's limit, [`LENGTH_MAX`] or [`ATOM_MAX`], or in form one a fourth byte of it would follow.
     AtomTooLong,
     /// A length has more bytes than it needs.
     LongForm,
@@ -29,7 +34,7 @@ pub enum WireCode {
 /// Why bytes weren't read.
 #[derive(Clone, Copy, Debug, PartialEq, Eq)]
 pub enum WireFault {
-    /// The bytes from `offset` on begin with no atom; those before are a list.
+    /// The head is wrong at `offset`, or the bytes from there on begin with no atom and those before are a list.
     At { offset: usize, code: WireCode },
     /// There is no memory for the list.
     Memory,
@@ -45,6 +50,7 @@ impl fmt::Display for WireCode {
     fn fmt<W: fmt::Write>(&self, f: &mut fmt::Formatter<W>) -> fmt::Result {
         match self {
             WireCode::CutLength => write!(f, "CutLength"),
+            WireCode::BadCount => write!(f, "BadCount"),
             WireCode::AtomTooLong => write!(f, "AtomTooLong"),
             WireCode::LongForm => write!(f, "LongForm"),
             WireCode::CutBody => write!(f, "CutBody"),
@@ -64,10 +70,23 @@ impl From<Memory> for WireFault {
 }
 
 /// How many bytes the length at the front has, and how many the atom behind it, or what is wrong with them.
-fn front(bytes: &[u8]) -> Result<(usize, usize), WireCode>
+fn front(form: Form, bytes: &[u8]) -> Result<(usize, usize), WireCode>
+    ensures within { IfOk result (λ found. found.0 + found.1 ≤ length bytes.now) }
+    ensures short { IfOk result (λ found. found.1 ≤ most form) }
+    ensures code { IfOk result (λ found. take found.0 bytes.now ≡ length_code form found.1) }
+    ensures fault { IfErr result (λ code. IsUnframed form bytes.now (code_of code)) }
+{
+    match form {
+        Form::One => front_one(bytes),
+        Form::Two => front_two(bytes),
+    }
+}
+
+/// The same in form one.
+fn front_one(bytes: &[u8]) -> Result<(usize, usize), WireCode>
     ensures within { IfOk result (λ found. found.0 + found.1 ≤ length bytes.now) }
     ensures short { IfOk result (λ found. found.1 ≤ LENGTH_MAX) }
-    ensures code { IfOk result (λ found. take found.0 bytes.now ≡ length_code found.1) }
+    ensures code { IfOk result (λ found. take found.0 bytes.now ≡ base_128 found.1) }
     ensures fault { IfErr result (λ code. wire_code bytes.now ≡ Some (code_of code)) }
 {
     let (len, rest) = front_length(bytes)?;
@@ -77,52 +96,113 @@ fn front(bytes: &[u8]) -> Result<(usize, usize), WireCode>
     Ok((bytes.len() - rest.len(), len))
 }
 
+/// The same in form two.
+fn front_two(bytes: &[u8]) -> Result<(usize, usize), WireCode>
+    ensures within { IfOk result (λ found. found.0 + found.1 ≤ length bytes.now) }
+    ensures short { IfOk result (λ found. found.1 ≤ ATOM_MAX) }
+    ensures code { IfOk result (λ found. take found.0 bytes.now ≡ length_code Two found.1) }
+    ensures fault { IfErr result (λ code. IsUnframed Two bytes.now (code_of code)) }
+{
+    let (len, skip) = front_varint(bytes)?;
+    if bytes.len() - skip < len {
+        return Err(WireCode::CutBody);
+    }
+    Ok((skip, len))
+}
+
+/// Notes the atom that comes next: `skip` bytes of a length in this form, and `len` bytes of the atom.
+fn note(scan: &mut Scan, form: Form, skip: usize, len: usize) -> Result<(), Memory>
+    requires within { skip + len ≤ length scan.old.rest }
+    requires short { len ≤ most form }
+    requires framed { take skip scan.old.rest ≡ length_code form len }
+    ensures atoms { OnOk result (scan.new.atoms ≡ with_part scan.old skip len) }
+    ensures rest { OnOk result (scan.new.rest ≡ drop (skip + len) scan.old.rest) }
+{
+    match form {
+        Form::One => scan.note(skip, len),
+        Form::Two => note_respelled(scan, skip, len),
+    }
+}
+
+/// The same in form two: a list keeps its lengths in base 128, which has as many bytes there.
+fn note_respelled(scan: &mut Scan, skip: usize, len: usize) -> Result<(), Memory>
+    requires within { skip + len ≤ length scan.old.rest }
+    requires short { len ≤ ATOM_MAX }
+    requires framed { take skip scan.old.rest ≡ length_code Two len }
+    ensures atoms { OnOk result (scan.new.atoms ≡ with_part scan.old skip len) }
+    ensures rest { OnOk result (scan.new.rest ≡ drop (skip + len) scan.old.rest) }
+{
+    scan.respell(skip, len);
+    scan.note(skip, len)?;
+    Ok(())
+}
+
 /// The list at the front of the bytes, as far as it goes, and what is wrong behind it.
 #[derive(Drop)]
 pub(crate) struct FrontList {
+    /// The form that the bytes are read in.
+    pub(crate) form: Form,
     pub(crate) list: AtomList,
-    /// Where the list ends and what is wrong there, unless the bytes end there.
+    /// How many bytes behind the head the list ends, and what is wrong there, unless the bytes end there.
     pub(crate) fault: Option<(usize, WireCode)>,
 }
 
-/// Reads atoms for as long as there are any. The bytes become the buffer of the list.
-pub(crate) fn read_front(alloc: Global, bytes: Vec<u8>) -> Result<FrontList, Memory>
-    ensures atoms { IfOk result (λ front. AreAtoms front.list) }
-    ensures stops { IfOk result (λ front. StopsAt bytes.items front.list front.fault) }
+/// Reads frames for as long as there are any. The bytes become the buffer of the list.
+fn read_frames(alloc: Global, form: Form, bytes: Vec<u8>) -> Result<FrontList, Memory>
+    ensures form { IfOk result (λ front. front.form ≡ form) }
+    ensures within { IfOk result (λ front. AreWithin form front.list) }
+    ensures stops { IfOk result (λ front. StopsAt form bytes.items front.list front.fault) }
 {
     let mut scan = Scan::over(alloc, bytes)?;
     while !scan.rest().is_empty() {
-        match front(scan.rest()) {
-            Ok((skip, len)) => scan.note(skip, len)?,
+        match front(form, scan.rest()) {
+            Ok((skip, len)) => note(&mut scan, form, skip, len)?,
             Err(code) => {
                 let fault = Some((scan.offset(), code));
                 let list = scan.finish()?;
-                return Ok(FrontList { list, fault });
+                return Ok(FrontList { form, list, fault });
             }
         }
     }
     let list = scan.finish()?;
-    Ok(FrontList { list, fault: None })
+    let fault = None;
+    Ok(FrontList { form, list, fault })
 }
 
-/// The list whose bytes these are, which become its buffer and aren't copied. The refusal is the first fault: the longest
-/// front that is the bytes of a list ends at its offset.
+/// Looks at the head, and reads atoms behind it for as long as there are any. The bytes become the buffer of the list.
+pub(crate) fn read_front(alloc: Global, bytes: Vec<u8>) -> Result<FrontList, WireFault>
+    ensures form { IfOk result (λ front. front.form ≡ form_of bytes.items) }
+    ensures reads { IfOk result (λ front. ReadsUpTo bytes.items front.list front.fault) }
+    ensures fault { IfErr result (IsHeadFaultOf bytes.items) }
+{
+    let form = form_of(&bytes);
+    if let Err(code) = check_head(form, &bytes) {
+        return Err(WireFault::At { offset: 4, code });
+    }
+    Ok(read_frames(alloc, form, without_head(form, bytes))?)
+}
+
+/// The list whose bytes these are, in the form that they begin with. They become its buffer and aren't copied. The refusal is the
+/// first fault: what is wrong with the head, at its number, or where the longest front behind it that is the frames of a list ends.
 pub fn read_owned(alloc: Global, bytes: Vec<u8>) -> Result<AtomList, WireFault>
-    ensures found { IfOk result (λ list. bytes.items ≡ bytes_of list) }
+    ensures found { IfOk result (λ list. IsBytesOf list bytes.items) }
     ensures atoms { IfOk result AreAtoms }
     ensures fault { IfErr result (IsFaultOf bytes.items) }
     ensures only { ReadsAny bytes.items result }
 {
-    let FrontList { list, fault } = read_front(alloc, bytes)?;
+    let FrontList { form, list, fault } = read_front(alloc, bytes)?;
     match fault {
         None => Ok(list),
-        Some((offset, code)) => Err(WireFault::At { offset, code }),
+        Some((behind, code)) => Err(WireFault::At {
+            offset: form.head_len() + behind,
+            code,
+        }),
     }
 }
 
 /// The list whose bytes these are, as [`read_owned`] reads it from a copy of them.
 pub fn read(alloc: Global, bytes: &[u8]) -> Result<AtomList, WireFault>
-    ensures found { IfOk result (λ list. bytes.now ≡ bytes_of list) }
+    ensures found { IfOk result (λ list. IsBytesOf list bytes.now) }
     ensures atoms { IfOk result AreAtoms }
     ensures fault { IfErr result (IsFaultOf bytes.now) }
     ensures only { ReadsAny bytes.now result }
@@ -131,7 +211,8 @@ pub fn read(alloc: Global, bytes: &[u8]) -> Result<AtomList, WireFault>
     read_owned(alloc, bytes)
 }
 
-/// Bytes are those of at most one list, have at most one first fault, and never both.
+/// Bytes are those of at most one list, have at most one first fault, and never both; and the bytes of a list, whatever form was asked
+/// for, are those of the list in the form that they are read in.
 pub fn reads_one_way()
     ensures { ReadsOneWay }
 {}

@@ -1,29 +1,45 @@
 //! The bytes of a list, and how many they are.
 
-ghost use Rattle.std.specs.Prelude.{◌≡◌, ◌+◌, ◌≤◌, length, take, IfOk};
-ghost use Rattle.context_model.specs.Framing.{frame, bytes_of, size_of};
+ghost use Rattle.std.specs.Prelude.{◌≡◌, ◌+◌, ◌^◌, ◌<◌, ◌≤◌, ◌++◌, length, take, IfOk, OnOk};
+ghost use Rattle.context_model.specs.declared.Form.{Form};
+ghost use Rattle.context_model.specs.declared.Form.TheVariants.{One, Two};
+ghost use Rattle.context_model.specs.Framing.{frame, frames, written_in, bytes_in, bytes_of, size_of, offset_of};
 
+use crate::heads::MARK;
 use crate::lengths::length_len;
 use atom_list::{AtomList, Builder};
-use context_model::LENGTH_MAX;
-use outside::Memory;
+use context_model::Form;
+use lex_varint::put_u64;
+use outside::{ATOM_MAX, Memory};
 use std::alloc::Global;
 
-/// How many bytes an atom has behind its length, that length included.
+/// How many bytes an atom has behind its length, that length included: as many in form two as in form one.
 pub fn frame_len(atom: &[u8]) -> usize
-    requires { length atom.now ≤ LENGTH_MAX }
-    ensures len { result ≡ length (frame atom.now) }
+    requires { length atom.now ≤ ATOM_MAX }
+    ensures one { result ≡ length (frame One atom.now) }
+    ensures two { result ≡ length (frame Two atom.now) }
     ensures bound { result ≤ length atom.now + 3 }
 {
     length_len(atom.len()) + atom.len()
 }
 
-/// How many bytes come before the atom at a place: the size of the first `at` atoms. It takes no memory.
-pub fn offset(list: &AtomList, at: usize) -> u128
-    requires { at ≤ length list.now }
-    ensures { result ≡ size_of (take at list.now) }
+/// The form in which a list is written where this one is asked for.
+fn written_in(form: Form, list: &AtomList) -> Form
+    ensures { result ≡ written_in form list.now }
 {
-    // It says that no atom is longer than the limit.
+    match form {
+        Form::One if !list.is_long() => Form::One,
+        _ => Form::Two,
+    }
+}
+
+/// How many bytes the first `at` atoms have behind their lengths, in either form.
+pub(crate) fn frames_before(list: &AtomList, at: usize) -> u128
+    requires { at ≤ length list.now }
+    ensures frames { (width : Form) → result ≡ length (frames width (take at list.now)) }
+    ensures bound { result < 2 ^ 32 }
+{
+    // It says that the frames of a list are no more than a buffer may have.
     let _count = list.len();
     let mut total: u128 = 0;
     for i in 0..at {
@@ -32,19 +48,48 @@ pub fn offset(list: &AtomList, at: usize) -> u128
     total
 }
 
-/// How many bytes a list has. It takes no memory, and no look at the atoms where nothing was cut from the list.
-pub fn size(list: &AtomList) -> u128
-    ensures { result ≡ size_of list.now }
+/// How many of the bytes of a list come before the atom at a place: those of the head, and of the first `at` atoms. It isn't the
+/// size of these, which may be written without a head. It takes no memory.
+pub fn offset(form: Form, list: &AtomList, at: usize) -> u128
+    requires { at ≤ length list.now }
+    ensures { result ≡ offset_of form list.now at }
 {
+    written_in(form, list).head_len() as u128 + frames_before(list, at)
+}
+
+/// How many bytes the atoms of a list have behind their lengths, in either form. None is looked at where nothing was cut from the
+/// list.
+fn frames_len(list: &AtomList) -> u128
+    ensures frames { (width : Form) → result ≡ length (frames width list.now) }
+    ensures bound { result < 2 ^ 32 }
+{
+    let count = list.len();
     match list.framed() {
         Some(bytes) => bytes.len() as u128,
-        None => offset(list, list.len()),
+        None => frames_before(list, count),
     }
 }
 
-/// The bytes of a list.
-pub fn write(alloc: Global, list: &AtomList) -> Result<Vec<u8>, Memory>
-    ensures { IfOk result (λ bytes. bytes.items ≡ bytes_of list.now) }
+/// How many bytes a list has where this form is asked for. It takes no memory.
+pub fn size(form: Form, list: &AtomList) -> u128
+    ensures { result ≡ size_of form list.now }
+{
+    written_in(form, list).head_len() as u128 + frames_len(list)
+}
+
+/// The bytes of a list where this form is asked for: in form two, if an atom is too long for form one.
+pub fn write(alloc: Global, form: Form, list: &AtomList) -> Result<Vec<u8>, Memory>
+    ensures { IfOk result (λ bytes. bytes.items ≡ bytes_of form list.now) }
+{
+    match written_in(form, list) {
+        Form::One => write_one(alloc, list),
+        Form::Two => write_two(alloc, list),
+    }
+}
+
+/// The bytes of a list in form one, as they stand in its buffer if nothing was cut from it.
+fn write_one(alloc: Global, list: &AtomList) -> Result<Vec<u8>, Memory>
+    ensures { IfOk result (λ bytes. bytes.items ≡ frames One list.now) }
 {
     if let Some(bytes) = list.framed() {
         return Ok(Vec::from_slice(alloc, bytes)?);
@@ -53,4 +98,27 @@ pub fn write(alloc: Global, list: &AtomList) -> Result<Vec<u8>, Memory>
     let mut built = Builder::with_room(alloc, room, list.len())?;
     built.push_rest(list, 0);
     Ok(built.into_bytes())
+}
+
+/// The bytes of a list in form two.
+fn write_two(alloc: Global, list: &AtomList) -> Result<Vec<u8>, Memory>
+    ensures { IfOk result (λ bytes. bytes.items ≡ bytes_in Two list.now) }
+{
+    let count = frames_len(list) as usize;
+    let mut bytes = Vec::with_capacity(alloc, Form::Two.head_len() + count)?;
+    bytes.extend_from_slice(&MARK)?;
+    bytes.extend_from_slice(&(count as u64).to_be_bytes())?;
+    for i in 0..list.len() {
+        put_frame(&mut bytes, list.get(i).unwrap())?;
+    }
+    Ok(bytes)
+}
+
+/// Appends an atom behind its length as a varint.
+fn put_frame(bytes: &mut Vec<u8>, atom: &[u8]) -> Result<(), Memory>
+    ensures { OnOk result (bytes.new.items ≡ bytes.old.items ++ frame Two atom.now) }
+{
+    bytes.extend_from_slice(put_u64(atom.len() as u64).as_slice())?;
+    bytes.extend_from_slice(atom)?;
+    Ok(())
 }

@@ -1,47 +1,66 @@
-use Rattle.std.proofs.Common.{◌≡◌, ℕ, List, take, sym, ◌∙◌, ap, subst, arith}
+use Rattle.std.proofs.Common.{rules, ◌≡◌, ◌+◌, ℕ, List, length, take, subst, ◌∙◌, sym, ap, arith}
+use Rattle.std.proofs.lemmas.Option.{slice_get_within}
 use Rattle.context_model.specs.ByteCodes.{ByteCode}
-use Rattle.context_model.specs.Framing.{size_of}
+use Rattle.context_model.specs.Framing.{form_of, head_len, frames}
 use Rattle.context_model.specs.WellFormed.{IsWellFormed}
-use Rattle.context_model.specs.ContextFault.{IsFirstContextFault}
+use Rattle.context_model.specs.ContextFault.{IsContextOf, IsFirstContextFault}
+use Rattle.context_model.proofs.Heads.{AreWithin-atoms}
 use Rattle.context_model.proofs.ContextFronts.{has_one_context}
 use Rattle.atom_list.specs.Codes.{code_of as shape_code_of}
-use Rattle.wire_bytes.specs.Codes.{byte_code_of, StopsAt}
-use Rattle.wire_bytes.proofs.Stops.{shape_fault, context_wire_fault, wire_list}
+use Rattle.wire_bytes.specs.Codes.{byte_code_of, code_of, ReadsUpTo}
+use Rattle.wire_bytes.proofs.Stops.{wire_list, stop_within, shape_fault, context_wire_fault, only_context_err}
 use Rattle.wire_bytes.proofs.contexts.read_context_owned.Goals as goal
 
-pub overflow_cast-result : goal.overflow_cast-result
-overflow_cast-result c =
-    let fault = shape_fault c.args.bytes.items c.in_ok-list.field-0.list c.in_ok-list.field-0.fault c.in-Err.place (shape_code_of c.in-Err.shape) c.in_ok-list.ensures.atoms c.in_ok-list.ensures.stops c.in-Err.ensures.fault in
-    let same = c.offset.ensures ∙ ap (λ list. size_of (take c.in-Err.place list)) c.in-Err.ensures.back in
-    let within = fault.within in
-    omega arith
+pub returns-in_err-form-clause-fault : goal.returns-in_err-form-clause-fault
+returns-in_err-form-clause-fault c = search rules
 
--- The fault of the shape, with the offset and the code that are answered.
+pub returns-in_err-form-clause-only : goal.returns-in_err-form-clause-only
+returns-in_err-form-clause-only c = only_context_err c.args.bytes.items c.from_residual.result c.from_residual.ensures.0 (returns-in_err-form-clause-fault c)
+
+pub frames_before-requires : goal.frames_before-requires
+frames_before-requires c =
+    let fault = c.in-Err.ensures.fault in
+    omega (arith, slice_get_within c.in_ok-form.field-0.list c.in-Err.place fault.atom fault.there, ap length c.in-Err.ensures.back)
+
+-- A fault with the offset and the code that are answered.
 answered : (bytes : List ℕ) (offset offset' : ℕ) (code code' : ByteCode) → IsFirstContextFault bytes offset' code' → offset ≡ offset' → code ≡ code' → IsFirstContextFault bytes offset code
 answered bytes offset offset' code code' fault e f = subst (λ n. IsFirstContextFault bytes n code) (sym e) (subst (IsFirstContextFault bytes offset') (sym f) fault)
 
 pub returns-in-Err-clause-fault : goal.returns-in-Err-clause-fault
 returns-in-Err-clause-fault c =
-    let fault = shape_fault c.args.bytes.items c.in_ok-list.field-0.list c.in_ok-list.field-0.fault c.in-Err.place (shape_code_of c.in-Err.shape) c.in_ok-list.ensures.atoms c.in_ok-list.ensures.stops c.in-Err.ensures.fault in
-    answered c.args.bytes.items c.offset.result _ (byte_code_of c.from.result) _ fault (c.offset.ensures ∙ ap (λ list. size_of (take c.in-Err.place list)) c.in-Err.ensures.back) c.from.ensures
+    let form = form_of c.args.bytes.items in
+    let fault = shape_fault c.args.bytes.items c.in_ok-form.field-0.list c.in_ok-form.field-0.fault c.in-Err.place (shape_code_of c.in-Err.shape) c.in_ok-form.ensures.reads c.in-Err.ensures.fault in
+    let head = c.head_len.ensures ∙ ap head_len c.in_ok-form.ensures.form in
+    let before = c.frames_before.ensures.frames form ∙ ap (λ list. length (frames form (take c.in-Err.place list))) c.in-Err.ensures.back in
+    answered c.args.bytes.items (c.head_len.result + c.frames_before.result) _ (byte_code_of c.from.result) _ fault (omega arith) c.from.ensures
 
 pub returns-in-Err-clause-only : goal.returns-in-Err-clause-only
-returns-in-Err-clause-only c = λ list of_list.
-    let fault = shape_fault c.args.bytes.items c.in_ok-list.field-0.list c.in_ok-list.field-0.fault c.in-Err.place (shape_code_of c.in-Err.shape) c.in_ok-list.ensures.atoms c.in_ok-list.ensures.stops c.in-Err.ensures.fault in
-    absurd ((has_one_context c.args.bytes.items).either list _ _ of_list fault)
+returns-in-Err-clause-only c = λ list of_list. absurd ((has_one_context c.args.bytes.items).either list _ _ of_list (returns-in-Err-clause-fault c))
+
+pub overflow_add-result-in-Some : goal.overflow_add-result-in-Some
+overflow_add-result-in-Some c =
+    let within = stop_within c.args.bytes.items c.in_ok-form.field-0.list (c.in-Some.behind, c.in-Some.wire) (subst (ReadsUpTo c.args.bytes.items c.in_ok-form.field-0.list) c.in-Some.is c.in_ok-form.ensures.reads) in
+    let head = c.head_len-in-Some.ensures ∙ ap head_len c.in_ok-form.ensures.form in
+    omega (arith, c.args.bytes.ok.0, c.args.bytes.small)
+
+pub returns-in-None-clause-found : goal.returns-in-None-clause-found
+returns-in-None-clause-found c =
+    let list = c.in_ok-form.field-0.list in
+    let reads = c.in_ok-form.ensures.reads in
+    let formed = subst IsWellFormed c.in-Ok.ensures.ok c.in-Ok.ensures.well_formed in
+    let own : IsContextOf list c.args.bytes.items = (AreWithin-atoms _ list reads.within, formed, wire_list c.args.bytes.items list (subst (ReadsUpTo c.args.bytes.items list) c.in-None.is reads)) in
+    subst (λ v. IsContextOf v c.args.bytes.items) (sym c.in-Ok.ensures.ok) own
 
 pub returns-in-None-clause-only : goal.returns-in-None-clause-only
-returns-in-None-clause-only c = λ list of_list.
-    c.in-Ok.ensures.ok ∙ wire_list c.args.bytes.items c.in_ok-list.field-0.list list c.in_ok-list.ensures.atoms (subst (StopsAt c.args.bytes.items c.in_ok-list.field-0.list) c.in-None.is c.in_ok-list.ensures.stops) of_list.0 of_list.2
+returns-in-None-clause-only c = λ list of_list. (has_one_context c.args.bytes.items).list _ list (returns-in-None-clause-found c) of_list
 
 pub returns-in-Some-clause-fault : goal.returns-in-Some-clause-fault
 returns-in-Some-clause-fault c =
+    let list = c.in_ok-form.field-0.list in
     let formed = subst IsWellFormed c.in-Ok.ensures.ok c.in-Ok.ensures.well_formed in
-    let fault = context_wire_fault c.args.bytes.items c.in_ok-list.field-0.list (c.in-Some.offset, c.in-Some.wire) c.in_ok-list.ensures.atoms formed (subst (StopsAt c.args.bytes.items c.in_ok-list.field-0.list) c.in-Some.is c.in_ok-list.ensures.stops) in
-    subst (IsFirstContextFault c.args.bytes.items c.in-Some.offset) (sym c.from-in-Some.ensures) fault
+    let fault = context_wire_fault c.args.bytes.items list (c.in-Some.behind, c.in-Some.wire) formed (subst (ReadsUpTo c.args.bytes.items list) c.in-Some.is c.in_ok-form.ensures.reads) in
+    let head = c.head_len-in-Some.ensures ∙ ap head_len c.in_ok-form.ensures.form in
+    answered c.args.bytes.items (c.head_len-in-Some.result + c.in-Some.behind) _ (byte_code_of c.from-in-Some.result) (code_of c.in-Some.wire) fault (omega arith) c.from-in-Some.ensures
 
 pub returns-in-Some-clause-only : goal.returns-in-Some-clause-only
-returns-in-Some-clause-only c = λ list of_list.
-    let formed = subst IsWellFormed c.in-Ok.ensures.ok c.in-Ok.ensures.well_formed in
-    let fault = context_wire_fault c.args.bytes.items c.in_ok-list.field-0.list (c.in-Some.offset, c.in-Some.wire) c.in_ok-list.ensures.atoms formed (subst (StopsAt c.args.bytes.items c.in_ok-list.field-0.list) c.in-Some.is c.in_ok-list.ensures.stops) in
-    absurd ((has_one_context c.args.bytes.items).either list _ _ of_list fault)
+returns-in-Some-clause-only c = λ list of_list. absurd ((has_one_context c.args.bytes.items).either list _ _ of_list (returns-in-Some-clause-fault c))

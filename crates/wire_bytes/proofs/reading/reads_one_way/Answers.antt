@@ -1,5 +1,5 @@
-use Rattle.context_model.proofs.Frames as frames
+use Rattle.context_model.proofs.FirstFaults as faults
 use Rattle.wire_bytes.proofs.reading.reads_one_way.Goals as goal
 
 pub returns : goal.returns
-returns c = frames.reads_one_way
+returns c = faults.reads_one_way

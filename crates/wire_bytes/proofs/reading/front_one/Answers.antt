@@ -1,7 +1,7 @@
 use Rattle.std.proofs.Common.{arith}
 use Rattle.std.proofs.lemmas.Bool.Decides.{nat_tests}
-use Rattle.context_model.proofs.Frames.{wire_code-length}
-use Rattle.wire_bytes.proofs.reading.front.Goals as goal
+use Rattle.context_model.proofs.LengthCodes.{wire_code-length}
+use Rattle.wire_bytes.proofs.reading.front_one.Goals as goal
 
 pub returns-then-rest-len-clause-fault : goal.returns-then-rest-len-clause-fault
 returns-then-rest-len-clause-fault c =
