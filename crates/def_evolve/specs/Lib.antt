@@ -1,0 +1,5 @@
+pub mod Widening
+pub mod Breaks
+pub mod Common
+pub mod Agreeing
+pub mod Safety
