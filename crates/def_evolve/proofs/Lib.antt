@@ -1,0 +1,8 @@
+pub mod Wider
+pub mod Fitting
+pub mod Agreement
+pub mod ForBoth
+pub mod CommonSlots
+pub mod Clean
+pub mod Safe
+pub mod OneVerdict
