@@ -111,7 +111,7 @@ one_change a b changes.Kind changes.Key d e = absurd (not_both a b e d)
 
 -- ---- one verdict
 
-one_count : (old new : Nodes) (m n : ℕ) → IsCommonCount old new m → IsCommonCount old new n → m ≡ n
+pub one_count : (old new : Shape) (m n : ℕ) → IsCommonCount old new m → IsCommonCount old new n → m ≡ n
 one_count old new m n s t =
     let same : s.0 ≡ t.0 = Rises-unique (slice_cmp nat_cmp) nat_list_cmp_total s.0 t.0 s.1.rises t.1.rises (λ k. ((λ i. (t.1.each k).1 ((s.1.each k).0 i)), λ i. (s.1.each k).1 ((t.1.each k).0 i))) in
     s.2 ∙ ap length same ∙ sym t.2
@@ -132,7 +132,7 @@ one_break old new a b x y ok also s t = (way, one_change s.breaks.0 s.breaks.1 x
         subst (λ (z : Shape). Differs y s.breaks.0 z) two (subst (λ (z : Shape). Differs y z there.1) one there.4)
 
 pub one_verdict : (old new : Nodes) (a b : Verdict) → IsTable old → IsTable new → IsVerdict old new a → IsVerdict old new b → a ≡ b
-one_verdict old new (verdicts.Fits m) (verdicts.Fits n) p q s t = ap verdicts.Fits (one_count old new m n s.1 t.1)
+one_verdict old new (verdicts.Fits m) (verdicts.Fits n) p q s t = ap verdicts.Fits (one_count (Bag old) (Bag new) m n s.1 t.1)
 one_verdict old new (verdicts.Fits m) (verdicts.Breaks path change) p q s t = absurd (s.0 t.0 change t.1.breaks)
 one_verdict old new (verdicts.Breaks path change) (verdicts.Fits n) p q s t = absurd (t.0 s.0 change s.1.breaks)
 one_verdict old new (verdicts.Breaks path change) (verdicts.Breaks other its) p q s t =
