@@ -1,6 +1,5 @@
 -- Two tables have one verdict.
-use Rattle.std.proofs.Common.{◌≡◌, ◌≢◌, ◌⊎◌, inl, inr, ℕ, suc, ◌+◌, ◌<◌, List, [], ◌∷◌, length, Ordering, Less, Equal, Greater, nat_cmp, refl, sym, ap, ◌∙◌, subst, arith, ◌^◌}
-use Rattle.std.specs.List.{AllByRecursion}
+use Rattle.std.proofs.Common.{◌≡◌, ◌≢◌, inl, inr, ℕ, ◌+◌, ◌<◌, List, [], ◌∷◌, length, Ordering, Less, Equal, Greater, nat_cmp, refl, sym, ap, ◌∙◌, subst, arith, ◌^◌}
 use Rattle.std.specs.Ordering.{on, ordering_reverse}
 use Rattle.std.specs.Cmp.{IsTotalOrder}
 use Rattle.std.specs.Cmp.Lexicographic.{slice_cmp}
@@ -10,7 +9,7 @@ use Rattle.context_model.specs.Orders.{IsIn}
 use Rattle.context_model.proofs.GreedyElements.{All-at, Rises-unique}
 use Rattle.bag_model.specs.declared.Pick.{Pick}
 use Rattle.bag_model.specs.declared.Pick.TheVariants.{Least, Greatest}
-use Rattle.bag_model.specs.Shapes.{Shape, Nodes, Field, Taint, Scalar, Set, Counter, Map, Bag, no_node, node, fields}
+use Rattle.bag_model.specs.Shapes.{Shape, Nodes, Field, Scalar, Set, Map, Bag, no_node, node, fields}
 use Rattle.bag_model.specs.Tables.{IsShape, AreFields, IsTable}
 use Rattle.def_evolve.specs.declared.verdicts.Change.{Change}
 use Rattle.def_evolve.specs.declared.verdicts.Change.TheVariants as changes
@@ -18,8 +17,8 @@ use Rattle.def_evolve.specs.declared.verdicts.Part.{Part}
 use Rattle.def_evolve.specs.declared.verdicts.Part.TheVariants.{Number, MapValue}
 use Rattle.def_evolve.specs.declared.verdicts.Verdict.{Verdict}
 use Rattle.def_evolve.specs.declared.verdicts.Verdict.TheVariants as verdicts
-use Rattle.def_evolve.specs.Breaks.{part_rank, way_cmp, way_text, StepsTo, LeadsTo, variant_of, KeysDiffer, KindsDiffer, Differs, IsBreak, IsFirstBreak, IsFitting}
-use Rattle.def_evolve.specs.Common.{AreCommonPaths, IsCommonCount, IsVerdict}
+use Rattle.def_evolve.specs.Breaks.{part_rank, way_cmp, way_text, StepsTo, LeadsTo, variant_of, KeysDiffer, KindsDiffer, Differs, IsBreak, IsFirstBreak}
+use Rattle.def_evolve.specs.Common.{IsCommonCount, IsVerdict}
 
 -- ---- the order of ways
 

@@ -17,11 +17,15 @@ fn common_slots(old: &Shape, new: &Shape) -> u64
     requires small { nodes_under (shape_of old.now) ≤ MAX_FIELDS }
     ensures { IsCommonCount (shape_of old.now) (shape_of new.now) result }
 {
-    match (old, new) {
-        (Shape::Bag(fields), Shape::Bag(others)) => common_fields(fields, others),
-        (Shape::Bag(_), _) => 0,
-        (_, Shape::Bag(_)) => 0,
-        _ => 1,
+    match old {
+        Shape::Bag(fields) => match new {
+            Shape::Bag(others) => common_fields(fields, others),
+            _ => 0,
+        },
+        _ => match new {
+            Shape::Bag(_) => 0,
+            _ => 1,
+        },
     }
 }
 
