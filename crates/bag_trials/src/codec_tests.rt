@@ -39,12 +39,14 @@ fn word(dice: &mut Dice) -> &'static str {
 /// Adds a type whose values hold no other values.
 fn put_plain(dice: &mut Dice, text: &mut String) -> Result<(), Memory> {
     let word = word(dice);
-    match dice.below(6) {
+    match dice.below(8) {
         0 => text.push_str("taint")?,
         1 => text.push_str("counter")?,
         2 => text.push_str("Packed")?,
         3 => text.push_str("set<Packed>")?,
         4 => write!(text, "set<{word}>")?,
+        5 => text.push_str("greatest<Packed>")?,
+        6 => write!(text, "greatest<{word}>")?,
         _ => text.push_str(word)?,
     }
     Ok(())

@@ -172,6 +172,7 @@ pub fn random_value(
     match shape {
         Shape::Taint => Ok(Val::Taint(dice.flips())),
         Shape::Scalar(kind) => Ok(Val::Scalar(Some(random_scalar(alloc, dice, kind)?))),
+        Shape::Greatest(kind) => Ok(Val::Greatest(Some(random_scalar(alloc, dice, kind)?))),
         Shape::Set(kind) => Ok(Val::Set(random_set(alloc, dice, kind)?)),
         Shape::Counter => Ok(Val::Counter(random_counts(alloc, dice)?)),
         Shape::Map(kind, inner) => {
