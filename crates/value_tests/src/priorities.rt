@@ -1,11 +1,11 @@
-//! A codec of one's own, and the sets and least values that come with it.
+//! A codec of one's own, and the sets, least and greatest values that come with it.
 
 ghost use Rattle.std.specs.Prelude.{IsTrue, ◌↔◌, ◌≤◌};
 
 use counter_type::{Lattice, joins_commute};
 use outside::Memory;
 use scalar_types::{Codec, TakeFault};
-use set_map_types::{Least, SetOf};
+use set_map_types::{Greatest, Least, SetOf};
 use std::alloc::Global;
 use std::cmp::Ordering;
 use std::test::Fail;
@@ -89,5 +89,14 @@ fn least_priority(rt: HostRuntime) -> Result<(), Fail> {
     least.join(&Least::of(Priority, 1)?)?;
     assert_eq!(rt; least.get().copied(), Some(1));
     assert!(rt; !least.is_bottom());
+    Ok(())
+}
+
+#[test]
+fn greatest_priority(rt: HostRuntime) -> Result<(), Fail> {
+    let mut greatest = Greatest::of(Priority, 1)?;
+    greatest.join(&Greatest::of(Priority, 3)?)?;
+    assert_eq!(rt; greatest.get().copied(), Some(3));
+    assert!(rt; !greatest.is_bottom());
     Ok(())
 }

@@ -1,9 +1,9 @@
-//! Least values, sets and maps, and their joins.
+//! Least and greatest values, sets and maps, and their joins.
 
 use counter_type::{Counts, Lattice, join_repeats, joins_commute, joins_regroup, keeps_join_laws};
 use outside::{Memory, Text};
 use scalar_types::{LexU, Utf8};
-use set_map_types::{Least, MapOf, SetOf, map_join_is_union, set_join_is_union};
+use set_map_types::{Greatest, Least, MapOf, SetOf, map_join_is_union, set_join_is_union};
 use std::alloc::Global;
 use std::process::Abort;
 use std::test::Fail;
@@ -36,6 +36,28 @@ fn least_of_two(rt: HostRuntime) -> Result<(), Fail> {
     assert_eq!(rt; *first.get().expect(&rt, "a value"), 7);
     assert_eq!(rt; *join_repeats(&second)?.get().expect(&rt, "a value"), 7);
     keeps_join_laws::<Least<LexU>>();
+    Ok(())
+}
+
+#[test]
+fn greatest_of_two(rt: HostRuntime) -> Result<(), Fail> {
+    let alloc = rt.alloc();
+    assert!(rt; Greatest::new(Utf8)?.is_bottom());
+    let mut text = Greatest::of(Utf8, Text::of(alloc, "a")?)?;
+    assert!(rt; !text.is_bottom());
+    text.join(&Greatest::of(Utf8, Text::of(alloc, "b")?)?)?;
+    assert_eq!(rt; text.copy()?.get().expect(&rt, "a value").as_str(), "b");
+
+    let nine = Greatest::of(LexU { wide: true }, 9)?;
+    let seven = Greatest::of(LexU { wide: true }, 7)?;
+    let (first, second) = joins_commute(&nine, &seven)?;
+    assert_eq!(rt; *first.get().expect(&rt, "a value"), 9);
+    assert_eq!(rt; *second.get().expect(&rt, "a value"), 9);
+    let none = Greatest::new(LexU { wide: true })?;
+    let (first, second) = joins_regroup(&none, &nine, &seven)?;
+    assert_eq!(rt; *first.get().expect(&rt, "a value"), 9);
+    assert_eq!(rt; *join_repeats(&second)?.get().expect(&rt, "a value"), 9);
+    keeps_join_laws::<Greatest<LexU>>();
     Ok(())
 }
 

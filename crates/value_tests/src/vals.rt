@@ -33,6 +33,7 @@ fn is_on(value: Val) -> Option<bool> {
 fn number_of(value: Val) -> Option<u64> {
     match value {
         Val::Scalar(Some(Scalar::Unsigned(number))) => Some(number),
+        Val::Greatest(Some(Scalar::Unsigned(number))) => Some(number),
         _ => None,
     }
 }
@@ -95,6 +96,18 @@ fn joins_of_taints_and_scalars(rt: HostRuntime) -> Result<(), Fail> {
     assert_eq!(rt; number_of(join_of(Val::Scalar(None), five)?), Some(5));
     keeps_join_laws::<Val>();
     values_of_one_shape_are_joined();
+    Ok(())
+}
+
+#[test]
+fn joins_of_greatest_values(rt: HostRuntime) -> Result<(), Fail> {
+    for (ours, theirs, last) in [(3, 5, 5), (5, 3, 5), (4, 4, 4)] {
+        let ours = Val::Greatest(Some(Scalar::Unsigned(ours)));
+        let theirs = Val::Greatest(Some(Scalar::Unsigned(theirs)));
+        assert_eq!(rt; number_of(join_of(ours, theirs)?), Some(last));
+    }
+    let five = Val::Greatest(Some(Scalar::Unsigned(5)));
+    assert_eq!(rt; number_of(join_of(Val::Greatest(None), five)?), Some(5));
     Ok(())
 }
 
