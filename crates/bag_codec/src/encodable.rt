@@ -22,7 +22,8 @@ use outside::ATOM_MAX;
 use scalar_types::{Codec, Scalar, ScalarKind};
 
 /// Whether a value can be encoded under a table: it is a bag with a value of its shape for each field, and there is room in
-/// an atom for each key, each writer and each datum. A set, also an empty one, has to name the kind of its field.
+/// an atom for each key, each writer and each datum. A set, also an empty one, has to name the kind of its field. A scalar, also
+/// an absent one, is a `Val::Greatest` in a field of which the greatest value stays, and a `Val::Scalar` in any other.
 pub fn can_encode(table: &Table, value: &Val) -> bool
     ensures { IsTrue result
         ↔ IsOfShape (shapes.Shape.Bag table.now) (plain value.now) × FitsAtoms table.now (bag_values (plain value.now)) }
