@@ -6,6 +6,7 @@ use Rattle.text_lines.specs.Lines.{Line}
 use Rattle.baggage_cli.specs.Outcomes.{Outcome}
 use Rattle.baggage_cli.specs.Reading.{ReadsOne, typed_lines}
 
--- What lines come to, decoded under a table: the one line of a typed context gives the block of the context.
+-- What lines come to, decoded under a table: the one line of a typed context gives the block of the
+-- context, in the form that it came in.
 abbrev pub DecodesLines : Nodes → List Line → Outcome → Type 0
-DecodesLines table = ReadsOne (typed_lines table) (IsBlock table)
+DecodesLines table = ReadsOne (typed_lines table) (λ said. IsBlock table said.0 said.1)

@@ -1,5 +1,7 @@
 -- What lines of contexts come to, merged.
-use Rattle.std.specs.Prelude.{◌≡◌, ℕ, List}
+use Rattle.std.specs.Prelude.{◌≡◌, ℕ, List, [], ◌∷◌, map}
+use Rattle.context_model.specs.declared.Form.{Form as WireForm}
+use Rattle.context_model.specs.declared.Form.TheVariants.{One, Two}
 use Rattle.context_model.specs.Atoms.{Atom}
 use Rattle.context_model.specs.Framing.{bytes_of}
 use Rattle.context_model.specs.Merged.{IsMerged}
@@ -11,15 +13,26 @@ use Rattle.baggage_cli.specs.declared.refusals.InputCode.TheVariants.{TooManyLin
 use Rattle.baggage_cli.specs.declared.refusals.InputFault.{InputFault}
 use Rattle.baggage_cli.specs.declared.refusals.InputFault.TheVariants.{Code}
 use Rattle.baggage_cli.specs.Outcomes.{Outcome}
-use Rattle.baggage_cli.specs.Reading.{ReadsLines, context_lines}
+use Rattle.baggage_cli.specs.Reading.{Framed, ReadsLines, context_lines}
 
 -- The lines that are merged, of which there may be so many.
-abbrev pub merged_lines : Reading (List Atom) InputFault
+abbrev pub merged_lines : Reading Framed InputFault
 merged_lines = at_most LINES_MAX (Code TooManyLines) context_lines
 
--- The output is the line of the merge of these contexts.
-abbrev pub IsMergeOf : List (List Atom) → List ℕ → Type 0
-IsMergeOf lists output = (merged : List Atom) × IsMerged lists merged × (output ≡ hex_line (bytes_of merged))
+-- The lists alone.
+abbrev pub lists_of : List Framed → List (List Atom)
+lists_of said = map (λ one. one.1) said
+
+-- Form two, where one of the lines is of it.
+abbrev pub widest : List Framed → WireForm
+widest [] = One
+widest ((One, list) ∷ said) = widest said
+widest ((Two, list) ∷ said) = Two
+
+-- The output is the line of the merge of these contexts, in the widest of their forms.
+abbrev pub IsMergeOf : List Framed → List ℕ → Type 0
+IsMergeOf said output =
+    (merged : List Atom) × IsMerged (lists_of said) merged × (output ≡ hex_line (bytes_of (widest said) merged))
 
 -- What lines come to, merged: lines of contexts give the line of their merge.
 abbrev pub MergesLines : List Line → Outcome → Type 0

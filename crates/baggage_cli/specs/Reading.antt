@@ -2,8 +2,9 @@
 use Rattle.std.specs.Prelude.{◌≡◌, ◌⊎◌, ℕ, ◌+◌, ◌<◌, ◌≤◌, List, [], ◌∷◌, length, take, Result, Ok, Err}
 use Rattle.std.specs.Io.KnownBytes.{Consumes, IsAtEnd}
 use Rattle.std.specs.Global.{Vec}
+use Rattle.context_model.specs.declared.Form.{Form as WireForm}
 use Rattle.context_model.specs.Atoms.{Atom, AreAtoms}
-use Rattle.context_model.specs.Framing.{bytes_of, size_of}
+use Rattle.context_model.specs.Framing.{form_of, least_budget, offset_of, IsBytesOf}
 use Rattle.context_model.specs.ContextFault.{IsContextOf, IsFirstContextFault}
 use Rattle.context_model.specs.WireFault.{IsFirstWireFault}
 use Rattle.bag_model.specs.Readings.{PathsOf}
@@ -16,7 +17,7 @@ use Rattle.text_lines.specs.Lines.{Line, lines_of}
 use Rattle.text_lines.specs.Readings.{Reading, AllSay, IsFirstBad, at_most}
 use Rattle.wire_bytes.specs.declared.contexts.ByteCode.{ByteCode}
 use Rattle.wire_bytes.specs.Codes.{byte_code_of}
-use Rattle.baggage_cli.specs.declared.refusals.InputCode.TheVariants.{TooLong, NoLine, Form}
+use Rattle.baggage_cli.specs.declared.refusals.InputCode.TheVariants.{TooLong, NoLine, Form, BudgetRange}
 use Rattle.baggage_cli.specs.declared.refusals.InputFault.{InputFault}
 use Rattle.baggage_cli.specs.declared.refusals.InputFault.TheVariants.{Code, Hex, Bytes, IllTyped}
 use Rattle.baggage_cli.specs.declared.refusals.Notice.TheVariants.{SourceFailed, Memory}
@@ -104,41 +105,54 @@ ReadsOne {A} reading gives lines outcome =
 
 -- ---- lists and contexts
 
+-- What bytes say: the form that they are in, and a list of atoms.
+abbrev pub Framed : Type 0
+Framed = WireForm × List Atom
+
 -- Bytes say a list of atoms, or have a first fault.
-abbrev pub list_bytes : Reading (List Atom) InputFault
+abbrev pub list_bytes : Reading Framed InputFault
 list_bytes = record {
-  says = λ earlier bytes list. AreAtoms list × (bytes ≡ bytes_of list);
+  says = λ earlier bytes said. (said.0 ≡ form_of bytes) × AreAtoms said.1 × IsBytesOf said.1 bytes;
   faults = λ earlier bytes fault.
       (offset : ℕ) × (code : ByteCode) × IsFirstWireFault bytes offset (byte_code_of code) × (fault ≡ Bytes offset code);
 }
 
 -- Bytes say a context, or have a first fault.
-abbrev pub context_bytes : Reading (List Atom) InputFault
+abbrev pub context_bytes : Reading Framed InputFault
 context_bytes = record {
-  says = λ earlier bytes list. IsContextOf list bytes;
+  says = λ earlier bytes said. (said.0 ≡ form_of bytes) × IsContextOf said.1 bytes;
   faults = λ earlier bytes fault.
       (offset : ℕ) × (code : ByteCode) × IsFirstContextFault bytes offset (byte_code_of code) × (fault ≡ Bytes offset code);
 }
 
 -- Bytes say a context that is typed under a table, or have a first fault: that of the bytes, or the place of the
 -- context's first ill-typed atom.
-abbrev pub typed_bytes : Nodes → Reading (List Atom) InputFault
+abbrev pub typed_bytes : Nodes → Reading Framed InputFault
 typed_bytes table = record {
-  says = λ earlier bytes list. IsContextOf list bytes × AreTyped table (PathsOf list) [];
+  says = λ earlier bytes said. (said.0 ≡ form_of bytes) × IsContextOf said.1 bytes × AreTyped table (PathsOf said.1) [];
   faults = λ earlier bytes fault.
       context_bytes.faults earlier bytes fault
       ⊎ ((list : List Atom) × (place : ℕ) × IsContextOf list bytes × IsFirstIllTyped table list place
-      × (fault ≡ IllTyped (size_of (take place list))));
+      × (fault ≡ IllTyped (offset_of (form_of bytes) list place)));
 }
 
--- Lines of digits say lists, or contexts, or contexts that are typed under a table.
-abbrev pub list_lines : Reading (List Atom) InputFault
-list_lines = hex_lines Hex list_bytes
+-- Bytes say a list that can be cut to a budget; those of a form in which nothing can be cut to it are refused for the budget.
+abbrev pub cut_bytes : ℕ → Reading Framed InputFault
+cut_bytes budget = record {
+  says = λ earlier bytes said. (least_budget (form_of bytes) ≤ budget) × list_bytes.says earlier bytes said;
+  faults = λ earlier bytes fault.
+      ((budget < least_budget (form_of bytes)) × (fault ≡ Code BudgetRange))
+      ⊎ ((least_budget (form_of bytes) ≤ budget) × list_bytes.faults earlier bytes fault);
+}
 
-abbrev pub context_lines : Reading (List Atom) InputFault
+-- Lines of digits say lists that can be cut to a budget, or contexts, or contexts that are typed under a table.
+abbrev pub cut_lines : ℕ → Reading Framed InputFault
+cut_lines budget = hex_lines Hex (cut_bytes budget)
+
+abbrev pub context_lines : Reading Framed InputFault
 context_lines = hex_lines Hex context_bytes
 
-abbrev pub typed_lines : Nodes → Reading (List Atom) InputFault
+abbrev pub typed_lines : Nodes → Reading Framed InputFault
 typed_lines table = hex_lines Hex (typed_bytes table)
 
 -- A line isn't one of digits: memory is wanting for its bytes, or this is wrong with it.

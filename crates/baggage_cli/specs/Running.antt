@@ -26,16 +26,16 @@ input_fault (lines.Code code) = inputs.Graph code
 input_fault (lines.Bytes offset code) = inputs.Bytes offset code
 input_fault (lines.IllTyped offset) = inputs.IllTyped offset
 
--- The output is the report of these steps, as lines, or as JSON with a line feed behind it.
-abbrev pub IsReportAs : Form → Nodes → Lists → List ℕ → List ℕ → Type 0
-IsReportAs as_lines table lists shows output = IsReport table lists shows output
-IsReportAs as_json table lists shows output =
-    (report : List ℕ) × IsJsonReport table lists shows report × (output ≡ report ++ 10 ∷ [])
+-- The output is the report of the graph's shown steps, as lines, or as JSON with a line feed behind it.
+abbrev pub IsReportAs : Form → Nodes → Graph → Lists → List ℕ → Type 0
+IsReportAs as_lines table graph lists output = IsReport table graph lists output
+IsReportAs as_json table graph lists output =
+    (report : List ℕ) × IsJsonReport table graph lists report × (output ≡ report ++ 10 ∷ [])
 
 -- The output is the report of the lists that the graph's run gives its steps.
 abbrev pub IsRunReport : Form → Nodes → Graph → List ℕ → Type 0
 IsRunReport form table graph output =
-    (lists : Lists) × IsRun table graph lists × IsReportAs form table lists graph.shows output
+    (lists : Lists) × IsRun table graph lists × IsReportAs form table graph lists output
 
 -- What is shown of the slots of shown steps is honest: a value that is called exact is the truth, none says more than the
 -- truth, and where nothing was cut off on the way each is called exact.

@@ -1,6 +1,5 @@
 -- What a call of the program may come to.
 use Rattle.std.specs.Prelude.{◌≡◌, ◌⊎◌, ℕ, ◌≤◌, List, [], ◌∷◌, length, Option, Some, None, Ok, Err}
-use Rattle.context_model.specs.Atoms.{Atom}
 use Rattle.text_lines.specs.declared.TheConstants.{INPUT_MAX}
 use Rattle.text_lines.specs.Lines.{lines_of}
 use Rattle.text_lines.specs.Readings.{AllSay}
@@ -17,7 +16,7 @@ use Rattle.baggage_cli.specs.Delivery.{Notifies, Delivers}
 use Rattle.baggage_cli.specs.Filters.{FilterGives}
 use Rattle.baggage_cli.specs.Loading.{LoadGives}
 use Rattle.baggage_cli.specs.Outcomes.{Outcome}
-use Rattle.baggage_cli.specs.Reading.{Reads, list_lines, context_lines}
+use Rattle.baggage_cli.specs.Reading.{Framed, Reads, cut_lines, context_lines}
 use Rattle.baggage_cli.specs.Refusals.{line_of, notice_line}
 use Rattle.baggage_cli.specs.Scene.{Change, Scene, IsSame, Takes, TakesPart}
 use Rattle.baggage_cli.specs.Tables.{TableGives}
@@ -57,14 +56,14 @@ Answers (Some task) scene answer =
     (outcome : Outcome) × Comes task scene.library scene.requests scene.source outcome
     × Delivers outcome scene.out scene.errs answer
 
--- An input that isn't too long has one line, which says this list.
-abbrev pub SaysList : List ℕ → List Atom → Type 0
-SaysList input list = (length input ≤ INPUT_MAX) × AllSay list_lines [] (lines_of input) (list ∷ [])
+-- An input that isn't too long has one line, which says this list in its form, and the list can be cut to the budget.
+abbrev pub SaysList : ℕ → List ℕ → Framed → Type 0
+SaysList budget input said = (length input ≤ INPUT_MAX) × AllSay (cut_lines budget) [] (lines_of input) (said ∷ [])
 
--- An input that isn't too long has lines that say these contexts, and there are no more than may be merged.
-abbrev pub SaysContexts : List ℕ → List (List Atom) → Type 0
-SaysContexts input lists =
-    (length input ≤ INPUT_MAX) × AllSay context_lines [] (lines_of input) lists × (length lists ≤ LINES_MAX)
+-- An input that isn't too long has lines that say these contexts in their forms, and there are no more than may be merged.
+abbrev pub SaysContexts : List ℕ → List Framed → Type 0
+SaysContexts input said =
+    (length input ≤ INPUT_MAX) × AllSay context_lines [] (lines_of input) said × (length said ≤ LINES_MAX)
 
 -- An input that isn't too long has one line, which says these bytes of a context.
 abbrev pub SaysBytes : List ℕ → List ℕ → Type 0

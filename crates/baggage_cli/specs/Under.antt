@@ -1,6 +1,5 @@
 -- What an input comes to under a table.
 use Rattle.std.specs.Prelude.{ℕ, ◌≤◌, List, [], ◌∷◌, length}
-use Rattle.context_model.specs.Atoms.{Atom}
 use Rattle.bag_model.specs.Shapes.{Nodes}
 use Rattle.bdl_load.specs.Loading.{Holding}
 use Rattle.text_lines.specs.declared.TheConstants.{INPUT_MAX}
@@ -11,7 +10,7 @@ use Rattle.graph_text.specs.GraphLines.{IsGraphOf}
 use Rattle.baggage_cli.specs.Commands.{Origin, Purpose, decoding, running}
 use Rattle.baggage_cli.specs.Decoding.{DecodesLines}
 use Rattle.baggage_cli.specs.Outcomes.{Outcome, Then}
-use Rattle.baggage_cli.specs.Reading.{Reads, Within, typed_lines}
+use Rattle.baggage_cli.specs.Reading.{Framed, Reads, Within, typed_lines}
 use Rattle.baggage_cli.specs.Running.{RunsLines}
 use Rattle.baggage_cli.specs.Scene.{Change, IsSame}
 use Rattle.baggage_cli.specs.Tables.{Obtains}
@@ -31,7 +30,7 @@ abbrev pub ReadsUnder : Purpose → Origin → Change Holding → Change (List (
 ReadsUnder purpose origin library requests source =
     Then (Obtains origin library requests) (IsSame source) (λ table. Reads (InputUnder purpose table) source)
 
--- An input that isn't too long has one line, which says this context, and the context is typed under the table.
-abbrev pub SaysTyped : Nodes → List ℕ → List Atom → Type 0
-SaysTyped table input list =
-    (length input ≤ INPUT_MAX) × AllSay (typed_lines table) [] (lines_of input) (list ∷ [])
+-- An input that isn't too long has one line, which says this context in its form, and the context is typed under the table.
+abbrev pub SaysTyped : Nodes → List ℕ → Framed → Type 0
+SaysTyped table input said =
+    (length input ≤ INPUT_MAX) × AllSay (typed_lines table) [] (lines_of input) (said ∷ [])

@@ -15,45 +15,53 @@ use field_table::Table;
 use report_text::block;
 use std::alloc::Global;
 use text_lines::{Line, lines_of};
-use wire_bytes::offset;
+use wire_bytes::{Form, offset};
 
-/// The context that a line says, which is typed under the table.
-fn typed_context(alloc: Global, table: &Table, line: &Line<'_>) -> Result<Context, Refusal>
-    ensures ok { IfOk result (λ context.
-        (typed_lines table.now).says [] line.now.text.now context) }
+/// The context that a line says, with the form of its bytes; it is typed under the table.
+fn typed_context(
+    alloc: Global,
+    table: &Table,
+    line: &Line<'_>,
+) -> Result<(Form, Context), Refusal>
+    ensures ok { IfOk result (λ said.
+        (typed_lines table.now).says [] line.now.text.now said) }
     ensures err { IfErr result (λ refusal.
         RefusesLine (typed_lines table.now) (line.now.number, line.now.text.now) refusal) }
 {
-    let context = line_context(alloc, line)?;
+    let (form, context) = line_context(alloc, line)?;
     match check_typed(table, &context) {
-        Ok(()) => Ok(context),
+        Ok(()) => Ok((form, context)),
         Err(place) => Err(Refusal::Input {
             line: line.number,
             fault: InputFault::IllTyped {
-                offset: offset(context.list(), place),
+                offset: offset(form, context.list(), place),
             },
         }),
     }
 }
 
-/// The context of the one line of an input, which is typed under the table.
-fn only_context(alloc: Global, table: &Table, input: &[u8]) -> Result<Context, Refusal>
-    ensures ok { IfOk result (λ context.
-        AllSay (only_one (typed_lines table.now)) [] (lines_of input.now) (context ∷ [])) }
+/// The context of the one line of an input, with the form of its bytes; it is typed under the table.
+fn only_context(
+    alloc: Global,
+    table: &Table,
+    input: &[u8],
+) -> Result<(Form, Context), Refusal>
+    ensures ok { IfOk result (λ said.
+        AllSay (only_one (typed_lines table.now)) [] (lines_of input.now) (said ∷ [])) }
     ensures err { IfErr result (λ refusal. (refusal ≡ Refusal.Plain Notice.Memory)
         ⊎ RefusesOne (typed_lines table.now) (lines_of input.now) refusal) }
 {
     let mut lines = lines_of(input);
     let line = first_line(&mut lines)?;
-    let context = typed_context(alloc, table, &line)?;
+    let said = typed_context(alloc, table, &line)?;
     end_lines(&mut lines)?;
-    Ok(context)
+    Ok(said)
 }
 
 /// The block of the context of an input's one line.
 pub fn decoded_block(alloc: Global, table: &Table, input: &[u8]) -> Result<Vec<u8>, Refusal>
     ensures { OrMemory (DecodesLines table.now (lines_of input.now)) (outcome_of result) }
 {
-    let context = only_context(alloc, table, input)?;
-    Ok(block(alloc, table, &context)?)
+    let (form, context) = only_context(alloc, table, input)?;
+    Ok(block(alloc, table, form, &context)?)
 }

@@ -67,7 +67,7 @@ fn load_output(
     requires few { rounds ≤ ROUNDS_MAX }
     requires as_many { length lists.now ≡ length graph.now.steps }
     requires typed { (n : ℕ) → n < length lists.now → IsTypedContext table.now (list_at lists.now n) }
-    ensures { IfOk result (λ output. (text : List ℕ) × IsReport table.now lists.now graph.now.shows text
+    ensures { IfOk result (λ output. (text : List ℕ) × IsReport table.now graph.now lists.now text
         × (output.items ≡ spec.load_heading rounds ++ text)) }
 {
     let mut output = load_heading(alloc, rounds)?;

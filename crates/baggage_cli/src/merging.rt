@@ -1,11 +1,11 @@
 //! The command that merges the contexts of all lines.
 
-ghost use Rattle.std.specs.Prelude.{◌≡◌, ◌⊎◌, [], IfOk, IfErr};
+ghost use Rattle.std.specs.Prelude.{◌≡◌, ◌⊎◌, List, [], IfOk, IfErr};
 ghost use Rattle.text_lines.specs.Lines.{lines_of};
 ghost use Rattle.text_lines.specs.Readings.{AllSay};
 ghost use Rattle.baggage_cli.specs.Outcomes.{outcome_of, OrMemory};
-ghost use Rattle.baggage_cli.specs.Reading.{RefusesLines};
-ghost use Rattle.baggage_cli.specs.Merging.{merged_lines, MergesLines};
+ghost use Rattle.baggage_cli.specs.Reading.{Framed, RefusesLines};
+ghost use Rattle.baggage_cli.specs.Merging.{lists_of, merged_lines, widest, MergesLines};
 
 use crate::reading::line_context;
 use crate::refusals::{InputCode, InputFault, Notice, Refusal};
@@ -13,17 +13,19 @@ use atom_list::Context;
 use lex_merge::merge_many;
 use std::alloc::Global;
 use text_lines::{hex_line, lines_of};
-use wire_bytes::write;
+use wire_bytes::{Form, write};
 
 /// The most lines that are merged.
 pub const LINES_MAX: usize = 4096;
 
-/// The contexts of all lines of an input.
-fn read_contexts(alloc: Global, input: &[u8]) -> Result<Vec<Context>, Refusal>
-    ensures ok { IfOk result (λ contexts. AllSay merged_lines [] (lines_of input.now) contexts.items) }
+/// The contexts of all lines of an input, and the widest of their forms.
+fn read_contexts(alloc: Global, input: &[u8]) -> Result<(Form, Vec<Context>), Refusal>
+    ensures ok { IfOk result (λ read. (said : List Framed) × AllSay merged_lines [] (lines_of input.now) said
+        × (read.0 ≡ widest said) × (read.1.items ≡ lists_of said)) }
     ensures err { IfErr result (λ refusal.
         (refusal ≡ Refusal.Plain Notice.Memory) ⊎ RefusesLines merged_lines (lines_of input.now) refusal) }
 {
+    let mut widest = Form::One;
     let mut contexts = Vec::new(alloc);
     for line in lines_of(input) {
         if contexts.len() == LINES_MAX {
@@ -32,17 +34,21 @@ fn read_contexts(alloc: Global, input: &[u8]) -> Result<Vec<Context>, Refusal>
                 fault: InputFault::Code(InputCode::TooManyLines),
             });
         }
-        contexts.push(line_context(alloc, &line)?)?;
+        let (form, context) = line_context(alloc, &line)?;
+        if form == Form::Two {
+            widest = Form::Two;
+        }
+        contexts.push(context)?;
     }
-    Ok(contexts)
+    Ok((widest, contexts))
 }
 
-/// The line of the merge of the contexts of an input's lines.
+/// The line of the merge of the contexts of an input's lines, in the widest of their forms.
 pub fn merged_line(alloc: Global, input: &[u8]) -> Result<Vec<u8>, Refusal>
     ensures { OrMemory (MergesLines (lines_of input.now)) (outcome_of result) }
 {
-    let contexts = read_contexts(alloc, input)?;
+    let (form, contexts) = read_contexts(alloc, input)?;
     let merged = merge_many(alloc, contexts)?;
-    let bytes = write(alloc, merged.list())?;
+    let bytes = write(alloc, form, merged.list())?;
     Ok(hex_line(alloc, bytes.as_slice())?)
 }

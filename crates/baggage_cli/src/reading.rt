@@ -3,7 +3,7 @@
 ghost use Rattle.std.specs.Prelude.{◌≡◌, ◌≤◌, [], ◌∷◌, length, OnOk, IfOk, IfErr};
 ghost use Rattle.baggage_cli.specs.Scene.{change};
 ghost use Rattle.baggage_cli.specs.Carrying.{byte_lines};
-ghost use Rattle.baggage_cli.specs.Reading.{ReadsInput, HasNoLine, HasExcess, IsNoHex, RefusesLine, list_lines, context_lines};
+ghost use Rattle.baggage_cli.specs.Reading.{ReadsInput, HasNoLine, HasExcess, IsNoHex, RefusesLine, cut_lines, context_lines};
 ghost use Rattle.text_carrier.specs.declared.TheConstants.{CARRIED_MAX};
 ghost use Rattle.text_lines.specs.HexLines.{IsHexOf};
 ghost use Rattle.text_lines.specs.Lines.{line_value};
@@ -13,7 +13,9 @@ use atom_list::{AtomList, Context};
 use outside::{ReadFault, Source, read_all};
 use std::alloc::Global;
 use text_lines::{HexFault, INPUT_MAX, Line, Lines, hex_bytes};
-use wire_bytes::{ByteCode, ContextFault, WireFault, read_context, read_context_owned, read_owned};
+use wire_bytes::{
+    ByteCode, ContextFault, Form, WireFault, form_of, read_context, read_context_owned, read_owned,
+};
 
 /// Reads the source to its end.
 pub fn read_input<S: Source>(alloc: Global, source: &mut S) -> Result<Vec<u8>, Refusal>
@@ -73,15 +75,26 @@ fn line_bytes(alloc: Global, line: &Line<'_>) -> Result<Vec<u8>, Refusal>
     }
 }
 
-/// The list that a line says.
-pub fn line_list(alloc: Global, line: &Line<'_>) -> Result<AtomList, Refusal>
-    ensures ok { IfOk result (λ list. list_lines.says [] line.now.text.now list) }
+/// The list that a line says, with the form of its bytes, which must be one in which a list can be cut to the budget.
+pub fn line_list(
+    alloc: Global,
+    line: &Line<'_>,
+    budget: u64,
+) -> Result<(Form, AtomList), Refusal>
+    ensures ok { IfOk result (λ said. (cut_lines budget).says [] line.now.text.now said) }
     ensures err { IfErr result (λ refusal.
-        RefusesLine list_lines (line.now.number, line.now.text.now) refusal) }
+        RefusesLine (cut_lines budget) (line.now.number, line.now.text.now) refusal) }
 {
     let bytes = line_bytes(alloc, line)?;
+    let form = form_of(bytes.as_slice());
+    if budget < form.least_budget() {
+        return Err(Refusal::Input {
+            line: line.number,
+            fault: InputFault::Code(InputCode::BudgetRange),
+        });
+    }
     match read_owned(alloc, bytes) {
-        Ok(list) => Ok(list),
+        Ok(list) => Ok((form, list)),
         Err(WireFault::At { offset, code }) => Err(Refusal::Input {
             line: line.number,
             fault: InputFault::Bytes {
@@ -111,15 +124,16 @@ pub fn context_bytes(alloc: Global, line: &Line<'_>) -> Result<Vec<u8>, Refusal>
     }
 }
 
-/// The context that a line says.
-pub fn line_context(alloc: Global, line: &Line<'_>) -> Result<Context, Refusal>
-    ensures ok { IfOk result (λ context. context_lines.says [] line.now.text.now context) }
+/// The context that a line says, with the form of its bytes.
+pub fn line_context(alloc: Global, line: &Line<'_>) -> Result<(Form, Context), Refusal>
+    ensures ok { IfOk result (λ said. context_lines.says [] line.now.text.now said) }
     ensures err { IfErr result (λ refusal.
         RefusesLine context_lines (line.now.number, line.now.text.now) refusal) }
 {
     let bytes = line_bytes(alloc, line)?;
+    let form = form_of(bytes.as_slice());
     match read_context_owned(alloc, bytes) {
-        Ok(context) => Ok(context),
+        Ok(context) => Ok((form, context)),
         Err(ContextFault::At { offset, code }) => Err(Refusal::Input {
             line: line.number,
             fault: InputFault::Bytes { offset, code },

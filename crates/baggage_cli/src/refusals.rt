@@ -26,6 +26,8 @@ pub enum InputCode {
     TooManyLines,
     /// The pieces that the lines say have more bytes in all than a command puts together.
     TooManyBytes,
+    /// The budget is below the least that a list in the form of the line's bytes can be cut to.
+    BudgetRange,
 }
 
 /// What is wrong with an input or a line of it.
@@ -100,6 +102,7 @@ impl fmt::Display for InputCode {
             InputCode::Form => write!(f, "Form"),
             InputCode::TooManyLines => write!(f, "TooManyLines"),
             InputCode::TooManyBytes => write!(f, "TooManyBytes"),
+            InputCode::BudgetRange => write!(f, "BudgetRange"),
         }
     }
 }

@@ -31,7 +31,7 @@ fn report_as(
 ) -> Result<Vec<u8>, Memory>
     requires as_many { length lists.now ≡ length graph.now.steps }
     requires typed { (n : ℕ) → n < length lists.now → IsTypedContext table.now (list_at lists.now n) }
-    ensures { IfOk result (λ text. IsReportAs (form_of form) table.now lists.now graph.now.shows text.items) }
+    ensures { IfOk result (λ text. IsReportAs (form_of form) table.now graph.now lists.now text.items) }
 {
     match form {
         Form::Text => report(alloc, table, graph, lists),

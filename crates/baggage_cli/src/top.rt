@@ -27,6 +27,8 @@ ghost use Rattle.baggage_cli.specs.Scene.{change, scene_of, HasNoFault};
 ghost use Rattle.baggage_cli.specs.Laws.{Laws};
 ghost use Rattle.baggage_cli.specs.Outcomes.{outcome_of};
 ghost use Rattle.baggage_cli.specs.Trimming.{trimmed_line};
+ghost use Rattle.baggage_cli.specs.Merging.{lists_of, widest};
+ghost use Rattle.baggage_cli.specs.Reading.{Framed};
 ghost use Rattle.baggage_cli.specs.Building.{ok_line};
 ghost use Rattle.baggage_cli.specs.Loading.{load_heading};
 ghost use Rattle.baggage_cli.specs.Running.{ShowsTruth};
@@ -131,8 +133,8 @@ fn answer_words<R: Threads + Sync, G: Gate, L: Library, S: Source, K: Sink, E: S
 ///
 /// | words | what is read | what is written |
 /// |---|---|---|
-/// | `trim N` | one line of hexadecimal digits, the bytes of a list of atoms | the line of the list cut to `N` bytes |
-/// | `merge` | up to 4,096 lines, each the bytes of a context | the line of their merge, a dash where there is none |
+/// | `trim N` | one line of hexadecimal digits, the bytes of a list of atoms | the line of the list cut to `N` bytes, in its form |
+/// | `merge` | up to 4,096 lines, each the bytes of a context | the line of their merge, in form two where one of them is of it; a dash where there is none |
 /// | `carry W` | one line, the bytes of a context | a numbered line of base64 for each `W` of its bytes |
 /// | `collect` | such lines, in any order and with repeats | the line of the context that they carry |
 /// | `check FILE BAG` | the definition of that file with all that it imports | `ok S`, with the number of the bag's slots |
@@ -167,13 +169,13 @@ pub fn baggage_top<R: Threads + Sync, G: Gate, L: Library, S: Source, K: Sink, E
     // What follows from it, task by task.
     ensures trim { (budget : ℕ) (input : List ℕ)
         → command_of words.now ≡ Some (trim budget) → S.left source.old ≡ Some input → result ≡ 0
-        → (list : List (List ℕ)) × SaysList input list
-        × Appends (K.written out.old) (K.written out.new) (trimmed_line budget list) }
+        → (said : Framed) × SaysList budget input said
+        × Appends (K.written out.old) (K.written out.new) (trimmed_line budget said) }
     ensures merge { (input : List ℕ)
         → command_of words.now ≡ Some merge → S.left source.old ≡ Some input → result ≡ 0
-        → (lists : List (List (List ℕ))) × (merged : List (List ℕ))
-        × SaysContexts input lists × IsMerged lists merged
-        × Appends (K.written out.old) (K.written out.new) (hex_line (bytes_of merged)) }
+        → (said : List Framed) × (merged : List (List ℕ))
+        × SaysContexts input said × IsMerged (lists_of said) merged
+        × Appends (K.written out.old) (K.written out.new) (hex_line (bytes_of (widest said) merged)) }
     ensures carry { (width : ℕ) (input : List ℕ)
         → command_of words.now ≡ Some (carry width) → S.left source.old ≡ Some input → result ≡ 0
         → (bytes : List ℕ) × SaysBytes input bytes
@@ -193,15 +195,15 @@ pub fn baggage_top<R: Threads + Sync, G: Gate, L: Library, S: Source, K: Sink, E
     ensures decode { (file bag : List ℕ) (held : Holding) (input : List ℕ)
         → command_of words.now ≡ Some (decode file bag) → L.files library.old ≡ Some held
         → S.left source.old ≡ Some input → result ≡ 0
-        → (table : Nodes) × (list : List (List ℕ)) × (text : List ℕ)
-        × IsTableOf held file bag table × SaysTyped table input list × IsBlock table list text
+        → (table : Nodes) × (said : Framed) × (text : List ℕ)
+        × IsTableOf held file bag table × SaysTyped table input said × IsBlock table said.0 said.1 text
         × Appends (K.written out.old) (K.written out.new) text }
     ensures run { (file bag : List ℕ) (held : Holding) (input : List ℕ)
         → command_of words.now ≡ Some (run file bag) → L.files library.old ≡ Some held
         → S.left source.old ≡ Some input → result ≡ 0
         → (table : Nodes) × (graph : Graph) × (lists : Lists) × (text : List ℕ)
         × IsTableOf held file bag table × IsGraphOf table input graph
-        × IsRun table graph lists × IsReport table lists graph.shows text
+        × IsRun table graph lists × IsReport table graph lists text
         × ShowsTruth table graph lists
         × Appends (K.written out.old) (K.written out.new) text }
     ensures runtable { (file : List ℕ) (held : Holding) (input : List ℕ)
@@ -209,7 +211,7 @@ pub fn baggage_top<R: Threads + Sync, G: Gate, L: Library, S: Source, K: Sink, E
         → S.left source.old ≡ Some input → result ≡ 0
         → (table : Nodes) × (graph : Graph) × (lists : Lists) × (text : List ℕ)
         × IsPrinted (held file) table × IsGraphOf table input graph
-        × IsRun table graph lists × IsReport table lists graph.shows text
+        × IsRun table graph lists × IsReport table graph lists text
         × ShowsTruth table graph lists
         × Appends (K.written out.old) (K.written out.new) text }
     ensures runjson { (file bag : List ℕ) (held : Holding) (input : List ℕ)
@@ -217,13 +219,13 @@ pub fn baggage_top<R: Threads + Sync, G: Gate, L: Library, S: Source, K: Sink, E
         → S.left source.old ≡ Some input → result ≡ 0
         → (table : Nodes) × (graph : Graph) × (lists : Lists) × (text : List ℕ)
         × IsTableOf held file bag table × IsGraphOf table input graph
-        × IsRun table graph lists × IsJsonReport table lists graph.shows text
+        × IsRun table graph lists × IsJsonReport table graph lists text
         × ShowsTruth table graph lists
         × Appends (K.written out.old) (K.written out.new) (text ++ 10 ∷ []) }
     ensures load { (rounds : ℕ) → command_of words.now ≡ Some (load rounds) → result ≡ 0
         → (graph : Graph) × (lists : Lists) × (text : List ℕ)
         × IsGraphOf load_table (load_text rounds) graph
-        × IsRun load_table graph lists × IsReport load_table lists graph.shows text
+        × IsRun load_table graph lists × IsReport load_table graph lists text
         × ShowsTruth load_table graph lists
         × Appends (K.written out.old) (K.written out.new) (load_heading rounds ++ text) }
     ensures fetched { (task : Task) (origin : Origin) (held : Holding)

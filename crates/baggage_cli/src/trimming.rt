@@ -5,7 +5,7 @@ ghost use Rattle.std.specs.Int.NonZero.{non_zero_u32_get};
 ghost use Rattle.text_lines.specs.Lines.{lines_of};
 ghost use Rattle.text_lines.specs.Readings.{AllSay};
 ghost use Rattle.baggage_cli.specs.Outcomes.{outcome_of, OrMemory};
-ghost use Rattle.baggage_cli.specs.Reading.{only_one, RefusesOne, list_lines};
+ghost use Rattle.baggage_cli.specs.Reading.{only_one, RefusesOne, cut_lines};
 ghost use Rattle.baggage_cli.specs.Trimming.{TrimsLines};
 
 use crate::reading::{end_lines, first_line, line_list};
@@ -15,28 +15,29 @@ use overflow_trim::trim;
 use std::alloc::Global;
 use std::num::NonZeroU32;
 use text_lines::{hex_line, lines_of};
-use wire_bytes::write;
+use wire_bytes::{Form, write};
 
-/// The list of the one line of an input.
-fn only_list(alloc: Global, input: &[u8]) -> Result<AtomList, Refusal>
-    ensures ok { IfOk result (λ list.
-        AllSay (only_one list_lines) [] (lines_of input.now) (list ∷ [])) }
-    ensures err { IfErr result (λ refusal.
-        (refusal ≡ Refusal.Plain Notice.Memory) ⊎ RefusesOne list_lines (lines_of input.now) refusal) }
+/// The list of the one line of an input, with the form of its bytes, in which it can be cut to the budget.
+fn only_list(alloc: Global, input: &[u8], budget: u64) -> Result<(Form, AtomList), Refusal>
+    ensures ok { IfOk result (λ said.
+        AllSay (only_one (cut_lines budget)) [] (lines_of input.now) (said ∷ [])) }
+    ensures err { IfErr result (λ refusal. (refusal ≡ Refusal.Plain Notice.Memory)
+        ⊎ RefusesOne (cut_lines budget) (lines_of input.now) refusal) }
 {
     let mut lines = lines_of(input);
     let line = first_line(&mut lines)?;
-    let list = line_list(alloc, &line)?;
+    let said = line_list(alloc, &line, budget)?;
     end_lines(&mut lines)?;
-    Ok(list)
+    Ok(said)
 }
 
-/// The line of the list of an input's one line, trimmed to the budget.
+/// The line of the list of an input's one line, trimmed to the budget in the form that it came in.
 pub fn trimmed_line(alloc: Global, input: &[u8], budget: NonZeroU32) -> Result<Vec<u8>, Refusal>
     ensures { OrMemory (TrimsLines (non_zero_u32_get budget) (lines_of input.now)) (outcome_of result) }
 {
-    let mut list = only_list(alloc, input)?;
-    trim(&mut list, u64::from(budget.get()));
-    let bytes = write(alloc, &list)?;
+    let budget = u64::from(budget.get());
+    let (form, mut list) = only_list(alloc, input, budget)?;
+    trim(form, &mut list, budget);
+    let bytes = write(alloc, form, &list)?;
     Ok(hex_line(alloc, bytes.as_slice())?)
 }
