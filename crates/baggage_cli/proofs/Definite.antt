@@ -2,6 +2,7 @@
 use Rattle.std.proofs.Common.{◌≡◌, inl, inr, ℕ, ◌≤◌, List, [], ◌∷◌, ◌++◌, length, Option, Some, Result, Ok, Err, refl, sym, ◌∙◌, ap, subst, arith}
 use Rattle.std.proofs.lemmas.Bool.{cases_lt}
 use Rattle.context_model.specs.Atoms.{Atom}
+use Rattle.context_model.specs.Framing.{form_of, least_budget, offset_of}
 use Rattle.context_model.specs.ByteCodes.{ByteCode as PlainCode}
 use Rattle.context_model.specs.ByteCodes as plain
 use Rattle.context_model.specs.ContextFault.{IsContextOf, IsFirstContextFault}
@@ -44,9 +45,9 @@ use Rattle.baggage_cli.specs.Collecting.{CollectsLines}
 use Rattle.baggage_cli.specs.Decoding.{DecodesLines}
 use Rattle.baggage_cli.specs.Filters.{FiltersLines}
 use Rattle.baggage_cli.specs.Laws.{TableLaws, GraphLaws, Laws}
-use Rattle.baggage_cli.specs.Merging.{merged_lines, IsMergeOf}
+use Rattle.baggage_cli.specs.Merging.{lists_of, merged_lines, IsMergeOf}
 use Rattle.baggage_cli.specs.Outcomes.{Outcome, GivesOne}
-use Rattle.baggage_cli.specs.Reading.{Within, RefusesLines, ReadsLines, only_one, ReadsOne, list_bytes, context_bytes, typed_bytes, list_lines, context_lines, typed_lines}
+use Rattle.baggage_cli.specs.Reading.{Framed, Within, RefusesLines, ReadsLines, only_one, ReadsOne, list_bytes, context_bytes, typed_bytes, cut_bytes, cut_lines, context_lines, typed_lines}
 use Rattle.baggage_cli.specs.Running.{input_fault, IsReportAs, IsRunReport, graph_inputs, RunsLines}
 use Rattle.baggage_cli.specs.Tables.{TableGives}
 use Rattle.baggage_cli.specs.Top.{InputGives}
@@ -61,22 +62,26 @@ same_fault f g i j c d f_is g_is offsets codes = let code = one_code c d codes i
 
 -- ---- lines of lists and of contexts
 
+-- What is said in the form of its bytes is one where its list is.
+one_framed : (bytes : List ℕ) (a b : Framed) → a.0 ≡ form_of bytes → b.0 ≡ form_of bytes → a.1 ≡ b.1 → a ≡ b
+one_framed bytes (form, list) (other, same) form_is other_is lists = cc (form_is, other_is, lists)
+
 list_bytes_definite : IsDefinite list_bytes
 list_bytes_definite = record {
-  one_said = λ earlier bytes a b f g. (reads_one_way bytes).list a b f.0 g.0 f.1 g.1;
+  one_said = λ earlier bytes a b (form, f) (other, g). one_framed bytes a b form other ((reads_one_way bytes).list a.1 b.1 f.0 g.0 f.1 g.1);
   one_fault = λ earlier bytes f g (i, c, first, f_is) (j, d, other, g_is).
       let same = (reads_one_way bytes).fault i j (byte_code_of c) (byte_code_of d) first other in
       same_fault f g i j c d f_is g_is same.0 same.1;
-  not_both = λ earlier bytes said fault f (i, c, first, is). (reads_one_way bytes).either said i (byte_code_of c) f.0 f.1 first;
+  not_both = λ earlier bytes said fault (form, f) (i, c, first, is). (reads_one_way bytes).either said.1 i (byte_code_of c) f.0 f.1 first;
 }
 
 context_bytes_definite : IsDefinite context_bytes
 context_bytes_definite = record {
-  one_said = λ earlier bytes a b f g. (has_one_context bytes).list a b f g;
+  one_said = λ earlier bytes a b (form, f) (other, g). one_framed bytes a b form other ((has_one_context bytes).list a.1 b.1 f g);
   one_fault = λ earlier bytes f g (i, c, first, f_is) (j, d, other, g_is).
       let same = (has_one_context bytes).fault i j (byte_code_of c) (byte_code_of d) first other in
       same_fault f g i j c d f_is g_is same.0 same.1;
-  not_both = λ earlier bytes said fault f (i, c, first, is). (has_one_context bytes).either said i (byte_code_of c) f first;
+  not_both = λ earlier bytes said fault (form, f) (i, c, first, is). (has_one_context bytes).either said.1 i (byte_code_of c) f first;
 }
 
 -- What is wrong with bytes under a table.
@@ -85,30 +90,51 @@ TypedFault table bytes fault = (typed_bytes table).faults [] bytes fault
 
 one_typed_fault : (table : Nodes) (bytes : List ℕ) (f g : InputFault) → TypedFault table bytes f → TypedFault table bytes g → f ≡ g
 one_typed_fault table bytes f g (inl bad) (inl other) = context_bytes_definite.one_fault [] bytes f g bad other
-one_typed_fault table bytes f g (inl bad) (inr (list, place, says, first, is)) = absurd (context_bytes_definite.not_both [] bytes list f says bad)
-one_typed_fault table bytes f g (inr (list, place, says, first, is)) (inl bad) = absurd (context_bytes_definite.not_both [] bytes list g says bad)
+one_typed_fault table bytes f g (inl bad) (inr (list, place, says, first, is)) = absurd (context_bytes_definite.not_both [] bytes (form_of bytes, list) f (refl, says) bad)
+one_typed_fault table bytes f g (inr (list, place, says, first, is)) (inl bad) = absurd (context_bytes_definite.not_both [] bytes (form_of bytes, list) g (refl, says) bad)
 one_typed_fault table bytes f g (inr (list, i, says, first, f_is)) (inr (others, j, say, other, g_is)) =
     let same = (has_one_context bytes).list others list say says in
     let place = one_place table list i j first (subst (λ l. IsFirstIllTyped table l j) same other) in
     cc (f_is, g_is, same, place)
 
-said_not_ill_typed : (table : Nodes) (bytes : List ℕ) (said : List Atom) (fault : InputFault) → IsContextOf said bytes → AreTyped table (PathsOf said) [] → TypedFault table bytes fault → ⊥
+said_not_ill_typed : (table : Nodes) (bytes : List ℕ) (said : Framed) (fault : InputFault) → context_bytes.says [] bytes said → AreTyped table (PathsOf said.1) [] → TypedFault table bytes fault → ⊥
 said_not_ill_typed table bytes said fault says typed (inl bad) = context_bytes_definite.not_both [] bytes said fault says bad
 said_not_ill_typed table bytes said fault says typed (inr (list, place, say, first, is)) =
-    let same = (has_one_context bytes).list list said say says in
-    first_ill_typed table said place (subst (λ l. IsFirstIllTyped table l place) same first) typed
+    let same = (has_one_context bytes).list list said.1 say says.1 in
+    first_ill_typed table said.1 place (subst (λ l. IsFirstIllTyped table l place) same first) typed
 
-list_lines_definite : IsDefinite list_lines
-list_lines_definite = hex_lines_definite Hex list_bytes list_bytes_definite
+-- What is wrong with bytes that are cut to a budget.
+abbrev CutFault : ℕ → List ℕ → InputFault → Type 0
+CutFault budget bytes fault = (cut_bytes budget).faults [] bytes fault
+
+one_cut_fault : (budget : ℕ) (bytes : List ℕ) (f g : InputFault) → CutFault budget bytes f → CutFault budget bytes g → f ≡ g
+one_cut_fault budget bytes f g (inl (few, f_is)) (inl (less, g_is)) = f_is ∙ sym g_is
+one_cut_fault budget bytes f g (inl (few, f_is)) (inr (enough, bad)) = absurd (omega arith)
+one_cut_fault budget bytes f g (inr (enough, bad)) (inl (few, g_is)) = absurd (omega arith)
+one_cut_fault budget bytes f g (inr (enough, bad)) (inr (also, other)) = list_bytes_definite.one_fault [] bytes f g bad other
+
+said_not_uncut : (budget : ℕ) (bytes : List ℕ) (said : Framed) (fault : InputFault) → least_budget (form_of bytes) ≤ budget → list_bytes.says [] bytes said → CutFault budget bytes fault → ⊥
+said_not_uncut budget bytes said fault enough says (inl (few, is)) = omega arith
+said_not_uncut budget bytes said fault enough says (inr (also, bad)) = list_bytes_definite.not_both [] bytes said fault says bad
+
+cut_bytes_definite : (budget : ℕ) → IsDefinite (cut_bytes budget)
+cut_bytes_definite budget = record {
+  one_said = λ earlier bytes a b f g. list_bytes_definite.one_said [] bytes a b f.1 g.1;
+  one_fault = λ earlier bytes f g. one_cut_fault budget bytes f g;
+  not_both = λ earlier bytes said fault f. said_not_uncut budget bytes said fault f.0 f.1;
+}
+
+cut_lines_definite : (budget : ℕ) → IsDefinite (cut_lines budget)
+cut_lines_definite budget = hex_lines_definite Hex (cut_bytes budget) (cut_bytes_definite budget)
 
 context_lines_definite : IsDefinite context_lines
 context_lines_definite = hex_lines_definite Hex context_bytes context_bytes_definite
 
 typed_bytes_definite : (table : Nodes) → IsDefinite (typed_bytes table)
 typed_bytes_definite table = record {
-  one_said = λ earlier bytes a b f g. (has_one_context bytes).list a b f.0 g.0;
+  one_said = λ earlier bytes a b f g. context_bytes_definite.one_said [] bytes a b (f.0, f.1) (g.0, g.1);
   one_fault = λ earlier bytes f g. one_typed_fault table bytes f g;
-  not_both = λ earlier bytes said fault f. said_not_ill_typed table bytes said fault f.0 f.1;
+  not_both = λ earlier bytes said fault f. said_not_ill_typed table bytes said fault (f.0, f.1) f.2;
 }
 
 typed_lines_definite : (table : Nodes) → IsDefinite (typed_lines table)
@@ -118,7 +144,7 @@ own_bytes_definite : IsDefinite own_bytes
 own_bytes_definite = record {
   one_said = λ earlier bytes a b f g. f.0 ∙ sym g.0;
   one_fault = λ earlier bytes f g. context_bytes_definite.one_fault [] bytes f g;
-  not_both = λ earlier bytes said fault f. context_bytes_definite.not_both [] bytes (f.1.0) fault f.1.1;
+  not_both = λ earlier bytes said fault f. context_bytes_definite.not_both [] bytes (form_of bytes, f.1.0) fault (refl, f.1.1);
 }
 
 byte_lines_definite : IsDefinite byte_lines
@@ -153,8 +179,8 @@ reads_lines_one reading definite gives one lines (Ok x) (Err s) (said, all, gave
 reads_lines_one reading definite gives one lines (Err r) (Ok y) refused (said, all, gave) = absurd (said_not_refused reading definite lines said r all refused)
 reads_lines_one reading definite gives one lines (Err r) (Err s) f g = ap Err (refuses_lines_one reading definite lines r s f g)
 
-merged_one : (lists : List (List Atom)) (x y : List ℕ) → IsMergeOf lists x → IsMergeOf lists y → x ≡ y
-merged_one lists x y (a, is, x_is) (b, other, y_is) = let same = has_one_merge lists a b is other in cc (x_is, y_is, same)
+merged_one : (said : List Framed) (x y : List ℕ) → IsMergeOf said x → IsMergeOf said y → x ≡ y
+merged_one said x y (a, is, x_is) (b, other, y_is) = let same = has_one_merge (lists_of said) a b is other in cc (x_is, y_is, same)
 
 -- ---- one line
 
@@ -191,8 +217,8 @@ reads_one_one reading definite gives one lines a b (inr f) (inr g) =
 carries_one : (width : ℕ) (bytes : List ℕ) (x y : List ℕ) → x ≡ carried_text width bytes → y ≡ carried_text width bytes → x ≡ y
 carries_one width bytes x y x_is y_is = x_is ∙ sym y_is
 
-trims_one : (budget : ℕ) (list : List Atom) (x y : List ℕ) → x ≡ trimmed_line budget list → y ≡ trimmed_line budget list → x ≡ y
-trims_one budget list x y x_is y_is = x_is ∙ sym y_is
+trims_one : (budget : ℕ) (said : Framed) (x y : List ℕ) → x ≡ trimmed_line budget said → y ≡ trimmed_line budget said → x ≡ y
+trims_one budget said x y x_is y_is = x_is ∙ sym y_is
 
 pub ok_no_err : (output : List ℕ) (refusal : Refusal) → ◌≡◌ {A = Outcome} (Ok output) (Err refusal) → ⊥
 ok_no_err output refusal e = cc e
@@ -264,9 +290,9 @@ graph_inputs_definite definite table is_table = record {
 
 module _ (laws : GraphLaws) (table : Nodes) (is_table : IsTable table) where
   -- A run has one report of each form.
-  reports_one : (form : Form) (lists : Lists) (shows x y : List ℕ) → IsReportAs form table lists shows x → IsReportAs form table lists shows y → x ≡ y
-  reports_one as_lines lists shows x y report other = laws.one_report table lists shows x y report other
-  reports_one as_json lists shows x y (a, report, x_is) (b, other, y_is) = x_is ∙ ap (λ text. text ++ 10 ∷ []) (laws.one_json_report table lists shows a b report other) ∙ sym y_is
+  reports_one : (form : Form) (graph : Graph) (lists : Lists) (x y : List ℕ) → IsReportAs form table graph lists x → IsReportAs form table graph lists y → x ≡ y
+  reports_one as_lines graph lists x y report other = laws.one_report table graph lists x y report other
+  reports_one as_json graph lists x y (a, report, x_is) (b, other, y_is) = x_is ∙ ap (λ text. text ++ 10 ∷ []) (laws.one_json_report table graph lists a b report other) ∙ sym y_is
 
   -- The lines of a text come to one outcome.
   runs_one : (form : Form) (text : List ℕ) (a b : Outcome) → RunsLines form table (lines_of text) a → RunsLines form table (lines_of text) b → a ≡ b
@@ -275,7 +301,7 @@ module _ (laws : GraphLaws) (table : Nodes) (is_table : IsTable table) where
       let there : IsRunReport form table (graph_of every) y = subst (λ said. IsRunReport form table (graph_of said) y) same reported in
       let recorded = laws.recorded table text (graph_of every) is_table (every, lines_say table [] (lines_of text) every all, refl) in
       let one = laws.one_run table (graph_of every) there.0 lists recorded there.1 ran in
-      ap Ok (reports_one form lists (graph_of every).shows x y report (subst (λ ls. IsReportAs form table ls (graph_of every).shows y) one there.2))
+      ap Ok (reports_one form (graph_of every) lists x y report (subst (λ ls. IsReportAs form table (graph_of every) ls y) one there.2))
   runs_one form text (Ok x) (Err s) (every, all, report) refused =
       absurd (said_not_refused (graph_inputs table) (graph_inputs_definite laws.definite table is_table) (lines_of text) every s all refused)
   runs_one form text (Err r) (Ok y) refused (every, all, report) =
@@ -294,7 +320,7 @@ module _ (laws : Laws) (table : Nodes) (is_table : IsTable table) where
   -- An input gives one outcome under a table.
   input_under_one : (purpose : Purpose) → GivesOne (InputUnder purpose table)
   input_under_one decoding =
-      within_one (DecodesLines table) (reads_one_one (typed_lines table) (typed_lines_definite table) (IsBlock table) (laws.one_block table))
+      within_one (DecodesLines table) (reads_one_one (typed_lines table) (typed_lines_definite table) (λ said. IsBlock table said.0 said.1) (λ said. laws.one_block table said.0 said.1))
   input_under_one (running form) = run_gives_one laws.graphs table is_table form
 
 -- ---- tasks
@@ -312,7 +338,7 @@ same_table laws origin files held other table found told is same known =
 
 -- Lines come to one outcome by themselves.
 filters_lines_one : Laws → (filter : Filter) (lines : List Line) (a b : Outcome) → FiltersLines filter lines a → FiltersLines filter lines b → a ≡ b
-filters_lines_one laws (trimming budget) = reads_one_one list_lines list_lines_definite (λ list output. output ≡ trimmed_line budget list) (trims_one budget)
+filters_lines_one laws (trimming budget) = reads_one_one (cut_lines budget) (cut_lines_definite budget) (λ said output. output ≡ trimmed_line budget said) (trims_one budget)
 filters_lines_one laws merging = reads_lines_one merged_lines merged_lines_definite IsMergeOf merged_one
 filters_lines_one laws (carrying width) = reads_one_one byte_lines byte_lines_definite (λ bytes output. output ≡ carried_text width bytes) (carries_one width)
 filters_lines_one laws collecting = collects_lines_one laws

@@ -38,9 +38,9 @@ use Rattle.baggage_cli.specs.declared.refusals.Refusal.{Refusal}
 use Rattle.baggage_cli.specs.declared.refusals.Refusal.TheVariants.{Input}
 use Rattle.baggage_cli.specs.Filters.{FiltersLines, FilterGives}
 use Rattle.baggage_cli.specs.Laws.{GraphLaws, Laws}
-use Rattle.baggage_cli.specs.Merging.{MergesLines}
+use Rattle.baggage_cli.specs.Merging.{lists_of, widest, MergesLines}
 use Rattle.baggage_cli.specs.Outcomes.{Outcome}
-use Rattle.baggage_cli.specs.Reading.{IsRead, Within, ReadsOne, list_lines, context_lines, typed_lines}
+use Rattle.baggage_cli.specs.Reading.{Framed, IsRead, Within, ReadsOne, cut_lines, context_lines, typed_lines}
 use Rattle.baggage_cli.specs.Refusals.{status_of, input_status, input_line, line_of, notice_line}
 use Rattle.baggage_cli.specs.Loading.{load_heading, IsLoadOutput}
 use Rattle.baggage_cli.specs.Running.{IsReportAs, ShowsTruth}
@@ -176,28 +176,29 @@ one_said reading gives input output (inr (short, inr (said, all, (a, is, gave)))
 
 -- Where the answer is 0, the one line of the input says a list, and the line of the trimmed list was written.
 pub trim_appends : (budget : ℕ) (input : List ℕ) (scene : Scene) (answer : ℕ) → Answers (Some (trim budget)) scene answer → scene.source.before ≡ Some input → answer ≡ 0
-    → (list : List Atom) × SaysList input list × Appends scene.out.before scene.out.after (trimmed_line budget list)
+    → (said : Framed) × SaysList budget input said × Appends scene.out.before scene.out.after (trimmed_line budget said)
 trim_appends budget input scene answer answers told zero =
     let done = read_done (trim budget) scene answer (ending (trim budget) scene answer answers) tt zero in
     let same = told_input scene.source input done.input told done.read in
-    let (list, says, is) = one_said list_lines (λ l output. output ≡ trimmed_line budget l) input done.output (subst (λ i. FilterGives (trimming budget) i (Ok done.output)) (sym same) done.gave) in
-    (list, says, subst (Appends scene.out.before scene.out.after) is done.out.0)
+    let (said, says, is) = one_said (cut_lines budget) (λ s output. output ≡ trimmed_line budget s) input done.output (subst (λ i. FilterGives (trimming budget) i (Ok done.output)) (sym same) done.gave) in
+    (said, says, subst (Appends scene.out.before scene.out.after) is done.out.0)
 
 -- The lines of an input that were merged say contexts.
 contexts_merged : (input output : List ℕ) → Within MergesLines input (Ok output)
-    → (lists : List (List Atom)) × (merged : List Atom) × SaysContexts input lists × IsMerged lists merged × (output ≡ hex_line (bytes_of merged))
+    → (said : List Framed) × (merged : List Atom) × SaysContexts input said × IsMerged (lists_of said) merged × (output ≡ hex_line (bytes_of (widest said) merged))
 contexts_merged input output (inl long) = absurd (ok_no_err output _ long.1)
-contexts_merged input output (inr (short, (lists, all, (merged, merges, is)))) =
-    (lists, merged, (short, at_most-all_say LINES_MAX (Code TooManyLines) context_lines [] (lines_of input) lists all, at_most-few LINES_MAX (Code TooManyLines) context_lines (lines_of input) lists all), merges, is)
+contexts_merged input output (inr (short, (said, all, (merged, merges, is)))) =
+    (said, merged, (short, at_most-all_say LINES_MAX (Code TooManyLines) context_lines [] (lines_of input) said all, at_most-few LINES_MAX (Code TooManyLines) context_lines (lines_of input) said all), merges, is)
 
 -- Where the answer is 0, the lines of the input say contexts, and the line of their merge was written.
 pub merge_appends : (input : List ℕ) (scene : Scene) (answer : ℕ) → Answers (Some merge) scene answer → scene.source.before ≡ Some input → answer ≡ 0
-    → (lists : List (List Atom)) × (merged : List Atom) × SaysContexts input lists × IsMerged lists merged × Appends scene.out.before scene.out.after (hex_line (bytes_of merged))
+    → (said : List Framed) × (merged : List Atom) × SaysContexts input said × IsMerged (lists_of said) merged
+    × Appends scene.out.before scene.out.after (hex_line (bytes_of (widest said) merged))
 merge_appends input scene answer answers told zero =
     let done = read_done merge scene answer (ending merge scene answer answers) tt zero in
     let same = told_input scene.source input done.input told done.read in
-    let (lists, merged, says, merges, is) = contexts_merged input done.output (subst (λ i. Within MergesLines i (Ok done.output)) (sym same) done.gave) in
-    (lists, merged, says, merges, subst (Appends scene.out.before scene.out.after) is done.out.0)
+    let (said, merged, says, merges, is) = contexts_merged input done.output (subst (λ i. Within MergesLines i (Ok done.output)) (sym same) done.gave) in
+    (said, merged, says, merges, subst (Appends scene.out.before scene.out.after) is done.out.0)
 
 -- Where the answer is 0, the one line of the input says the bytes of a context, and the lines of their pieces were written.
 pub carry_appends : (width : ℕ) (input : List ℕ) (scene : Scene) (answer : ℕ) → Answers (Some (carry width)) scene answer → scene.source.before ≡ Some input → answer ≡ 0
@@ -245,12 +246,12 @@ gave_under purpose origin held input scene answer answers told content zero =
 -- Where the answer is 0, the one line of the input says a context that is typed under the table, and the block of the context was written.
 pub decode_appends : (file bag : List ℕ) (held : Holding) (input : List ℕ) (scene : Scene) (answer : ℕ) → Answers (Some (decode file bag)) scene answer
     → scene.library.before ≡ Some held → scene.source.before ≡ Some input → answer ≡ 0
-    → (table : Nodes) × (list : List Atom) × (text : List ℕ) × IsTableOf held file bag table × SaysTyped table input list × IsBlock table list text
+    → (table : Nodes) × (said : Framed) × (text : List ℕ) × IsTableOf held file bag table × SaysTyped table input said × IsBlock table said.0 said.1 text
     × Appends scene.out.before scene.out.after text
 decode_appends file bag held input scene answer answers told content zero =
     let done = gave_under decoding (compiled file bag) held input scene answer answers told content zero in
-    let (list, says, block) = one_said (typed_lines done.table) (IsBlock done.table) input done.output done.gave in
-    (done.table, list, done.output, done.is, says, block, done.written)
+    let (said, says, block) = one_said (typed_lines done.table) (λ s. IsBlock done.table s.0 s.1) input done.output done.gave in
+    (done.table, said, done.output, done.is, says, block, done.written)
 
 -- What is shown of a run is honest.
 shows_truth : GraphLaws → (table : Nodes) (graph : model.Graph) (lists : Lists) → IsRecorded table graph → IsRun table graph lists → ShowsTruth table graph lists
@@ -261,7 +262,7 @@ shows_truth laws table graph lists recorded ran = λ n slot exact v among shown.
 abbrev pub RanUnder : Form → Origin → Holding → List ℕ → Scene → Type 0
 RanUnder form origin held input scene =
     (table : Nodes) × (graph : model.Graph) × (lists : Lists) × (output : List ℕ) × TableGives origin held (Ok table) × IsGraphOf table input graph
-    × IsRun table graph lists × IsReportAs form table lists graph.shows output × ShowsTruth table graph lists × Appends scene.out.before scene.out.after output
+    × IsRun table graph lists × IsReportAs form table graph lists output × ShowsTruth table graph lists × Appends scene.out.before scene.out.after output
 
 pub run_appends : Laws → (form : Form) (origin : Origin) (held : Holding) (input : List ℕ) (scene : Scene) (answer : ℕ) → Answers (Some (under (running form) origin)) scene answer
     → scene.library.before ≡ Some held → scene.source.before ≡ Some input → answer ≡ 0 → RanUnder form origin held input scene
@@ -277,7 +278,7 @@ run_appends laws form origin held input scene answer answers told content zero =
 pub run_json_appends : Laws → (file bag : List ℕ) (held : Holding) (input : List ℕ) (scene : Scene) (answer : ℕ) → Answers (Some (run_json file bag)) scene answer
     → scene.library.before ≡ Some held → scene.source.before ≡ Some input → answer ≡ 0
     → (table : Nodes) × (graph : model.Graph) × (lists : Lists) × (text : List ℕ) × IsTableOf held file bag table × IsGraphOf table input graph
-    × IsRun table graph lists × IsJsonReport table lists graph.shows text × ShowsTruth table graph lists × Appends scene.out.before scene.out.after (text ++ 10 ∷ [])
+    × IsRun table graph lists × IsJsonReport table graph lists text × ShowsTruth table graph lists × Appends scene.out.before scene.out.after (text ++ 10 ∷ [])
 run_json_appends laws file bag held input scene answer answers told content zero =
     let (table, graph, lists, output, is, says, ran, (text, report, output_is), truth, written) = run_appends laws as_json (compiled file bag) held input scene answer answers told content zero in
     (table, graph, lists, text, is, says, ran, report, truth, subst (Appends scene.out.before scene.out.after) output_is written)
@@ -305,7 +306,7 @@ load_written rounds scene answer (sink_failed five failed) is = absurd (omega ar
 -- Where the answer is 0, the heading of the load and the report of its graph's run were written.
 pub load_appends : Laws → (rounds : ℕ) (scene : Scene) (answer : ℕ) → Answers (Some (load rounds)) scene answer → answer ≡ 0
     → (graph : model.Graph) × (lists : Lists) × (text : List ℕ) × IsGraphOf load_table (load_text rounds) graph
-    × IsRun load_table graph lists × IsReport load_table lists graph.shows text × ShowsTruth load_table graph lists
+    × IsRun load_table graph lists × IsReport load_table graph lists text × ShowsTruth load_table graph lists
     × Appends scene.out.before scene.out.after (load_heading rounds ++ text)
 load_appends laws rounds scene answer answers zero =
     let (output, (graph, text, says, (lists, ran, report), is), written) = load_written rounds scene answer (ending (load rounds) scene answer answers) zero in

@@ -62,7 +62,7 @@ refused_run form table text (Ok output) fault is bad = absurd is
 refused_run form table text (Err other) fault is bad = subst (λ r. OrMemory (RunsLines form table (lines_of text)) (Err r)) (sym is) (refused_graph form table text fault bad)
 
 -- A graph that a text says is run, and its report is what the lines come to.
-pub graph_ran : (form : Form) (table : Nodes) (text : List ℕ) (graph : Graph) (lists : Lists) (output : List ℕ) → IsGraphOf table text graph → IsRun table graph lists → IsReportAs form table lists graph.shows output
+pub graph_ran : (form : Form) (table : Nodes) (text : List ℕ) (graph : Graph) (lists : Lists) (output : List ℕ) → IsGraphOf table text graph → IsRun table graph lists → IsReportAs form table graph lists output
     → RunsLines form table (lines_of text) (Ok output)
 graph_ran form table text graph lists output (every, all, is) run report =
     (every, inputs_say table [] (lines_of text) every all, subst (λ g. IsRunReport form table g output) is (lists, run, report))

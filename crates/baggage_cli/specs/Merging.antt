@@ -7,7 +7,7 @@ use Rattle.context_model.specs.Framing.{bytes_of}
 use Rattle.context_model.specs.Merged.{IsMerged}
 use Rattle.text_lines.specs.HexLines.{hex_line}
 use Rattle.text_lines.specs.Lines.{Line}
-use Rattle.text_lines.specs.Readings.{Reading, at_most}
+use Rattle.text_lines.specs.Readings.{Reading, AllSay, at_most}
 use Rattle.baggage_cli.specs.declared.merging.TheConstants.{LINES_MAX}
 use Rattle.baggage_cli.specs.declared.refusals.InputCode.TheVariants.{TooManyLines}
 use Rattle.baggage_cli.specs.declared.refusals.InputFault.{InputFault}
@@ -28,6 +28,11 @@ abbrev pub widest : List Framed → WireForm
 widest [] = One
 widest ((One, list) ∷ said) = widest said
 widest ((Two, list) ∷ said) = Two
+
+-- Lines say these contexts, and this is the widest of their forms.
+abbrev pub AreContexts : List Line → WireForm → List (List Atom) → Type 0
+AreContexts lines form lists =
+    (said : List Framed) × AllSay merged_lines [] lines said × (form ≡ widest said) × (lists ≡ lists_of said)
 
 -- The output is the line of the merge of these contexts, in the widest of their forms.
 abbrev pub IsMergeOf : List Framed → List ℕ → Type 0

@@ -1,11 +1,10 @@
 //! The command that merges the contexts of all lines.
 
-ghost use Rattle.std.specs.Prelude.{◌≡◌, ◌⊎◌, List, [], IfOk, IfErr};
+ghost use Rattle.std.specs.Prelude.{◌≡◌, ◌⊎◌, IfOk, IfErr};
 ghost use Rattle.text_lines.specs.Lines.{lines_of};
-ghost use Rattle.text_lines.specs.Readings.{AllSay};
 ghost use Rattle.baggage_cli.specs.Outcomes.{outcome_of, OrMemory};
-ghost use Rattle.baggage_cli.specs.Reading.{Framed, RefusesLines};
-ghost use Rattle.baggage_cli.specs.Merging.{lists_of, merged_lines, widest, MergesLines};
+ghost use Rattle.baggage_cli.specs.Reading.{RefusesLines};
+ghost use Rattle.baggage_cli.specs.Merging.{merged_lines, AreContexts, MergesLines};
 
 use crate::reading::line_context;
 use crate::refusals::{InputCode, InputFault, Notice, Refusal};
@@ -20,8 +19,7 @@ pub const LINES_MAX: usize = 4096;
 
 /// The contexts of all lines of an input, and the widest of their forms.
 fn read_contexts(alloc: Global, input: &[u8]) -> Result<(Form, Vec<Context>), Refusal>
-    ensures ok { IfOk result (λ read. (said : List Framed) × AllSay merged_lines [] (lines_of input.now) said
-        × (read.0 ≡ widest said) × (read.1.items ≡ lists_of said)) }
+    ensures ok { IfOk result (λ read. AreContexts (lines_of input.now) read.0 read.1.items) }
     ensures err { IfErr result (λ refusal.
         (refusal ≡ Refusal.Plain Notice.Memory) ⊎ RefusesLines merged_lines (lines_of input.now) refusal) }
 {

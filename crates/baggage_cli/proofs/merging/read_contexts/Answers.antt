@@ -2,15 +2,10 @@ use Rattle.std.proofs.Common.{◌≡◌, ◌<◌, ◌≤◌, inr, refl, sym, ◌
 use Rattle.std.proofs.lemmas.List.{map-append}
 use Rattle.std.proofs.lemmas.Result.{err_from_is_err_and}
 use Rattle.text_lines.specs.Lines.{line_value, lines_of}
-use Rattle.text_lines.specs.Readings.{AllSay}
 use Rattle.text_lines.proofs.LineLaws.{taken_before}
-use Rattle.text_lines.proofs.ReadingLaws.{all_say_more, at_most-few, next_bad}
 use Rattle.baggage_cli.specs.declared.merging.TheConstants.{LINES_MAX}
-use Rattle.baggage_cli.specs.declared.refusals.InputCode.TheVariants.{TooManyLines}
-use Rattle.baggage_cli.specs.declared.refusals.InputFault.TheVariants.{Code}
-use Rattle.baggage_cli.specs.Merging.{merged_lines}
-use Rattle.baggage_cli.specs.Reading.{context_lines}
-use Rattle.baggage_cli.proofs.ContextLines.{next_refused}
+use Rattle.baggage_cli.specs.Merging.{AreContexts}
+use Rattle.baggage_cli.proofs.ContextLines.{contexts-few, too_many, next_refused, next_wide, next_same}
 use Rattle.baggage_cli.proofs.merging.read_contexts.Goals as goal
 
 pub returns-then-len-eq-LINES_MAX-clause-err : goal.returns-then-len-eq-LINES_MAX-clause-err
@@ -18,32 +13,15 @@ returns-then-len-eq-LINES_MAX-clause-err c =
     let start : lines_of c.args.input.now ≡ c.into_iter-line-iterator.result = cc (c.lines_of-line-items.ensures, c.into_iter-line-iterator.ensures.into_iter_gives) in
     let split = start ∙ taken_before c.into_iter-line-iterator.result c.loop-line.yielded c.loop-line.line-iterator c.loop-line.yielded_by in
     let all : LINES_MAX ≤ length c.loop-line.contexts.items = omega arith in
-    let fault = Code TooManyLines in
-    inr (
-      c.in-Some.line.number,
-      fault,
-      next_bad merged_lines (lines_of c.args.input.now) (map line_value c.loop-line.yielded) (line_value c.in-Some.line) c.next.new.self c.loop-line.line-iterator c.loop-line.contexts.items fault
-          split c.in-Some.ensures.steps c.loop-line.invariant (inr (all, refl)),
-      refl,
-    )
+    inr (too_many (lines_of c.args.input.now) (map line_value c.loop-line.yielded) (line_value c.in-Some.line) c.next.new.self c.loop-line.line-iterator c.loop-line.widest c.loop-line.contexts.items
+        split c.in-Some.ensures.steps c.loop-line.invariant all)
 
 pub returns-in_err-line_context-clause-err : goal.returns-in_err-line_context-clause-err
 returns-in_err-line_context-clause-err c =
     let start : lines_of c.args.input.now ≡ c.into_iter-line-iterator.result = cc (c.lines_of-line-items.ensures, c.into_iter-line-iterator.ensures.into_iter_gives) in
     let split = start ∙ taken_before c.into_iter-line-iterator.result c.loop-line.yielded c.loop-line.line-iterator c.loop-line.yielded_by in
-    let most = at_most-few LINES_MAX (Code TooManyLines) context_lines (map line_value c.loop-line.yielded) c.loop-line.contexts.items c.loop-line.invariant in
+    let most = contexts-few (map line_value c.loop-line.yielded) c.loop-line.widest c.loop-line.contexts.items c.loop-line.invariant in
     let few : length c.loop-line.contexts.items < LINES_MAX = omega arith in
     let same = err_from_is_err_and c.from_residual.result c.from_residual.ensures.1 in
-    rw (same.1, same.2) (next_refused (lines_of c.args.input.now) (map line_value c.loop-line.yielded) (line_value c.in-Some.line) c.next.new.self c.loop-line.line-iterator c.loop-line.contexts.items
-    c.in_err-line_context.field-0.0 split c.in-Some.ensures.steps c.loop-line.invariant few c.in_err-line_context.ensures.err)
-
-pub loop-line-preserved : goal.loop-line-preserved
-loop-line-preserved c =
-    let before = map line_value c.loop-line.yielded in
-    let line = line_value c.in-Some.line in
-    let list = c.in_ok-line_context.field-0 in
-    let most = at_most-few LINES_MAX (Code TooManyLines) context_lines before c.loop-line.contexts.items c.loop-line.invariant in
-    let few : length c.loop-line.contexts.items < LINES_MAX = omega arith in
-    subst (λ lists. AllSay merged_lines [] (map line_value (c.loop-line.yielded ++ c.in-Some.line ∷ [])) lists) (sym c.in_ok-push.ensures.items)
-    (subst (λ lines. AllSay merged_lines [] lines (c.loop-line.contexts.items ++ list ∷ [])) (sym (map-append line_value c.loop-line.yielded (c.in-Some.line ∷ [])))
-    (all_say_more merged_lines before c.loop-line.contexts.items line list c.loop-line.invariant (few, c.in_ok-line_context.ensures.ok)))
+    rw (same.1, same.2) (next_refused (lines_of c.args.input.now) (map line_value c.loop-line.yielded) (line_value c.in-Some.line) c.next.new.self c.loop-line.line-iterator c.loop-line.widest
+    c.loop-line.contexts.items c.in_err-line_context.field-0.0 split c.in-Some.ensures.steps c.loop-line.invariant few c.in_err-line_context.ensures.err)

@@ -23,5 +23,5 @@ returns g c =
     let form = form_of c.args.form in
     let graph = c.in_ok-graph.graph in
     let text = c.in_ok-report_as.field-0.items in
-    let says = subst (λ (lists : Lists). IsReportAs form c.args.table.now lists graph.shows text) c.as_slice.ensures.value c.in_ok-report_as.ensures in
+    let says = subst (λ (lists : Lists). IsReportAs form c.args.table.now graph lists text) c.as_slice.ensures.value c.in_ok-report_as.ensures in
     inr (graph_ran form c.args.table.now c.args.input.now graph c.in_ok-lists.lists.items text c.in_ok-graph.ensures.graph c.in_ok-lists.ensures.run says)
