@@ -20,7 +20,7 @@ use set_map_types::SetOf;
 use std::alloc::Global;
 use std::process::Abort;
 use std::test::Fail;
-use wire_bytes::write;
+use wire_bytes::{Form, write};
 
 /// The words of scalars.
 const WORDS: [&str; 13] = [
@@ -248,8 +248,8 @@ fn is_written_as<R: Abort>(
     let slots = slots_of(rt, alloc, table, &whole)?;
     assert_eq!(rt; slots_of(rt, alloc, table, &merged)?, slots, "{definition}");
     let fewest = normal(alloc, table, &View::All, merged)?;
-    let bytes = write(alloc, whole.list())?;
-    assert_eq!(rt; write(alloc, fewest.list())?, bytes, "{definition}");
+    let bytes = write(alloc, Form::One, whole.list())?;
+    assert_eq!(rt; write(alloc, Form::One, fewest.list())?, bytes, "{definition}");
     Ok(())
 }
 

@@ -22,7 +22,9 @@ m.bdl|bag In { set<bytes> seen = 0; counter by = 1; taint hit = 2; uint32 low = 
 
 two.bdl|import "q.bdl"; bag In { bool ok = 0; } bag Two { map<bool, In> by = 0; In at = 2; }
 
-none.bdl|bag B { }"#;
+none.bdl|bag B { }
+
+g.bdl|bag G { greatest<uint32> top = 0; }"#;
 
 /// The words that run a graph of a request.
 pub const RUN: &str = "run q.bdl Req";

@@ -36,10 +36,10 @@ static TRIMS: [Row; 17] = [
         "context line 1 offset 3 AtomTooLong\n",
     ),
     (
-        "trim 9",
+        "trim 13",
         "ffffff02",
         3,
-        "context line 1 offset 0 AtomTooLong\n",
+        "context line 1 offset 4 CutLength\n",
     ),
     ("trim 9", "8000", 3, "context line 1 offset 0 LongForm\n"),
     (
@@ -127,7 +127,7 @@ static NO_CONTEXTS: [Row; 21] = [
         "merge",
         "ffffff02",
         3,
-        "context line 1 offset 0 AtomTooLong\n",
+        "context line 1 offset 4 CutLength\n",
     ),
     ("merge", "0101", 3, "context line 1 offset 0 BadPrefix\n"),
     ("merge", "03f88000", 3, "context line 1 offset 0 BadIndex\n"),
@@ -192,6 +192,71 @@ static NO_CONTEXTS: [Row; 21] = [
     ),
 ];
 
+/// Lines in the form with a head.
+static WITH_HEADS: [Row; 21] = [
+    (
+        "trim 22",
+        "ffffff02000000000000000f02f800050000000007050000000009",
+        0,
+        "ffffff02000000000000000a02f80005000000000700\n",
+    ),
+    (
+        "trim 27",
+        "ffffff02000000000000000f02f800050000000007050000000009",
+        0,
+        "ffffff02000000000000000f02f800050000000007050000000009\n",
+    ),
+    (
+        "trim 26",
+        "ffffff02000000000000000f02f800050000000007050000000009",
+        0,
+        "ffffff02000000000000000a02f80005000000000700\n",
+    ),
+    (
+        "trim 21",
+        "ffffff02000000000000000f02f800050000000007050000000009",
+        0,
+        "ffffff02000000000000000402f80000\n",
+    ),
+    (
+        "trim 13",
+        "ffffff02000000000000000f02f800050000000007050000000009",
+        0,
+        "ffffff02000000000000000100\n",
+    ),
+    (
+        "trim 12",
+        "ffffff02000000000000000f02f800050000000007050000000009",
+        2,
+        "input line 1 BudgetRange\n",
+    ),
+    ("trim 12", "ffffff02", 2, "input line 1 BudgetRange\n"),
+    ("trim 12", "ffffff02aa\n0101", 2, "input line 1 BudgetRange\n"),
+    ("trim 12", "ffffff0", 2, "input line 1 BadHex\n"),
+    ("trim 13", "ffffff020000000000000000", 0, "ffffff020000000000000000\n"),
+    ("merge", "ffffff020000000000000000", 0, "ffffff020000000000000000\n"),
+    (
+        "merge",
+        "02f801020061\nffffff02000000000000000902f800050000000007",
+        0,
+        "ffffff02000000000000000f02f80005000000000702f801020061\n",
+    ),
+    (
+        "merge",
+        "ffffff02000000000000000902f800050000000007\n-",
+        0,
+        "ffffff02000000000000000902f800050000000007\n",
+    ),
+    ("merge", "ffffff0200000000000000", 3, "context line 1 offset 4 CutLength\n"),
+    ("merge", "ffffff02000000000000000102f800", 3, "context line 1 offset 4 BadCount\n"),
+    ("merge", "ffffff02000000000000000002f800", 3, "context line 1 offset 4 BadCount\n"),
+    ("merge", "ffffff02000000000000000180", 3, "context line 1 offset 12 CutLength\n"),
+    ("merge", "ffffff0200000000000000028000", 3, "context line 1 offset 12 LongForm\n"),
+    ("merge", "ffffff020000000000000003d00001", 3, "context line 1 offset 12 AtomTooLong\n"),
+    ("merge", "ffffff02000000000000000103", 3, "context line 1 offset 12 CutBody\n"),
+    ("merge", "ffffff02000000000000000602f80102f800", 3, "context line 1 offset 15 OutOfOrder\n"),
+];
+
 #[test]
 fn lines_of_contexts(rt: HostRuntime) -> Result<(), Fail> {
     let alloc = rt.alloc();
@@ -200,6 +265,7 @@ fn lines_of_contexts(rt: HostRuntime) -> Result<(), Fail> {
         LINES.as_slice(),
         MERGES.as_slice(),
         NO_CONTEXTS.as_slice(),
+        WITH_HEADS.as_slice(),
     ] {
         all_hold(&rt, alloc, rows)?;
     }

@@ -42,7 +42,7 @@ fn put_copy(text: &mut String, piece: &str, number: usize) -> Result<(), Fail> {
 /// A call with a long input: its words, the input, its status, and what it writes.
 type Row = (&'static str, Long, u8, &'static str);
 
-static INPUTS: [Row; 26] = [
+static INPUTS: [Row; 29] = [
     // The longest lines.
     ("trim 1", ("", "0", DIGITS_MAX, ""), 0, "00\n"),
     ("trim 1", ("", "0", DIGITS_MAX, "\r\n"), 0, "00\n"),
@@ -215,7 +215,60 @@ static INPUTS: [Row; 26] = [
         2,
         "input line 3 BadValue\n",
     ),
+    (
+        RUN,
+        (
+            "service2 a all\nstart 0 a\nset 1 0 tags \"",
+            "k",
+            1_048_575,
+            "\"",
+        ),
+        0,
+        "",
+    ),
+    (
+        RUN,
+        (
+            "service2 a all\nstart 0 a\nset 1 0 tags \"",
+            "k",
+            1_048_576,
+            "\"",
+        ),
+        2,
+        "input line 3 BadValue\n",
+    ),
+    (
+        RUN,
+        (
+            "service2 a all\nstart 0 a\nset 1 0 load \"",
+            "k",
+            65_535,
+            "\":1",
+        ),
+        0,
+        "",
+    ),
 ];
+
+/// A graph with a long string, and the two parts of its report.
+static WIDE: Long = (
+    "service2 w all\nservice n none\nstart 0 w\nset 1 0 tags \"",
+    "a",
+    70_000,
+    "\"\nforward 2 1 n\nshow 2\n",
+);
+static WIDE_BYTES: Long = (
+    "step 2\nbytes ffffff02000000000001117702f801c1117100",
+    "61",
+    70_000,
+    "\nid exact -\ntags exact {\"",
+);
+static WIDE_VALUE: Long = (
+    "",
+    "a",
+    70_000,
+    "\"}\nhops exact 0{}\ndebug exact off\nload exact {}\n",
+);
 
 #[test]
 fn long_inputs(rt: HostRuntime) -> Result<(), Fail> {
@@ -224,6 +277,12 @@ fn long_inputs(rt: HostRuntime) -> Result<(), Fail> {
         let input = spelled(alloc, long)?;
         holds(&rt, alloc, FILES, line, input.as_bytes(), *status, text)?;
     }
+    // A long atom is shown behind a head, also at a service that writes none.
+    let wide = spelled(alloc, &WIDE)?;
+    let bytes = spelled(alloc, &WIDE_BYTES)?;
+    let value = spelled(alloc, &WIDE_VALUE)?;
+    let report = format!(in alloc; "{bytes}{value}")?;
+    holds(&rt, alloc, FILES, RUN, wide.as_bytes(), 0, report.as_str())?;
     // What stands behind an input that is too long is left.
     let input = spelled(alloc, &("", "#", INPUT_MAX, "\n-"))?;
     let mut objects = Objects::new(alloc, FILES, input.as_bytes())?;

@@ -18,6 +18,11 @@ set 2 0 idd 7 => input line 5 NoSuchPath
 set 2 1 id 7 => input line 5 NotKnown
 set 2 0 id 4294967296 => input line 5 BadValue
 trim 2 0 0 => input line 5 BudgetRange
+service2 a all => input line 5 DuplicateService
+service2 c only idd => input line 5 NoSuchPath
+service2 c some => input line 5 Form
+service22 c all => input line 5 Form
+service 2 all => input line 5 Form
 recv 2 a 0 => input line 5 BadHex
 service c => input line 5 Form
 service c some => input line 5 Form
@@ -113,7 +118,21 @@ recv 2 a 02f80102006102f80402f1ff => context line 5 offset 9 IllTyped
 set 2 1 idd 7 => input line 5 NoSuchPath"#;
 
 /// Graphs of their own, with their line ends as they stand.
-static GRAPHS: [Row; 11] = [
+static GRAPHS: [Row; 14] = [
+    // What is received is read in its own form, and the least budget is that of the service's.
+    (
+        RUN,
+        "service n none\nrecv 0 n ffffff02000000000000000802f8000400000007\n",
+        3,
+        "context line 2 offset 15 IllTyped\n",
+    ),
+    (
+        RUN,
+        "service2 a all\nstart 0 a\ntrim 1 0 12\n",
+        2,
+        "input line 3 BudgetRange\n",
+    ),
+    (RUN, "service2 a all\nstart 0 a\ntrim 1 0 13\n", 0, ""),
     // What a service that knows nothing receives is looked at too.
     (
         RUN,

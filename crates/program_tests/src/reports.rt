@@ -793,4 +793,54 @@ id exact 4100
 tags exact {"eu","q","web"}
 hops exact 12{0x61757468:3,0x63617274:2,0x6777:3,0x73746f636b:4}
 debug exact on
-load partial {"bill":70,"cart":280,"stock":12}"#;
+load partial {"bill":70,"cart":280,"stock":12}
+
+q.bdl Req | service2 a all / start 0 a / set 1 0 id 7 / show 1
+step 1
+bytes ffffff02000000000000000902f800050000000007
+id exact 7
+tags exact {}
+hops exact 0{}
+debug exact off
+load exact {}
+
+q.bdl Req | service2 w all / service n all / start 0 w / show 0 / set 1 0 id 7 / forward 2 1 n / show 2 / trim 3 1 20 / show 3 / trim 4 2 9 / show 4
+step 0
+bytes ffffff020000000000000000
+id exact -
+tags exact {}
+hops exact 0{}
+debug exact off
+load exact {}
+step 2
+bytes 02f800050000000007
+id exact 7
+tags exact {}
+hops exact 0{}
+debug exact off
+load exact {}
+step 3
+bytes ffffff02000000000000000402f80000
+id partial -
+tags partial {}
+hops partial 0{}
+debug partial off
+load partial {}
+step 4
+bytes 02f800050000000007
+id exact 7
+tags exact {}
+hops exact 0{}
+debug exact off
+load exact {}
+
+g.bdl G | service a all / service n none / start 0 a / set 1 0 top 3 / set 2 0 top 300 / forward 3 1 n / forward 4 2 n / join 5 3 4 / show 5 / forward 6 5 a / show 6 / trim 7 5 9 / show 7
+step 5
+bytes 02f8000200030300812c
+top exact 300
+step 6
+bytes 02f8000300812c
+top exact 300
+step 7
+bytes 02f80002000300
+top partial 3"#;
