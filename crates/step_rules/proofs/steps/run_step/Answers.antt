@@ -6,16 +6,16 @@ use Rattle.trace_model.specs.Runs.{list_at, Gives}
 use Rattle.step_rules.proofs.Slots.{act_of_view, sound_at, given_by}
 use Rattle.step_rules.proofs.steps.run_step.Goals as goal
 
-pub service-requires : goal.service-requires
-service-requires g c = c.known.ensures.sound.services c.args.step (step_of c.step-own.result.now) c.step-own.ensures
+pub service-service-requires : goal.service-service-requires
+service-service-requires g c = c.known.ensures.sound.services c.args.step (step_of c.step-own.result.now) c.step-own.ensures
 
 pub give_beside-requires-clause-sound : goal.give_beside-requires-clause-sound
-give_beside-requires-clause-sound g c κs lives = sound_at c.args.graph.now (step_of c.step-own.result.now) (service_of c.service.result.now) c.service.ensures (c.known.ensures.sound.acts c.args.step (step_of c.step-own.result.now) c.step-own.ensures)
+give_beside-requires-clause-sound g c κs lives = sound_at c.args.graph.now (step_of c.step-own.result.now) (service_of c.service-service.result.now) c.service-service.ensures (c.known.ensures.sound.acts c.args.step (step_of c.step-own.result.now) c.step-own.ensures)
 
 pub give_beside-requires-clause-may : goal.give_beside-requires-clause-may
 give_beside-requires-clause-may g c κs lives =
     let own = step_of c.step-own.result.now in
-    act_of_view c.args.table.now c.args.graph.now own (service_of c.service.result.now) c.service.ensures (c.requires.table.acts c.args.step own c.step-own.ensures)
+    act_of_view c.args.table.now c.args.graph.now own (service_of c.service-service.result.now) c.service-service.ensures (c.requires.table.acts c.args.step own c.step-own.ensures)
 
 pub give_beside-requires-clause-places : goal.give_beside-requires-clause-places
 give_beside-requires-clause-places g c κs lives = c.requires.places (step_of c.step-own.result.now) c.step-own.ensures
@@ -25,11 +25,11 @@ returns-clause-gives g c =
     let nodes = c.args.table.now in
     let graph = c.args.graph.now in
     let own = step_of c.step-own.result.now in
-    let service = service_of c.service.result.now in
+    let service = service_of c.service-service.result.now in
     let parents = map (list_at c.args.pool.now) c.args.places.now in
     IfOk-weaker c.give_beside.result (Gives nodes service.form service.view own.act parents)
     (λ list. (step : Step) → HasStep graph c.args.step step → Gives nodes (form_at graph step.service) (view_at graph step.service) step.act parents list)
-    (λ list gives. given_by nodes graph c.args.step own service parents list c.step-own.ensures c.service.ensures gives)
+    (λ list gives. given_by nodes graph c.args.step own service parents list c.step-own.ensures c.service-service.ensures gives)
     c.give_beside.ensures
 
 pub returns-clause-typed : goal.returns-clause-typed
@@ -37,9 +37,9 @@ returns-clause-typed g c =
     let nodes = c.args.table.now in
     let graph = c.args.graph.now in
     let own = step_of c.step-own.result.now in
-    let service = service_of c.service.result.now in
+    let service = service_of c.service-service.result.now in
     let parents = map (list_at c.args.pool.now) c.args.places.now in
-    let may = act_of_view nodes graph own service c.service.ensures (c.requires.table.acts c.args.step own c.step-own.ensures) in
+    let may = act_of_view nodes graph own service c.service-service.ensures (c.requires.table.acts c.args.step own c.step-own.ensures) in
     λ typed. IfOk-weaker c.give_beside.result (Gives nodes service.form service.view own.act parents) (IsTypedContext nodes)
     (λ list gives. c.steps_give_contexts.ensures nodes service.form service.view own.act parents list c.nodes.ensures.table may typed gives)
     c.give_beside.ensures
