@@ -249,7 +249,11 @@ fn is_written_as<R: Abort>(
     assert_eq!(rt; slots_of(rt, alloc, table, &merged)?, slots, "{definition}");
     let fewest = normal(alloc, table, &View::All, merged)?;
     let bytes = write(alloc, Form::One, whole.list())?;
-    assert_eq!(rt; write(alloc, Form::One, fewest.list())?, bytes, "{definition}");
+    assert_eq!(rt;
+        write(alloc, Form::One, fewest.list())?,
+        bytes,
+        "{definition}"
+    );
     Ok(())
 }
 

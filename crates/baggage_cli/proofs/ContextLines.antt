@@ -56,9 +56,12 @@ too_many lines before line after left form lists split next (said, all, form_is,
 -- A context behind others, of form two or not.
 next_context : (lines : List Line) (line : Line) (form wide : WireForm) (lists : List (List Atom)) (one : Framed) → ((said : List Framed) → form ≡ widest said → wide ≡ widest (said ++ one ∷ []))
     → AreContexts lines form lists → length lists < LINES_MAX → context_lines.says [] line.1 one → AreContexts (lines ++ line ∷ []) wide (lists ++ one.1 ∷ [])
-next_context lines line form wide lists one widens (said, all, form_is, lists_are) few says =
-    (said ++ one ∷ [], all_say_more merged_lines lines said line one all (few_said said lists lists_are few, says), widens said form_is,
-    ap (λ l. l ++ one.1 ∷ []) lists_are ∙ sym (map-append (λ (o : Framed). o.1) said (one ∷ [])))
+next_context lines line form wide lists one widens (said, all, form_is, lists_are) few says = (
+  said ++ one ∷ [],
+  all_say_more merged_lines lines said line one all (few_said said lists lists_are few, says),
+  widens said form_is,
+  ap (λ l. l ++ one.1 ∷ []) lists_are ∙ sym (map-append (λ (o : Framed). o.1) said (one ∷ [])),
+)
 
 pub next_wide : (lines : List Line) (line : Line) (form : WireForm) (lists : List (List Atom)) (one : Framed) → one.0 ≡ Two → AreContexts lines form lists → length lists < LINES_MAX
     → context_lines.says [] line.1 one → AreContexts (lines ++ line ∷ []) Two (lists ++ one.1 ∷ [])

@@ -18,11 +18,7 @@ use text_lines::{Line, lines_of};
 use wire_bytes::{Form, offset};
 
 /// The context that a line says, with the form of its bytes; it is typed under the table.
-fn typed_context(
-    alloc: Global,
-    table: &Table,
-    line: &Line<'_>,
-) -> Result<(Form, Context), Refusal>
+fn typed_context(alloc: Global, table: &Table, line: &Line<'_>) -> Result<(Form, Context), Refusal>
     ensures ok { IfOk result (λ said.
         (typed_lines table.now).says [] line.now.text.now said) }
     ensures err { IfErr result (λ refusal.
@@ -41,11 +37,7 @@ fn typed_context(
 }
 
 /// The context of the one line of an input, with the form of its bytes; it is typed under the table.
-fn only_context(
-    alloc: Global,
-    table: &Table,
-    input: &[u8],
-) -> Result<(Form, Context), Refusal>
+fn only_context(alloc: Global, table: &Table, input: &[u8]) -> Result<(Form, Context), Refusal>
     ensures ok { IfOk result (λ said.
         AllSay (only_one (typed_lines table.now)) [] (lines_of input.now) (said ∷ [])) }
     ensures err { IfErr result (λ refusal. (refusal ≡ Refusal.Plain Notice.Memory)

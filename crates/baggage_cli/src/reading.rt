@@ -76,11 +76,7 @@ fn line_bytes(alloc: Global, line: &Line<'_>) -> Result<Vec<u8>, Refusal>
 }
 
 /// The list that a line says, with the form of its bytes, which must be one in which a list can be cut to the budget.
-pub fn line_list(
-    alloc: Global,
-    line: &Line<'_>,
-    budget: u64,
-) -> Result<(Form, AtomList), Refusal>
+pub fn line_list(alloc: Global, line: &Line<'_>, budget: u64) -> Result<(Form, AtomList), Refusal>
     ensures ok { IfOk result (λ said. (cut_lines budget).says [] line.now.text.now said) }
     ensures err { IfErr result (λ refusal.
         RefusesLine (cut_lines budget) (line.now.number, line.now.text.now) refusal) }

@@ -84,8 +84,7 @@ module _ (form : Form) where
       let up = b.longest i a.list (let w = a.within in omega arith) a.front in
       let down = a.longest j b.list (let w = b.within in omega arith) b.front in
       let same : i ≡ j = omega arith in
-      let lists = frames_cancel form b.list a.list b.front.0 a.front.0 (sym b.front.2 ∙ ap (λ n. take n bytes) (sym same) ∙ a.front.2) in
-      (
+      let lists = frames_cancel form b.list a.list b.front.0 a.front.0 (sym b.front.2 ∙ ap (λ n. take n bytes) (sym same) ∙ a.front.2) in (
         same,
         wrong_behind_unique a.list (drop i bytes) c d a.applies
             (subst (λ list. IsWrongBehind form list (drop i bytes) d) lists (subst (λ n. IsWrongBehind form b.list (drop n bytes) d) (sym same) b.applies)),

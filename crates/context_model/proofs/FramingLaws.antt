@@ -200,12 +200,12 @@ pub size_of-grows : (form : Form) (list : List Atom) (i : ℕ) → i < length li
 size_of-grows form list i within =
     sizes form (take i list) (take (i + 1) list) 1 (λ none. subst (λ front. has_long front ≡ false) (take-take i (i + 1) list (omega arith)) (long-front i (take (i + 1) list) none))
     (λ width. (
-        let atom = get_or list i [] in
-        let more = ap length (frames-more width list i within) ∙ length-append (frames width (take i list)) (frame width atom) in
-        let long = length-append (length_code width (length atom)) atom in
-        let some = length_code-some width (length atom) in
-        omega arith
-        ))
+    let atom = get_or list i [] in
+    let more = ap length (frames-more width list i within) ∙ length-append (frames width (take i list)) (frame width atom) in
+    let long = length-append (length_code width (length atom)) atom in
+    let some = length_code-some width (length atom) in
+    omega arith
+    ))
 
 -- ---- sizes of atoms' lists by the frames of form one
 

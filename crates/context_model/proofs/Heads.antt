@@ -124,8 +124,7 @@ pub read_back : (bytes : List ℕ) (list : List Atom) → AreAtoms list → IsBy
 read_back bytes list short e =
     let form = form_of bytes in
     let own : form ≡ written_in form list = ap form_of e ∙ form_back form list short in
-    let is : bytes ≡ bytes_in form list = e ∙ ap (λ width. bytes_in width list) (sym own) in
-    (
+    let is : bytes ≡ bytes_in form list = e ∙ ap (λ width. bytes_in width list) (sym own) in (
       ap (head_code form) is ∙ head_right form list,
       subst (λ width. AreWithin width list) (sym own) (AreWithin-written form list short),
       ap (drop (head_len form)) is ∙ head_off form list,

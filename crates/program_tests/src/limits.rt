@@ -257,12 +257,14 @@ static WIDE: Long = (
     70_000,
     "\"\nforward 2 1 n\nshow 2\n",
 );
+
 static WIDE_BYTES: Long = (
     "step 2\nbytes ffffff02000000000001117702f801c1117100",
     "61",
     70_000,
     "\nid exact -\ntags exact {\"",
 );
+
 static WIDE_VALUE: Long = (
     "",
     "a",

@@ -14,7 +14,7 @@ returns-then-len-eq-LINES_MAX-clause-err c =
     let split = start ∙ taken_before c.into_iter-line-iterator.result c.loop-line.yielded c.loop-line.line-iterator c.loop-line.yielded_by in
     let all : LINES_MAX ≤ length c.loop-line.contexts.items = omega arith in
     inr (too_many (lines_of c.args.input.now) (map line_value c.loop-line.yielded) (line_value c.in-Some.line) c.next.new.self c.loop-line.line-iterator c.loop-line.widest c.loop-line.contexts.items
-        split c.in-Some.ensures.steps c.loop-line.invariant all)
+    split c.in-Some.ensures.steps c.loop-line.invariant all)
 
 pub returns-in_err-line_context-clause-err : goal.returns-in_err-line_context-clause-err
 returns-in_err-line_context-clause-err c =
