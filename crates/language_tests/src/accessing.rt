@@ -17,7 +17,7 @@ use wire_bytes::{read_context, write};
 
 const REQUEST: &str =
     "bag Req { fixed32 id = 0; set<string> tags = 1; counter hops = 2; taint debug = 3;
-    map<string, uint32> load = 4; }";
+    map<string, uint32> load = 4; greatest<uint32> top = 5; }";
 
 const NESTED: &str = "bag Sub { fixed32 ok = 0; set<string> late = 9; }
     bag Req { taint first = 0; Sub sub = 5; taint last = 300; }";
@@ -26,7 +26,7 @@ const NESTED: &str = "bag Sub { fixed32 ok = 0; set<string> late = 9; }
 static NAMES: [(&str, &str, &str); 2] = [
     (
         REQUEST,
-        "id tags hops debug load",
+        "id tags hops debug load top",
         "i ids Req Req.id load. LOAD",
     ),
     (
@@ -37,7 +37,7 @@ static NAMES: [(&str, &str, &str); 2] = [
 ];
 
 // What contexts say of the slots of `REQUEST`.
-static READINGS: [(&[u8], &str, &str); 8] = [
+static READINGS: [(&[u8], &str, &str); 12] = [
     (
         b"\x02\xf8\x00\x05\x00\x00\x00\x00\x07\x02\xf8\x01\x00",
         "id",
@@ -66,6 +66,14 @@ static READINGS: [(&[u8], &str, &str); 8] = [
     ),
     (b"\x02\xf8\x03\x01\x00", "debug", "Exact on"),
     (b"", "id", "Exact -"),
+    (
+        b"\x02\xf8\x05\x02\x00\x03\x03\x00\x81\x2c",
+        "top",
+        "Exact 300",
+    ),
+    (b"\x02\xf8\x05\x02\x00\x03\x00", "top", "Partial 3"),
+    (b"\x02\xf8\x05", "top", "Exact -"),
+    (b"", "top", "Exact -"),
 ];
 
 // A slot of 32 bits, a number that is written to it, and the bytes of the context.
@@ -112,11 +120,12 @@ fn each_slot_has_an_accessor(rt: HostRuntime) -> Result<(), Fail> {
     Ok(())
 }
 
-/// A value of a scalar, a set or a taint.
+/// A value of a scalar, of the greatest of some, of a set or of a taint.
 fn value_text(alloc: Global, value: &Val) -> Result<String, Memory> {
     Ok(match value {
-        Val::Scalar(Some(Scalar::Unsigned(number))) => format!(in alloc; "{number}")?,
-        Val::Scalar(None) => String::from_str(alloc, "-")?,
+        Val::Scalar(Some(Scalar::Unsigned(number)))
+        | Val::Greatest(Some(Scalar::Unsigned(number))) => format!(in alloc; "{number}")?,
+        Val::Scalar(None) | Val::Greatest(None) => String::from_str(alloc, "-")?,
         Val::Set(set) => format!(in alloc; "{} elements", set.len())?,
         Val::Taint(on) => String::from_str(alloc, if *on { "on" } else { "off" })?,
         _ => String::from_str(alloc, "another value")?,

@@ -118,18 +118,19 @@ static LONG: [(&[Piece], &str); 6] = [
             ("} bag In { ", 1),
             ("set<S> s# = 1#; ", 1_000),
             ("map<bool, S> m# = 2#; ", 1_000),
+            ("greatest<S> g# = 3#; ", 1_000),
             ("} bag B { In in = 0; }", 1),
         ],
-        "2000 slots, 2000 fields",
+        "3000 slots, 2000 fields",
     ),
 ];
 
 /// How many fields the struct has that a shape holds, and none without a struct.
 fn struct_len(shape: &Shape) -> usize {
     match shape {
-        Shape::Scalar(ScalarKind::Packed(kinds)) | Shape::Set(ScalarKind::Packed(kinds)) => {
-            kinds.len()
-        }
+        Shape::Scalar(ScalarKind::Packed(kinds))
+        | Shape::Greatest(ScalarKind::Packed(kinds))
+        | Shape::Set(ScalarKind::Packed(kinds)) => kinds.len(),
         Shape::Map(_, value) => struct_len(value),
         _ => 0,
     }

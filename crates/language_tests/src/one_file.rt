@@ -1,7 +1,7 @@
 //! Definitions of one file and their first faults.
 
 /// What the file holds, and the line, the column and the code of its first fault.
-pub(crate) static FAULTS: [(&str, &str); 99] = [
+pub(crate) static FAULTS: [(&str, &str); 118] = [
     // The bytes of a file.
     ("bag B { bool a = 65536; }", "1:18 NumberRange"),
     ("bag B {", "1:7 Expected"),
@@ -110,6 +110,44 @@ pub(crate) static FAULTS: [(&str, &str); 99] = [
     (
         "bag B { map<bool, set<set<Nix>>> s = 0; }",
         "1:23 BadKeyType",
+    ),
+    // What keeps the greatest of its elements.
+    ("bag greatest { }", "1:5 Expected"),
+    ("struct greatest { bool a; }", "1:8 Expected"),
+    ("bag B { bool greatest = 0; }", "1:14 Expected"),
+    ("bag B { greatest x = 0; }", "1:18 Expected"),
+    ("bag B { greatest<bool, bool> x = 0; }", "1:22 Expected"),
+    ("bag G { greatest<counter> x = 0; }", "1:18 BadKeyType"),
+    ("bag B { greatest<taint> x = 0; }", "1:18 BadKeyType"),
+    ("bag B { greatest<set<bool>> x = 0; }", "1:18 BadKeyType"),
+    (
+        "bag B { greatest<map<bool, bool>> x = 0; }",
+        "1:18 BadKeyType",
+    ),
+    (
+        "bag B { greatest<greatest<bool>> x = 0; }",
+        "1:18 BadKeyType",
+    ),
+    (
+        "bag B { greatest<greatest<float>> x = 0; }",
+        "1:18 BadKeyType",
+    ),
+    ("bag B { greatest<C> x = 0; } bag C { }", "1:18 BadKeyType"),
+    ("bag B { set<greatest<bool>> x = 0; }", "1:13 BadKeyType"),
+    (
+        "bag B { map<greatest<bool>, bool> x = 0; }",
+        "1:13 BadKeyType",
+    ),
+    (
+        "bag B { map<bool, greatest<counter>> x = 0; }",
+        "1:28 BadKeyType",
+    ),
+    ("bag B { greatest<float> x = 0; }", "1:18 FloatingType"),
+    ("bag B { greatest<Nix> x = 0; }", "1:18 UnknownName"),
+    ("struct S { greatest<bool> c; }", "1:12 BadStructField"),
+    (
+        "bag B { B x = 0; greatest<Nix> y = 1; }",
+        "1:27 UnknownName",
     ),
     // Fields of structs.
     ("struct S { counter c; }", "1:12 BadStructField"),

@@ -7,7 +7,7 @@ use std::alloc::Global;
 use std::test::Fail;
 
 // Each text with the number of the token at fault and the code.
-static TEXTS: [(&str, &str); 47] = [
+static TEXTS: [(&str, &str); 52] = [
     ("bag B {", "3 Expected"),
     ("bag", "1 Expected"),
     ("bag B", "2 Expected"),
@@ -37,6 +37,10 @@ static TEXTS: [(&str, &str); 47] = [
     ("bag B { set a = 1; }", "4 Expected"),
     ("bag B { set<> a = 1; }", "5 Expected"),
     ("bag B { set<bool a = 1; }", "6 Expected"),
+    ("struct greatest { }", "1 Expected"),
+    ("bag B { greatest a = 1; }", "4 Expected"),
+    ("bag B { greatest<> a = 1; }", "5 Expected"),
+    ("bag B { greatest<bool a = 1; }", "6 Expected"),
     ("bag B { map<bool> a = 1; }", "6 Expected"),
     ("bag B { map<bool,> a = 1; }", "7 Expected"),
     ("bag B { map<bool, bool a = 1; }", "8 Expected"),
@@ -65,6 +69,10 @@ static TEXTS: [(&str, &str); 47] = [
         "ok bag B 1:5 { 1:9 map<1:13 Str, 1:21 map<1:25 Bytes, 1:32 N>> a 1:36 = 3 1:40; 1:43 Counter c 1:51 = 4 1:55; 1:58 Taint t 1:64 = 5 1:68; 1:71 Float f 1:77 = 6 1:81; 1:84 Double d 1:91 = 7 1:95; }",
     ),
     (
+        "bag G { greatest<uint32> top = 0; map<string, greatest<S>> m = 1; }",
+        "ok bag G 1:5 { 1:9 greatest<1:18 Uint32> top 1:26 = 0 1:32; 1:35 map<1:39 Str, 1:47 greatest<1:56 S>> m 1:60 = 1 1:64; }",
+    ),
+    (
         "import \"f\"; struct S { bool a; } bag B { S s = 65535; }",
         "ok import \"f\" 1:8; struct S 1:20 { 1:24 Bool a 1:29; } bag B 1:38 { 1:42 S s 1:44 = 65535 1:48; }",
     ),
@@ -83,7 +91,7 @@ static TEXTS: [(&str, &str); 47] = [
 ];
 
 // The same of types inside one another: the pieces of the text, and what it is answered with at least at its front.
-static NESTED: [(&[Piece], &str); 9] = [
+static NESTED: [(&[Piece], &str); 11] = [
     (
         &[
             ("bag B { ", 1),
@@ -159,6 +167,27 @@ static NESTED: [(&[Piece], &str); 9] = [
         ],
         "ok bag B 1:5 {",
     ),
+    (
+        &[
+            ("bag B { ", 1),
+            ("set<", 32),
+            ("greatest<", 1),
+            ("bool", 1),
+            (">", 33),
+            (" a = 0; }", 1),
+        ],
+        "67 TypeNesting",
+    ),
+    (
+        &[
+            ("bag B { ", 1),
+            ("greatest<", 31),
+            ("bool", 1),
+            (">", 31),
+            (" a = 0; }", 1),
+        ],
+        "ok bag B 1:5 {",
+    ),
 ];
 
 /// A type with its place and those of the types inside it.
@@ -173,6 +202,10 @@ fn type_text(alloc: Global, node: &TypeNode) -> Result<String, Fail> {
         TypeForm::Set(element) => {
             let element = type_text(alloc, element)?;
             format!(in alloc; "set<{element}>")?
+        }
+        TypeForm::Greatest(element) => {
+            let element = type_text(alloc, element)?;
+            format!(in alloc; "greatest<{element}>")?
         }
         TypeForm::Map(key, value) => {
             let key = type_text(alloc, key)?;

@@ -15,6 +15,7 @@ baggage table 1/0 0 id scalar fixed32/0 1 tags set string/0 2 hops counter/0 3 d
 baggage table 1/0 0 a scalar bool/0 1 b scalar int32/0 2 c scalar int64/0 3 d scalar sint32/0 4 e scalar sint64/0 5 f scalar uint32/0 6 g scalar uint64/ => 
 baggage table 1/0 0 a scalar fixed32/0 1 b scalar fixed64/0 2 c scalar sfixed32/0 3 d scalar sfixed64/0 4 e scalar string/0 5 f scalar bytes/ => 
 baggage table 1/0 0 p scalar (string,int32)/0 1 q set (bytes)/0 2 r map bool set (bool,bool,bool)/ => 
+baggage table 1/0 0 top greatest uint32/0 1 p greatest (string,int32)/0 2 m map string greatest bool/ => 
 baggage table 1/0 5 a bag/0 6 b bag/1 0 c bag/2 0 d taint/1 1 e taint/0 7 f taint/ => 
 baggage table 1/0 5 w map string map bool bag/1 1 t taint/1 2 u map bytes bag/2 0 v counter/0 65535 x map int32 map int64 map sint32 counter/ => 
 baggage table 1/0 0 a bag/1 0 a bag/2 0 a bag/0 1 b bag/1 0 a bag/ => 
@@ -78,6 +79,15 @@ a 0 a taint/ => 2 Form
 0 0 a scalar bool,bool/ => 2 Form
 0 0 a scalar ((bool))/ => 2 Form
 0 0 a set (bool,taint)/ => 2 Form
+0 0 a greatest/ => 2 Form
+0 0 a greatest / => 2 Form
+0 0 a greatest taint/ => 2 Form
+0 0 a greatest greatest bool/ => 2 Form
+0 0 a greatest set bool/ => 2 Form
+0 0 a set greatest bool/ => 2 Form
+0 0 a map greatest bool bool/ => 2 Form
+0 0 a Greatest bool/ => 2 Form
+0 0 greatest taint/ => 2 Form
 0 0 a map bool/ => 2 Form
 0 0 a map bool / => 2 Form
 0 0 a map (bool) taint/ => 2 Form
@@ -229,7 +239,7 @@ static BEHIND: [(&[Piece], &str); 6] = [
 ];
 
 // A definition of a bag `B`, the text of its table, and its slots.
-static COMPILED: [(&str, &str, &str); 4] = [
+static COMPILED: [(&str, &str, &str); 6] = [
     ("bag B { }", "baggage table 1/", "ok"),
     (
         "struct P { string a; int32 b; } bag M { counter t = 1; } bag B { P p = 3; map<bool, M> m = 9; }",
@@ -245,6 +255,16 @@ static COMPILED: [(&str, &str, &str); 4] = [
         "bag B { set<bytes> s = 0; map<uint64, set<sfixed64>> t = 258; counter u = 65535; }",
         "baggage table 1/0 0 s set bytes/0 258 t map uint64 set sfixed64/0 65535 u counter/",
         "ok s:0:set t:258:map u:65535:counter",
+    ),
+    (
+        "bag B { greatest<uint32> top = 0; }",
+        "baggage table 1/0 0 top greatest uint32/",
+        "ok top:0:greatest",
+    ),
+    (
+        "struct P { string a; int32 b; } bag B { map<string, greatest<P>> m = 2; greatest<P> p = 1; }",
+        "baggage table 1/0 1 p greatest (string,int32)/0 2 m map string greatest (string,int32)/",
+        "ok p:1:greatest m:2:map",
     ),
 ];
 

@@ -13,6 +13,7 @@ fn shape_name(shape: &Shape) -> &'static str {
         Shape::Taint => "taint",
         Shape::Scalar(ScalarKind::Packed(_)) => "struct",
         Shape::Scalar(_) => "scalar",
+        Shape::Greatest(_) => "greatest",
         Shape::Set(_) => "set",
         Shape::Counter => "counter",
         Shape::Map(_, _) => "map",

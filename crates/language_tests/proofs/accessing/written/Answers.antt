@@ -3,6 +3,7 @@ use Rattle.outside.specs.declared.TheConstants.{ATOM_MAX}
 use Rattle.context_model.specs.Atoms.{Atom}
 use Rattle.context_model.specs.Merged.{last_atom}
 use Rattle.context_model.specs.Orders.{Path}
+use Rattle.bag_model.specs.declared.Pick.TheVariants.{Least}
 use Rattle.bag_model.specs.Scalars as scalars
 use Rattle.bag_model.specs.Shapes.{Shape, Scalar}
 use Rattle.bag_model.specs.Values as values
@@ -18,10 +19,10 @@ use Rattle.bag_walks.proofs.SlotFits.{last_is}
 use Rattle.language_tests.proofs.accessing.written.Goals as goal
 
 abbrev number_shape : Shape
-number_shape = Scalar (scalars.ScalarKind.One scalars.Word.Fixed32)
+number_shape = Scalar Least (scalars.ScalarKind.One scalars.Word.Fixed32)
 
 abbrev number_value : ℕ → Value
-number_value number = values.Value.Scalar (Some (scalars.ScalarValue.One (scalars.Plain.Unsigned number)))
+number_value number = values.Value.Scalar Least (Some (scalars.ScalarValue.One (scalars.Plain.Unsigned number)))
 
 -- The datum of a number of 32 bits has five bytes.
 number_fits : (number : ℕ) → FitsAnywhere number_shape (number_value number)
