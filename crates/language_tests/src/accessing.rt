@@ -13,7 +13,7 @@ use outside::Memory;
 use scalar_types::{Scalar, ScalarKind};
 use std::alloc::Global;
 use std::test::Fail;
-use wire_bytes::{read_context, write};
+use wire_bytes::{Form, read_context, write};
 
 const REQUEST: &str =
     "bag Req { fixed32 id = 0; set<string> tags = 1; counter hops = 2; taint debug = 3;
@@ -174,7 +174,7 @@ fn written(alloc: Global, table: &Table, name: &str, number: u64) -> Result<Vec<
     values_fit_at_slots();
     let value = Val::Scalar(Some(Scalar::Unsigned(number)));
     let context = field.write(alloc, table, &value)?;
-    Ok(write(alloc, context.list())?)
+    Ok(write(alloc, Form::One, context.list())?)
 }
 
 #[test]
