@@ -1,5 +1,5 @@
 -- First faults of bytes: one at most, and none where the bytes are those of a list.
-use Rattle.std.proofs.Common.{◌≡◌, ◌⊎◌, inl, inr, ℕ, ◌+◌, List, drop, Option, Some, None, refl, sym, ◌∙◌, ap}
+use Rattle.std.proofs.Common.{◌≡◌, inl, inr, ℕ, ◌+◌, List, drop, None, sym, ◌∙◌, ap}
 use Rattle.context_model.specs.declared.Form.{Form}
 use Rattle.context_model.specs.Framing.{form_of, head_len}
 use Rattle.context_model.specs.ByteCodes.{ByteCode}

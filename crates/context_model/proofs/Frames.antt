@@ -1,5 +1,5 @@
 -- No frame begins another, nothing is wrong at a frame, and where something is wrong behind a list no list goes further.
-use Rattle.std.proofs.Common.{◌≡◌, ℕ, ◌+◌, ◌-◌, ◌<◌, ◌≤◌, inl, inr, Bool, [], List, ◌∷◌, ◌++◌, length, take, drop, nat_lt, if◌then◌else◌, Some, None, refl, sym, ◌∙◌, ap, subst, append_assoc, length-append, arith}
+use Rattle.std.proofs.Common.{◌≡◌, ℕ, ◌+◌, ◌-◌, ◌<◌, ◌≤◌, [], List, ◌∷◌, ◌++◌, length, take, drop, None, refl, sym, ◌∙◌, ap, subst, append_assoc, length-append, arith}
 use Rattle.std.proofs.lemmas.List.{take_at, drop_at, take-append-drop, append_cancel_left, length-take-le, take_all}
 use Rattle.std.proofs.lemmas.Bool.Decides.{nat_tests}
 use Rattle.outside.specs.declared.TheConstants.{ATOM_MAX}
@@ -14,7 +14,7 @@ use Rattle.context_model.specs.WireFault.{length_front, length_said, wire_code, 
 use Rattle.context_model.proofs.FramingLaws.{length_code-some}
 use Rattle.context_model.proofs.LengthCodes.{length_front-code, length_said-code, wire_code-length}
 use Rattle.context_model.proofs.VarintLaws.{unsigned_varint-prefix}
-use Rattle.context_model.proofs.UnsignedFronts.{Stands, Stands-unique, Stands-taken, Stands-long, Stands-uncut}
+use Rattle.context_model.proofs.UnsignedFronts.{Stands-unique, Stands-taken, Stands-long, Stands-uncut}
 
 -- ---- what each form owes
 

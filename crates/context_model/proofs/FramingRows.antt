@@ -1,6 +1,6 @@
 -- Bytes of lists in either form, computed: a list of a header and two data, its cuts, heads and lengths that are refused, and a list
 -- of one long atom.
-use Rattle.std.proofs.Common.{◌≡◌, ℕ, ◌+◌, ◌<◌, ◌≤◌, true, false, [], List, ◌∷◌, ◌++◌, length, nat_lt, if◌then◌else◌, Some, refl, sym, ◌∙◌, ap, arith}
+use Rattle.std.proofs.Common.{◌≡◌, ◌+◌, ◌<◌, ◌≤◌, true, [], List, ◌∷◌, ◌++◌, length, if◌then◌else◌, Some, refl, ap, arith}
 use Rattle.std.proofs.lemmas.Bool.Decides.{nat_tests}
 use lib.Count.{count_leading_zeros}
 use Rattle.outside.specs.declared.TheConstants.{ATOM_MAX}

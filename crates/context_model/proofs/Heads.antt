@@ -1,5 +1,5 @@
 -- Heads: in which form bytes are read, and what stands behind a head.
-use Rattle.std.proofs.Common.{◌≡◌, ℕ, ◌+◌, ◌-◌, ◌/◌, ◌%◌, ◌<◌, ◌≤◌, inl, inr, Bool, true, false, ◌||◌, if◌then◌else◌, [], List, ◌∷◌, ◌++◌, length, take, drop, nat_lt, Option, Some, None, refl, sym, ◌∙◌, ap, subst, append_assoc, length-append, arith, take-append-drop}
+use Rattle.std.proofs.Common.{◌≡◌, ℕ, ◌+◌, ◌-◌, ◌/◌, ◌≤◌, inl, inr, Bool, true, false, ◌||◌, if◌then◌else◌, [], List, ◌∷◌, ◌++◌, length, take, drop, nat_lt, Some, None, refl, sym, ◌∙◌, ap, subst, append_assoc, arith, take-append-drop}
 use Rattle.std.specs.Str.{bytes_eq}
 use Rattle.std.proofs.lemmas.Slice.Eq.{bytes_eq-Decides}
 use Rattle.std.proofs.lemmas.Bool.{cases_lt, ltb-false}
@@ -11,7 +11,6 @@ use Rattle.context_model.specs.declared.Form.TheVariants.{One, Two}
 use Rattle.context_model.specs.Atoms.{Atom, AreAtoms}
 use Rattle.context_model.specs.Varints.{big_endian}
 use Rattle.context_model.specs.Framing.{base_128, frames, mark, form_of, head_len, bytes_in, has_long, written_in, bytes_of, AreWithin, IsBytesOf}
-use Rattle.context_model.specs.ByteCodes.{ByteCode}
 use Rattle.context_model.specs.ByteCodes.ByteCode.{CutLength, BadCount}
 use Rattle.context_model.specs.WireFault.{head_code}
 use Rattle.context_model.proofs.LengthCodes.{code_one, code_two, code_three}

@@ -1,5 +1,5 @@
 -- Lengths in form one: where they end, what they say, and what is wrong behind one.
-use Rattle.std.proofs.Common.{◌≡◌, ℕ, ◌+◌, ◌-◌, ◌/◌, ◌%◌, ◌<◌, ◌≤◌, inl, inr, Bool, false, [], List, ◌∷◌, ◌++◌, length, drop, get_or, nat_lt, ◌==◌, ◌&&◌, if◌then◌else◌, Some, None, refl, sym, ◌∙◌, ap, arith}
+use Rattle.std.proofs.Common.{◌≡◌, ℕ, ◌+◌, ◌-◌, ◌/◌, ◌%◌, ◌<◌, ◌≤◌, inl, inr, Bool, false, [], List, ◌∷◌, ◌++◌, length, drop, get_or, nat_lt, ◌==◌, ◌&&◌, if◌then◌else◌, Some, None, refl, arith}
 use Rattle.std.proofs.lemmas.List.{drop_at}
 use Rattle.std.proofs.lemmas.Bool.{cases_lt}
 use Rattle.std.proofs.lemmas.Bool.Decides.{nat_tests}
