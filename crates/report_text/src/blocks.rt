@@ -84,12 +84,7 @@ pub fn put_block(
 
 /// The block of a typed context: the line of its bytes in this form, and a line for each slot with its name path, whether it is exact or
 /// partial, and its value.
-pub fn block(
-    alloc: Global,
-    table: &Table,
-    form: Form,
-    context: &Context,
-) -> Result<Vec<u8>, Memory>
+pub fn block(alloc: Global, table: &Table, form: Form, context: &Context) -> Result<Vec<u8>, Memory>
     requires { AreTyped table.now (PathsOf context.now) [] }
     ensures { IfOk result (λ text. IsBlock table.now form context.now text.items) }
 {
