@@ -10,6 +10,7 @@ use Rattle.context_model.specs.Merged.{last_atom}
 use Rattle.context_model.specs.Varints.{big_endian, unsigned_form, unsigned_tail, unsigned_varint}
 use Rattle.context_model.proofs.Digits.{length-big_endian}
 use Rattle.context_model.specs.declared.Form.{Form as WireForm}
+use Rattle.context_model.specs.declared.Form.TheVariants.{One, Two}
 use Rattle.bag_model.specs.Encodings.{InLayout, InLayouts}
 use Rattle.bag_model.specs.Readings.{datum_path, key_path, node_path}
 use Rattle.bag_model.specs.Scalars.{ScalarValue, spelling}
@@ -17,7 +18,7 @@ use Rattle.bag_model.specs.Shapes as shapes
 use Rattle.bag_model.specs.Shapes.{Shape, Nodes, no_node, node}
 use Rattle.bag_model.specs.Values.{Value, Values, bottoms}
 use Rattle.bag_model.proofs.OfShape.{IsBottom-bottom}
-use Rattle.write_text.specs.Literals.{IsWriter}
+use Rattle.write_text.specs.Literals.{IsWriter, most_payload}
 use Rattle.write_text.specs.Writes.{IsWrite, AreWritten}
 
 last_is : (q : Path) (a : Atom) → last_atom (q ++ a ∷ []) ≡ a
@@ -52,8 +53,9 @@ writer_short : (form : WireForm) (bytes text : List ℕ) → IsWriter form bytes
 writer_short form bytes text p = elim p [ inl w ↦ w.1 | inr w ↦ w.1 ]
 
 -- A literal's payload with a byte before it.
-fits_payload : (first : ℕ) (payload : List ℕ) → length payload ≤ most_payload form → length (first ∷ payload) ≤ ATOM_MAX
-fits_payload first payload few = omega (arith, few)
+fits_payload : (form : WireForm) (first : ℕ) (payload : List ℕ) → length payload ≤ most_payload form → length (first ∷ payload) ≤ ATOM_MAX
+fits_payload One first payload few = omega (arith, few)
+fits_payload Two first payload few = omega (arith, few)
 
 fits_number : (first n : ℕ) → length (first ∷ unsigned_varint n) ≤ ATOM_MAX
 fits_number first n = let few = short_varint n in omega (arith, few)
@@ -69,17 +71,17 @@ mutual
   write_fits form shapes.Shape.Taint v text q p w l = let l' = subst (λ (x : Value). InLayout shapes.Shape.Taint q x p) w.0 l in fits_behind q p (0 ∷ []) l'.1 (omega arith)
   write_fits form (shapes.Shape.Scalar pick kind) v text q p w l =
       let l' = subst (λ (x : Value). InLayout (shapes.Shape.Scalar pick kind) q x p) w.2 l in
-      fits_behind q p (0 ∷ spelling kind w.0) l' (fits_payload 0 (spelling kind w.0) w.1.1)
+      fits_behind q p (0 ∷ spelling kind w.0) l' (fits_payload form 0 (spelling kind w.0) w.1.1)
   write_fits form (shapes.Shape.Set kind) v text q p w l =
       let l' = subst (λ (x : Value). InLayout (shapes.Shape.Set kind) q x p) w.2 l in
       let same = only_in w.0 l'.0 l'.1 in
-      fits_behind q p (0 ∷ spelling kind w.0) (l'.2 ∙ ap (λ (s : ScalarValue). datum_path q (spelling kind s)) same) (fits_payload 0 (spelling kind w.0) w.1.1)
+      fits_behind q p (0 ∷ spelling kind w.0) (l'.2 ∙ ap (λ (s : ScalarValue). datum_path q (spelling kind s)) same) (fits_payload form 0 (spelling kind w.0) w.1.1)
   write_fits form shapes.Shape.Counter v text q p w l =
       let l' = subst (λ (x : Value). InLayout shapes.Shape.Counter q x p) w.6 l in
       let writer = only_at w.0 w.1 l'.0 l'.1 l'.2 in
       elim l'.3 [
         | inl e ↦ fits_behind q p ((249 - 8 * length q) ∷ l'.0) e
-            (fits_payload (249 - 8 * length q) l'.0 (subst (λ (b : List ℕ). length b ≤ most_payload form) (sym writer.0) (writer_short form w.0 w.2 w.3)))
+            (fits_payload form (249 - 8 * length q) l'.0 (subst (λ (b : List ℕ). length b ≤ most_payload form) (sym writer.0) (writer_short form w.0 w.2 w.3)))
         | inr e ↦ fits_behind (key_path q l'.0) p (0 ∷ unsigned_varint l'.1) e (fits_number 0 l'.1)
       ]
   write_fits form (shapes.Shape.Map kind shape) v text q p w l =
@@ -87,7 +89,7 @@ mutual
       let same = only_at w.0 w.1 l'.0 l'.1 l'.2 in
       elim l'.3 [
         | inl e ↦ fits_behind q p ((249 - 8 * length q) ∷ spelling kind l'.0) e
-            (fits_payload (249 - 8 * length q) (spelling kind l'.0) (subst (λ (s : ScalarValue). length (spelling kind s) ≤ most_payload form) (sym same.0) w.4.1))
+            (fits_payload form (249 - 8 * length q) (spelling kind l'.0) (subst (λ (s : ScalarValue). length (spelling kind s) ≤ most_payload form) (sym same.0) w.4.1))
         | inr under ↦ write_fits form shape w.1 w.3 (key_path q (spelling kind l'.0)) p w.5 (subst (λ (x : Value). InLayout shape (key_path q (spelling kind l'.0)) x p) same.1 under)
       ]
   write_fits form (shapes.Shape.Bag nodes) v text q p w l =

@@ -13,7 +13,7 @@ use Rattle.scalar_types.specs.declared.scalars.Scalar.{Scalar}
 use Rattle.scalar_types.specs.declared.scalars.Scalar.TheVariants as values
 use Rattle.scalar_types.specs.KindViews.{IsWord, word_of}
 use Rattle.scalar_types.specs.ScalarViews.{IsPlain, plain_of, value_of}
-use Rattle.write_text.specs.Literals.{IsPlainText, ArePlainTexts, IsScalarText, IsLiteral, IsWriter}
+use Rattle.write_text.specs.Literals.{IsPlainText, ArePlainTexts, IsScalarText, IsLiteral, IsWriter, most_payload}
 use Rattle.write_text.specs.Taken.{IsInside, IsEnd, Begins}
 use Rattle.write_text.proofs.Quoted.{InsideThen, inside_apart}
 use Rattle.write_text.proofs.Apart.{IsWordText, fronts_apart, string_then, word_inside}

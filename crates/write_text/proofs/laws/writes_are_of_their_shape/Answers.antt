@@ -3,4 +3,4 @@ use Rattle.write_text.proofs.OneWrite.{write_of_shape}
 use Rattle.write_text.proofs.laws.writes_are_of_their_shape.Goals as goal
 
 pub returns : goal.returns
-returns c = record { shape = write_of_shape c.args.form; fits = write_fits c.args.form }
+returns c = record { shape = write_of_shape; fits = write_fits }
