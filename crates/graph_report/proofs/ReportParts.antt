@@ -1,11 +1,10 @@
 -- Reports part by part.
-use Rattle.std.proofs.Common.{◌≡◌, inl, inr, zero, suc, ◌<◌, length, get_or, arith, ℕ, List, [], ◌∷◌, ◌++◌, refl, sym, ap, ◌∙◌, subst, append_assoc, codes}
+use Rattle.std.proofs.Common.{◌≡◌, zero, suc, ◌<◌, length, arith, ℕ, List, [], ◌∷◌, ◌++◌, refl, sym, ap, ◌∙◌, subst, append_assoc, codes}
 use Rattle.std.specs.Fmt.{decimal}
 use Rattle.std.proofs.lemmas.List.{append-nil}
 use Rattle.context_model.specs.declared.Form.{Form}
 use Rattle.bag_model.specs.Shapes.{Nodes, no_node}
 use Rattle.context_model.specs.Atoms.{Atom}
-use Rattle.context_model.specs.Orders.{IsIn}
 use Rattle.context_model.specs.WellFormed.{IsWellFormed}
 use Rattle.trace_model.specs.Graphs.{Graph, step_form, IsTypedContext}
 use Rattle.trace_model.specs.Runs.{Lists, list_at}

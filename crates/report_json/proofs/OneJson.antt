@@ -9,7 +9,7 @@ use Rattle.bag_model.specs.Slots.{SlotAt, slots_of}
 use Rattle.bag_model.specs.SlotValues.{SaysSlot}
 use Rattle.bag_model.specs.Values.{Value}
 use Rattle.bag_model.proofs.Uniqueness.{Reads-unique}
-use Rattle.trace_model.specs.Graphs.{Graph}
+use Rattle.trace_model.specs.Graphs.{Graph, step_form}
 use Rattle.trace_model.specs.Runs.{Lists, list_at}
 use Rattle.trace_model.specs.Shown.{IsShown}
 use Rattle.bag_scan.specs.declared.states.State.{State}

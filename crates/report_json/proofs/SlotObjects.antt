@@ -1,23 +1,19 @@
 -- The objects of slots.
-use Rattle.std.proofs.Common.{◌≡◌, ◌↔◌, ℕ, List, [], length, IsTrue, Option, Some, refl, sym, ◌∙◌, subst}
-use Rattle.std.specs.List.{slice_get}
+use Rattle.std.proofs.Common.{◌≡◌, ◌↔◌, ℕ, List, Option, Some, sym, ◌∙◌, subst}
 use Rattle.context_model.specs.Atoms.{Atom}
 use Rattle.context_model.specs.Ended.{IsEnded, field_path}
 use Rattle.context_model.specs.WellFormed.{IsWellFormed}
 use Rattle.bag_model.specs.Readings.{PathsOf}
 use Rattle.bag_model.specs.Shapes.{Nodes}
-use Rattle.bag_model.specs.Slots.{SlotAt, slots_of}
+use Rattle.bag_model.specs.Slots.{SlotAt}
 use Rattle.bag_model.specs.SlotValues.{HasSlot}
 use Rattle.bag_model.specs.Values.{Value, IsOfShape}
 use Rattle.bag_model.proofs.OfShape.{Reads-shape}
-use Rattle.bag_walks.proofs.EachSlot.{each-at, each-count}
-use Rattle.bag_scan.specs.Spans.{IsSpanAt, AreSpans}
 use Rattle.bag_scan.specs.States.{IsFirstMarker, TellsState}
 use Rattle.bag_scan.specs.declared.spans.Span.{Span}
 use Rattle.bag_scan.specs.declared.states.State.{State}
-use Rattle.bag_scan.specs.declared.states.State.TheVariants.{Exact, Partial}
+use Rattle.bag_scan.specs.declared.states.State.TheVariants.{Exact}
 use Rattle.bag_decode.specs.SlotWalks.{IsSpanOfSlot, SaysAt}
-use Rattle.report_text.specs.Blocks.{is_exact}
 use Rattle.report_text.proofs.SlotLines.{exact_is}
 use Rattle.serde_json.specs.Data.{Data}
 use Rattle.report_json.specs.JsonReports.{slot_object, IsSlotObject}

@@ -1,9 +1,8 @@
 -- The objects of steps.
-use Rattle.std.proofs.Common.{◌≡◌, inl, inr, ℕ, zero, suc, ◌<◌, ◌+◌, false, List, [], ◌∷◌, ◌++◌, length, get_or, refl, sym, ap, ◌∙◌, subst, arith}
+use Rattle.std.proofs.Common.{◌≡◌, ℕ, ◌+◌, false, List, [], ◌∷◌, ◌++◌, length, sym, ap, ◌∙◌, subst}
 use Rattle.std.specs.List.{slice_index}
-use Rattle.context_model.specs.Orders.{IsIn}
 use Rattle.bag_model.specs.Shapes.{Nodes}
-use Rattle.trace_model.specs.Graphs.{Graph, IsGraph}
+use Rattle.trace_model.specs.Graphs.{Graph}
 use Rattle.trace_model.specs.Runs.{Lists, list_at}
 use Rattle.report_text.specs.Commas.{comma_before}
 use Rattle.serde_json.specs.Data.{Data}
@@ -24,7 +23,7 @@ step_floatless nodes graph lists n d (fields, are, is) =
 -- ---- the text so far
 
 -- The objects of the first so many shown steps stand behind the opening bracket.
-abbrev pub IsBegun : (graph : Graph) → Nodes → Lists → List ℕ → ℕ → List ℕ → Type 0
+abbrev pub IsBegun : Nodes → Graph → Lists → List ℕ → ℕ → List ℕ → Type 0
 IsBegun nodes graph lists shows count text =
     (objects : List Data) × AreInPlace count (λ place d. IsStepObject nodes graph lists (slice_index shows place) d) objects
     × (text ≡ 91 ∷ row_text false objects)
@@ -44,8 +43,8 @@ one_begun nodes graph lists shows at n before middle after (objects, are, is) co
 )
 
 -- The closing bracket makes the report.
-pub all_begun : (nodes : Nodes) (graph : Graph) (lists : Lists) (shows : List ℕ) (at : ℕ) (before after : List ℕ) → IsBegun nodes graph lists shows at before → at ≡ length shows → after ≡ before ++ 93 ∷ [] → IsJsonReport nodes graph lists shows after
-all_begun nodes graph lists shows at before after (objects, are, is) all closed = (
+pub all_begun : (nodes : Nodes) (graph : Graph) (lists : Lists) (at : ℕ) (before after : List ℕ) → IsBegun nodes graph lists graph.shows at before → at ≡ length graph.shows → after ≡ before ++ 93 ∷ [] → IsJsonReport nodes graph lists after
+all_begun nodes graph lists at before after (objects, are, is) all closed = (
   objects,
   (are.0 ∙ all, are.1),
   closed ∙ ap (λ (l : List ℕ). l ++ 93 ∷ []) is ∙ ap (λ (l : List ℕ). 91 ∷ l) (sym (row_closed false objects)),

@@ -43,8 +43,8 @@ fn put_step(
 }
 
 /// The report of a graph's shown steps as JSON: an array with an object for each of them in order, as `serde_json` writes it
-/// without blanks. An object has the digits of the bytes of the step's list in the form of its service, for each slot its name path, whether it is exact
-/// or partial and the text of its value, and the number of the step.
+/// without blanks. An object has the digits of the bytes of the step's list in the form of its service, for each slot its name
+/// path, whether it is exact or partial and the text of its value, and the number of the step.
 pub fn report_json(
     alloc: Global,
     table: &Table,

@@ -29,7 +29,6 @@ loop-at-preserved c =
 
 pub returns : goal.returns
 returns c =
-    let shows = c.args.graph.now.shows in
-    all_begun c.args.table.now c.args.graph.now c.args.lists.now shows c.loop-at.at c.loop-at.text.items c.push-2.new.self.items c.loop-at.invariant
+    all_begun c.args.table.now c.args.graph.now c.args.lists.now c.loop-at.at c.loop-at.text.items c.push-2.new.self.items c.loop-at.invariant
     (omega (arith, c.loop-at-test.false, c.loop-at.auto.at-end, ap length c.shows-number-items.ensures))
     c.in_ok-push-2.ensures.items
