@@ -1,12 +1,12 @@
 -- A line says one thing or has one fault, never both.
-use Rattle.std.proofs.Common.{◌≡◌, ◌⊎◌, inl, inr, ℕ, List, take, Some, sym, ◌∙◌, ap, subst}
+use Rattle.std.proofs.Common.{◌≡◌, ◌⊎◌, inl, inr, ℕ, List, Some, sym, ◌∙◌, ap, subst}
 use Rattle.context_model.specs.Atoms.{Atom}
 use Rattle.context_model.specs.ContextFault.{IsContextOf, IsFirstContextFault}
 use Rattle.context_model.proofs.ContextFronts.{has_one_context}
 use Rattle.bag_model.specs.Shapes.{Nodes}
 use Rattle.bag_model.specs.Tables.{IsTable}
 use Rattle.bag_model.specs.Typed.{IsFirstIllTyped}
-use Rattle.context_model.specs.Framing.{size_of}
+use Rattle.context_model.specs.Framing.{form_of, offset_of}
 use Rattle.bag_model.proofs.IllTyped.{first_ill_typed}
 use Rattle.bag_walks.proofs.OnePlace.{one_place}
 use Rattle.wire_bytes.proofs.OneCode.{one_code}
@@ -40,7 +40,7 @@ one_hex hex a b e f = cc (e, f)
 abbrev IsWrong : Nodes → List ℕ → LineFault → Type 0
 IsWrong table bytes fault =
     ((offset : ℕ) × (code : ByteCode) × IsFirstContextFault bytes offset (byte_code_of code) × (fault ≡ Bytes offset code))
-    ⊎ ((list : List Atom) × (place : ℕ) × IsContextOf list bytes × IsFirstIllTyped table list place × (fault ≡ IllTyped (size_of (take place list))))
+    ⊎ ((list : List Atom) × (place : ℕ) × IsContextOf list bytes × IsFirstIllTyped table list place × (fault ≡ IllTyped (offset_of (form_of bytes) list place)))
 
 one_wrong : (table : Nodes) (bytes : List ℕ) (f g : LineFault) → IsWrong table bytes f → IsWrong table bytes g → f ≡ g
 one_wrong table bytes f g (inl (i, c, first, is)) (inl (j, d, other, also)) =

@@ -1,16 +1,18 @@
 -- What a good line adds may be added to a sound graph.
-use Rattle.std.proofs.Common.{◌≡◌, ◌≢◌, inl, inr, ℕ, ◌<◌, List, [], ◌∷◌, length, Option, Some, None, refl, sym, ap, subst, arith}
+use Rattle.std.proofs.Common.{◌≡◌, ◌≢◌, inl, inr, ℕ, ◌<◌, ◌≤◌, List, [], ◌∷◌, length, Option, Some, None, refl, sym, ap, subst, arith}
 use Rattle.std.proofs.lemmas.Bool.{cases_lt}
 use Rattle.std.proofs.lemmas.List.{length-map}
 use Rattle.std.proofs.lemmas.List.Quantifiers.{position-Some}
 use Rattle.std.specs.List.{slice_get}
 use Rattle.std.specs.Option.{option_map}
 use Rattle.std.specs.Str.{bytes_eq}
+use Rattle.context_model.specs.declared.Form.{Form as WireForm}
+use Rattle.context_model.specs.Framing.{least_budget}
 use Rattle.context_model.specs.Orders.{IsIn}
 use Rattle.bag_model.specs.Shapes.{Nodes}
 use Rattle.text_lines.specs.Readings.{NoneOf}
 use Rattle.trace_model.specs.Graphs as graphs
-use Rattle.trace_model.specs.Graphs.{Act, Graph, HasStep, IsGraph, IsSoundAct, StaysAt, parents_of}
+use Rattle.trace_model.specs.Graphs.{Act, Graph, HasStep, IsGraph, IsSoundAct, StaysAt, form_at, parents_of}
 use Rattle.recorded_graph.specs.declared.graphs.TheConstants.{STEPS_MAX}
 use Rattle.recorded_graph.specs.Growth.{MayFollow}
 use Rattle.graph_lines.specs.Forms.{IsSound}
@@ -27,8 +29,8 @@ KeepsRules table graph line = NoneOf (Breaks table graph line) rules
 -- ---- a service, and a step that is shown
 
 -- A good line declares a service of a new name.
-pub is_new : (table : Nodes) (graph : Graph) (name : List ℕ) (view : NamedView) → KeepsRules table graph (lines.Service name view) → service_named graph name ≡ None
-is_new table graph name view keeps = by (service_named graph name) refl
+pub is_new : (table : Nodes) (graph : Graph) (form : WireForm) (name : List ℕ) (view : NamedView) → KeepsRules table graph (lines.Service form name view) → service_named graph name ≡ None
+is_new table graph form name view keeps = by (service_named graph name) refl
   where
     by : (found : Option ℕ) → service_named graph name ≡ found → found ≡ None
     by None e = refl
@@ -79,28 +81,30 @@ service_within graph (lines.Join []) service sound stands = absurd stands
 service_within graph (lines.Join (parent ∷ parents)) service sound stands = stands_within graph parent service sound stands
 
 -- What a step does names the parents that its line names.
-same_parents : (table : Nodes) (named : NamedAct) (act : Act) → MeansAct table named act → parents_of act ≡ parents_named named
-same_parents table (lines.Start name) act means = ap parents_of means
-same_parents table (lines.Recv name hex) act (list, says, is) = ap parents_of is
-same_parents table (lines.Set parent path write) act (slot, v, says, is) = ap parents_of is
-same_parents table (lines.Branch parent) act means = ap parents_of means
-same_parents table (lines.Forward parent name) act means = ap parents_of means
-same_parents table (lines.Trim parent budget) act means = ap parents_of means
-same_parents table (lines.Join parents) act means = ap parents_of means
+same_parents : (table : Nodes) (form : WireForm) (named : NamedAct) (act : Act) → MeansAct table form named act → parents_of act ≡ parents_named named
+same_parents table form (lines.Start name) act means = ap parents_of means
+same_parents table form (lines.Recv name hex) act (list, says, is) = ap parents_of is
+same_parents table form (lines.Set parent path write) act (slot, v, says, is) = ap parents_of is
+same_parents table form (lines.Branch parent) act means = ap parents_of means
+same_parents table form (lines.Forward parent name) act means = ap parents_of means
+same_parents table form (lines.Trim parent budget) act means = ap parents_of means
+same_parents table form (lines.Join parents) act means = ap parents_of means
 
-some_budget : (parent number budget : ℕ) → (HasNoBudget (lines.Step number (lines.Trim parent budget)) → ⊥) → 0 < budget
-some_budget parent number budget keeps = elim (cases_lt 0 budget) [ inl less ↦ less | inr none ↦ absurd (keeps (inl (omega arith))) ]
+some_budget : (graph : Graph) (parent number budget service : ℕ) → (HasNoBudget graph (lines.Step number (lines.Trim parent budget)) → ⊥)
+    → service_at graph parent ≡ Some service → least_budget (form_at graph service) ≤ budget
+some_budget graph parent number budget service keeps at =
+    elim (cases_lt budget (least_budget (form_at graph service))) [ inl less ↦ absurd (keeps (inl (service, at, less))) | inr enough ↦ enough ]
 
 -- What a step does is sound.
-sound_act : (table : Nodes) (graph : Graph) (number : ℕ) (named : NamedAct) (act : Act) → IsSound (lines.Step number named) → KeepsRules table graph (lines.Step number named)
-    → MeansAct table named act → IsSoundAct act
-sound_act table graph number (lines.Start name) act sound keeps means = subst IsSoundAct (sym means) tt
-sound_act table graph number (lines.Recv name hex) act sound keeps (list, says, is) = subst IsSoundAct (sym is) tt
-sound_act table graph number (lines.Set parent path write) act sound keeps (slot, v, says, is) = subst IsSoundAct (sym is) tt
-sound_act table graph number (lines.Branch parent) act sound keeps means = subst IsSoundAct (sym means) tt
-sound_act table graph number (lines.Forward parent name) act sound keeps means = subst IsSoundAct (sym means) tt
-sound_act table graph number (lines.Trim parent budget) act sound keeps means = subst IsSoundAct (sym means) (some_budget parent number budget keeps.1.1.1.1.1.1.1.1.0)
-sound_act table graph number (lines.Join parents) act sound keeps means = subst IsSoundAct (sym means) sound.1.0
+sound_act : (table : Nodes) (graph : Graph) (number : ℕ) (named : NamedAct) (act : Act) (service : ℕ) → IsSound (lines.Step number named) → KeepsRules table graph (lines.Step number named)
+    → StandsAt graph named service → MeansAct table (form_at graph service) named act → IsSoundAct (form_at graph service) act
+sound_act table graph number (lines.Start name) act service sound keeps stands means = subst (IsSoundAct (form_at graph service)) (sym means) tt
+sound_act table graph number (lines.Recv name hex) act service sound keeps stands (list, says, is) = subst (IsSoundAct (form_at graph service)) (sym is) tt
+sound_act table graph number (lines.Set parent path write) act service sound keeps stands (slot, v, says, is) = subst (IsSoundAct (form_at graph service)) (sym is) tt
+sound_act table graph number (lines.Branch parent) act service sound keeps stands means = subst (IsSoundAct (form_at graph service)) (sym means) tt
+sound_act table graph number (lines.Forward parent name) act service sound keeps stands means = subst (IsSoundAct (form_at graph service)) (sym means) tt
+sound_act table graph number (lines.Trim parent budget) act service sound keeps stands means = subst (IsSoundAct (form_at graph service)) (sym means) (some_budget graph parent number budget service keeps.1.1.1.1.1.1.1.1.0 stands)
+sound_act table graph number (lines.Join parents) act service sound keeps stands means = subst (IsSoundAct (form_at graph service)) (sym means) sound.1.0
 
 -- ---- the parents of a step
 
@@ -127,7 +131,7 @@ joined_parent graph number parent parents n service own keeps stands i e = not_a
     keeps (parent, n, inl refl, i, λ same. differ (let there = stands_there graph n own e in cc (stands, there, same))))
 
 -- A step stands where it must behind its parents.
-stays : (table : Nodes) (graph : Graph) (number : ℕ) (named : NamedAct) (act : Act) (service : ℕ) → KeepsRules table graph (lines.Step number named) → StandsAt graph named service → MeansAct table named act
+stays : (table : Nodes) (graph : Graph) (number : ℕ) (named : NamedAct) (act : Act) (service : ℕ) → KeepsRules table graph (lines.Step number named) → StandsAt graph named service → MeansAct table (form_at graph service) named act
     → (n : ℕ) (own : graphs.Step) → IsIn n (parents_named named) → HasStep graph n own → StaysAt act own.service service
 stays table graph number (lines.Start name) act service keeps stands means n own i e = absurd i
 stays table graph number (lines.Recv name hex) act service keeps stands means n own i e = absurd i
@@ -151,10 +155,10 @@ pub may_follow : (table : Nodes) (graph : Graph) (number : ℕ) (named : NamedAc
     → IsGood table graph (lines.Step number named) (AddStep step) → MayFollow graph step
 may_follow table graph number named step sound line (keeps, (service, act, stands, means, is)) =
     subst (MayFollow graph) (sym (one_step step (record { service = service; act = act }) is)) (record {
-      act = sound_act table graph number named act line keeps means;
+      act = sound_act table graph number named act service line keeps stands means;
       service = service_within graph named service sound stands;
       parents = λ parent i.
-          let own_line : IsIn parent (parents_named named) = subst (IsIn parent) (same_parents table named act means) i in
+          let own_line : IsIn parent (parents_named named) = subst (IsIn parent) (same_parents table (form_at graph service) named act means) i in
           record {
             earlier = is_earlier table graph (lines.Step number named) parent keeps own_line;
             stays = λ own e. stays table graph number named act service keeps stands means parent own own_line e;

@@ -2,6 +2,7 @@
 use Rattle.std.proofs.Common.{◌≡◌, ◌⊎◌, inl, inr, ℕ, ◌<◌, ◌≤◌, List, [], ◌∷◌, ◌++◌, length, Some, None, refl, sym, subst, append_assoc, append-nil, arith}
 use Rattle.std.proofs.lemmas.Bool.{cases_lt}
 use Rattle.outside.specs.declared.TheConstants.{ATOM_MAX}
+use Rattle.context_model.specs.declared.Form.{Form as WireForm}
 use Rattle.context_model.specs.Merged.{last_atom}
 use Rattle.context_model.specs.Orders.{Path, IsIn}
 use Rattle.context_model.proofs.GreedyElements.{All-from}
@@ -14,7 +15,7 @@ use Rattle.bag_model.specs.Views as views
 use Rattle.bag_model.specs.Views.{View, Knows}
 use Rattle.bag_model.proofs.PathLaws.{reached_bound}
 use Rattle.trace_model.specs.Graphs as graphs
-use Rattle.trace_model.specs.Graphs.{Act, Graph, IsGraph, view_at, IsViewOf, IsActOf, IsOfTable, IsRecorded}
+use Rattle.trace_model.specs.Graphs.{Act, Graph, IsGraph, form_at, view_at, IsViewOf, IsActOf, IsOfTable, IsRecorded}
 use Rattle.text_lines.specs.Lines.{Line, lines_of}
 use Rattle.text_lines.specs.Readings.{AllSay}
 use Rattle.write_text.specs.Writes.{IsWrite}
@@ -30,8 +31,8 @@ use Rattle.bag_walks.proofs.SlotFits.{only_fits}
 
 -- The value of a write is of the shape, and each atom of its layout, at any path, is within the limit of bytes.
 pub record WritesFit : Type 0 where
-  pub shape : (shape : Shape) (v : Value) (text : List ℕ) → IsWrite shape v text → IsOfShape shape v
-  pub fits : (shape : Shape) (v : Value) (text : List ℕ) (q p : Path) → IsWrite shape v text → InLayout shape q v p → length (last_atom p) ≤ ATOM_MAX
+  pub shape : (form : WireForm) (shape : Shape) (v : Value) (text : List ℕ) → IsWrite form shape v text → IsOfShape shape v
+  pub fits : (form : WireForm) (shape : Shape) (v : Value) (text : List ℕ) (q p : Path) → IsWrite form shape v text → InLayout shape q v p → length (last_atom p) ≤ ATOM_MAX
 
 -- ---- views
 
@@ -76,7 +77,7 @@ known (views.Only slots) slot f = elim (in_or_not slot slots) [ inl i ↦ i | in
 -- ---- steps
 
 act_of_table : WritesFit → (table : Nodes) (graph : Graph) (number : ℕ) (named : NamedAct) (act : Act) (service : ℕ) → KeepsRules table graph (lines.Step number named)
-    → StandsAt graph named service → MeansAct table named act → IsActOf table (view_at graph service) act
+    → StandsAt graph named service → MeansAct table (form_at graph service) named act → IsActOf table (view_at graph service) act
 act_of_table writes table graph number (lines.Start name) act service keeps stands means = subst (IsActOf table (view_at graph service)) (sym means) tt
 act_of_table writes table graph number (lines.Recv name hex) act service keeps stands (list, (bytes, says, of_bytes, typed), is) =
     subst (IsActOf table (view_at graph service)) (sym is) (record { well_formed = of_bytes.1; typed = typed })
@@ -84,8 +85,8 @@ act_of_table writes table graph number (lines.Set parent path write) act service
     subst (IsActOf table (view_at graph service)) (sym is) (record {
       at = at;
       there = there;
-      shape = writes.shape at.shape v write says;
-      fits = only_fits table slot at v there (λ q p. writes.fits at.shape v write q p says);
+      shape = writes.shape (form_at graph service) at.shape v write says;
+      fits = only_fits table slot at v there (λ q p. writes.fits (form_at graph service) at.shape v write q p says);
       known = known (view_at graph service) slot (λ unknown. keeps.1.1.1.1.1.1.0 (slot, service, finds, stands, unknown));
     })
 act_of_table writes table graph number (lines.Branch parent) act service keeps stands means = subst (IsActOf table (view_at graph service)) (sym means) tt
@@ -97,11 +98,11 @@ act_of_table writes table graph number (lines.Join parents) act service keeps st
 
 -- A recorded graph with what a good line adds is one too.
 line_recorded : WritesFit → (table : Nodes) (graph : Graph) (line : Statement) (a : Addition) → IsRecorded table graph → IsSound line → IsGood table graph line a → IsRecorded table (with_addition graph a)
-line_recorded writes table graph (lines.Service name named) a r sound (keeps, (view, means, is)) =
+line_recorded writes table graph (lines.Service form name named) a r sound (keeps, (view, means, is)) =
     subst (λ b. IsRecorded table (with_addition graph b)) (sym is) (record {
       table = r.table;
-      sound = service_sound graph (record { name = name; view = view }) r.sound;
-      fits = graphs_grow.service table graph (record { name = name; view = view }) r.sound r.fits (view_of_table table named view means);
+      sound = service_sound graph (record { name = name; form = form; view = view }) r.sound;
+      fits = graphs_grow.service table graph (record { name = name; form = form; view = view }) r.sound r.fits (view_of_table table named view means);
     })
 line_recorded writes table graph (lines.Step number named) a r sound (keeps, (service, act, stands, means, is)) =
     let step : graphs.Step = record { service = service; act = act } in

@@ -1,5 +1,6 @@
 -- Steps that are refused, and writes that are good.
 use Rattle.std.proofs.Common.{◌≡◌, ◌≢◌, inl, inr, ℕ, ◌<◌, ◌≤◌, List, [], ◌∷◌, length, Some, None, refl, sym, ◌∙◌, subst, arith}
+use Rattle.context_model.specs.declared.Form.{Form as WireForm}
 use Rattle.context_model.specs.Orders.{IsIn}
 use Rattle.bag_model.specs.Shapes.{Nodes}
 use Rattle.bag_model.specs.Slots.{SlotAt, slots_of, FindsSlot}
@@ -10,7 +11,7 @@ use Rattle.bag_model.specs.Views.{View, Knows}
 use Rattle.bag_model.proofs.NamePathLaws.{name_paths_differ}
 use Rattle.text_lines.specs.Readings.{IsFirstOf, NoneOf}
 use Rattle.trace_model.specs.Graphs as graphs
-use Rattle.trace_model.specs.Graphs.{Graph, view_at}
+use Rattle.trace_model.specs.Graphs.{Graph, form_at, view_at}
 use Rattle.recorded_graph.specs.declared.graphs.TheConstants.{STEPS_MAX}
 use Rattle.write_text.specs.Writes.{IsWrite}
 use Rattle.recorded_graph.specs.Growth.{with_service}
@@ -79,38 +80,43 @@ module _ (table : Nodes) (is_table : IsTable table) (graph : Graph) (parent : �
         let here : found.0 ≡ service = cc some in
         unknown (subst (λ s. Knows (view_at graph s) other) here (subst (Knows (view_at graph found.0)) same found.3))
 
-    -- The text is refused.
-    pub write_refused : (refusal : Refusal) → IsRefusedWrite table slot write refusal → IsRefusedNext table graph (Set parent path write) refusal
-    write_refused Memory none = none
-    write_refused (Fault fault) ((at, has, none), is) =
-        let wrong : Miswrites table set = (slot, at, found.1, has, none) in
-        inl (BadValue, inr (numbered, inr (stands, inr (goes, inr (no, inr (no, inr (has_path, inr (is_known, inl (refl, wrong)))))))), is)
+    module _ (service : ℕ) (stands_at : service_at graph parent ≡ Some service) (form : WireForm) (own : form_at graph service ≡ form) where
+      -- The text is refused.
+      pub write_refused : (refusal : Refusal) → IsRefusedWrite table form slot write refusal → IsRefusedNext table graph (Set parent path write) refusal
+      write_refused Memory none = none
+      write_refused (Fault fault) ((at, has, none), is) =
+          let no_write : (v : Value) → IsWrite (form_at graph service) at.shape v write → ⊥ = λ v says. none v (subst (λ (f : WireForm). IsWrite f at.shape v write) own says) in
+          let wrong : Miswrites table graph set = (slot, service, at, found.1, has, stands_at, no_write) in
+          inl (BadValue, inr (numbered, inr (stands, inr (goes, inr (no, inr (no, inr (has_path, inr (is_known, inl (refl, wrong)))))))), is)
 
-    module _ (v : Value) (says : IsWriteAt table slot v write) where
-      is_write : Miswrites table set → ⊥
-      is_write (other, at, also, has, none) =
-          let same : slot ≡ other = one_found table is_table path slot other found.1 also in
-          let one : says.0 ≡ at = one_slot (slots_of table) other says.0 at (subst (λ s. HasSlot table s says.0) same says.1) has in
-          none v (subst (λ (a : SlotAt). IsWrite a.shape v write) one says.2)
+      module _ (v : Value) (says : IsWriteAt table form slot v write) where
+        is_write : Miswrites table graph set → ⊥
+        is_write (other, place, at, also, has, there, none) =
+            let same : slot ≡ other = one_found table is_table path slot other found.1 also in
+            let one : says.0 ≡ at = one_slot (slots_of table) other says.0 at (subst (λ s. HasSlot table s says.0) same says.1) has in
+            let some : Some service ≡ Some place = sym stands_at ∙ there in
+            let here : service ≡ place = cc some in
+            let form_there : form_at graph place ≡ form = subst (λ n. form_at graph n ≡ form) here own in
+            none v (subst (λ (f : WireForm). IsWrite f at.shape v write) (sym form_there) (subst (λ (a : SlotAt). IsWrite form a.shape v write) one says.2))
 
-      -- There is no room.
-      first_full : STEPS_MAX ≤ length graph.steps → IsFirstOf (Breaks table graph set) rules TooManySteps
-      first_full most =
-          inr (numbered, inr (stands, inr (goes, inr (no, inr (no, inr (has_path, inr (is_known, inr (is_write, inr (no, inl (refl, most))))))))))
+        -- There is no room.
+        first_full : STEPS_MAX ≤ length graph.steps → IsFirstOf (Breaks table graph set) rules TooManySteps
+        first_full most =
+            inr (numbered, inr (stands, inr (goes, inr (no, inr (no, inr (has_path, inr (is_known, inr (is_write, inr (no, inl (refl, most))))))))))
 
-      pub write_too_late : STEPS_MAX ≤ length graph.steps → IsRefusedNext table graph (Set parent path write) (Fault (Code TooManySteps))
-      write_too_late most = inl (TooManySteps, first_full most, refl)
+        pub write_too_late : STEPS_MAX ≤ length graph.steps → IsRefusedNext table graph (Set parent path write) (Fault (Code TooManySteps))
+        write_too_late most = inl (TooManySteps, first_full most, refl)
 
-      -- The write is good.
-      none_broken : length graph.steps < STEPS_MAX → NoneOf (Breaks table graph set) rules
-      none_broken few =
-          let room : IsOneTooMany graph set → ⊥ = λ most. omega arith in
-          (numbered, (stands, (goes, (no, (no, (has_path, (is_known, (is_write, (no, (room, (no, (no, (no, tt)))))))))))))
+        -- The write is good.
+        none_broken : length graph.steps < STEPS_MAX → NoneOf (Breaks table graph set) rules
+        none_broken few =
+            let room : IsOneTooMany graph set → ⊥ = λ most. omega arith in
+            (numbered, (stands, (goes, (no, (no, (has_path, (is_known, (is_write, (no, (room, (no, (no, (no, tt)))))))))))))
 
-      pub write_good : (service : ℕ) → service_at graph parent ≡ Some service → length graph.steps < STEPS_MAX
-          → IsNext table graph (Set parent path write) (record { service = service; act = graphs.Act.Set parent slot v })
-      write_good service at few =
-          (none_broken few, (service, graphs.Act.Set parent slot v, at, (slot, v, (says.0, found.1, says.1, says.2), refl), refl))
+        pub write_good : length graph.steps < STEPS_MAX → IsNext table graph (Set parent path write) (record { service = service; act = graphs.Act.Set parent slot v })
+        write_good few =
+            let says_write : IsWrite (form_at graph service) says.0.shape v write = subst (λ (f : WireForm). IsWrite f says.0.shape v write) (sym own) says.2 in
+            (none_broken few, (service, graphs.Act.Set parent slot v, stands_at, (slot, v, (says.0, found.1, says.1, says_write), refl), refl))
 
 -- ---- a join of earlier steps
 
@@ -172,17 +178,17 @@ module _ (table : Nodes) (graph : Graph) (parents : List ℕ) (early : (n : ℕ)
 -- ---- a service
 
 -- A service of a new name is declared.
-is_new : (graph : Graph) (name : List ℕ) (named : NamedView) → service_named graph name ≡ None → Redeclares graph (Service name named) → ⊥
-is_new graph name named none (n, some) = let bad : Some n ≡ None = sym some ∙ none in cc bad
+is_new : (graph : Graph) (form : WireForm) (name : List ℕ) (named : NamedView) → service_named graph name ≡ None → Redeclares graph (Service form name named) → ⊥
+is_new graph form name named none (n, some) = let bad : Some n ≡ None = sym some ∙ none in cc bad
 
-no_parents : (graph : Graph) (name : List ℕ) (named : NamedView) → NamesNoStep graph (Service name named) → ⊥
-no_parents graph name named (n, among, late) = among
+no_parents : (graph : Graph) (form : WireForm) (name : List ℕ) (named : NamedView) → NamesNoStep graph (Service form name named) → ⊥
+no_parents graph form name named (n, among, late) = among
 
-pub declared : (table : Nodes) (graph : Graph) (name : List ℕ) (named : NamedView) (view : View) → service_named graph name ≡ None → (MissesPath table named → ⊥)
-    → MeansView table named view → (next : Graph) → next ≡ with_service graph (record { name = name; view = view }) → GrowsTo table graph (Service name named) next
-declared table graph name named view none finds means next is =
-    let new : Redeclares graph (Service name named) → ⊥ = is_new graph name named none in
-    let steps : NamesNoStep graph (Service name named) → ⊥ = no_parents graph name named in
-    let kept : NoneOf (Breaks table graph (Service name named)) rules =
+pub declared : (table : Nodes) (graph : Graph) (form : WireForm) (name : List ℕ) (named : NamedView) (view : View) → service_named graph name ≡ None → (MissesPath table named → ⊥)
+    → MeansView table named view → (next : Graph) → next ≡ with_service graph (record { name = name; form = form; view = view }) → GrowsTo table graph (Service form name named) next
+declared table graph form name named view none finds means next is =
+    let new : Redeclares graph (Service form name named) → ⊥ = is_new graph form name named none in
+    let steps : NamesNoStep graph (Service form name named) → ⊥ = no_parents graph form name named in
+    let kept : NoneOf (Breaks table graph (Service form name named)) rules =
     (no, (steps, (no, (new, (no, (finds, (no, (no, (no, (no, (no, (no, (no, tt))))))))))))) in
-    (AddService (record { name = name; view = view }), (kept, (view, means, refl)), is)
+    (AddService (record { name = name; form = form; view = view }), (kept, (view, means, refl)), is)

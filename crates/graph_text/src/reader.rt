@@ -1,12 +1,14 @@
 //! What the lines of a text have said so far, and what that allows the next line to name.
 
 ghost use Rattle.std.specs.Prelude.{◌≡◌, ◌≢◌, ◌<◌, ◌≤◌, length, None, Some, IfOk, IfErr, OnOk, OnErr, All};
+ghost use Rattle.trace_model.specs.Graphs.{form_at};
 ghost use Rattle.recorded_graph.specs.declared.graphs.TheConstants.{STEPS_MAX};
 ghost use Rattle.recorded_graph.specs.Growth.{empty_graph, with_service, with_step, with_show, MayFollow};
 ghost use Rattle.recorded_graph.specs.Plain.{service_of, step_of};
 ghost use Rattle.graph_text.specs.Names.{service_named, service_at};
 
 use crate::faults::GraphCode;
+use context_model::Form;
 use outside::Memory;
 use recorded_graph::{Graph, STEPS_MAX, Service, Step};
 use std::alloc::Global;
@@ -130,6 +132,14 @@ impl<'a> Reader<'a> {
     {
         self.graph.known();
         self.graph.step(step).service
+    }
+
+    /// The form in which a service writes contexts.
+    pub(crate) fn form_of(&self, service: usize) -> Form
+        requires { service < length self.now.services }
+        ensures { result ≡ form_at self.now service }
+    {
+        self.graph.service(service).form
     }
 
     /// The same with a service of a new name.

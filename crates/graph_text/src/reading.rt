@@ -13,6 +13,7 @@ use crate::faults::{GraphCode, GraphFault, LineFault, Refusal};
 use crate::laws::texts_give_recorded_graphs;
 use crate::reader::Reader;
 use crate::views::read_view;
+use context_model::Form;
 use field_table::Table;
 use graph_lines::{NamedAct, NamedView, Statement, read_statement};
 use outside::Text;
@@ -26,16 +27,18 @@ impl<'a> Reader<'a> {
         self,
         alloc: Global,
         table: &Table,
+        form: Form,
         name: &'a str,
         view: &NamedView<'_>,
     ) -> Result<Reader<'a>, Refusal>
-        ensures ok { IfOk result (GrowsTo table.now self.entry (lines.Service name.now (view_of view.now))) }
-        ensures err { IfErr result (IsRefused table.now self.entry (lines.Service name.now (view_of view.now))) }
+        ensures ok { IfOk result (GrowsTo table.now self.entry (lines.Service form name.now (view_of view.now))) }
+        ensures err { IfErr result (IsRefused table.now self.entry (lines.Service form name.now (view_of view.now))) }
     {
         self.check_new(name)?;
         let view = read_view(alloc, table, view)?;
         let service = Service {
             name: Text::of(alloc, name)?,
+            form,
             view,
         };
         let reader = self.with_service(name, service)?;
@@ -77,7 +80,9 @@ impl<'a> Reader<'a> {
         ensures err { IfErr result (IsRefused table.now self.entry (statement_of line.entry)) }
     {
         match line {
-            Statement::Service { name, view } => self.read_service(alloc, table, name, &view),
+            Statement::Service { form, name, view } => {
+                self.read_service(alloc, table, form, name, &view)
+            }
             Statement::Step { number, act } => self.read_numbered(alloc, table, number, &act),
             Statement::Show { step } => self.read_show(step),
         }

@@ -143,7 +143,7 @@ impl<'a> Reader<'a> {
         let parent = self.earlier(parent)?;
         let slot = self.known_slot(table, parent, path)?;
         let service = self.service_of(parent);
-        let form = self.graph().service(service).form;
+        let form = self.form_of(service);
         let write = read_value(alloc, table, form, slot, write)?;
         self.check_room()?;
         Ok(Step {
@@ -190,7 +190,7 @@ impl<'a> Reader<'a> {
     {
         let parent = self.earlier(parent)?;
         let service = self.service_of(parent);
-        let form = self.graph().service(service).form;
+        let form = self.form_of(service);
         if budget < form.least_budget() || BUDGET_MAX < budget {
             return Err(GraphCode::BudgetRange.into());
         }

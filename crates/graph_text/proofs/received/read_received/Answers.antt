@@ -1,11 +1,13 @@
-use Rattle.std.proofs.Common.{◌∙◌, ap, take, inr}
-use Rattle.context_model.specs.Framing.{size_of}
+use Rattle.std.proofs.Common.{◌∙◌, ap, inr}
+use Rattle.context_model.specs.Framing.{form_of, offset_of}
 use Rattle.graph_text.specs.declared.faults.LineFault.TheVariants.{IllTyped}
 use Rattle.graph_text.proofs.received.read_received.Goals as goal
 
 pub returns-in-Err-clause-err : goal.returns-in-Err-clause-err
 returns-in-Err-clause-err c =
-    let offset = c.offset.ensures ∙ ap (λ list. size_of (take c.in-Err.place list)) c.list.ensures.list in
+    let offset =
+    c.offset.ensures ∙ ap (λ form. offset_of form c.list.result.now c.in-Err.place) (c.form_of-form.ensures ∙ ap form_of c.as_slice.ensures.value)
+    ∙ ap (λ list. offset_of (form_of c.in-Ok.bytes.items) list c.in-Err.place) c.list.ensures.list in
     inr (
       c.in-Ok.ensures.ok.0,
       (

@@ -1,4 +1,4 @@
-use Rattle.std.proofs.Common.{inl, refl, subst}
+use Rattle.std.proofs.Common.{inl, refl, sym, subst}
 use Rattle.std.proofs.lemmas.Result.{err_from_is_err_and}
 use Rattle.bag_value.specs.Plain.{plain}
 use Rattle.trace_model.specs.Graphs as graphs
@@ -30,7 +30,9 @@ returns-in_err-write-clause-err c =
     rw (p.1, p.2)
     (subst (λ n. IsRefusedNext c.args.table.now c.args.self.now (lines.Set n c.args.path.now c.args.write.now) refusal) c.in_ok-parent.ensures.ok.0
     (write_refused c.args.table.now c.nodes.ensures.table c.args.self.now c.in_ok-parent.parent c.args.path.now c.args.write.now c.in_ok-parent.ensures.ok.1
-    c.in_ok-slot.slot c.in_ok-slot.ensures.ok refusal c.in_err-write.ensures.err))
+    c.in_ok-slot.slot c.in_ok-slot.ensures.ok
+    c.service_of-service.result c.service_of-service.ensures.at c.form_of-form.result (sym c.form_of-form.ensures)
+    refusal c.in_err-write.ensures.err))
 
 pub returns-in_err-check_room-clause-err : goal.returns-in_err-check_room-clause-err
 returns-in_err-check_room-clause-err c =
@@ -40,11 +42,15 @@ returns-in_err-check_room-clause-err c =
     rw (p.1, p.2, e.0)
     (subst (λ n. IsRefusedNext c.args.table.now c.args.self.now (lines.Set n c.args.path.now c.args.write.now) (Fault (Code _))) c.in_ok-parent.ensures.ok.0
     (write_too_late c.args.table.now c.nodes.ensures.table c.args.self.now c.in_ok-parent.parent c.args.path.now c.args.write.now c.in_ok-parent.ensures.ok.1
-    c.in_ok-slot.slot c.in_ok-slot.ensures.ok v c.in_ok-write.ensures.ok e.1))
+    c.in_ok-slot.slot c.in_ok-slot.ensures.ok
+    c.service_of-service.result c.service_of-service.ensures.at c.form_of-form.result (sym c.form_of-form.ensures)
+    v c.in_ok-write.ensures.ok e.1))
 
 pub returns-clause-ok : goal.returns-clause-ok
 returns-clause-ok c =
     let step : graphs.Step = record { service = c.service_of-service.result; act = graphs.Act.Set c.in_ok-parent.parent c.in_ok-slot.slot (plain c.in_ok-write.write) } in
     subst (λ n. IsNext c.args.table.now c.args.self.now (lines.Set n c.args.path.now c.args.write.now) step) c.in_ok-parent.ensures.ok.0
     (write_good c.args.table.now c.nodes.ensures.table c.args.self.now c.in_ok-parent.parent c.args.path.now c.args.write.now c.in_ok-parent.ensures.ok.1
-    c.in_ok-slot.slot c.in_ok-slot.ensures.ok (plain c.in_ok-write.write) c.in_ok-write.ensures.ok c.service_of-service.result c.service_of-service.ensures.at c.in_ok-check_room.ensures.ok)
+    c.in_ok-slot.slot c.in_ok-slot.ensures.ok
+    c.service_of-service.result c.service_of-service.ensures.at c.form_of-form.result (sym c.form_of-form.ensures)
+    (plain c.in_ok-write.write) c.in_ok-write.ensures.ok c.in_ok-check_room.ensures.ok)
