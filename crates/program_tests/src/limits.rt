@@ -42,7 +42,7 @@ fn put_copy(text: &mut String, piece: &str, number: usize) -> Result<(), Fail> {
 /// A call with a long input: its words, the input, its status, and what it writes.
 type Row = (&'static str, Long, u8, &'static str);
 
-static INPUTS: [Row; 29] = [
+static INPUTS: [Row; 27] = [
     // The longest lines.
     ("trim 1", ("", "0", DIGITS_MAX, ""), 0, "00\n"),
     ("trim 1", ("", "0", DIGITS_MAX, "\r\n"), 0, "00\n"),
@@ -211,28 +211,6 @@ static INPUTS: [Row; 29] = [
             "k",
             65_535,
             "\":1",
-        ),
-        2,
-        "input line 3 BadValue\n",
-    ),
-    (
-        RUN,
-        (
-            "service2 a all\nstart 0 a\nset 1 0 tags \"",
-            "k",
-            1_048_575,
-            "\"",
-        ),
-        0,
-        "",
-    ),
-    (
-        RUN,
-        (
-            "service2 a all\nstart 0 a\nset 1 0 tags \"",
-            "k",
-            1_048_576,
-            "\"",
         ),
         2,
         "input line 3 BadValue\n",
