@@ -1,7 +1,7 @@
 -- What typed paths say under shapes that fit agrees.
-use Rattle.std.proofs.Common.{◌≡◌, ◌⊎◌, inl, inr, ◌↔◌, ℕ, List, Option, Some, None, Ordering, refl, sym, ap, ◌∙◌, subst}
+use Rattle.std.proofs.Common.{◌≡◌, inl, inr, ◌↔◌, ℕ, List, Option, Some, None, Ordering, refl, sym, ◌∙◌, subst}
 use Rattle.context_model.specs.Orders.{Path, IsIn}
-use Rattle.context_model.specs.KeyedMerge.{keys_of, EachPair, IsAt}
+use Rattle.context_model.specs.KeyedMerge.{keys_of, IsAt}
 use Rattle.context_model.proofs.GreedyElements.{Rises-unique}
 use Rattle.context_model.proofs.MergeLaws.{EachPair-at, EachPair-from, IsIn-keys_of}
 use Rattle.bag_model.specs.declared.Pick.{Pick}
@@ -12,7 +12,7 @@ use Rattle.bag_model.specs.Readings.{datum_path, key_path, node_path, HasScalar,
 use Rattle.bag_model.specs.Typed.{IsTyped, AreTyped}
 use Rattle.bag_model.proofs.ScalarOrder.{scalar_total, pick_total, pick_exact}
 use Rattle.bag_model.proofs.Uniqueness.{IsFirst-unique, Reads-unique}
-use Rattle.def_evolve.specs.Widening.{Widens, WiderKindsSpellAlike}
+use Rattle.def_evolve.specs.Widening.{Widens}
 use Rattle.def_evolve.specs.Breaks.{Fits}
 use Rattle.def_evolve.specs.Agreeing.{HasField, Agree, AgreeEach}
 use Rattle.def_evolve.proofs.Wider.{same_values, wider_kinds_spell_alike}

@@ -1,13 +1,12 @@
 -- A list that is typed under an old table, and has no path that the old table doesn't name, is typed under a new one that fits.
-use Rattle.std.proofs.Common.{◌≡◌, ◌≢◌, ◌⊎◌, inl, inr, ℕ, ◌+◌, ◌-◌, ◌*◌, ◌^◌, ◌<◌, List, [], ◌∷◌, ◌++◌, length, refl, sym, ap, ◌∙◌, subst, arith}
-use Rattle.context_model.specs.Atoms.{Atom}
+use Rattle.std.proofs.Common.{◌≡◌, ◌≢◌, ◌⊎◌, inl, inr, ℕ, ◌-◌, ◌*◌, ◌^◌, ◌<◌, List, [], ◌∷◌, ◌++◌, length, refl, sym, ap, ◌∙◌, subst, arith}
 use Rattle.context_model.specs.Kinds.{atom_of}
 use Rattle.context_model.specs.Kinds.Kind.{Indexed, Keyed}
 use Rattle.context_model.specs.Orders.{Path, IsIn}
 use Rattle.context_model.specs.Merged.{last_atom}
 use Rattle.bag_model.specs.Shapes.{Shape, Nodes, Field, Taint, Scalar, Set, Counter, Map, Bag, no_node, node, fields}
 use Rattle.bag_model.specs.Tables.{IsShape, AreFields}
-use Rattle.bag_model.specs.Readings.{datum_path, key_path, node_path}
+use Rattle.bag_model.specs.Readings.{key_path, node_path}
 use Rattle.bag_model.specs.Typed.{IsSpelling, IsTyped, AreTyped, Misspells, SomeMisspells}
 use Rattle.bag_model.specs.Encodings.{IsUsed, AreUsed}
 use Rattle.bag_model.proofs.PathSets.{HasKeyHeaders, StandsBelow, below_one}

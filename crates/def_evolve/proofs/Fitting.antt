@@ -1,5 +1,5 @@
 -- What fits, step by step.
-use Rattle.std.proofs.Common.{◌≡◌, inl, inr, ℕ, List, [], ◌∷◌, ◌++◌, refl, subst, sym}
+use Rattle.std.proofs.Common.{◌≡◌, ℕ, List, [], ◌∷◌, ◌++◌, refl, subst, sym}
 use Rattle.context_model.specs.Orders.{IsIn}
 use Rattle.bag_model.specs.declared.Pick.{Pick}
 use Rattle.bag_model.specs.declared.Pick.TheVariants.{Least, Greatest}
@@ -10,7 +10,7 @@ use Rattle.def_evolve.specs.declared.verdicts.Change.TheVariants as changes
 use Rattle.def_evolve.specs.declared.verdicts.Part.{Part}
 use Rattle.def_evolve.specs.declared.verdicts.Part.TheVariants.{Number, MapValue}
 use Rattle.def_evolve.specs.Widening.{Widens}
-use Rattle.def_evolve.specs.Breaks.{variant_of, Differs, StepsTo, LeadsTo, Fits}
+use Rattle.def_evolve.specs.Breaks.{variant_of, Differs, LeadsTo, Fits}
 use Rattle.def_evolve.proofs.Wider.{told_wider}
 
 -- The fields with one number fit.

@@ -1,5 +1,5 @@
 -- What is typed under an old shape is spelled rightly for both, where the new one fits.
-use Rattle.std.proofs.Common.{◌≡◌, inl, inr, ℕ, List, refl}
+use Rattle.std.proofs.Common.{inl, inr, refl}
 use Rattle.context_model.specs.Orders.{Path}
 use Rattle.bag_model.specs.Shapes.{Shape, Nodes, Field, Taint, Scalar, Set, Counter, Map, Bag, no_node, node}
 use Rattle.bag_model.specs.Readings.{key_path, node_path}

@@ -6,3 +6,8 @@ pub mod CommonSlots
 pub mod Clean
 pub mod Safe
 pub mod OneVerdict
+pub mod FieldPlaces
+pub mod ShapeViews
+pub mod BreakSteps
+pub mod CommonPaths
+pub mod WiderLists

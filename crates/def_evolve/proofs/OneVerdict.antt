@@ -1,6 +1,5 @@
 -- Two tables have one verdict.
-use Rattle.std.proofs.Common.{◌≡◌, ◌≢◌, ◌⊎◌, inl, inr, ℕ, suc, ◌+◌, ◌<◌, List, [], ◌∷◌, length, Ordering, Less, Equal, Greater, nat_cmp, refl, sym, ap, ◌∙◌, subst, arith, ◌^◌}
-use Rattle.std.specs.List.{AllByRecursion}
+use Rattle.std.proofs.Common.{◌≡◌, ◌≢◌, inl, inr, ℕ, ◌+◌, ◌<◌, List, [], ◌∷◌, length, Ordering, Less, Equal, Greater, nat_cmp, refl, sym, ap, ◌∙◌, subst, arith, ◌^◌}
 use Rattle.std.specs.Ordering.{on, ordering_reverse}
 use Rattle.std.specs.Cmp.{IsTotalOrder}
 use Rattle.std.specs.Cmp.Lexicographic.{slice_cmp}
@@ -10,7 +9,7 @@ use Rattle.context_model.specs.Orders.{IsIn}
 use Rattle.context_model.proofs.GreedyElements.{All-at, Rises-unique}
 use Rattle.bag_model.specs.declared.Pick.{Pick}
 use Rattle.bag_model.specs.declared.Pick.TheVariants.{Least, Greatest}
-use Rattle.bag_model.specs.Shapes.{Shape, Nodes, Field, Taint, Scalar, Set, Counter, Map, Bag, no_node, node, fields}
+use Rattle.bag_model.specs.Shapes.{Shape, Nodes, Field, Scalar, Set, Map, Bag, no_node, node, fields}
 use Rattle.bag_model.specs.Tables.{IsShape, AreFields, IsTable}
 use Rattle.def_evolve.specs.declared.verdicts.Change.{Change}
 use Rattle.def_evolve.specs.declared.verdicts.Change.TheVariants as changes
@@ -18,8 +17,8 @@ use Rattle.def_evolve.specs.declared.verdicts.Part.{Part}
 use Rattle.def_evolve.specs.declared.verdicts.Part.TheVariants.{Number, MapValue}
 use Rattle.def_evolve.specs.declared.verdicts.Verdict.{Verdict}
 use Rattle.def_evolve.specs.declared.verdicts.Verdict.TheVariants as verdicts
-use Rattle.def_evolve.specs.Breaks.{part_rank, way_cmp, way_text, StepsTo, LeadsTo, variant_of, KeysDiffer, KindsDiffer, Differs, IsBreak, IsFirstBreak, IsFitting}
-use Rattle.def_evolve.specs.Common.{AreCommonPaths, IsCommonCount, IsVerdict}
+use Rattle.def_evolve.specs.Breaks.{part_rank, way_cmp, way_text, StepsTo, LeadsTo, variant_of, KeysDiffer, KindsDiffer, Differs, IsBreak, IsFirstBreak}
+use Rattle.def_evolve.specs.Common.{IsCommonCount, IsVerdict}
 
 -- ---- the order of ways
 
@@ -111,7 +110,7 @@ one_change a b changes.Kind changes.Key d e = absurd (not_both a b e d)
 
 -- ---- one verdict
 
-one_count : (old new : Nodes) (m n : ℕ) → IsCommonCount old new m → IsCommonCount old new n → m ≡ n
+pub one_count : (old new : Shape) (m n : ℕ) → IsCommonCount old new m → IsCommonCount old new n → m ≡ n
 one_count old new m n s t =
     let same : s.0 ≡ t.0 = Rises-unique (slice_cmp nat_cmp) nat_list_cmp_total s.0 t.0 s.1.rises t.1.rises (λ k. ((λ i. (t.1.each k).1 ((s.1.each k).0 i)), λ i. (s.1.each k).1 ((t.1.each k).0 i))) in
     s.2 ∙ ap length same ∙ sym t.2
@@ -132,7 +131,7 @@ one_break old new a b x y ok also s t = (way, one_change s.breaks.0 s.breaks.1 x
         subst (λ (z : Shape). Differs y s.breaks.0 z) two (subst (λ (z : Shape). Differs y z there.1) one there.4)
 
 pub one_verdict : (old new : Nodes) (a b : Verdict) → IsTable old → IsTable new → IsVerdict old new a → IsVerdict old new b → a ≡ b
-one_verdict old new (verdicts.Fits m) (verdicts.Fits n) p q s t = ap verdicts.Fits (one_count old new m n s.1 t.1)
+one_verdict old new (verdicts.Fits m) (verdicts.Fits n) p q s t = ap verdicts.Fits (one_count (Bag old) (Bag new) m n s.1 t.1)
 one_verdict old new (verdicts.Fits m) (verdicts.Breaks path change) p q s t = absurd (s.0 t.0 change t.1.breaks)
 one_verdict old new (verdicts.Breaks path change) (verdicts.Fits n) p q s t = absurd (t.0 s.0 change s.1.breaks)
 one_verdict old new (verdicts.Breaks path change) (verdicts.Breaks other its) p q s t =

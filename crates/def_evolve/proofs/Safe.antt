@@ -1,18 +1,16 @@
 -- Contexts of an old table are safe under a new one that fits.
-use Rattle.std.proofs.Common.{◌≡◌, ◌≢◌, inl, inr, ◌↔◌, ℕ, List, [], ◌∷◌, ◌++◌, Some, refl, sym, ap, ◌∙◌, subst}
+use Rattle.std.proofs.Common.{◌≡◌, ℕ, List, [], Some, sym, ◌∙◌, subst}
 use Rattle.context_model.specs.Atoms.{Atom}
-use Rattle.context_model.specs.Orders.{Path, IsIn}
+use Rattle.context_model.specs.Orders.{Path}
 use Rattle.context_model.specs.Paths.{paths}
-use Rattle.context_model.specs.Merged.{last_atom}
 use Rattle.context_model.specs.Ended.{IsEnded, field_path}
-use Rattle.bag_model.specs.Shapes.{Shape, Nodes, Bag}
+use Rattle.bag_model.specs.Shapes.{Nodes, Bag}
 use Rattle.bag_model.specs.Tables.{IsTable}
-use Rattle.bag_model.specs.Values.{Value, Values}
+use Rattle.bag_model.specs.Values.{Value}
 use Rattle.bag_model.specs.Slots.{SlotAt}
-use Rattle.bag_model.specs.SlotValues.{HasSlot, HasSlotValue, SaysSlot, slot_values}
+use Rattle.bag_model.specs.SlotValues.{HasSlot, HasSlotValue, SaysSlot}
 use Rattle.bag_model.specs.Readings.{PathsOf, Reads}
-use Rattle.bag_model.specs.Typed.{IsTyped, SomeMisspells}
-use Rattle.bag_model.specs.Encodings.{IsForeign, AreUsed}
+use Rattle.bag_model.specs.Encodings.{IsForeign}
 use Rattle.bag_model.proofs.Existence.{Reads-all}
 use Rattle.bag_model.proofs.IllTyped.{typed_where_none_misspells}
 use Rattle.bag_model.proofs.MergeReadingLaws.{PathsOf-headers}

@@ -2,7 +2,7 @@
 use Rattle.std.specs.Prelude.{◌≡◌, ◌⊎◌, ℕ, List, []}
 use Rattle.context_model.specs.Orders.{Path, IsIn}
 use Rattle.context_model.specs.KeyedMerge.{keys_of, EachPair, IsAt}
-use Rattle.bag_model.specs.Scalars.{ScalarKind, ScalarValue}
+use Rattle.bag_model.specs.Scalars.{ScalarValue}
 use Rattle.bag_model.specs.Shapes.{Shape, Nodes, Field, Taint, Scalar, Set, Counter, Map, Bag, no_node, node, fields}
 use Rattle.bag_model.specs.Values.{Value, Entries, Values, Taint, Scalar, Set, Counter, Map, Bag, no_entry, no_value, value, pairs}
 use Rattle.bag_model.specs.Readings.{key_path, node_path}

@@ -3,28 +3,28 @@ use Rattle.std.specs.Prelude.{◌≡◌, ◌↔◌, ℕ, List, length}
 use Rattle.std.specs.Ordering.{nat_cmp}
 use Rattle.std.specs.Cmp.Lexicographic.{slice_cmp}
 use Rattle.context_model.specs.Orders.{IsIn, Rises}
-use Rattle.bag_model.specs.Shapes.{Nodes, Bag}
-use Rattle.bag_model.specs.Slots.{SlotAt, slots_of}
+use Rattle.bag_model.specs.Shapes.{Shape, Nodes, Bag}
+use Rattle.bag_model.specs.Slots.{SlotAt, slots_in}
 use Rattle.def_evolve.specs.declared.verdicts.Verdict.{Verdict}
 use Rattle.def_evolve.specs.declared.verdicts.Verdict.TheVariants as verdicts
 use Rattle.def_evolve.specs.declared.verdicts.Part.{Part}
 use Rattle.def_evolve.specs.Breaks.{IsFirstBreak, IsFitting, way_text}
 
--- These numbers lead to a slot.
-abbrev pub IsSlotPath : Nodes → List ℕ → Type 0
-IsSlotPath nodes numbers = (at : SlotAt) × IsIn at (slots_of nodes) × (at.numbers ≡ numbers)
+-- From a field of this shape these numbers lead to a slot.
+abbrev pub IsSlotPath : Shape → List ℕ → Type 0
+IsSlotPath shape numbers = (at : SlotAt) × IsIn at (slots_in shape) × (at.numbers ≡ numbers)
 
--- The numbers that lead to a slot in both tables, each once.
-pub record AreCommonPaths (old new : Nodes) (paths : List (List ℕ)) : Type 0 where
+-- The numbers that lead to a slot from both fields, each once.
+pub record AreCommonPaths (old new : Shape) (paths : List (List ℕ)) : Type 0 where
   pub rises : Rises (slice_cmp nat_cmp) paths
   pub each : (numbers : List ℕ) → IsIn numbers paths ↔ (IsSlotPath old numbers × IsSlotPath new numbers)
 
--- So many slots are in both tables.
-abbrev pub IsCommonCount : Nodes → Nodes → ℕ → Type 0
+-- So many slots are in both fields.
+abbrev pub IsCommonCount : Shape → Shape → ℕ → Type 0
 IsCommonCount old new common = (paths : List (List ℕ)) × AreCommonPaths old new paths × (common ≡ length paths)
 
 -- The verdict is right: that the new table fits, with the number of common slots, or the first break.
 abbrev pub IsVerdict : Nodes → Nodes → Verdict → Type 0
-IsVerdict old new (verdicts.Fits common) = IsFitting old new × IsCommonCount old new common
+IsVerdict old new (verdicts.Fits common) = IsFitting old new × IsCommonCount (Bag old) (Bag new) common
 IsVerdict old new (verdicts.Breaks path change) =
     (way : List Part) × IsFirstBreak (Bag old) (Bag new) way change × (path ≡ way_text way)

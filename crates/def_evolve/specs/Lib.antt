@@ -3,3 +3,4 @@ pub mod Breaks
 pub mod Common
 pub mod Agreeing
 pub mod Safety
+pub mod Found

@@ -1,0 +1,32 @@
+//! The verdict on two tables.
+
+ghost use Rattle.std.specs.Prelude.{◌≡◌, ℕ, IfOk};
+ghost use Rattle.def_evolve.specs.Common.{IsVerdict};
+ghost use Rattle.def_evolve.specs.Safety.{IsSafe};
+ghost use Rattle.def_evolve.specs.declared.verdicts.Verdict.TheVariants.{Fits};
+
+use crate::breaks::first_break_in;
+use crate::common::common_fields;
+use crate::verdicts::Verdict;
+use field_table::Table;
+use outside::Memory;
+use std::alloc::Global;
+
+/// Whether contexts that were written under one table may be read under another.
+pub fn evolve(alloc: Global, old: &Table, new: &Table) -> Result<Verdict, Memory>
+    ensures verdict { IfOk result (IsVerdict old.now new.now) }
+    ensures safe { IfOk result (λ verdict. (common : ℕ) → verdict ≡ Fits common → IsSafe old.now new.now) }
+{
+    match first_break_in(alloc, old.nodes(), new.nodes())? {
+        Some(found) => {
+            let path = found.path(alloc)?;
+            Ok(Verdict::Breaks {
+                path,
+                change: found.change,
+            })
+        }
+        None => Ok(Verdict::Fits {
+            common: common_fields(old.nodes(), new.nodes()),
+        }),
+    }
+}
