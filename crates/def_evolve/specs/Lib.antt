@@ -4,3 +4,4 @@ pub mod Common
 pub mod Agreeing
 pub mod Safety
 pub mod Found
+pub mod Texts

@@ -1,6 +1,7 @@
 //! What comes of a comparison of two tables.
 
 use outside::Text;
+use std::fmt;
 
 /// Why a field of an old table may not become what a new table says.
 #[derive(Clone, Copy, Debug, PartialEq, Eq)]
@@ -29,4 +30,33 @@ pub enum Verdict {
     Fits { common: u64 },
     /// The first field that may not, by the numbers on the way to it joined by dots, with `*` for the values of a map.
     Breaks { path: Text, change: Change },
+}
+
+impl fmt::Display for Change {
+    ghost use Rattle.std.specs.Prelude.{Some};
+    ghost use Rattle.def_evolve.specs.Texts.{change_name};
+
+    ghost output = { λ change. Some (change_name change) };
+
+    fn fmt<W: fmt::Write>(&self, f: &mut fmt::Formatter<W>) -> fmt::Result {
+        match self {
+            Change::Shape => write!(f, "Shape"),
+            Change::Key => write!(f, "Key"),
+            Change::Kind => write!(f, "Kind"),
+        }
+    }
+}
+
+impl fmt::Display for Verdict {
+    ghost use Rattle.std.specs.Prelude.{Some};
+    ghost use Rattle.def_evolve.specs.Texts.{verdict_text};
+
+    ghost output = { λ verdict. Some (verdict_text verdict) };
+
+    fn fmt<W: fmt::Write>(&self, f: &mut fmt::Formatter<W>) -> fmt::Result {
+        match self {
+            Verdict::Fits { common } => write!(f, "ok {common}"),
+            Verdict::Breaks { path, change } => write!(f, "breaks {} {change}", path.as_str()),
+        }
+    }
 }
