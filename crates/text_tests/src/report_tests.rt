@@ -233,8 +233,29 @@ users partial {}
     },
 ];
 
-/// Under a table without fields reports of a step that is shown twice, and of one that isn't shown.
-static FIELDLESS: [Row; 2] = [
+/// Under a table without fields reports of steps at services of both forms, of a step that is shown twice, and of one that isn't
+/// shown.
+static FIELDLESS: [Row; 3] = [
+    Row {
+        graph: "service a all
+service2 b all
+start 0 a
+start 1 b
+start 2 b
+show 0
+show 1
+show 2
+",
+        lists: "02f8010100,02f8010100,-",
+        report: "step 0
+bytes 02f8010100
+step 1
+bytes ffffff02000000000000000502f8010100
+step 2
+bytes ffffff020000000000000000
+",
+        json: r#"[{"bytes":"02f8010100","fields":[],"step":0},{"bytes":"ffffff02000000000000000502f8010100","fields":[],"step":1},{"bytes":"ffffff020000000000000000","fields":[],"step":2}]"#,
+    },
     Row {
         graph: "service a all
 start 0 a

@@ -9,6 +9,7 @@ use scalar_types::{Scalar, ScalarKind, ScalarList};
 use std::alloc::Global;
 use std::process::Abort;
 use std::test::Fail;
+use wire_bytes::Form;
 
 /// The lines of a table whose one field `a` is exact in a context, the digits of the context, and the text of its value.
 type Row = (&'static str, &'static str, &'static str);
@@ -117,13 +118,29 @@ static VALUES: [Row; 44] = [
     ),
 ];
 
-/// Sees that the block of a row's context shows the text.
-fn shows(rt: &impl Abort, alloc: Global, row: Row) -> Result<(), Fail> {
+/// The same where the digits are of a context in form two.
+static WIDE: [Row; 4] = [
+    ("0 0 a taint", "ffffff02000000000000000502f8000100", "on"),
+    ("0 0 a taint", "ffffff020000000000000000", "off"),
+    (
+        "0 0 a scalar fixed32",
+        "ffffff02000000000000000902f800050000000007",
+        "7",
+    ),
+    (
+        "0 0 a set fixed32",
+        "ffffff02000000000000000f02f800050000000007050000000009",
+        "{7,9}",
+    ),
+];
+
+/// Sees that the block of a row's context in a form shows the text.
+fn shows(rt: &impl Abort, alloc: Global, form: Form, row: Row) -> Result<(), Fail> {
     let (lines, digits, text) = row;
     let table = table_of(rt, alloc, lines)?;
     let context = context_of(rt, alloc, digits);
     assert!(rt; check_typed(&table, &context).is_ok(), "{digits}");
-    let shown = block(alloc, &table, &context)?;
+    let shown = block(alloc, &table, form, &context)?;
     let expected = format!(in alloc; "bytes {digits}\na exact {text}\n")?;
     assert_eq!(rt; shown.as_slice(), expected.as_bytes(), "{lines}");
     Ok(())
@@ -132,7 +149,10 @@ fn shows(rt: &impl Abort, alloc: Global, row: Row) -> Result<(), Fail> {
 #[test]
 fn values_have_their_texts(rt: HostRuntime) -> Result<(), Fail> {
     for row in &VALUES {
-        shows(&rt, rt.alloc(), *row)?;
+        shows(&rt, rt.alloc(), Form::One, *row)?;
+    }
+    for row in &WIDE {
+        shows(&rt, rt.alloc(), Form::Two, *row)?;
     }
     Ok(())
 }

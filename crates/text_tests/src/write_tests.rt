@@ -7,7 +7,8 @@ use report_text::put_value;
 use std::alloc::Global;
 use std::process::Abort;
 use std::test::Fail;
-use write_text::{PAYLOAD_MAX, read_write};
+use wire_bytes::Form;
+use write_text::read_write;
 
 /// The texts of numbers that are in the range of no word, and of no number.
 const NO_NUMBERS: &str = "
@@ -215,14 +216,29 @@ static BYTES: [(&str, &[u8], &str); 6] = [
     ("0 0 a counter", b"\"\xff\":1", "none"),
 ];
 
-/// The text of the value that a text writes to the first slot of a table, or `none`, which is the text of no value.
-fn written(rt: &impl Abort, alloc: Global, table: &Table, text: &[u8]) -> Result<Vec<u8>, Memory> {
+/// A form, the bytes of a payload, and whether a text may write it there.
+static PAYLOADS: [(Form, usize, bool); 5] = [
+    (Form::One, 65_534, true),
+    (Form::One, 65_535, false),
+    (Form::Two, 65_535, true),
+    (Form::Two, 1_048_575, true),
+    (Form::Two, 1_048_576, false),
+];
+
+/// The text of the value that a text writes in a form to the first slot of a table, or `none`, which is the text of no value.
+fn written(
+    rt: &impl Abort,
+    alloc: Global,
+    form: Form,
+    table: &Table,
+    text: &[u8],
+) -> Result<Vec<u8>, Memory> {
     assert!(rt; 0 < table.slots());
     // The proof learns here that the shapes of the table are sound.
     let _ = table.nodes();
     let shape = table.shape(0);
     let mut shown = Vec::new(alloc);
-    match read_write(alloc, shape, text)? {
+    match read_write(alloc, form, shape, text)? {
         Some(value) => put_value(shape, &value, &mut shown)?,
         None => shown.extend_from_slice(b"none")?,
     }
@@ -230,16 +246,16 @@ fn written(rt: &impl Abort, alloc: Global, table: &Table, text: &[u8]) -> Result
 }
 
 /// Sees that each text of a row is the write that it says, or none.
-fn holds(rt: &impl Abort, alloc: Global, row: Row) -> Result<(), Fail> {
+fn holds(rt: &impl Abort, alloc: Global, form: Form, row: Row) -> Result<(), Fail> {
     let (lines, writes, refused) = row;
     let table = table_of(rt, alloc, lines)?;
     for write in writes.lines() {
         let (text, value) = write.split_once(" => ").ok_or("a write without a value")?;
-        let shown = written(rt, alloc, &table, text.as_bytes())?;
+        let shown = written(rt, alloc, form, &table, text.as_bytes())?;
         assert_eq!(rt; shown.as_slice(), value.as_bytes(), "{lines}: {text}");
     }
     for text in refused.iter().flat_map(|texts| texts.lines()) {
-        let shown = written(rt, alloc, &table, text.as_bytes())?;
+        let shown = written(rt, alloc, form, &table, text.as_bytes())?;
         assert_eq!(rt; shown.as_slice(), b"none".as_slice(), "{lines}: {text}");
     }
     Ok(())
@@ -249,11 +265,12 @@ fn holds(rt: &impl Abort, alloc: Global, row: Row) -> Result<(), Fail> {
 fn writes_have_their_values(rt: HostRuntime) -> Result<(), Fail> {
     let alloc = rt.alloc();
     for row in &WRITES {
-        holds(&rt, alloc, *row)?;
+        holds(&rt, alloc, Form::One, *row)?;
+        holds(&rt, alloc, Form::Two, *row)?;
     }
     for (lines, text, value) in &BYTES {
         let table = table_of(&rt, alloc, lines)?;
-        let shown = written(&rt, alloc, &table, text)?;
+        let shown = written(&rt, alloc, Form::One, &table, text)?;
         assert_eq!(rt; shown.as_slice(), value.as_bytes(), "{lines}");
     }
     Ok(())
@@ -263,12 +280,12 @@ fn writes_have_their_values(rt: HostRuntime) -> Result<(), Fail> {
 fn payloads_of_the_greatest_size(rt: HostRuntime) -> Result<(), Fail> {
     let alloc = rt.alloc();
     let table = table_of(&rt, alloc, "0 0 a set string")?;
-    for (longer, is_write) in [(0, true), (1, false)] {
-        let mut text = vec![in alloc; b'a'; PAYLOAD_MAX + 1 + longer]?;
+    for (form, length, is_write) in &PAYLOADS {
+        let mut text = vec![in alloc; b'a'; *length + 1]?;
         text.push(b'"')?;
         text[0] = b'"';
-        let shown = written(&rt, alloc, &table, &text)?;
-        assert_eq!(rt; shown.as_slice() != b"none".as_slice(), is_write);
+        let shown = written(&rt, alloc, *form, &table, &text)?;
+        assert_eq!(rt; shown.as_slice() != b"none".as_slice(), *is_write);
     }
     Ok(())
 }
