@@ -15,7 +15,7 @@ use bag_codec::check_typed;
 use field_table::Table;
 use outside::Memory;
 use std::alloc::Global;
-use wire_bytes::{ByteCode, ContextFault, read_context, write};
+use wire_bytes::{ByteCode, ContextFault, Form, read_context, write};
 use write_text::laws::writes_are_of_their_shape;
 use write_text::read_write;
 
@@ -56,8 +56,8 @@ impl From<ContextFault> for FieldFault {
     }
 }
 
-/// The bytes of a context that says of the field with this name what the text writes to it, and nothing else. There are none
-/// where no slot has the name, or the text is no write to it.
+/// The bytes, in form one, of a context that says of the field with this name what the text writes to it, and nothing else.
+/// There are none where no slot has the name, or the text is no write to it in form one.
 pub fn write_field(
     alloc: Global,
     table: &Table,
@@ -73,11 +73,11 @@ pub fn write_field(
         return Ok(None);
     };
     // The text is read as the type of the field says: `7` for a number, `"spring"` for a set of strings.
-    let Some(value) = read_write(alloc, field.shape(table), text.as_bytes())? else {
+    let Some(value) = read_write(alloc, Form::One, field.shape(table), text.as_bytes())? else {
         return Ok(None);
     };
     let context = field.write(alloc, table, &value)?;
-    Ok(Some(write(alloc, context.list())?))
+    Ok(Some(write(alloc, Form::One, context.list())?))
 }
 
 /// What the bytes of a context say of the field with this name, and whether that is whole.
