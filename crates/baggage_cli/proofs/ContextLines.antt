@@ -1,5 +1,5 @@
 -- Lines of contexts, one after another.
-use Rattle.std.proofs.Common.{◌≡◌, ◌⊎◌, inl, inr, ◌<◌, ◌≤◌, List, [], ◌∷◌, ◌++◌, length, refl, sym, ap, ◌∙◌}
+use Rattle.std.proofs.Common.{◌≡◌, ◌⊎◌, inl, inr, ◌<◌, ◌≤◌, List, [], ◌∷◌, ◌++◌, length, refl, sym, ap, ◌∙◌, arith}
 use Rattle.std.proofs.lemmas.List.{length-map, map-append}
 use Rattle.context_model.specs.declared.Form.{Form as WireForm}
 use Rattle.context_model.specs.declared.Form.TheVariants.{One, Two}
@@ -37,7 +37,7 @@ widest-same said (Two, list) not = absurd (not refl)
 
 -- Few lists are those of few lines, and the line behind them is wanted.
 few_said : (said : List Framed) (lists : List (List Atom)) → lists ≡ lists_of said → length lists < LINES_MAX → length said < LINES_MAX
-few_said said lists is few = rw (sym (length-map (λ (one : Framed). one.1) said) ∙ ap length (sym is)) few
+few_said said lists is few = omega (arith, few, ap length is, length-map said (λ (one : Framed). one.1))
 
 -- Behind lines of contexts the next one is bad.
 pub next_refused : (lines before : List Line) (line : Line) (after left : List Line) (form : WireForm) (lists : List (List Atom)) (refusal : Refusal) → lines ≡ before ++ left → left ≡ line ∷ after
@@ -50,7 +50,7 @@ next_refused lines before line after left form lists refusal split next (said, a
 pub too_many : (lines before : List Line) (line : Line) (after left : List Line) (form : WireForm) (lists : List (List Atom)) → lines ≡ before ++ left → left ≡ line ∷ after
     → AreContexts before form lists → LINES_MAX ≤ length lists → RefusesLines merged_lines lines (Input line.0 (Code TooManyLines))
 too_many lines before line after left form lists split next (said, all, form_is, lists_are) full =
-    let most : LINES_MAX ≤ length said = rw (sym (length-map (λ (one : Framed). one.1) said) ∙ ap length (sym lists_are)) full in
+    let most : LINES_MAX ≤ length said = omega (arith, full, ap length lists_are, length-map said (λ (one : Framed). one.1)) in
     (line.0, Code TooManyLines, next_bad merged_lines lines before line after left said (Code TooManyLines) split next all (inr (most, refl)), refl)
 
 -- A context behind others, of form two or not.
@@ -75,4 +75,4 @@ next_same lines line form lists one not = next_context lines line form form list
 pub contexts-few : (lines : List Line) (form : WireForm) (lists : List (List Atom)) → AreContexts lines form lists → length lists ≤ LINES_MAX
 contexts-few lines form lists (said, all, form_is, lists_are) =
     let most = at_most-few LINES_MAX (Code TooManyLines) context_lines lines said all in
-    rw (sym (length-map (λ (one : Framed). one.1) said) ∙ ap length (sym lists_are)) most
+    omega (arith, most, ap length lists_are, length-map said (λ (one : Framed). one.1))

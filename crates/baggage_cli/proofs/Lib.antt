@@ -3,6 +3,7 @@ pub mod Inputs
 pub mod OnlyLines
 pub mod ContextLines
 pub mod TypedLines
+pub mod CutLines
 pub mod GraphInputs
 pub mod Loads
 pub mod Obtained

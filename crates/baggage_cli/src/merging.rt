@@ -33,7 +33,7 @@ fn read_contexts(alloc: Global, input: &[u8]) -> Result<(Form, Vec<Context>), Re
             });
         }
         let (form, context) = line_context(alloc, &line)?;
-        if form == Form::Two {
+        if let Form::Two = form {
             widest = Form::Two;
         }
         contexts.push(context)?;
