@@ -13,6 +13,7 @@ use Rattle.std.specs.List.{All, AllByRecursion, list_all, slice_split, join_with
 use Rattle.std.specs.Str.{IsUtf8}
 use Rattle.std.specs.Str.Lines.{lines, lines_of_parts, strip_carriage_return}
 use Rattle.std.specs.Str.Parse.{AllDigits}
+use Rattle.context_model.specs.declared.Form.TheVariants.{One, Two}
 use Rattle.text_lines.specs.Lines.{Line, numbered, is_skipped, kept, lines_of}
 use Rattle.graph_lines.specs.Statements.{Statement, Start, Recv, Set, Branch, Forward, Trim, Join, Service, Step, Show}
 use Rattle.graph_lines.specs.Forms.{words_of}
@@ -121,7 +122,8 @@ not_skipped : (b : ℕ) (rest : List ℕ) → (b == 35) ≡ false → is_skipped
 not_skipped b rest h = ap (λ (t : Bool). t || (b == 35)) (eqb-suc-zero (length rest)) ∙ h
 
 seen : (statement : Statement) → is_skipped (words_text statement) ≡ false
-seen (Service name view) = not_skipped 115 (drop 1 (words_text (Service name view))) refl
+seen (Service One name view) = not_skipped 115 (drop 1 (words_text (Service One name view))) refl
+seen (Service Two name view) = not_skipped 115 (drop 1 (words_text (Service Two name view))) refl
 seen (Step number (Start name)) = not_skipped 115 (drop 1 (words_text (Step number (Start name)))) refl
 seen (Step number (Recv name hex)) = not_skipped 114 (drop 1 (words_text (Step number (Recv name hex)))) refl
 seen (Step number (Set parent path write)) = not_skipped 115 (drop 1 (words_text (Step number (Set parent path write)))) refl

@@ -2,13 +2,15 @@
 use Rattle.std.proofs.Common.{◌≡◌, inl, inr, ℕ, ◌++◌, ◌<◌, ◌≤◌, List, [], ◌∷◌, length, map, codes, None, Some, refl, sym, ap, ◌∙◌, subst, arith}
 use Rattle.std.specs.Fmt.{decimal}
 use Rattle.std.specs.List.{AllByRecursion, slice_get}
+use Rattle.context_model.specs.declared.Form.{Form}
+use Rattle.context_model.specs.declared.Form.TheVariants.{One}
 use Rattle.context_model.specs.Orders.{IsIn}
 use Rattle.bag_model.specs.Slots.{SlotAt, FindsSlot}
 use Rattle.bag_model.specs.SlotValues.{HasSlot}
 use Rattle.bag_model.specs.Views as views
 use Rattle.bag_model.specs.Views.{View, Knows}
 use Rattle.trace_model.specs.Graphs as graphs
-use Rattle.trace_model.specs.Graphs.{Graph, view_at, view_of}
+use Rattle.trace_model.specs.Graphs.{Graph, form_at, form_of_service, view_at, view_of}
 use Rattle.write_text.specs.Writes.{IsWrite}
 use Rattle.recorded_graph.specs.declared.graphs.TheConstants.{STEPS_MAX}
 use Rattle.graph_lines.specs.Statements.{NamedAct, Statement, Set, Branch, Forward, Join, Step}
@@ -123,12 +125,19 @@ known graph n p path write stage stands (slot, service, finds, at, unknown) =
     let same : 0 ≡ service = (let both : Some 0 ≡ Some service = sym stands ∙ at in cc both) in
     unknown (subst (λ (s : ℕ). Knows (view_at graph s) slot) same (knows graph n slot stage))
 
-written : (n p : ℕ) (path write : List ℕ) (own : ℕ) (at : SlotAt) → IsSlot path own at → SaysValue at.shape write → Miswrites load_table (Step n (Set p path write)) → ⊥
-written n p path write own at slot says (other, found, finds, there, none) =
+-- The first service of the load writes in form one.
+first_form : (graph : Graph) (n : ℕ) → IsStage graph n → One ≡ form_at graph 0
+first_form graph n stage = sym (ap (λ (services : List graphs.Service). form_of_service (slice_get services 0)) stage.services)
+
+written : (graph : Graph) (n p : ℕ) (path write : List ℕ) (own : ℕ) (at : SlotAt) → IsStage graph n → Stands graph p 0 → IsSlot path own at → SaysValue at.shape write
+    → Miswrites load_table graph (Step n (Set p path write)) → ⊥
+written graph n p path write own at stage stands slot says (other, service, found, finds, there, stood, none) =
+    let same_service : 0 ≡ service = (let both : Some 0 ≡ Some service = sym stands ∙ stood in cc both) in
+    let form : One ≡ form_at graph service = first_form graph n stage ∙ ap (form_at graph) same_service in
     let same = slot.only other finds in
     let here : HasSlot load_table own found = subst (λ (place : ℕ). HasSlot load_table place found) same there in
     let one : at ≡ found = (let both : Some at ≡ Some found = sym slot.there ∙ here in cc both) in
-    none says.0 (subst (λ (s : SlotAt). IsWrite s.shape says.0 write) one says.1)
+    none says.0 (subst (λ (f : Form). IsWrite f found.shape says.0 write) form (subst (λ (s : SlotAt). IsWrite One s.shape says.0 write) one says.1))
 
 pub set_follows : (graph : Graph) (n p : ℕ) (path write : List ℕ) (slot : ℕ) (at : SlotAt) → IsStage graph n → IsFew n → Stands graph p 0
     → IsPath path → AreClean path → 0 < length write → AreClean write → IsSlot path slot at → SaysValue at.shape write → MayFollow graph n (Set p path write) 0
@@ -142,8 +151,8 @@ set_follows graph n p path write slot at stage few stands is clean some clean_to
         sound = (few_number n few, (few_number p earlier, is, some));
         clean = clean_joined (codes "set" ∷ decimal n ∷ decimal p ∷ path ∷ write ∷ []) (clean_word (codes "set") refl, (clean_few n few, (clean_few p earlier, (clean, (clean_too, tt)))));
         good = (
-          (λ wrong. wrong (sym stage.steps), (one_parent graph p 0 stands, (λ nowhere. cc (nowhere.1), (λ h. h, (λ h. h, (λ none. none slot at slot_is.there slot_is.path_is, (known graph n p path write stage stands, (written n p path write slot at slot_is says, (λ h. h, (room graph n stage few, (λ h. h, (λ h. h, (λ h. h, tt))))))))))))),
-          (0, graphs.Set p slot says.0, stands, (slot, says.0, (at, finds, slot_is.there, says.1), refl), refl),
+          (λ wrong. wrong (sym stage.steps), (one_parent graph p 0 stands, (λ nowhere. cc (nowhere.1), (λ h. h, (λ h. h, (λ none. none slot at slot_is.there slot_is.path_is, (known graph n p path write stage stands, (written graph n p path write slot at stage stands slot_is says, (λ h. h, (room graph n stage few, (λ h. h, (λ h. h, (λ h. h, tt))))))))))))),
+          (0, graphs.Set p slot says.0, stands, (slot, says.0, (at, finds, slot_is.there, subst (λ (f : Form). IsWrite f at.shape says.0 write) (first_form graph n stage) says.1), refl), refl),
         );
       };
     }

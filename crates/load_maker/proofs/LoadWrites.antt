@@ -5,6 +5,7 @@ use Rattle.std.proofs.lemmas.Bool.{ne_eqb}
 use Rattle.std.proofs.lemmas.Fmt.{decimal_digit, decimal_is_IsNumeral}
 use Rattle.std.proofs.lemmas.List.Sums.{count_by-le-length}
 use Rattle.std.specs.Fmt.{decimal}
+use Rattle.context_model.specs.declared.Form.TheVariants.{One}
 use Rattle.context_model.specs.Varints.{big_endian, unsigned_form, unsigned_tail, unsigned_varint}
 use Rattle.context_model.proofs.Digits.{length-big_endian}
 use Rattle.bag_model.specs.declared.Pick.TheVariants.{Least}
@@ -19,9 +20,9 @@ use Rattle.write_text.specs.Writes.{IsWrite}
 use Rattle.load_maker.specs.Loads.{hit}
 use Rattle.load_maker.proofs.CleanLines.{AreClean, clean_number, clean_utf8}
 
--- A text of the shape says some value.
+-- A text of the shape says some value, in form one.
 abbrev pub SaysValue : shapes.Shape → List ℕ → Type 0
-SaysValue shape text = (v : Value) × IsWrite shape v text
+SaysValue shape text = (v : Value) × IsWrite One shape v text
 
 -- ---- numbers
 
@@ -59,7 +60,7 @@ unmarked lane few =
     let slash : (48 + lane ≡ 92) → ⊥ = λ e. omega (arith, few, e) in
     ap (λ (b : Bool). b || (48 + lane == 92)) (ne_eqb (48 + lane) 34 quote) ∙ ne_eqb (48 + lane) 92 slash
 
-writer_said : (lane : ℕ) → lane < 8 → IsWriter (writer lane) (codes "\"" ++ writer lane ++ codes "\"")
+writer_said : (lane : ℕ) → lane < 8 → IsWriter One (writer lane) (codes "\"" ++ writer lane ++ codes "\"")
 writer_said lane few =
     let w : SaysByte 119 (119 ∷ []) = inl (refl, omega arith, refl) in
     let digit : SaysByte (48 + lane) ((48 + lane) ∷ []) = inl (refl, omega arith, unmarked lane few) in

@@ -1,6 +1,7 @@
 -- The graph of the load grows by rounds, from its opening to the step that is shown.
 use Rattle.std.proofs.Common.{◌≡◌, inl, inr, ℕ, zero, suc, ◌+◌, ◌*◌, ◌<◌, ◌≤◌, List, [], ◌∷◌, ◌++◌, length, codes, refl, sym, ap, subst, arith}
 use Rattle.std.specs.Fmt.{decimal}
+use Rattle.context_model.specs.declared.Form.TheVariants.{One}
 use Rattle.trace_model.specs.Graphs as graphs
 use Rattle.trace_model.specs.Graphs.{Graph}
 use Rattle.bag_model.specs.Views as views
@@ -86,10 +87,10 @@ rounds_grow graph (suc rounds) few behind =
 -- ---- the opening and the step that is shown
 
 abbrev service_a : graphs.Service
-service_a = record { name = codes "a"; view = views.All }
+service_a = record { name = codes "a"; form = One; view = views.All }
 
 abbrev service_b : graphs.Service
-service_b = record { name = codes "b"; view = views.Nothing }
+service_b = record { name = codes "b"; form = One; view = views.Nothing }
 
 abbrev start : graphs.Step
 start = record { service = 0; act = graphs.Start }
@@ -98,7 +99,7 @@ abbrev opened : Graph
 opened = with_addition (with_addition (with_addition empty_graph (AddService service_a)) (AddService service_b)) (AddStep start)
 
 -- A new service may be added.
-declares_a : MayAdd empty_graph (Service (codes "a") All) (AddService service_a)
+declares_a : MayAdd empty_graph (Service One (codes "a") All) (AddService service_a)
 declares_a = record {
   sound = (refl, tt);
   clean = clean_joined (codes "service" ∷ codes "a" ∷ codes "all" ∷ []) (clean_word (codes "service") refl, (clean_word (codes "a") refl, (clean_word (codes "all") refl, tt)));
@@ -108,7 +109,7 @@ declares_a = record {
   );
 }
 
-declares_b : MayAdd (with_addition empty_graph (AddService service_a)) (Service (codes "b") Nothing) (AddService service_b)
+declares_b : MayAdd (with_addition empty_graph (AddService service_a)) (Service One (codes "b") Nothing) (AddService service_b)
 declares_b = record {
   sound = (refl, tt);
   clean = clean_joined (codes "service" ∷ codes "b" ∷ codes "none" ∷ []) (clean_word (codes "service") refl, (clean_word (codes "b") refl, (clean_word (codes "none") refl, tt)));

@@ -3,6 +3,7 @@ use Rattle.std.proofs.Common.{◌≡◌, ℕ, zero, suc, ◌+◌, ◌<◌, List,
 use Rattle.std.proofs.lemmas.List.{length-append}
 use Rattle.std.specs.List.{slice_get}
 use Rattle.std.specs.Option.{option_map}
+use Rattle.context_model.specs.declared.Form.TheVariants.{One}
 use Rattle.bag_model.specs.Views as views
 use Rattle.trace_model.specs.Graphs.{Graph, Service, Step}
 use Rattle.recorded_graph.specs.Growth.{with_step}
@@ -10,7 +11,7 @@ use Rattle.graph_text.specs.Names.{service_at}
 
 -- The two services of the load.
 abbrev pub load_services : List Service
-load_services = record { name = codes "a"; view = views.All } ∷ record { name = codes "b"; view = views.Nothing } ∷ []
+load_services = record { name = codes "a"; form = One; view = views.All } ∷ record { name = codes "b"; form = One; view = views.Nothing } ∷ []
 
 -- A graph of the load with so many steps, of which none is shown yet.
 pub record IsStage (graph : Graph) (count : ℕ) : Type 0 where

@@ -2,6 +2,7 @@
 use Rattle.std.specs.Prelude.{ℕ, zero, suc, ◌+◌, ◌-◌, ◌*◌, ◌%◌, List, [], ◌∷◌, ◌++◌, codes}
 use Rattle.std.specs.Fmt.{decimal}
 use Rattle.std.specs.List.{flat_map, join_with_byte}
+use Rattle.context_model.specs.declared.Form.TheVariants.{One}
 use Rattle.bag_model.specs.declared.Pick.TheVariants.{Least}
 use Rattle.bag_model.specs.Scalars as scalars
 use Rattle.bag_model.specs.Shapes.{Nodes, Scalar, Set, Counter, no_node, node}
@@ -52,9 +53,9 @@ end_of round = let c = 42 * round in join_of c ∷ Step (c + 42) (Forward (c + 4
 abbrev pub round_of : ℕ → List Statement
 round_of round = in_order (lane_of round) 8 ++ end_of round
 
--- The lines before the first round: two services, of which the first knows all and the second nothing, and a start.
+-- The lines before the first round: two services that write in form one, of which the first knows all and the second nothing, and a start.
 abbrev pub opening : List Statement
-opening = Service (codes "a") All ∷ Service (codes "b") Nothing ∷ Step 0 (Start (codes "a")) ∷ []
+opening = Service One (codes "a") All ∷ Service One (codes "b") Nothing ∷ Step 0 (Start (codes "a")) ∷ []
 
 -- What the lines of the load say: so many rounds, and the last step is shown.
 abbrev pub load_lines : ℕ → List Statement
