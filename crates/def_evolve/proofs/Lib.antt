@@ -11,3 +11,4 @@ pub mod ShapeViews
 pub mod BreakSteps
 pub mod CommonPaths
 pub mod WiderLists
+mod VerdictRows

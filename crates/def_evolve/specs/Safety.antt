@@ -25,7 +25,7 @@ pub record IsCommonSlot (old new : Nodes) (a b : SlotAt) : Type 0 where
 -- what is read of it under both tables is spelled as the new one says;
 -- a common slot is ended under both or under neither, and says under both what agrees;
 -- it says a value of each slot of the new table;
--- and it is typed under the new table where each of its paths is one that the old table names.
+-- and it is typed under the new table where the old one names each of its paths, those of markers aside.
 -- In each run under the old table, what the list of a step says of a common slot under the new one agrees with the truth where
 -- the slot is ended.
 pub record IsSafe (old new : Nodes) : Type 0 where
