@@ -6,7 +6,7 @@ use Rattle.context_model.specs.Framing.{form_of, least_budget, offset_of}
 use Rattle.context_model.specs.ByteCodes.{ByteCode as PlainCode}
 use Rattle.context_model.specs.ByteCodes as plain
 use Rattle.context_model.specs.ContextFault.{IsContextOf, IsFirstContextFault}
-use Rattle.context_model.proofs.Frames.{reads_one_way}
+use Rattle.context_model.proofs.FirstFaults.{reads_one_way}
 use Rattle.context_model.proofs.ContextFronts.{has_one_context}
 use Rattle.context_model.proofs.MergedLaws.{has_one_merge}
 use Rattle.wire_bytes.specs.declared.contexts.ByteCode.{ByteCode}
@@ -68,11 +68,11 @@ one_framed bytes (form, list) (other, same) form_is other_is lists = cc (form_is
 
 list_bytes_definite : IsDefinite list_bytes
 list_bytes_definite = record {
-  one_said = λ earlier bytes a b (form, f) (other, g). one_framed bytes a b form other ((reads_one_way bytes).list a.1 b.1 f.0 g.0 f.1 g.1);
+  one_said = λ earlier bytes a b (form, atoms, f) (other, too, g). one_framed bytes a b form other ((reads_one_way bytes).list a.1 b.1 atoms too f g);
   one_fault = λ earlier bytes f g (i, c, first, f_is) (j, d, other, g_is).
       let same = (reads_one_way bytes).fault i j (byte_code_of c) (byte_code_of d) first other in
       same_fault f g i j c d f_is g_is same.0 same.1;
-  not_both = λ earlier bytes said fault (form, f) (i, c, first, is). (reads_one_way bytes).either said.1 i (byte_code_of c) f.0 f.1 first;
+  not_both = λ earlier bytes said fault (form, atoms, f) (i, c, first, is). (reads_one_way bytes).either said.1 i (byte_code_of c) atoms f first;
 }
 
 context_bytes_definite : IsDefinite context_bytes
