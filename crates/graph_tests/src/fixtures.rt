@@ -11,7 +11,7 @@ use std::alloc::Global;
 use std::process::Abort;
 use std::test::Fail;
 use text_lines::{hex_bytes, push_hex};
-use wire_bytes::{read_context_owned, write};
+use wire_bytes::{Form, read_context_owned, write};
 
 /// A bag with a field of each type, a small one with a bag inside, and one without fields.
 const DEFINITIONS: &str = "
@@ -53,9 +53,9 @@ pub fn context_of(alloc: Global, digits: &str) -> Result<Context, Fail> {
     Ok(read_context_owned(alloc, bytes)?)
 }
 
-/// The digits of a context's bytes.
+/// The digits of a context's bytes in form one.
 pub fn digits_of(alloc: Global, context: &Context) -> Result<Vec<u8>, Fail> {
-    let bytes = write(alloc, context.list())?;
+    let bytes = write(alloc, Form::One, context.list())?;
     let mut digits = Vec::new(alloc);
     push_hex(&mut digits, bytes.as_slice())?;
     Ok(digits)

@@ -156,6 +156,38 @@ step 6
 bytes -
 ";
 
+/// A context that goes to a service that writes in form two, is cut there, and goes back; and one that is received in form two.
+pub const FORMS: &str = "service a all
+service2 w all
+recv 0 a 02f8010100
+forward 1 0 w
+trim 2 1 16
+forward 3 2 a
+recv 4 w ffffff02000000000000000502f8020100
+forward 5 4 a
+show 0
+show 1
+show 2
+show 3
+show 4
+show 5
+";
+
+/// What its steps say: each in the form of its service, and the head counts where it is cut.
+pub const FORMS_REPORT: &str = "step 0
+bytes 02f8010100
+step 1
+bytes ffffff02000000000000000502f8010100
+step 2
+bytes ffffff02000000000000000402f80100
+step 3
+bytes 02f80100
+step 4
+bytes ffffff02000000000000000502f8020100
+step 5
+bytes 02f8020100
+";
+
 /// The words for some steps from a number on, modulo the number of steps.
 fn round(alloc: Global, steps: usize, from: usize, count: usize) -> Result<String, Fail> {
     let mut words = String::new(alloc);

@@ -2,6 +2,7 @@
 
 use atom_list::Context;
 use bag_value::Val;
+use context_model::Form;
 use field_table::View;
 use graph_text::{Act, Graph, Places, Service, Step};
 use outside::{Memory, Text};
@@ -23,7 +24,7 @@ static STEPS: [(usize, &str, &[usize], u64); 7] = [
 ];
 
 /// Steps that may follow those, or may not.
-static FOLLOWERS: [(usize, &str, &[usize], u64, bool); 13] = [
+static FOLLOWERS: [(usize, &str, &[usize], u64, bool); 15] = [
     (1, "start", &[], 0, true),
     (2, "start", &[], 0, false),
     (2, "recv", &[], 0, false),
@@ -34,6 +35,8 @@ static FOLLOWERS: [(usize, &str, &[usize], u64, bool); 13] = [
     (0, "forward", &[7], 0, false),
     (0, "trim", &[2], 1, true),
     (0, "trim", &[2], 0, false),
+    (1, "trim", &[6], 13, true),
+    (1, "trim", &[6], 12, false),
     (0, "join", &[0, 2, 1, 0], 0, true),
     (0, "join", &[], 0, false),
     (0, "join", &[0, 3, 0], 0, false),
@@ -75,12 +78,12 @@ fn step(
     Ok(Step { service, act })
 }
 
-/// A graph of two services with the steps of the rows, two of which are shown.
+/// A graph of two services, which write in different forms, with the steps of the rows, two of which are shown.
 fn seven_steps(rt: &impl Abort, alloc: Global) -> Result<Graph, Memory> {
     let mut graph = Graph::new(alloc);
-    for (name, view) in [("c", View::All), ("d", View::Nothing)] {
+    for (name, form, view) in [("c", Form::One, View::All), ("d", Form::Two, View::Nothing)] {
         let name = Text::of(alloc, name)?;
-        graph.add_service(Service { name, view })?;
+        graph.add_service(Service { name, form, view })?;
     }
     for &(service, word, parents, budget) in &STEPS {
         let step = step(alloc, service, word, parents, budget)?;
@@ -102,6 +105,7 @@ fn graphs_grow_at_their_ends(rt: HostRuntime) -> Result<(), Fail> {
     let graph = seven_steps(&rt, rt.alloc())?;
     assert_eq!(rt; graph.services(), 2);
     assert_eq!(rt; graph.service(1).name.as_str(), "d");
+    assert_eq!(rt; graph.service(1).form, Form::Two);
     assert!(rt; matches!(graph.service(0).view, View::All));
     assert_eq!(rt; graph.steps(), 7);
     for (number, &(service, word, parents, _budget)) in STEPS.iter().enumerate() {

@@ -6,9 +6,11 @@ use std::alloc::Global;
 use std::test::Fail;
 
 /// Lines that have a form, and what they say.
-const GOOD: &str = r#"service a all => Service { name: "a", view: All }
-service bag none => Service { name: "bag", view: Nothing }
-service b_2 only load id.x a.b.c load => Service { name: "b_2", view: Only(["load", "id.x", "a.b.c", "load"]) }
+const GOOD: &str = r#"service a all => Service { form: One, name: "a", view: All }
+service2 a all => Service { form: Two, name: "a", view: All }
+service bag none => Service { form: One, name: "bag", view: Nothing }
+service2 service2 only x => Service { form: Two, name: "service2", view: Only(["x"]) }
+service b_2 only load id.x a.b.c load => Service { form: One, name: "b_2", view: Only(["load", "id.x", "a.b.c", "load"]) }
 start 0 a => Step { number: 0, act: Start { service: "a" } }
 start 12 struct => Step { number: 12, act: Start { service: "struct" } }
 recv 1 A9 - => Step { number: 1, act: Recv { service: "A9", hex: "-" } }
@@ -77,6 +79,13 @@ service a only b.
 service a only b  c
 service a some
 service a none b
+service1 a all
+service22 a all
+service 2 a all
+service2
+service2 a
+service2 a some
+service2 a none b
 merge 1 0 0";
 
 /// What a line says, as it is printed.

@@ -2,7 +2,7 @@
 
 use crate::fixtures::{digits_of, graph_of, star_text, table_of, with_words};
 use crate::graph_tables::{
-    LOAD_REPORT, RECEIVED, RECEIVED_REPORT, TRACE, TRACE_REPORT, mixed_text,
+    FORMS, FORMS_REPORT, LOAD_REPORT, RECEIVED, RECEIVED_REPORT, TRACE, TRACE_REPORT, mixed_text,
 };
 use atom_list::Context;
 use field_table::Table;
@@ -55,9 +55,10 @@ fn run_both<R: Abort + Threads + Sync>(
 }
 
 /// Graphs, each behind the bag of its table, with their reports.
-static GRAPHS: [(&str, &str, &str); 3] = [
+static GRAPHS: [(&str, &str, &str); 4] = [
     ("Request", TRACE, TRACE_REPORT),
     ("Nothing", RECEIVED, RECEIVED_REPORT),
+    ("Nothing", FORMS, FORMS_REPORT),
     ("Request", "", ""),
 ];
 

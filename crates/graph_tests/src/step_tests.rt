@@ -14,10 +14,11 @@ use std::test::Fail;
 use std::thread::Threads;
 use step_rules::{run_step, run_step_alone};
 
-/// Steps of each kind, at services that know all, nothing and one slot.
+/// Steps of each kind, at services that know all, nothing and one slot, and at one that writes in form two.
 const STEPS: &str = "service a all
 service n none
 service h only hops
+service2 w all
 start 0 a
 recv 1 a 02f800050000000005050000000006
 recv 2 n 02f800050000000005050000000006
@@ -34,11 +35,17 @@ trim 12 2 15
 trim 13 2 1
 join 14 1 0 1
 join 15 2 2
-join 16 1";
+join 16 1
+forward 17 2 w
+trim 18 17 27
+trim 19 17 26
+trim 20 17 22
+trim 21 17 21
+trim 22 17 13";
 
 /// What steps give: the number of the step, the digits of the pool's lists, the places of the parents' lists, and the digits
 /// of the list. An id is 5 bytes, and of two the lesser is preferred; of two counts the greater.
-static GIVEN: [(usize, &str, &[usize], &str); 26] = [
+static GIVEN: [(usize, &str, &[usize], &str); 32] = [
     (0, "", &[], "-"),
     (0, "02f80000", &[], "-"),
     (1, "", &[], "02f800050000000005"),
@@ -120,6 +127,32 @@ static GIVEN: [(usize, &str, &[usize], &str); 26] = [
         &[0],
         "02f800050000000005",
     ),
+    (
+        17,
+        "02f800050000000005050000000006",
+        &[0],
+        "02f800050000000005",
+    ),
+    (
+        18,
+        "02f800050000000005050000000006",
+        &[0],
+        "02f800050000000005050000000006",
+    ),
+    (
+        19,
+        "02f800050000000005050000000006",
+        &[0],
+        "02f80005000000000500",
+    ),
+    (
+        20,
+        "02f800050000000005050000000006",
+        &[0],
+        "02f80005000000000500",
+    ),
+    (21, "02f800050000000005050000000006", &[0], "02f80000"),
+    (22, "02f800050000000005", &[0], "00"),
 ];
 
 /// There are as many places as parents, and all are places of the pool.

@@ -144,6 +144,9 @@ NoSuchService start 2 A
 NoSuchService recv 2 c 0
 DuplicateService service a none
 DuplicateService service b only x
+DuplicateService service2 a all
+NoSuchPath service2 c only sub.x
+Form service3 c all
 WrongService join 2 0 1
 WrongService join 2 0 1 0
 NoSuchPath set 2 0 idd 7
@@ -172,6 +175,17 @@ static LONG: [LongRow; 5] = [
     ("NoSuchStep", "join 2 0 2", " 0", PARENTS_MAX),
     ("HexTooLong", "recv 2 a ", "00", DIGITS_MAX / 2 + 1),
     ("HexTooLong", "recv 2 a ", "z", DIGITS_MAX + 1),
+];
+
+/// What stands before a line of a service that writes in form two.
+const WIDE_FRONT: &str = "service2 a all\nstart 0 a\n";
+
+/// Refused lines behind that: a head and a marker are the least that a trim leaves.
+static WIDE: [LongRow; 4] = [
+    ("BudgetRange", "trim 1 0 12", "", 0),
+    ("BudgetRange", "trim 1 0 4294967296", "", 0),
+    ("DuplicateService", "service a all", "", 0),
+    ("BadValue", "set 1 0 id x", "", 0),
 ];
 
 /// The fault of a text as it is printed, where it has one.
@@ -233,9 +247,31 @@ fn long_lines_that_are_refused(rt: HostRuntime) -> Result<(), Fail> {
     Ok(())
 }
 
+#[test]
+fn lines_of_services_that_write_in_form_two(rt: HostRuntime) -> Result<(), Fail> {
+    let alloc = rt.alloc();
+    are_refused(&rt, alloc, WIDE_FRONT, 3, &WIDE)?;
+    let table = table_of(&rt, alloc, "Small")?;
+    let text = format!(in alloc; "{WIDE_FRONT}trim 1 0 13\nset 2 1 id 7\nshow 2\n")?;
+    assert!(rt; fault_of(alloc, &table, text.as_str())?.is_none());
+    Ok(())
+}
+
 /// Contexts that are received: the bag, the line of the service, the digits, and the fault, if any.
-static RECEIVED: [(&str, &str, &str, Option<&str>); 9] = [
+static RECEIVED: [(&str, &str, &str, Option<&str>); 11] = [
     ("Small", "service a all", "02f800020007", None),
+    (
+        "Small",
+        "service a all",
+        "ffffff02000000000000000602f800020007",
+        None,
+    ),
+    (
+        "Small",
+        "service a all",
+        "ffffff02000000000000000502f8000100",
+        Some("IllTyped { line: 2, offset: 15 }"),
+    ),
     (
         "Small",
         "service a all",
