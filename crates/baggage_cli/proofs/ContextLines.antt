@@ -4,7 +4,6 @@ use Rattle.std.proofs.lemmas.List.{length-map, map-append}
 use Rattle.context_model.specs.declared.Form.{Form as WireForm}
 use Rattle.context_model.specs.declared.Form.TheVariants.{One, Two}
 use Rattle.text_lines.specs.Lines.{Line}
-use Rattle.text_lines.specs.Readings.{AllSay}
 use Rattle.text_lines.proofs.ReadingLaws.{all_say_more, at_most-few, next_bad}
 use Rattle.context_model.specs.Atoms.{Atom}
 use Rattle.baggage_cli.specs.declared.merging.TheConstants.{LINES_MAX}

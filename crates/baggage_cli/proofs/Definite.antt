@@ -1,16 +1,11 @@
 -- Lines and inputs come to one thing.
-use Rattle.std.proofs.Common.{◌≡◌, inl, inr, ℕ, ◌≤◌, List, [], ◌∷◌, ◌++◌, length, Option, Some, Result, Ok, Err, refl, sym, ◌∙◌, ap, subst, arith}
-use Rattle.std.proofs.lemmas.Bool.{cases_lt}
-use Rattle.context_model.specs.Atoms.{Atom}
-use Rattle.context_model.specs.Framing.{form_of, least_budget, offset_of}
-use Rattle.context_model.specs.ByteCodes.{ByteCode as PlainCode}
-use Rattle.context_model.specs.ByteCodes as plain
-use Rattle.context_model.specs.ContextFault.{IsContextOf, IsFirstContextFault}
+use Rattle.std.proofs.Common.{◌≡◌, inl, inr, ℕ, ◌≤◌, List, [], ◌∷◌, ◌++◌, Option, Some, Result, Ok, Err, refl, sym, ◌∙◌, ap, subst, arith}
+use Rattle.context_model.specs.Framing.{form_of, least_budget}
+use Rattle.context_model.specs.ContextFault.{IsFirstContextFault}
 use Rattle.context_model.proofs.FirstFaults.{reads_one_way}
 use Rattle.context_model.proofs.ContextFronts.{has_one_context}
 use Rattle.context_model.proofs.MergedLaws.{has_one_merge}
 use Rattle.wire_bytes.specs.declared.contexts.ByteCode.{ByteCode}
-use Rattle.wire_bytes.specs.declared.contexts.ByteCode.TheVariants.{CutLength, AtomTooLong, LongForm, CutBody, BadPrefix, BadIndex, LevelJump, OutOfOrder}
 use Rattle.wire_bytes.specs.Codes.{byte_code_of}
 use Rattle.bag_model.specs.Readings.{PathsOf}
 use Rattle.bag_model.specs.Shapes.{Nodes}
@@ -29,11 +24,10 @@ use Rattle.text_carrier.specs.Carried.{carried_text}
 use Rattle.text_carrier.specs.Collected.{Collects}
 use Rattle.text_carrier.specs.declared.faults.CarryFault.{CarryFault}
 use Rattle.text_carrier.specs.declared.faults.CarryFault.TheVariants as pieces
-use Rattle.text_lines.specs.declared.TheConstants.{INPUT_MAX}
 use Rattle.text_lines.specs.Lines.{Line, lines_of}
 use Rattle.text_lines.specs.Readings.{Reading, IsDefinite, AllSay, IsFirstBad}
 use Rattle.text_lines.proofs.HexLaws.{hex_lines_definite}
-use Rattle.text_lines.proofs.ReadingLaws.{all_say_one, first_bad_one, good_not_bad, none_bad, at_most_definite, all_say-at_most}
+use Rattle.text_lines.proofs.ReadingLaws.{all_say_one, first_bad_one, good_not_bad, none_bad, at_most_definite}
 use Rattle.baggage_cli.specs.Commands.{Origin, Form, as_lines, as_json, Purpose, decoding, running, Filter, trimming, merging, carrying, collecting, Task, alone, load, build, under}
 use Rattle.baggage_cli.specs.declared.merging.TheConstants.{LINES_MAX}
 use Rattle.baggage_cli.specs.declared.refusals.InputCode.TheVariants.{Form as Excess, TooManyLines}
@@ -53,7 +47,7 @@ use Rattle.baggage_cli.specs.Tables.{TableGives}
 use Rattle.baggage_cli.specs.Top.{InputGives}
 use Rattle.baggage_cli.specs.Trimming.{trimmed_line}
 use Rattle.baggage_cli.specs.Under.{InputUnder}
-use Rattle.baggage_cli.proofs.GraphInputs.{inputs_say, lines_say}
+use Rattle.baggage_cli.proofs.GraphInputs.{lines_say}
 
 -- ---- one fault for what is wrong
 

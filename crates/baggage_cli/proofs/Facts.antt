@@ -51,7 +51,7 @@ use Rattle.baggage_cli.specs.Top.IsRefusedFor.{by_files, by_input}
 use Rattle.baggage_cli.specs.Trimming.{trimmed_line}
 use Rattle.baggage_cli.specs.Under.{LinesGive, InputUnder, SaysTyped}
 use Rattle.baggage_cli.proofs.GraphInputs.{ran_graph}
-use Rattle.baggage_cli.proofs.Definite.{ok_no_err, ok_table, same_table, input_gives_one}
+use Rattle.baggage_cli.proofs.Definite.{ok_no_err, input_gives_one}
 use Rattle.baggage_cli.proofs.Endings.{Ending, OfFiles, Gives, err_same, fetches_table, ending}
 use Rattle.baggage_cli.proofs.Endings.Ending.{read_out, table_out, load_out, bad_input, bad_table, library_failed, source_failed, memory_wanting, sink_failed}
 use Rattle.baggage_cli.proofs.Obtained.{no_ok}

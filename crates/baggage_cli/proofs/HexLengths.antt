@@ -1,5 +1,5 @@
 -- Lines of digits have half as many bytes.
-use Rattle.std.proofs.Common.{◌≡◌, ◌⊎◌, inl, inr, ◌≤◌, ◌==◌, ◌&&◌, ℕ, List, [], length, slice_index, if◌then◌else◌, Bool, true, false, Some, None, Result, Ok, Err, refl, ap, arith}
+use Rattle.std.proofs.Common.{◌≡◌, ◌⊎◌, inl, inr, ◌≤◌, ◌==◌, ◌&&◌, ℕ, List, [], length, slice_index, if◌then◌else◌, Bool, true, false, Some, None, Result, Ok, Err, ap, arith}
 use Rattle.std.proofs.lemmas.Bool.{cases_lt}
 use Rattle.std.specs.Result.{result_ok}
 use Rattle.hex.specs.declared.FromHexError.{FromHexError}

@@ -5,8 +5,6 @@ use Rattle.bdl_load.specs.Loading.{Holding}
 use Rattle.text_lines.specs.declared.TheConstants.{INPUT_MAX}
 use Rattle.text_lines.specs.Lines.{Line, lines_of}
 use Rattle.text_lines.specs.Readings.{AllSay}
-use Rattle.trace_model.specs.Graphs.{Graph}
-use Rattle.graph_text.specs.GraphLines.{IsGraphOf}
 use Rattle.baggage_cli.specs.Commands.{Origin, Purpose, decoding, running}
 use Rattle.baggage_cli.specs.Decoding.{DecodesLines}
 use Rattle.baggage_cli.specs.Outcomes.{Outcome, Then}

@@ -1,4 +1,4 @@
-use Rattle.std.proofs.Common.{inr, ◌∙◌, subst}
+use Rattle.std.proofs.Common.{inr, subst}
 use Rattle.wire_bytes.specs.Codes.{IsContextFaultOf}
 use Rattle.baggage_cli.proofs.collecting.collected_line.Goals as goal
 

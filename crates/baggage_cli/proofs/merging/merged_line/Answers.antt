@@ -1,9 +1,8 @@
-use Rattle.std.proofs.Common.{◌≡◌, inr, List, sym, ◌∙◌, ap, subst}
+use Rattle.std.proofs.Common.{inr, List, ◌∙◌, ap, subst}
 use Rattle.context_model.specs.Atoms.{Atom}
 use Rattle.context_model.specs.Framing.{bytes_of}
 use Rattle.context_model.specs.Merged.{IsMerged}
 use Rattle.text_lines.specs.HexLines.{hex_line}
-use Rattle.baggage_cli.specs.Merging.{lists_of, widest}
 use Rattle.baggage_cli.proofs.merging.merged_line.Goals as goal
 
 pub returns : goal.returns

@@ -1,4 +1,4 @@
-use Rattle.std.proofs.Common.{[], map}
+use Rattle.std.proofs.Common.{map}
 use Rattle.text_lines.specs.Lines.{line_value}
 use Rattle.baggage_cli.specs.Merging.{AreContexts}
 use Rattle.baggage_cli.proofs.merging.read_contexts.Given as goal

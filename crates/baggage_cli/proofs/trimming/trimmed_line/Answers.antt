@@ -1,4 +1,4 @@
-use Rattle.std.proofs.Common.{◌≡◌, inr, ℕ, Ok, refl, ◌∙◌, ap, subst, [], ◌∷◌}
+use Rattle.std.proofs.Common.{◌≡◌, inr, Ok, refl, ◌∙◌, ap, subst, [], ◌∷◌}
 use Rattle.context_model.specs.Framing.{bytes_of}
 use Rattle.text_lines.specs.HexLines.{hex_line}
 use Rattle.text_lines.specs.Lines.{lines_of}
