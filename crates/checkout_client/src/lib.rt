@@ -1,5 +1,5 @@
 //! An example of the libraries, to start from: a client that writes fields of a bag by their names, and reads them behind
-//! services that merge and cut what was written and know no definition. `codec_tests/src/checkout.rt` goes the whole way,
+//! services that merge and cut what was written and know no definition. `client_tests/src/checkout.rt` goes the whole way,
 //! from a definition on.
 #![tactic(auto)]
 
