@@ -24,7 +24,9 @@ two.bdl|import "q.bdl"; bag In { bool ok = 0; } bag Two { map<bool, In> by = 0; 
 
 none.bdl|bag B { }
 
-g.bdl|bag G { greatest<uint32> top = 0; }"#;
+g.bdl|bag G { greatest<uint32> top = 0; }
+
+wide.bdl|bag Req { fixed32 id = 0; set<string> tags = 1; counter hops = 2; taint debug = 3; map<string, uint32> load = 4; greatest<uint32> peak = 5; }"#;
 
 /// The words that run a graph of a request.
 pub const RUN: &str = "run q.bdl Req";

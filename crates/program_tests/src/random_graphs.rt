@@ -2,7 +2,7 @@
 
 ghost use Rattle.std.specs.Prelude.{◌<◌};
 
-use crate::calls::{RUN, output_of};
+use crate::calls::output_of;
 use std::alloc::Global;
 use std::process::Abort;
 use std::test::Fail;
@@ -41,11 +41,15 @@ const WRITERS: [&str; 3] = ["0x61", "0x62", "0x63"];
 
 const QUOTED: [&str; 3] = ["\"a\"", "\"b\"", "\"c\""];
 
-/// The services: what each is called, and what its line says that it knows.
-const SERVICES: [(&str, &str); 3] = [
-    ("knows", "all"),
-    ("some", "only tags hops"),
-    ("proxy", "none"),
+/// The words of a run under a definition that has all fields.
+const RUN: &str = "run wide.bdl Req";
+
+/// The services: the first word of its line, what each is called, and what its line says that it knows.
+const SERVICES: [(&str, &str, &str); 4] = [
+    ("service", "knows", "all"),
+    ("service", "some", "only tags hops"),
+    ("service", "proxy", "none"),
+    ("service2", "wide", "all"),
 ];
 
 /// What a bag says, as plainly as can be: a place for each name.
@@ -56,6 +60,7 @@ struct Said {
     hops: [Option<usize>; 3],
     debug: bool,
     load: [Option<usize>; 3],
+    peak: Option<usize>,
 }
 
 /// The bag that says nothing.
@@ -65,6 +70,7 @@ const NOTHING: Said = Said {
     hops: [None; 3],
     debug: false,
     load: [None; 3],
+    peak: None,
 };
 
 /// The lesser of two numbers, where there are any.
@@ -90,6 +96,7 @@ impl Said {
     fn join(&self, other: &Said) -> Said {
         let mut joined = *self;
         joined.id = least(self.id, other.id);
+        joined.peak = greatest(self.peak, other.peak);
         joined.debug = self.debug || other.debug;
         for at in 0..3 {
             joined.tags[at] = self.tags[at] || other.tags[at];
@@ -128,6 +135,10 @@ fn received(at: usize) -> (&'static str, Said) {
             said.tags = [true, true, false];
             "02f801020061020062"
         }
+        4 => {
+            said.peak = Some(8);
+            "ffffff02000000000000000902f805020003020008"
+        }
         _ => {
             said.hops = [None, Some(4), None];
             said.load = [None, None, Some(5)];
@@ -141,8 +152,8 @@ impl Graph {
     /// The lines of the services, and a first step at the one that knows all.
     fn new(alloc: Global) -> Result<Graph, Fail> {
         let mut text = String::new(alloc);
-        for (name, view) in SERVICES {
-            text.push_str(format!(in alloc; "service {name} {view}\n")?.as_str())?;
+        for (word, name, view) in SERVICES {
+            text.push_str(format!(in alloc; "{word} {name} {view}\n")?.as_str())?;
         }
         let mut graph = Graph {
             text,
@@ -184,7 +195,7 @@ fn random_write(alloc: Global, dice: &mut Dice, knows_all: bool) -> Result<(Stri
     let number = dice.below(9);
     let name = NAMES[at];
     let mut said = NOTHING;
-    let text = match dice.below(if knows_all { 5 } else { 2 }) {
+    let text = match dice.below(if knows_all { 6 } else { 2 }) {
         0 => {
             said.tags[at] = true;
             format!(in alloc; "tags \"{name}\"")?
@@ -200,6 +211,10 @@ fn random_write(alloc: Global, dice: &mut Dice, knows_all: bool) -> Result<(Stri
         3 => {
             said.load[at] = Some(number);
             format!(in alloc; "load \"{name}\":{number}")?
+        }
+        4 => {
+            said.peak = Some(number);
+            format!(in alloc; "peak {number}")?
         }
         _ => {
             said.debug = true;
@@ -230,9 +245,9 @@ fn add_step(graph: &mut Graph, alloc: Global, dice: &mut Dice, trims: bool) -> R
     let (parent, Step { service, said }) = graph.random_step(dice);
     match dice.below(if trims { 8 } else { 7 }) {
         0 => {
-            let (digits, said) = received(dice.below(5));
-            let service = dice.below(3);
-            let rest = format!(in alloc; "{} {digits}", SERVICES[service].0)?;
+            let (digits, said) = received(dice.below(6));
+            let service = dice.below(4);
+            let rest = format!(in alloc; "{} {digits}", SERVICES[service].1)?;
             graph.add("recv", rest.as_str(), service, said)
         }
         1 => graph.add(
@@ -242,17 +257,18 @@ fn add_step(graph: &mut Graph, alloc: Global, dice: &mut Dice, trims: bool) -> R
             said,
         ),
         2 => {
-            let service = dice.below(3);
-            let rest = format!(in alloc; "{parent} {}", SERVICES[service].0)?;
+            let service = dice.below(4);
+            let rest = format!(in alloc; "{parent} {}", SERVICES[service].1)?;
             graph.add("forward", rest.as_str(), service, said)
         }
-        3 | 4 if service < 2 => {
-            let (text, written) = random_write(alloc, dice, service == 0)?;
+        3 | 4 if service != 2 => {
+            let (text, written) = random_write(alloc, dice, service != 1)?;
             let rest = format!(in alloc; "{parent} {text}")?;
             graph.add("set", rest.as_str(), service, said.join(&written))
         }
         7 => {
-            let rest = format!(in alloc; "{parent} {}", 1 + dice.below(40))?;
+            let least = if service == 3 { 13 } else { 1 };
+            let rest = format!(in alloc; "{parent} {}", least + dice.below(40))?;
             graph.add("trim", rest.as_str(), service, said)
         }
         _ => add_join(graph, alloc, dice),
@@ -285,6 +301,7 @@ fn said_by(text: &str, slot: usize) -> Said {
     match slot {
         0 => said.id = text.parse().ok(),
         3 => said.debug = text == "on",
+        5 => said.peak = text.parse().ok(),
         _ => {}
     }
     for at in 0..3 {
@@ -337,6 +354,7 @@ fn slot_text(alloc: Global, said: &Said, slot: usize) -> Result<String, Fail> {
     let entries = entries_text(alloc, said, slot)?;
     match slot {
         0 => number_text(alloc, said.id),
+        5 => number_text(alloc, said.peak),
         2 => {
             let mut total = 0_usize;
             for count in said.hops {
@@ -399,15 +417,15 @@ fn graph_holds<R: Abort + Threads + Sync>(
     let report = str::from_utf8(output.as_slice())?;
     let mut exact = 0_usize;
     for (number, line) in report.lines().enumerate() {
-        // A block has seven lines, the last five of which are those of the slots.
-        let (step, at) = (number / 7, number % 7);
+        // A block has eight lines, the last six of which are those of the slots.
+        let (step, at) = (number / 8, number % 8);
         if at >= 2 && step < graph.steps.len() {
             let is_exact = slot_holds(rt, alloc, line, &graph.steps[step].said, at - 2)?;
             exact = exact.saturating_add(usize::from(is_exact));
         }
     }
-    assert_eq!(rt; report.lines().count() % 7, 0);
-    assert_eq!(rt; report.lines().count() / 7, graph.steps.len());
+    assert_eq!(rt; report.lines().count() % 8, 0);
+    assert_eq!(rt; report.lines().count() / 8, graph.steps.len());
     Ok(exact)
 }
 
@@ -416,7 +434,7 @@ fn random_graphs_show_the_truth(rt: HostRuntime) -> Result<(), Fail> {
     let mut dice = Dice { state: 20 };
     for _ in 0..200 {
         let exact = graph_holds(&rt, rt.alloc(), &mut dice, false)?;
-        assert_eq!(rt; exact, 5 * 13);
+        assert_eq!(rt; exact, 6 * 13);
     }
     Ok(())
 }
@@ -429,6 +447,6 @@ fn random_trims_show_no_more_than_the_truth(rt: HostRuntime) -> Result<(), Fail>
         exact = exact.saturating_add(graph_holds(&rt, rt.alloc(), &mut dice, true)?);
     }
     // Some values are whole, and some are cut.
-    assert!(rt; 300 * 13 < exact && exact < 300 * 13 * 5);
+    assert!(rt; 300 * 13 < exact && exact < 300 * 13 * 6);
     Ok(())
 }
