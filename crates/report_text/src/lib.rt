@@ -8,4 +8,4 @@ mod scalar_texts;
 mod value_texts;
 
 pub use blocks::{block, put_block};
-pub use value_texts::put_value;
+pub use value_texts::{put_value, value_text};

@@ -1,12 +1,13 @@
 //! Texts of values of every shape.
 
-ghost use Rattle.std.specs.Prelude.{◌≡◌, ◌++◌, map, OnOk, OnErr};
+ghost use Rattle.std.specs.Prelude.{◌≡◌, ◌++◌, map, IfOk, OnOk, OnErr};
 ghost use Rattle.std.specs.Option.{option_map};
 ghost use Rattle.field_table.specs.Plain.{shape_of, nodes_of};
 ghost use Rattle.scalar_types.specs.ScalarViews.{value_of};
 ghost use Rattle.bag_value.specs.Plain.{plain};
 ghost use Rattle.report_text.specs.Commas.{in_braces, in_brackets};
-ghost use Rattle.report_text.specs.ValueTexts.{taint_text, scalar_or_dash, set_text, counts_text, value_text, entry_texts, field_texts};
+ghost use Rattle.report_text.specs.ValueTexts as spec;
+ghost use Rattle.report_text.specs.ValueTexts.{taint_text, scalar_or_dash, set_text, counts_text, entry_texts, field_texts};
 ghost use Rattle.report_text.specs.Growth.{Extends};
 
 use crate::commas::put_comma;
@@ -16,13 +17,14 @@ use counter_type::Counts;
 use field_table::{Shape, Slots};
 use outside::Memory;
 use scalar_types::Scalar;
+use std::alloc::Global;
 
 /// Appends the text of a value of a field of this shape. Want of memory may leave a part of it behind what stood there.
 ///
 /// The shape gives the names of a bag's fields, and nothing else. A map or a bag under a shape of another kind has no text.
 #[cycle(text)]
 pub fn put_value(shape: &Shape, value: &Val, into: &mut Vec<u8>) -> Result<(), Memory>
-    ensures ok { OnOk result (into.new.items ≡ into.old.items ++ value_text (shape_of shape.now) (plain value.now)) }
+    ensures ok { OnOk result (into.new.items ≡ into.old.items ++ spec.value_text (shape_of shape.now) (plain value.now)) }
     ensures err { OnErr result (Extends into.old.items into.new.items) }
 {
     match (shape, value) {
@@ -35,6 +37,15 @@ pub fn put_value(shape: &Shape, value: &Val, into: &mut Vec<u8>) -> Result<(), M
         (Shape::Bag(fields), Val::Bag(values)) => put_bag(fields, values, into),
         _ => Ok(()),
     }
+}
+
+/// The text of a value of a field of this shape.
+pub fn value_text(alloc: Global, value: &Val, shape: &Shape) -> Result<Vec<u8>, Memory>
+    ensures { IfOk result (λ text. text.items ≡ spec.value_text (shape_of shape.now) (plain value.now)) }
+{
+    let mut text = Vec::new(alloc);
+    put_value(shape, value, &mut text)?;
+    Ok(text)
 }
 
 /// Appends a scalar that may be there, or the dash of one that isn't.
