@@ -1,0 +1,6 @@
+pub mod Names
+pub mod Lines
+pub mod LineRules
+pub mod WholeRules
+pub mod Verdicts
+pub mod Certificates
