@@ -1,0 +1,4 @@
+mod Decided
+mod Contributing
+mod Said
+mod Sound
