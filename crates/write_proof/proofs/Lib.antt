@@ -1,4 +1,5 @@
 mod Decided
 mod Contributing
+mod Forms
 mod Said
 mod Sound

@@ -4,3 +4,4 @@ pub mod LineRules
 pub mod WholeRules
 pub mod Verdicts
 pub mod Certificates
+pub mod Views
