@@ -1,5 +1,6 @@
 mod Decided
 mod Contributing
 mod Forms
+mod Looking
 mod Said
 mod Sound

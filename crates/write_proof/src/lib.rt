@@ -2,6 +2,7 @@
 #![tactic(auto)]
 
 mod entries;
+mod line_rules;
 mod verdicts;
 
 pub use verdicts::{Verified, VerifyCode};
