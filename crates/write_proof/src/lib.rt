@@ -3,6 +3,7 @@
 
 mod entries;
 mod line_rules;
+mod reading;
 mod verdicts;
 
 pub use verdicts::{Verified, VerifyCode};

@@ -12,7 +12,7 @@ use field_table::Table;
 use recorded_graph::{Act, Graph};
 
 /// Whether an entry of this kind may stand behind the last.
-fn may_follow(last: Option<Entry<'_>>, entry: Entry<'_>) -> bool
+pub(crate) fn may_follow(last: Option<Entry<'_>>, entry: Entry<'_>) -> bool
     ensures { IsTrue result ↔ MayFollow (option_map entry_of last.entry) (entry_of entry.entry) }
 {
     match (last, entry) {
@@ -47,7 +47,7 @@ fn first_step(entries: &[Entry<'_>]) -> u64
 }
 
 /// The last entry.
-fn last_entry<'a>(entries: &[Entry<'a>]) -> Option<Entry<'a>>
+pub(crate) fn last_entry<'a>(entries: &[Entry<'a>]) -> Option<Entry<'a>>
     ensures { option_map entry_of result ≡ last_of (map entry_of entries.now) }
 {
     entries.last().copied()
