@@ -2,3 +2,4 @@ pub mod Known
 pub mod ListLaws
 pub mod Unions
 pub mod Joining
+mod Searching

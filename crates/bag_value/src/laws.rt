@@ -1,8 +1,9 @@
 //! Laws of values, and of what lists of atoms say of them, each the contract of a function that does nothing.
 
+ghost use Rattle.std.specs.Prelude.{◌≡◌};
 ghost use Rattle.bag_model.specs.Shapes.{Shape};
 ghost use Rattle.bag_model.specs.Values.{Value, IsOfShape};
-ghost use Rattle.bag_model.specs.Joins.{Alike, join};
+ghost use Rattle.bag_model.specs.Joins.{Alike, IsValueBelow, join};
 ghost use Rattle.bag_model.specs.JoinUnions.{JoinsAreUnions, BottomSaysNothing};
 ghost use Rattle.bag_model.specs.MergeReadings.{MergesReadAsJoins};
 ghost use Rattle.bag_model.specs.Encodings.{EncodingsReadBack};
@@ -22,6 +23,19 @@ pub fn values_of_one_shape_are_joined()
 /// with joined values, and bags the join at each field.
 pub fn joins_are_unions()
     ensures { JoinsAreUnions }
+{}
+
+/// Of values of one shape, one says no more than another: in an order in which their join is the least that says both.
+pub fn joins_are_least()
+    ensures itself { (shape : Shape) (v : Value) → IsOfShape shape v → IsValueBelow v v }
+    ensures onwards { (shape : Shape) (u v w : Value) → IsOfShape shape u → IsOfShape shape v → IsOfShape shape w
+        → IsValueBelow u v → IsValueBelow v w → IsValueBelow u w }
+    ensures both_ways { (shape : Shape) (v w : Value) → IsOfShape shape v → IsOfShape shape w
+        → IsValueBelow v w → IsValueBelow w v → v ≡ w }
+    ensures first { (shape : Shape) (v w : Value) → IsOfShape shape v → IsOfShape shape w → IsValueBelow v (join v w) }
+    ensures second { (shape : Shape) (v w : Value) → IsOfShape shape v → IsOfShape shape w → IsValueBelow w (join v w) }
+    ensures least { (shape : Shape) (u v w : Value) → IsOfShape shape u → IsOfShape shape v → IsOfShape shape w
+        → IsValueBelow u w → IsValueBelow v w → IsValueBelow (join u v) w }
 {}
 
 /// Bottom says nothing, and is the only value of its shape that says nothing.

@@ -2,7 +2,7 @@
 
 ghost use Rattle.std.specs.Prelude.{◌≡◌, ◌↔◌, ◌++◌, [], ◌∷◌, length, map, slice_get, IsTrue, OnOk, OnErr};
 ghost use Rattle.std.specs.Option.{option_map};
-ghost use Rattle.context_model.specs.KeyedMerge.{keys_of};
+ghost use Rattle.context_model.specs.KeyedMerge.{Finds, keys_of};
 ghost use Rattle.context_model.specs.Merge.{AllBelow};
 ghost use Rattle.bag_model.specs.Joins.{AreBottom, AreProper, Proper};
 ghost use Rattle.bag_model.specs.Scalars.{scalar_cmp};
@@ -196,6 +196,17 @@ impl Entries {
             Some(&self.items[at])
         } else {
             None
+        }
+    }
+
+    /// The value at a key; `None` exactly where there is no such key.
+    pub fn find(&self, key: &Scalar) -> Option<&Val>
+        ensures { Finds (pairs self.now) (value_of key.now) (option_map (λ found. plain found.now) result) }
+    {
+        let found = self.items.binary_search_by(|entry| entry.key.order(key));
+        match found {
+            Ok(place) => Some(&self.items[place].value),
+            Err(_) => None,
         }
     }
 
