@@ -3,5 +3,8 @@ mod Contributing
 mod Forms
 mod Looking
 mod LineByLine
+mod Keyed
+mod Belows
+mod Saying
 mod Said
 mod Sound

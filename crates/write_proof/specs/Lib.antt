@@ -5,3 +5,4 @@ pub mod WholeRules
 pub mod Verdicts
 pub mod Certificates
 pub mod Views
+pub mod Together
