@@ -1,16 +1,19 @@
 -- What some values say together is what their join says.
 use Rattle.std.proofs.Common.{◌≡◌, ◌≢◌, ◌⊎◌, inl, inr, ℕ, ◌≤◌, Bool, true, false, List, [], ◌∷◌, Option, Some, None, refl, sym, ap, ◌∙◌, subst, arith}
-use Rattle.std.specs.declared.cmp.Ordering.TheVariants.{Less}
+use Rattle.std.specs.Cmp.{tied_itself}
+use Rattle.std.specs.declared.cmp.Ordering.TheVariants.{Less, Equal}
 use Rattle.context_model.specs.KeyedMerge.{keys_of, EachPair, IsAt}
-use Rattle.context_model.specs.Orders.{IsIn}
+use Rattle.context_model.specs.Merge.{first_of}
+use Rattle.context_model.specs.Orders.{IsIn, by_order}
 use Rattle.context_model.proofs.MergeLaws.{EachPair-at, IsAt-unique}
+use Rattle.bag_model.specs.declared.Pick.{Pick}
 use Rattle.bag_model.specs.Joins.{join, join_values, IsValueBelow, Proper}
 use Rattle.bag_model.specs.Scalars.{ScalarKind, ScalarValue, scalar_cmp, pick_cmp, IsScalarOf}
 use Rattle.bag_model.specs.Shapes.{Shape, Nodes, no_node, node}
 use Rattle.bag_model.specs.Values.{Value, Entries, Values, Taint, Scalar, Set, Counter, Map, Bag, no_entry, entry, no_value, value, pairs, bottom, IsOfShape, AreOfShapes}
 use Rattle.bag_model.proofs.BelowLaws.{below-onwards, below-bottom}
 use Rattle.bag_model.proofs.OfShape.{Proper-shape}
-use Rattle.bag_model.proofs.ScalarOrder.{scalar_total}
+use Rattle.bag_model.proofs.ScalarOrder.{scalar_total, pick_total}
 use Rattle.write_proof.specs.Together.{HasAtKey, IsFirst, IsBehind, IsSaidBy, AreSaidAt, AreSaidBy}
 use Rattle.write_proof.proofs.Belows.{scalar_below, set_below, set_within, counter_below, counter_within, map_below, map_within, bag_below, bag_within, values_first, values_behind}
 
@@ -92,3 +95,100 @@ mutual
       let own : join v w ≡ w = said_below shape v w (IsFirst P) p.0 q.0 (λ x h. (of (value x h.0) h.1).0) (λ x h. values_first x w h.0 ws (below (value x h.0) h.1)) said.0 in
       let rest : join_values vs ws ≡ ws = each_below nodes vs ws (IsBehind P) p.1 q.1 (λ us h. (of (value h.0 us) h.1).1) (λ us h. values_behind h.0 w us ws (below (value h.0 us) h.1)) said.1 in
       λ i. value (own i) (rest i)
+
+-- ---- what more values say
+
+mutual
+  pub said_more : (v : Value) (P Q : Value → Type 0) → ((x : Value) → P x → Q x) → IsSaidBy v P → IsSaidBy v Q
+  said_more (Taint on) P Q f said = λ e. f (Taint true) (said e)
+  said_more (Scalar pick None) P Q f said = tt
+  said_more (Scalar pick (Some s)) P Q f said = (said.0, f (Scalar pick (Some said.0)) said.1, said.2)
+  said_more (Set kind vs) P Q f said = λ v i. let s = said v i in (s.0, f (Set kind s.0) s.1, s.2)
+  said_more (Counter counts) P Q f said = λ writer n at. let s = said writer n at in (s.0, s.1, f (Counter s.0) s.2, s.3, s.4)
+  said_more (Map es) P Q f said = entries_more es P Q f said
+  said_more (Bag vs) P Q f said = each_more vs (λ ws. P (Bag ws)) (λ ws. Q (Bag ws)) (λ ws h. f (Bag ws) h) said
+
+  entries_more : (es : Entries) (P Q : Value → Type 0) → ((x : Value) → P x → Q x) → AreSaidAt es P → AreSaidAt es Q
+  entries_more no_entry P Q f said = tt
+  entries_more (entry key v es) P Q f said = (
+    ((said.0).0, ((said.0).1.0, f (Map (said.0).1.0) (said.0).1.1, (said.0).1.2)),
+    said_more v (HasAtKey P key) (HasAtKey Q key) (λ x h. (h.0, f (Map h.0) h.1, h.2)) said.1,
+    entries_more es P Q f said.2,
+  )
+
+  each_more : (vs : Values) (P Q : Values → Type 0) → ((ws : Values) → P ws → Q ws) → AreSaidBy vs P → AreSaidBy vs Q
+  each_more no_value P Q f said = tt
+  each_more (value v vs) P Q f said = (
+    said_more v (IsFirst P) (IsFirst Q) (λ x h. (h.0, f (value x h.0) h.1)) said.0,
+    each_more vs (IsBehind P) (IsBehind Q) (λ ws h. (h.0, f (value h.0 ws) h.1)) said.1,
+  )
+
+-- ---- what is below a value is said by it
+
+scalar_stays : (pick own : Pick) (v : ScalarValue) (b : Option ScalarValue) → Scalar pick (first_of (pick_cmp pick) (Some v) b) ≡ Scalar own b
+    → (w : ScalarValue) × (b ≡ Some w) × (pick_cmp pick v w ≢ Less)
+scalar_stays pick own v None e = absurd (let bad : Some v ≡ None = cc e in cc bad)
+scalar_stays pick own v (Some w) e = (w, refl, λ less. by less)
+  where
+    kept : first_of (pick_cmp pick) (Some v) (Some w) ≡ Some w
+    kept = cc e
+
+    by : pick_cmp pick v w ≡ Less → ⊥
+    by less =
+        let mine : first_of (pick_cmp pick) (Some v) (Some w) ≡ Some v = ap (λ r. by_order r (Some v) (Some v) (Some w)) less in
+        let same : v ≡ w = cc (mine, kept) in
+        let tie : pick_cmp pick v v ≡ Equal = tied_itself (pick_total pick) v in
+        let clash : pick_cmp pick v v ≡ Less = ap (pick_cmp pick v) same ∙ less in
+        cc (tie, clash)
+
+mutual
+  pub below_said : (shape : Shape) (v j : Value) → IsOfShape shape v → IsOfShape shape j → IsValueBelow v j → IsSaidBy v (λ x. x ≡ j)
+  below_said Shape.Taint (Taint false) (Taint b) p q below = λ e. absurd (cc e)
+  below_said Shape.Taint (Taint true) (Taint b) p q below = λ e. below
+  below_said Shape.Taint (Taint on) j p q below = absurd q
+  below_said Shape.Taint v j p q below = absurd p
+  below_said (Shape.Scalar pick kind) (Scalar own None) j p q below = tt
+  below_said (Shape.Scalar pick kind) (Scalar own (Some s)) (Scalar other None) p q below = absurd (let t = scalar_stays own other s None below in let bad = t.1 in cc bad)
+  below_said (Shape.Scalar pick kind) (Scalar own (Some s)) (Scalar other (Some b)) p q below =
+      let t = scalar_stays own other s (Some b) below in
+      (t.0, (λ i. Scalar ((p.0 ∙ sym q.0) i) (sym t.1 i)), t.2)
+  below_said (Shape.Scalar pick kind) (Scalar own (Some s)) j p q below = absurd q
+  below_said (Shape.Scalar pick kind) v j p q below = absurd p
+  below_said (Shape.Set kind) (Set own vs) (Set other ws) p q below =
+      let same : other ≡ own = q.0 ∙ sym p.0 in
+      λ v i. (
+        ws,
+        ap (λ k. Set k ws) (sym same),
+        set_within own vs ws (Proper-shape (Shape.Set kind) (Set own vs) p) (Proper-shape (Shape.Set kind) (Set own ws) (subst (λ k. IsOfShape (Shape.Set kind) (Set k ws)) same q))
+            (subst (λ k. IsValueBelow (Set own vs) (Set k ws)) same below) v i,
+      )
+  below_said (Shape.Set kind) (Set own vs) j p q below = absurd q
+  below_said (Shape.Set kind) v j p q below = absurd p
+  below_said Shape.Counter (Counter es) (Counter ds) p q below = λ writer n at. let w = counter_within es ds p q below writer n at in (ds, w.0, refl, w.1, w.2)
+  below_said Shape.Counter (Counter es) j p q below = absurd q
+  below_said Shape.Counter v j p q below = absurd p
+  below_said (Shape.Map kind inner) (Map es) (Map fs) p q below =
+      said_from es (λ x. x ≡ Map fs) (λ key v at.
+      let w = map_within es fs (Proper-shape (Shape.Map kind inner) (Map es) p) (Proper-shape (Shape.Map kind inner) (Map fs) q) below key v at in (
+        (w.0, (fs, refl, w.1)),
+        said_more v (λ x. x ≡ w.0) (HasAtKey (λ x. x ≡ Map fs) key) (λ x e. (fs, refl, subst (λ y. IsAt key y (pairs fs)) (sym e) w.1))
+            (below_said inner v w.0 (EachPair-at (λ k x. IsScalarOf kind k × IsOfShape inner x) (pairs es) key v p.1 at).1
+            (EachPair-at (λ k x. IsScalarOf kind k × IsOfShape inner x) (pairs fs) key w.0 q.1 w.1).1 w.2),
+      ))
+  below_said (Shape.Map kind inner) (Map es) j p q below = absurd q
+  below_said (Shape.Map kind inner) v j p q below = absurd p
+  below_said (Shape.Bag nodes) (Bag vs) (Bag ws) p q below =
+      each_more vs (λ us. us ≡ ws) (λ us. Bag us ≡ Bag ws) (λ us e. ap Bag e) (each_said nodes vs ws p q (bag_within vs ws below))
+  below_said (Shape.Bag nodes) (Bag vs) j p q below = absurd q
+  below_said (Shape.Bag nodes) v j p q below = absurd p
+
+  each_said : (nodes : Nodes) (vs ws : Values) → AreOfShapes nodes vs → AreOfShapes nodes ws → join_values vs ws ≡ ws → AreSaidBy vs (λ us. us ≡ ws)
+  each_said no_node no_value no_value p q below = tt
+  each_said no_node no_value (value w ws) p q below = absurd q
+  each_said no_node (value v vs) ws p q below = absurd p
+  each_said (node name number shape nodes) no_value ws p q below = absurd p
+  each_said (node name number shape nodes) (value v vs) no_value p q below = absurd q
+  each_said (node name number shape nodes) (value v vs) (value w ws) p q below = (
+    said_more v (λ x. x ≡ w) (IsFirst (λ us. us ≡ value w ws)) (λ x e. (ws, ap (λ y. value y ws) e)) (below_said shape v w p.0 q.0 (values_first v w vs ws below)),
+    each_more vs (λ us. us ≡ ws) (IsBehind (λ us. us ≡ value w ws)) (λ us e. (w, ap (value w) e)) (each_said nodes vs ws p.1 q.1 (values_behind v w vs ws below)),
+  )
