@@ -4,7 +4,9 @@ mod Forms
 mod Looking
 mod LineByLine
 mod Keyed
-mod Belows
-mod Saying
+mod BelowKinds
+mod SaidTogether
+mod Parts
+mod BelowCalls
 mod Said
 mod Sound

@@ -6,3 +6,4 @@ pub mod Verdicts
 pub mod Certificates
 pub mod Views
 pub mod Together
+pub mod Belows

@@ -1,10 +1,13 @@
 -- What some values say together of what another says.
-use Rattle.std.specs.Prelude.{◌≡◌, ◌≢◌, ℕ, ◌≤◌, true, List, Some, None}
+use Rattle.std.specs.Borrow.{Bor}
+use Rattle.std.specs.Prelude.{◌≡◌, ◌≢◌, ℕ, ◌≤◌, true, List, map, Some, None}
 use Rattle.std.specs.declared.cmp.Ordering.TheVariants.{Less}
 use Rattle.context_model.specs.KeyedMerge.{IsAt}
 use Rattle.context_model.specs.Orders.{IsIn}
 use Rattle.bag_model.specs.Scalars.{ScalarValue, pick_cmp}
 use Rattle.bag_model.specs.Shapes.{Shape}
+use Rattle.bag_value.specs.declared.vals.Val.{Val}
+use Rattle.bag_value.specs.Plain.{plain}
 use Rattle.bag_model.specs.Values.{Value, Entries, Values, Taint, Scalar, Set, Counter, Map, Bag, no_entry, entry, no_value, value, pairs, IsOfShape}
 
 -- Some map of these values has the value at the key.
@@ -46,3 +49,7 @@ abbrev mutual
 -- The values are of one shape.
 abbrev pub AreOfOne : Value → List Value → Type 0
 AreOfOne v parts = (shape : Shape) × IsOfShape shape v × ((x : Value) → IsIn x parts → IsOfShape shape x)
+
+-- The plain values behind some references.
+abbrev pub values_of : List (Bor Val) → List Value
+values_of parts = map (λ part. plain part.now) parts

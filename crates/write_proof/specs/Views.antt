@@ -4,15 +4,15 @@ use Rattle.std.specs.Fmt.{decimal}
 use Rattle.graph_lines.specs.Forms.{IsNumber, IsPath}
 use Rattle.write_proof.specs.declared.entries.Entry.{Entry}
 use Rattle.write_proof.specs.declared.entries.Entry.TheVariants.{Why, Value, Reach, Uses}
-use Rattle.write_proof.specs.Lines as plain
+use Rattle.write_proof.specs.Lines as lines
 use Rattle.write_proof.specs.Lines.{IsSound, entry_text}
 
 -- What the code's entry says.
-abbrev pub entry_of : Entry → plain.Entry
-entry_of (Why n path) = plain.Why n path.now
-entry_of (Value text) = plain.ValueText text.now
-entry_of (Reach w child) = plain.Reach w child
-entry_of (Uses w) = plain.Uses w
+abbrev pub entry_of : Entry → lines.Entry
+entry_of (Why n path) = lines.Why n path.now
+entry_of (Value text) = lines.ValueText text.now
+entry_of (Reach w child) = lines.Reach w child
+entry_of (Uses w) = lines.Uses w
 
 -- The text is a number and a path, with a space between them.
 abbrev pub IsWhyText : List ℕ → ℕ → List ℕ → Type 0
@@ -23,12 +23,12 @@ abbrev pub IsReachText : List ℕ → ℕ → ℕ → Type 0
 IsReachText text w child = IsNumber w × IsNumber child × (text ≡ decimal w ++ 32 ∷ decimal child)
 
 -- The entry has words alone: it isn't the text of a value.
-abbrev pub IsOfWords : plain.Entry → Type 0
-IsOfWords (plain.Why n path) = Unit {0}
-IsOfWords (plain.ValueText text) = ⊥
-IsOfWords (plain.Reach w child) = Unit {0}
-IsOfWords (plain.Uses w) = Unit {0}
+abbrev pub IsOfWords : lines.Entry → Type 0
+IsOfWords (lines.Why n path) = Unit {0}
+IsOfWords (lines.ValueText text) = ⊥
+IsOfWords (lines.Reach w child) = Unit {0}
+IsOfWords (lines.Uses w) = Unit {0}
 
 -- The text is the words of an entry.
-abbrev pub IsInWords : List ℕ → plain.Entry → Type 0
+abbrev pub IsInWords : List ℕ → lines.Entry → Type 0
 IsInWords text entry = IsOfWords entry × IsSound entry × (text ≡ entry_text entry)

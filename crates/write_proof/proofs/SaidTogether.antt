@@ -15,7 +15,7 @@ use Rattle.bag_model.proofs.BelowLaws.{below-onwards, below-bottom}
 use Rattle.bag_model.proofs.OfShape.{Proper-shape}
 use Rattle.bag_model.proofs.ScalarOrder.{scalar_total, pick_total}
 use Rattle.write_proof.specs.Together.{HasAtKey, IsFirst, IsBehind, IsSaidBy, AreSaidAt, AreSaidBy}
-use Rattle.write_proof.proofs.Belows.{scalar_below, set_below, set_within, counter_below, counter_within, map_below, map_within, bag_below, bag_within, values_first, values_behind}
+use Rattle.write_proof.proofs.BelowKinds.{scalar_below, set_below, set_within, counter_below, counter_within, map_below, map_within, bag_below, bag_within, values_first, values_behind}
 
 -- a key's entry, of those that are said
 said_at_key : (es : Entries) (P : Value → Type 0) → AreSaidAt es P → (key : ScalarValue) (v : Value) → IsAt key v (pairs es) → ((w : Value) × HasAtKey P key w) × IsSaidBy v (HasAtKey P key)
