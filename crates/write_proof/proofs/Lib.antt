@@ -10,3 +10,4 @@ mod Parts
 mod BelowCalls
 mod Said
 mod Sound
+mod OneVerdict

@@ -4,6 +4,7 @@ use Rattle.std.specs.List.{slice_get}
 use Rattle.bag_model.specs.Shapes.{Nodes}
 use Rattle.bag_model.specs.Slots.{SlotAt, FindsSlot}
 use Rattle.bag_model.specs.SlotValues.{HasSlot}
+use Rattle.bag_model.specs.Tables.{IsTable}
 use Rattle.bag_model.specs.Values.{Value}
 use Rattle.report_text.specs.ValueTexts.{value_text}
 use Rattle.text_lines.specs.Readings.{AllSay, IsFirstBad, IsFirstOf, NoneOf}
@@ -72,3 +73,8 @@ pub record TellsTruth (table : Nodes) (graph : Graph) (certificate : List ℕ) :
   pub truth : IsTruthAt table graph n slot value
   pub is : text ≡ value_text at.shape value
   pub steps : (w : ℕ) → IsListed (Why n path ∷ ValueText text ∷ more) w ↔ Reaches graph w n
+
+-- A certificate has one verdict.
+abbrev pub VerdictsAreOne : Type 0
+VerdictsAreOne = (table : Nodes) (graph : Graph) (certificate : List ℕ) (a b : Verified) → IsTable table
+    → IsVerdictOf table graph certificate a → IsVerdictOf table graph certificate b → a ≡ b

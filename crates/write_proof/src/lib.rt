@@ -3,8 +3,12 @@
 
 mod belows;
 mod entries;
+mod laws;
 mod line_rules;
 mod reading;
 mod verdicts;
 
+pub use laws::{
+    certificates_have_one_verdict, certificates_that_verify_tell_the_truth, lines_are_definite,
+};
 pub use verdicts::{Verified, VerifyCode};
