@@ -112,8 +112,8 @@ module _ (table : Nodes) (graph : Graph) (recorded : IsRecorded table graph) (ce
       of_shape = (joined.1).of_shape;
       all = λ x r. no_more r.from x (reaching_listed r.from n r.reaches (inl refl)) (r.step, r.there, r.does);
       lowest = λ y p f. (joined.1).lowest y p (λ x c.
-        let u = used_at said c.0 c.1 in
-        f x (record { from = c.0; step = (c.2).0; there = (c.2).1; reaches = listed_reaches c.0 (use_listed u.0 c.0 u.1); does = (c.2).2 }));
+          let u = used_at said c.0 c.1 in
+          f x (record { from = c.0; step = (c.2).0; there = (c.2).1; reaches = listed_reaches c.0 (use_listed u.0 c.0 u.1); does = (c.2).2 }));
     }
 
     text_same : first.text ≡ value_text at.shape joined.0
