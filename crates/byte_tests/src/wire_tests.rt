@@ -38,17 +38,15 @@ fn expect_pair(
     assert_eq!(rt; bytes.len() as u128, whole, "{framed} in {form:?}");
     assert_eq!(rt; size(form, list), whole, "{framed} in {form:?}");
     assert!(rt; list.len() == 2);
-    assert_eq!(rt; offset(form, list, 1), whole - 1, "{framed} in {form:?}");
+    let before_marker = whole.saturating_sub(1);
     assert_eq!(rt;
-        offset(form, list, 0),
-        whole - 1 - framed,
+        offset(form, list, 1),
+        before_marker,
         "{framed} in {form:?}"
     );
-    let written = if whole == framed + 1 {
-        Form::One
-    } else {
-        Form::Two
-    };
+    let head_len = before_marker.saturating_sub(framed);
+    assert_eq!(rt; offset(form, list, 0), head_len, "{framed} in {form:?}");
+    let written = if head_len == 0 { Form::One } else { Form::Two };
     assert_eq!(rt; form_of(&bytes), written, "{framed} in {form:?}");
     let again = read(alloc, &bytes)?;
     assert_eq!(rt; again.len(), 2, "{framed} in {form:?}");
