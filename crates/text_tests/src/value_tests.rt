@@ -4,7 +4,7 @@ use crate::fixtures::{context_of, table_of};
 use bag_typed::check_typed;
 use bag_value::Val;
 use field_table::Shape;
-use report_text::{block, put_value};
+use report_text::{block, put_value, value_text};
 use scalar_types::{Scalar, ScalarKind, ScalarList};
 use std::alloc::Global;
 use std::process::Abort;
@@ -167,5 +167,7 @@ fn texts_stand_behind_one_another(rt: HostRuntime) -> Result<(), Fail> {
     let none = Val::Scalar(Some(Scalar::Packed(ScalarList::new(alloc))));
     put_value(&Shape::Scalar(ScalarKind::Str), &none, &mut text)?;
     assert_eq!(rt; text.as_slice(), b"a=on-()".as_slice());
+    let alone = value_text(alloc, &none, &Shape::Scalar(ScalarKind::Str))?;
+    assert_eq!(rt; alone.as_slice(), b"()".as_slice());
     Ok(())
 }
