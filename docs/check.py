@@ -1,0 +1,110 @@
+#!/usr/bin/env python3
+"""Holds the documents to the tree: prints a line for each thing that a document says and the tree doesn't have, and ends with
+status 1 where there is one. It proves nothing and takes a second. Where the program is built, the shell examples are run too."""
+
+import os
+import re
+import subprocess
+import sys
+import tempfile
+
+TOP = os.path.dirname(os.path.dirname(os.path.abspath(__file__)))
+DOCUMENTS = ["README.md"] + sorted(f"docs/{name}" for name in os.listdir(f"{TOP}/docs") if name.endswith(".md"))
+# Where the script `baggage` and the toolchain leave the program.
+PROGRAMS = [f"{TOP}/.baggage/baggage", f"{TOP}/crates/baggage/out/baggage"]
+
+bad = []
+
+
+def text_of(path):
+    with open(f"{TOP}/{path}", encoding="utf-8") as file:
+        return file.read()
+
+
+def sources(*endings):
+    """The paths of the files of all crates that end so, those that are made left out."""
+    found = []
+    for folder, folders, names in os.walk(f"{TOP}/crates"):
+        folders[:] = [name for name in folders if name != "out"]
+        found += [os.path.relpath(f"{folder}/{name}", TOP) for name in names if name.endswith(endings)]
+    return found
+
+
+def defines(path, name):
+    """Whether the file has a definition, a function or a type of that name; of an edit, whether it is the edit."""
+    text, word = text_of(path), re.escape(name)
+    if path.endswith(".edit"):
+        return os.path.basename(path) == f"{name}.edit"
+    if path.endswith(".antt"):
+        return re.search(rf"(?m)^\s*(?:(?:abbrev|unfoldable|mutual|pub|data|record) )*{word} ?[:({{]", text)
+    return re.search(rf"(?m)^\s*(?:pub(?:\(crate\))? )?(?:fn|trait|enum|struct) {word}\b", text)
+
+
+def check_links():
+    """Each link leads to a file, and one whose text is a name to a file that has it."""
+    for document in DOCUMENTS:
+        for text, target in re.findall(r"\[([^\]]*)\]\(([^)]*)\)", text_of(document)):
+            path = os.path.normpath(os.path.join(os.path.dirname(document), target.split("#")[0]))
+            if re.match(r"[a-z]+:", target) or not target.split("#")[0]:
+                continue
+            if not os.path.exists(f"{TOP}/{path}"):
+                bad.append(f"{document}: {target} isn't there")
+            elif re.fullmatch(r"`\w+`", text) and path.startswith("crates/") and not defines(path, text.strip("`")):
+                bad.append(f"{document}: {path} has no {text}")
+
+
+def check_names():
+    """Each name of a definition or a call in MODEL, HEADLINE and PROMISES stands somewhere in the crates."""
+    known = set()
+    for path in sources(".antt", ".rt", ".edit"):
+        known.update(re.findall(r"\w+", text_of(path)))
+        known.update((os.path.basename(path).rsplit(".", 1)[0], path.split("/")[1]))
+    for document in ["docs/MODEL.md", "docs/HEADLINE.md", "docs/PROMISES.md"]:
+        prose = re.sub(r"(?ms)^```.*?^```", "", text_of(document))
+        for name in dict.fromkeys(re.findall(r"`(?:\w+::)*(\w+)(?:\.edit)?`", prose)):
+            if len(name) > 3 and not name.isdigit() and name not in known and not re.fullmatch(r"[0-9a-f]+", name):
+                bad.append(f"{document}: nothing in crates/ is named {name}")
+
+
+def check_excerpts():
+    """Each block of code in the README and in HEADLINE stands in a source, line by line."""
+    stripped = ["\n".join(line.strip() for line in text_of(path).split("\n")) for path in sources(".rt")]
+    for document in ["README.md", "docs/HEADLINE.md"]:
+        for kind, block in re.findall(r"(?ms)^```(rust|)\n(.*?)^```", text_of(document)):
+            if kind == "rust" or block.startswith("ensures "):
+                lines = "\n".join(line.strip() for line in block.strip().split("\n"))
+                if not any(lines in text for text in stripped):
+                    bad.append(f"{document}: no source has the code that begins with {block.splitlines()[0]!r}")
+
+
+def check_crates():
+    """The README's map names each crate, and nothing else."""
+    listed = set(re.findall(r"(?m)^(\w+)[^:\n#]*:", text_of("crates.txt")))
+    layers = text_of("README.md").split("## The crates, by layer")[1]
+    named = {name for row in re.findall(r"(?m)^\|[^|]*\|([^|]*)\|", layers) for name in re.findall(r"`(\w+)`", row)}
+    bad.extend(f"README.md: the map of crates lacks {name}" for name in sorted(listed - named))
+    bad.extend(f"README.md: the map of crates names {name}, which crates.txt doesn't" for name in sorted(named - listed))
+
+
+def check_examples():
+    """Each shell example prints what stands below it, where the program is built."""
+    program = next((path for path in PROGRAMS if os.path.isfile(path)), None)
+    if not program:
+        return
+    for document in DOCUMENTS:
+        with tempfile.TemporaryDirectory() as folder:
+            os.symlink(program, f"{folder}/baggage")
+            os.symlink(f"{TOP}/examples", f"{folder}/examples")
+            for block in re.findall(r"(?ms)^```\n(\$ .*?)^```", text_of(document)):
+                for example in re.split(r"(?m)^\$ ", block)[1:]:
+                    command, _, expected = example.partition("\n")
+                    ran = subprocess.run(["bash", "-c", command], cwd=folder, capture_output=True, text=True, timeout=60)
+                    if ran.stdout + ran.stderr != expected:
+                        bad.append(f"{document}: {command!r} prints {(ran.stdout + ran.stderr)[:200]!r}")
+
+
+for check in (check_links, check_names, check_excerpts, check_crates, check_examples):
+    check()
+for line in bad:
+    print(line)
+sys.exit(1 if bad else 0)
