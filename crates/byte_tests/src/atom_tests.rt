@@ -1,6 +1,6 @@
 //! Numbers and atoms: their codes, and which bytes are none.
 
-use crate::atom_texts::{bytes_of, expect_bytes};
+use crate::byte_texts::{bytes_of, expect_bytes};
 use atom_kinds::{
     FieldHeader, Kind, KindFault, compare, datum, header_level, indexed, indexed_prefix, is_key,
     keyed, keyed_prefix, kind_of, rest,

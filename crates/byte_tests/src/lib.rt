@@ -1,16 +1,10 @@
-//! Tests of the layer of bytes: texts, numbers, atoms, lists, contexts, their bytes, and merges. Nothing but tests stands here.
+//! Tests of the layer of bytes: texts, numbers, atoms, and the bytes of lists and contexts. Nothing but tests stands here.
 #![tactic(auto)]
 
 #[cfg(test)]
 mod atom_tests;
 #[cfg(test)]
-mod atom_texts;
-#[cfg(test)]
-mod cut_tests;
-#[cfg(test)]
-mod list_tests;
-#[cfg(test)]
-mod merge_tests;
+mod byte_texts;
 #[cfg(test)]
 mod outside_tests;
 #[cfg(test)]

@@ -1,6 +1,6 @@
 //! Lists and contexts as bytes, in either form.
 
-use crate::atom_texts::{bytes_of, expect_atoms, expect_bytes};
+use crate::byte_texts::{bytes_of, expect_bytes};
 use atom_list::AtomList;
 use outside::ATOM_MAX;
 use std::alloc::Global;
@@ -210,6 +210,16 @@ static CONTEXTS: [(&str, &str, &str); 7] = [
         "f800 0061 f801 0061",
     ),
 ];
+
+/// That a list has exactly these atoms, which stand with blanks between them, a dash for a marker.
+fn expect_atoms(rt: &impl Abort, alloc: Global, list: &AtomList, atoms: &str) -> Result<(), Fail> {
+    let mut words = atoms.split_whitespace();
+    for atom in list.iter() {
+        expect_bytes(rt, alloc, atom, words.next().ok_or("an atom too many")?)?;
+    }
+    assert!(rt; words.next().is_none(), "{atoms}");
+    Ok(())
+}
 
 #[test]
 fn contexts(rt: HostRuntime) -> Result<(), Fail> {

@@ -1,5 +1,5 @@
 use Rattle.std.proofs.Common.{◌∷◌, Some, slice_get, sym, ◌∙◌, ap, eqb-true}
-use Rattle.byte_tests.proofs.list_tests.is_datum.Goals as goal
+use Rattle.list_tests.proofs.list_tests.is_datum.Goals as goal
 
 pub returns-in-Some-split_first : goal.returns-in-Some-split_first
 returns-in-Some-split_first c = λ t. (

@@ -6,7 +6,7 @@ use outside::ATOM_MAX;
 use std::alloc::Global;
 use std::process::Abort;
 use std::test::Fail;
-use text_lines::{hex_bytes, push_hex};
+use text_lines::hex_bytes;
 
 /// The list of these atoms.
 pub fn list_of(rt: &impl Abort, alloc: Global, atoms: &str) -> Result<AtomList, Fail> {
