@@ -1,9 +1,9 @@
 //! Lists of atoms that are cut to a budget of bytes, with a marker where something was cut off.
 #![tactic(auto)]
 
-ghost use Rattle.std.specs.Prelude.{◌≡◌, ◌+◌, ◌^◌, ◌<◌, ◌≤◌, length, nat_lt, if◌then◌else◌};
+ghost use Rattle.std.specs.Prelude.{◌≡◌, ◌+◌, ◌^◌, ◌<◌, ◌≤◌, ◌↔◌, length, nat_lt, if◌then◌else◌, IsTrue};
 ghost use Rattle.context_model.specs.declared.Form.TheVariants.{One, Two};
-ghost use Rattle.context_model.specs.Framing.{frame, head_len, least_budget};
+ghost use Rattle.context_model.specs.Framing.{frame, head_len, least_budget, size_of};
 ghost use Rattle.context_model.specs.Trimmed.{kept_of, trimmed, KeepsLongest, CutsOnce};
 ghost use Rattle.context_model.specs.WellFormed.{IsWellFormed};
 
@@ -11,41 +11,68 @@ use atom_list::{AtomList, Context};
 use outside::ATOM_MAX;
 use wire_bytes::{Form, LENGTH_MAX, frame_len, size};
 
-/// A front of a list: the form in which it is written, and how many bytes it has.
+/// A front of a list: how many bytes stand before its frames, and how many these have.
 #[derive(Clone, Copy)]
 struct Front {
-    written: Form,
-    size: u128,
+    head: u64,
+    frames: u64,
 }
 
 impl Front {
     /// No atom, where this form is asked for.
     fn empty(form: Form) -> Front
-        ensures written { result.written ≡ form }
-        ensures size { result.size ≡ head_len form }
+        ensures head { result.head ≡ head_len form }
+        ensures frames { result.frames ≡ 0 }
     {
         Front {
-            written: form,
-            size: form.head_len() as u128,
+            head: form.head_len() as u64,
+            frames: 0,
         }
     }
 
     /// The front with one atom more. The first that is too long for form one brings a head.
     fn with(self, atom: &[u8]) -> Front
         requires short { length atom.now ≤ ATOM_MAX }
-        requires size { self.size < 2 ^ 64 }
-        ensures written { result.written ≡ (if nat_lt LENGTH_MAX (length atom.now) then Two else self.written) }
-        ensures size { result.size + head_len self.written ≡ self.size + length (frame One atom.now) + head_len result.written }
+        requires frames { self.frames < 2 ^ 32 }
+        ensures head { result.head ≡ (if nat_lt LENGTH_MAX (length atom.now) then head_len Two else self.head) }
+        ensures frames { result.frames ≡ self.frames + length (frame One atom.now) }
     {
-        let size = self.size + frame_len(atom) as u128;
-        match self.written {
-            Form::One if LENGTH_MAX < atom.len() => Front {
-                written: Form::Two,
-                size: size + Form::Two.head_len() as u128,
-            },
-            written => Front { written, size },
+        let mut head = self.head;
+        if LENGTH_MAX < atom.len() {
+            head = Form::Two.head_len() as u64;
+        }
+        Front {
+            head,
+            frames: self.frames + frame_len(atom) as u64,
         }
     }
+
+    /// How many bytes it has.
+    fn size(self) -> u64
+        requires { self.head + self.frames < 2 ^ 64 }
+        ensures { result ≡ self.head + self.frames }
+    {
+        self.head + self.frames
+    }
+}
+
+/// Whether a list has at most so many bytes where this form is asked for. Where nothing was cut from it, its atoms are looked at only
+/// if it fits without a head and not with one.
+fn fits(form: Form, list: &AtomList, budget: u64) -> bool
+    ensures { IsTrue result ↔ (size_of form list.now ≤ budget) }
+{
+    // It says that the frames of a list are no more than a buffer may have.
+    let _count = list.len();
+    if let Some(frames) = list.framed() {
+        let least = frames.len() as u64;
+        if budget < least {
+            return false;
+        }
+        if least + Form::Two.head_len() as u64 <= budget {
+            return true;
+        }
+    }
+    size(form, list) <= u128::from(budget)
 }
 
 /// How many atoms of a list stay within a budget of bytes where this form is asked for: all of them where the list fits, and
@@ -54,16 +81,15 @@ pub fn kept(form: Form, list: &AtomList, budget: u64) -> usize
     requires { least_budget form ≤ budget }
     ensures { result ≡ kept_of form list.now budget }
 {
-    let room = u128::from(budget);
-    if size(form, list) <= room {
+    if fits(form, list, budget) {
         return list.len();
     }
     let mut front = Front::empty(form);
     for at in 0..list.len() {
         let next = front.with(list.get(at).unwrap());
-        if room < next.size {
+        if budget < next.size() {
             // Where the front fills the budget, its last atom makes room for the marker.
-            return if front.size < room { at } else { at - 1 };
+            return if front.size() < budget { at } else { at - 1 };
         }
         front = next;
     }

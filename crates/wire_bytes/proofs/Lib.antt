@@ -1,3 +1,4 @@
 mod Codings
 mod Stops
 pub mod OneCode
+mod Widths

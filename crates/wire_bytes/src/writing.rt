@@ -3,12 +3,13 @@
 ghost use Rattle.std.specs.Prelude.{◌≡◌, ◌+◌, ◌^◌, ◌<◌, ◌≤◌, ◌++◌, length, take, IfOk, OnOk};
 ghost use Rattle.context_model.specs.declared.Form.{Form};
 ghost use Rattle.context_model.specs.declared.Form.TheVariants.{One, Two};
-ghost use Rattle.context_model.specs.Framing.{frame, frames, written_in, bytes_in, bytes_of, size_of, offset_of};
+ghost use Rattle.context_model.specs.Framing.{frame, frames, has_long, written_in, bytes_in, bytes_of, size_of, offset_of};
+ghost use Rattle.atom_list.specs.Builder.{room_of};
 
 use crate::heads::MARK;
 use crate::lengths::length_len;
 use atom_list::{AtomList, Builder};
-use context_model::Form;
+use context_model::{Form, LENGTH_MAX};
 use lex_varint::put_u64;
 use outside::{ATOM_MAX, Memory};
 use std::alloc::Global;
@@ -81,20 +82,40 @@ pub fn size(form: Form, list: &AtomList) -> u128
 pub fn write(alloc: Global, form: Form, list: &AtomList) -> Result<Vec<u8>, Memory>
     ensures { IfOk result (λ bytes. bytes.items ≡ bytes_of form list.now) }
 {
-    match written_in(form, list) {
+    match form {
         Form::One => write_one(alloc, list),
         Form::Two => write_two(alloc, list),
     }
 }
 
-/// The bytes of a list in form one, as they stand in its buffer if nothing was cut from it.
+/// The bytes of a list where form one is asked for, as they stand in its buffer if nothing was cut from it.
 fn write_one(alloc: Global, list: &AtomList) -> Result<Vec<u8>, Memory>
-    ensures { IfOk result (λ bytes. bytes.items ≡ frames One list.now) }
+    ensures { IfOk result (λ bytes. bytes.items ≡ bytes_of One list.now) }
 {
-    if let Some(bytes) = list.framed() {
-        return Ok(Vec::from_slice(alloc, bytes)?);
+    match list.framed() {
+        Some(_) if list.is_long() => write_two(alloc, list),
+        Some(bytes) => Ok(Vec::from_slice(alloc, bytes)?),
+        None => write_pieces(alloc, list),
     }
+}
+
+/// Whether an atom is too long for form one, of a list that takes at most this room. None is looked at where all together are no
+/// longer than one may be.
+fn is_long(list: &AtomList, room: usize) -> bool
+    requires { room_of list.now ≤ room }
+    ensures { result ≡ has_long list.now }
+{
+    LENGTH_MAX < room - 3 * list.len() && list.is_long()
+}
+
+/// The same, put together from what is left in the buffer.
+fn write_pieces(alloc: Global, list: &AtomList) -> Result<Vec<u8>, Memory>
+    ensures { IfOk result (λ bytes. bytes.items ≡ bytes_of One list.now) }
+{
     let room = list.room().ok_or(Memory)?;
+    if is_long(list, room) {
+        return write_two(alloc, list);
+    }
     let mut built = Builder::with_room(alloc, room, list.len())?;
     built.push_rest(list, 0);
     Ok(built.into_bytes())
