@@ -108,7 +108,7 @@ fn is_long(list: &AtomList, room: usize) -> bool
     LENGTH_MAX < room - 3 * list.len() && list.is_long()
 }
 
-/// The same, put together from what is left in the buffer.
+/// The bytes of a list where form one is asked for, put together from what is left in its buffer.
 fn write_pieces(alloc: Global, list: &AtomList) -> Result<Vec<u8>, Memory>
     ensures { IfOk result (λ bytes. bytes.items ≡ bytes_of One list.now) }
 {
