@@ -11,3 +11,7 @@ mod BelowCalls
 mod Said
 mod Sound
 mod OneVerdict
+mod ContributionCalls
+mod MarkCalls
+mod FirstCalls
+mod WholeVerdict

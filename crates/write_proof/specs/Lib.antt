@@ -8,3 +8,7 @@ pub mod Views
 pub mod Together
 pub mod Belows
 pub mod Contributions
+pub mod Joins
+pub mod Marks
+pub mod FirstLines
+pub mod Checker

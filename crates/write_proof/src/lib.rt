@@ -2,13 +2,18 @@
 #![tactic(auto)]
 
 mod belows;
+mod checker;
 mod contributions;
 mod entries;
+mod first_lines;
+mod joins;
 mod laws;
 mod line_rules;
+mod marks;
 mod reading;
 mod verdicts;
 
+pub use checker::verify;
 pub use laws::{
     certificates_have_one_verdict, certificates_that_verify_tell_the_truth, lines_are_definite,
 };
