@@ -11,7 +11,7 @@ mod BelowCalls
 mod Said
 mod Sound
 mod OneVerdict
-mod ContributionCalls
 mod MarkCalls
 mod FirstCalls
+mod ContributionCalls
 mod WholeVerdict

@@ -1,30 +1,32 @@
 -- Marks, and lists of steps, that grow line by line.
-use Rattle.std.proofs.Common.{◌≡◌, ◌≢◌, ◌⊎◌, inl, inr, ◌↔◌, ℕ, zero, suc, ◌+◌, ◌<◌, ◌≤◌, Bool, true, false, List, [], ◌∷◌, ◌++◌, length, map, take, get_or, set, Option, Some, None, refl, sym, ap, ◌∙◌, subst, add-one, get_or-set_other, get_or-set_same, arith}
+use Rattle.std.proofs.Common.{◌≡◌, ◌≢◌, ◌⊎◌, inl, inr, ◌↔◌, ℕ, zero, suc, ◌+◌, ◌<◌, ◌≤◌, Bool, true, false, List, [], ◌∷◌, ◌++◌, length, map, take, get_or, set, Option, Some, None, refl, sym, ap, ◌∙◌, subst, append-nil, add-one, get_or-set_other, get_or-set_same, arith}
+use Rattle.std.specs.List.{slice_get}
 use Rattle.context_model.specs.Orders.{IsIn}
 use Rattle.bag_model.proofs.Finite.{in_append, in_append_first, in_append_second}
+use Rattle.write_proof.specs.declared.entries.Entry as code
+use Rattle.write_proof.specs.declared.entries.Entry.TheVariants as variants
 use Rattle.write_proof.specs.Lines.{Entry, Why, ValueText, Reach, Uses}
 use Rattle.write_proof.specs.Marks.{IsMarked, AreMarksOf}
 use Rattle.write_proof.specs.WholeRules.{reached, used}
+use Rattle.write_proof.specs.Views.{entry_of}
+use Rattle.write_proof.proofs.BelowCalls.{map_place}
 use Rattle.write_proof.proofs.Decided.{same_number}
+
+-- What a list that is too short gives in place of an entry.
+abbrev pub first_entry : code.Entry
+first_entry = variants.Why 0 (record { ref_ptr = (0, 0); now = [] })
 
 -- ---- elements that are gone through
 
 module _ {A B : Type 0} (f : A → B) where
-  taken_next : (xs : List A) (i : ℕ) (x : A) → i < length xs → x ≡ get_or xs i x → map f (take (suc i) xs) ≡ map f (take i xs) ++ f x ∷ []
-  taken_next [] i x l e = absurd (omega (arith, l))
-  taken_next (y ∷ xs) zero x l e = ap (λ z. f z ∷ []) (sym e)
-  taken_next (y ∷ xs) (suc i) x l e = ap (λ zs. f y ∷ zs) (taken_next xs i x (omega (arith, l)) e)
+  taken_next : (xs : List A) (i : ℕ) (x : A) → slice_get xs i ≡ Some x → map f (take (suc i) xs) ≡ map f (take i xs) ++ f x ∷ []
+  taken_next [] i x e = absurd (cc e)
+  taken_next (y ∷ xs) zero x e = let same : y ≡ x = cc e in ap (λ z. f z ∷ []) same
+  taken_next (y ∷ xs) (suc i) x e = ap (λ zs. f y ∷ zs) (taken_next xs i x e)
 
   -- One element more is taken.
-  pub taken_one_more : (xs : List A) (i : ℕ) (x : A) → i < length xs → x ≡ get_or xs i x → map f (take (i + 1) xs) ≡ map f (take i xs) ++ f x ∷ []
-  taken_one_more xs i x l e = ap (λ n. map f (take n xs)) (add-one i) ∙ taken_next xs i x l e
-
-  -- All elements are taken.
-  pub taken_all : (xs : List A) (i : ℕ) → length xs ≤ i → map f (take i xs) ≡ map f xs
-  taken_all [] zero l = refl
-  taken_all [] (suc i) l = refl
-  taken_all (x ∷ xs) zero l = absurd (omega (arith, l))
-  taken_all (x ∷ xs) (suc i) l = ap (λ zs. f x ∷ zs) (taken_all xs i (omega (arith, l)))
+  pub taken_one_more : (xs : List A) (i : ℕ) (x : A) → slice_get xs i ≡ Some x → map f (take (i + 1) xs) ≡ map f (take i xs) ++ f x ∷ []
+  taken_one_more xs i x e = ap (λ n. map f (take n xs)) (add-one i) ∙ taken_next xs i x e
 
 -- ---- steps of lines
 
@@ -42,24 +44,50 @@ used-append (ValueText text ∷ xs) ys = used-append xs ys
 used-append (Reach w child ∷ xs) ys = used-append xs ys
 used-append (Uses w ∷ xs) ys = ap (λ zs. w ∷ zs) (used-append xs ys)
 
-module _ {A : Type 0} (f : A → Entry) (xs : List A) (i : ℕ) (x : A) (l : i < length xs) (e : x ≡ get_or xs i x) where
-  pub reached_more : reached (map f (take (i + 1) xs)) ≡ reached (map f (take i xs)) ++ reached (f x ∷ [])
-  reached_more = ap reached (taken_one_more f xs i x l e) ∙ reached-append (map f (take i xs)) (f x ∷ [])
+module _ (entries : List code.Entry) (i : ℕ) (x : code.Entry) (there : slice_get entries i ≡ Some x) where
+  pub reached_more : reached (map entry_of (take (i + 1) entries)) ≡ reached (map entry_of (take i entries)) ++ reached (entry_of x ∷ [])
+  reached_more = ap reached (taken_one_more entry_of entries i x there) ∙ reached-append (map entry_of (take i entries)) (entry_of x ∷ [])
 
-  pub used_more : used (map f (take (i + 1) xs)) ≡ used (map f (take i xs)) ++ used (f x ∷ [])
-  used_more = ap used (taken_one_more f xs i x l e) ∙ used-append (map f (take i xs)) (f x ∷ [])
+  pub used_more : used (map entry_of (take (i + 1) entries)) ≡ used (map entry_of (take i entries)) ++ used (entry_of x ∷ [])
+  used_more = ap used (taken_one_more entry_of entries i x there) ∙ used-append (map entry_of (take i entries)) (entry_of x ∷ [])
+
+  pub reached_this : (w child : ℕ) → x ≡ variants.Reach w child → reached (map entry_of (take (i + 1) entries)) ≡ reached (map entry_of (take i entries)) ++ w ∷ []
+  reached_this w child is = reached_more ∙ ap (λ (y : code.Entry). reached (map entry_of (take i entries)) ++ reached (entry_of y ∷ [])) is
+
+  pub used_this : (w : ℕ) → x ≡ variants.Uses w → used (map entry_of (take (i + 1) entries)) ≡ used (map entry_of (take i entries)) ++ w ∷ []
+  used_this w is = used_more ∙ ap (λ (y : code.Entry). used (map entry_of (take i entries)) ++ used (entry_of y ∷ [])) is
+
+  pub reached_no_more : ((w child : ℕ) → x ≡ variants.Reach w child → ⊥) → reached (map entry_of (take (i + 1) entries)) ≡ reached (map entry_of (take i entries))
+  reached_no_more other = reached_more ∙ by x refl
+    where
+      by : (y : code.Entry) → x ≡ y → reached (map entry_of (take i entries)) ++ reached (entry_of y ∷ []) ≡ reached (map entry_of (take i entries))
+      by (variants.Why n path) e = append-nil (reached (map entry_of (take i entries)))
+      by (variants.Value text) e = append-nil (reached (map entry_of (take i entries)))
+      by (variants.Reach w child) e = absurd (other w child e)
+      by (variants.Uses w) e = append-nil (reached (map entry_of (take i entries)))
+
+  pub used_no_more : ((w : ℕ) → x ≡ variants.Uses w → ⊥) → used (map entry_of (take (i + 1) entries)) ≡ used (map entry_of (take i entries))
+  used_no_more other = used_more ∙ by x refl
+    where
+      by : (y : code.Entry) → x ≡ y → used (map entry_of (take i entries)) ++ used (entry_of y ∷ []) ≡ used (map entry_of (take i entries))
+      by (variants.Why n path) e = append-nil (used (map entry_of (take i entries)))
+      by (variants.Value text) e = append-nil (used (map entry_of (take i entries)))
+      by (variants.Reach w child) e = append-nil (used (map entry_of (take i entries)))
+      by (variants.Uses w) e = absurd (other w e)
 
 -- A step on a line of a step that reaches is one of those.
-pub reached_here : {A : Type 0} (f : A → Entry) (xs : List A) (i : ℕ) (x : A) (w child : ℕ) → i < length xs → x ≡ get_or xs i x → f x ≡ Reach w child → IsIn w (reached (map f xs))
-reached_here f [] i x w child l e is = absurd (omega (arith, l))
-reached_here f (y ∷ xs) zero x w child l e is = subst (λ z. IsIn w (reached (z ∷ map f xs))) (sym (ap f (sym e) ∙ is)) (inl refl)
-reached_here f (y ∷ xs) (suc i) x w child l e is = behind (f y) (reached_here f xs i x w child (omega (arith, l)) e is)
-  where
-    behind : (entry : Entry) → IsIn w (reached (map f xs)) → IsIn w (reached (entry ∷ map f xs))
-    behind (Why n path) j = j
-    behind (ValueText text) j = j
-    behind (Reach v other) j = inr j
-    behind (Uses v) j = j
+reached_entry : (entries : List Entry) (i w child : ℕ) → slice_get entries i ≡ Some (Reach w child) → IsIn w (reached entries)
+reached_entry [] i w child e = absurd (cc e)
+reached_entry (entry ∷ entries) zero w child e =
+    let same : entry ≡ Reach w child = cc e in
+    subst (λ z. IsIn w (reached (z ∷ entries))) (sym same) (inl refl)
+reached_entry (Why n path ∷ entries) (suc i) w child e = reached_entry entries i w child e
+reached_entry (ValueText text ∷ entries) (suc i) w child e = reached_entry entries i w child e
+reached_entry (Reach v other ∷ entries) (suc i) w child e = inr (reached_entry entries i w child e)
+reached_entry (Uses v ∷ entries) (suc i) w child e = reached_entry entries i w child e
+
+pub reached_here : (entries : List code.Entry) (i : ℕ) (x : code.Entry) (w child : ℕ) → slice_get entries i ≡ Some x → x ≡ variants.Reach w child → IsIn w (reached (map entry_of entries))
+reached_here entries i x w child there is = reached_entry (map entry_of entries) i w child (map_place entry_of entries i x there ∙ ap (λ (y : code.Entry). Some (entry_of y)) is)
 
 -- ---- marks
 
@@ -81,10 +109,3 @@ one_marked marks steps w are l k = by (same_number k w)
       (λ m. in_append_first k steps (w ∷ []) ((are k).0 (sym (same_mark ne) ∙ m))),
       λ i. same_mark ne ∙ elim (in_append k steps (w ∷ []) i) [ inl j ↦ (are k).1 j | inr j ↦ elim j [ inl e ↦ absurd (ne e) | inr z ↦ absurd z ] ],
     )
-
--- Nothing more is marked where nothing more is named.
-pub marks_same : (marks : List Bool) (steps more : List ℕ) → more ≡ [] → AreMarksOf marks steps → AreMarksOf marks (steps ++ more)
-marks_same marks steps more none are k = (
-  (λ m. in_append_first k steps more ((are k).0 m)),
-  λ i. elim (in_append k steps more i) [ inl j ↦ (are k).1 j | inr j ↦ absurd (subst (IsIn k) none j) ],
-)

@@ -159,20 +159,20 @@ module _ (table : Nodes) (graph : Graph) (certificate : List ℕ) (said : List E
   abbrev pub Somewhere : VerifyCode → Type 0
   Somewhere code = AppliesSomewhere graph slot at said code
 
-  abbrev pub Line : VerifyCode → ℕ → Type 0
-  Line code line = IsFirstLine graph slot at said code line
+  abbrev pub FirstAt : VerifyCode → ℕ → Type 0
+  FirstAt code line = IsFirstLine graph slot at said code line
 
   abbrev pub Verdict : Verified → Type 0
   Verdict verdict = IsVerdictOf table graph certificate verdict
 
-  somewhere : (code : VerifyCode) (line : ℕ) → Line code line → Somewhere code
+  somewhere : (code : VerifyCode) (line : ℕ) → FirstAt code line → Somewhere code
   somewhere code line f = (f.place, f.applies)
 
-  pub first_rule : (line : ℕ) → Line codes.NotListed line → Verdict (No line codes.NotListed)
+  pub first_rule : (line : ℕ) → FirstAt codes.NotListed line → Verdict (No line codes.NotListed)
   first_rule line f = inr (inr (said, slot, at, read, inl (refl, somewhere codes.NotListed line f), f))
 
   module _ (not_first : Somewhere codes.NotListed → ⊥) where
-    pub second_rule : (line : ℕ) → Line codes.Missing line → Verdict (No line codes.Missing)
+    pub second_rule : (line : ℕ) → FirstAt codes.Missing line → Verdict (No line codes.Missing)
     second_rule line f = inr (inr (said, slot, at, read, inr (not_first, inl (refl, somewhere codes.Missing line f)), f))
 
     module _ (not_second : Somewhere codes.Missing → ⊥) where
@@ -180,7 +180,7 @@ module _ (table : Nodes) (graph : Graph) (certificate : List ℕ) (said : List E
         second : slice_get said 1 ≡ Some (ValueText text)
         second = ap (λ l. slice_get l 1) begin.2
 
-        third_line : text ≢ value_text at.shape joined → Line codes.Value 2
+        third_line : text ≢ value_text at.shape joined → FirstAt codes.Value 2
         third_line differs = record {
           place = 1;
           number = refl;
@@ -221,7 +221,7 @@ module _ (table : Nodes) (graph : Graph) (certificate : List ℕ) (said : List E
           not_third : Somewhere codes.Value → ⊥
           not_third s = at_place s.0 (s.1).0 (ap (λ l. slice_get l s.0) (sym begin.2) ∙ (s.1).1) (s.1).2
 
-          pub fourth_rule : (line : ℕ) → Line codes.TooMuch line → Verdict (No line codes.TooMuch)
+          pub fourth_rule : (line : ℕ) → FirstAt codes.TooMuch line → Verdict (No line codes.TooMuch)
           fourth_rule line f = inr (inr (said, slot, at, read, inr (not_first, inr (not_second, inr (not_third, inl (refl, somewhere codes.TooMuch line f)))), f))
 
           pub no_rule : (Somewhere codes.TooMuch → ⊥) → Verdict Yes
@@ -230,5 +230,5 @@ module _ (table : Nodes) (graph : Graph) (certificate : List ℕ) (said : List E
 -- A certificate that is accepted tells the truth.
 pub yes_tells_truth : (table : Nodes) (graph : Graph) (certificate : List ℕ) (result : Result Verified Memory) → IsTable table → IsGraph graph → IsOfTable table graph
     → IfOk result (IsVerdictOf table graph certificate) → result ≡ Ok Yes → TellsTruth table graph certificate
-yes_tells_truth table graph certificate result is_table sound fits verdict yes =
-    accepted_tells_truth table graph certificate (record { table = is_table; sound = sound; fits = fits }) (subst (λ r. IfOk r (IsVerdictOf table graph certificate)) yes verdict)
+yes_tells_truth table graph certificate result is_table sound fits verdict accepted =
+    accepted_tells_truth table graph certificate (record { table = is_table; sound = sound; fits = fits }) (subst (λ r. IfOk r (IsVerdictOf table graph certificate)) accepted verdict)

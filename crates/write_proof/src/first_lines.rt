@@ -161,10 +161,14 @@ fn is_too_much(
     // The proof learns here that both are sound.
     known(table, graph);
     match spoken_step(entry) {
-        Some(step) if step < graph.steps() as u64 => {
-            contributes_more(alloc, table, graph, slot, joined, step as usize)
+        Some(step) => {
+            if step < graph.steps() as u64 {
+                contributes_more(alloc, table, graph, slot, joined, step as usize)
+            } else {
+                Ok(false)
+            }
         }
-        _ => Ok(false),
+        None => Ok(false),
     }
 }
 
@@ -184,7 +188,8 @@ pub(crate) fn too_much(
         → FindsLine graph.now slot at (map entry_of entries.now) codes.TooMuch line) }
 {
     for (at, entry) in entries.iter().enumerate() {
-        if is_too_much(alloc, table, graph, slot, entries, joined, *entry)? {
+        let is_more = is_too_much(alloc, table, graph, slot, entries, joined, *entry)?;
+        if is_more {
             return Ok(Some(at as u64 + 1));
         }
     }
