@@ -160,9 +160,9 @@ module _ (table : Nodes) (graph : Graph) (slot : ℕ) (is_table : IsTable table)
   late_too_much said entry step speaks late at = (
     (λ e. absurd (cc e)),
     λ a.
-    let same : a.0 ≡ step = speaks_one entry a.0 step a.3 speaks in
-    let l = place_within (a.4).0 graph.steps a.0 (a.4).1 in
-    absurd (omega (arith, same, l, late)),
+        let same : a.0 ≡ step = speaks_one entry a.0 step a.3 speaks in
+        let l = place_within (a.4).0 graph.steps a.0 (a.4).1 in
+        absurd (omega (arith, same, l, late)),
   )
 
 -- ---- lists of steps

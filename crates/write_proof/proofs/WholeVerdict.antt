@@ -1,8 +1,12 @@
 -- The verdict by the rules over all lines.
-use Rattle.std.proofs.Common.{◌≡◌, ◌≢◌, ◌⊎◌, inl, inr, ℕ, zero, suc, ◌+◌, ◌<◌, ◌≤◌, List, [], ◌∷◌, ◌++◌, length, Option, Some, None, Result, Ok, Err, IsSome, refl, sym, ap, ◌∙◌, subst, arith}
+use Rattle.std.proofs.Common.{◌≡◌, ◌≢◌, ◌⊎◌, inl, inr, ℕ, zero, suc, ◌+◌, ◌<◌, ◌≤◌, Bool, true, false, not, List, [], ◌∷◌, ◌++◌, length, map, get_or, Option, Some, None, Result, Ok, Err, IsSome, refl, sym, ap, ◌∙◌, subst, arith}
+use Rattle.std.specs.Borrow.{Bor}
 use Rattle.std.specs.Prelude.{IfOk}
+use Rattle.std.specs.Str.{bytes_eq}
 use Rattle.std.specs.List.{slice_get}
 use Rattle.std.proofs.lemmas.Bool.{cases_lt}
+use Rattle.std.proofs.lemmas.List.{length-map}
+use Rattle.std.proofs.lemmas.Slice.Eq.{bytes_eq-Decides}
 use Rattle.context_model.specs.Orders.{IsIn}
 use Rattle.bag_model.specs.Shapes.{Nodes}
 use Rattle.bag_model.specs.Slots.{SlotAt, FindsSlot}
@@ -19,12 +23,17 @@ use Rattle.write_proof.specs.declared.verdicts.VerifyCode.{VerifyCode}
 use Rattle.write_proof.specs.declared.verdicts.VerifyCode.TheVariants as codes
 use Rattle.write_proof.specs.declared.verdicts.Verified.{Verified}
 use Rattle.write_proof.specs.declared.verdicts.Verified.TheVariants.{Yes, No}
+use Rattle.write_proof.specs.declared.entries.Entry as kinds
+use Rattle.write_proof.specs.declared.entries.Entry.TheVariants as variants
 use Rattle.write_proof.specs.Checker.{BeginWith}
+use Rattle.write_proof.specs.FirstLines.{FindsLine}
 use Rattle.write_proof.specs.Lines.{Entry, Why, ValueText, Reach, Uses, lines_in}
 use Rattle.write_proof.specs.LineRules.{last_of, step_of, HasParent, BringsValues, IsWrite, IsGood, MayFollow, certificate_lines}
 use Rattle.write_proof.specs.WholeRules.{reached, used, IsJoinOfUsed, Applies, AppliesAt, AppliesSomewhere, IsFirstLine, rules_over_all}
 use Rattle.write_proof.specs.Verdicts.{SaysAll, IsAbout, IsRead, IsVerdictOf, TellsTruth}
+use Rattle.write_proof.specs.Views.{entry_of}
 use Rattle.write_proof.proofs.BelowCalls.{place_within}
+use Rattle.write_proof.proofs.MarkCalls.{first_entry}
 use Rattle.write_proof.proofs.Contributing.{join_one}
 use Rattle.write_proof.proofs.Decided.{surely}
 use Rattle.write_proof.proofs.Said.{parent_or_not, reached_at, used_at, said_at, Begins, begins}
@@ -79,11 +88,14 @@ module _ (table : Nodes) (graph : Graph) (certificate : List ℕ) (said : List E
       ((((g.2).2).1).0)
 
   pub read_of : (path text : List ℕ) (slot : ℕ) → BeginWith said path text → FindsSlot table path (Some slot) → (at : SlotAt) × IsRead table graph certificate said slot at
-  read_of path text slot b f = (f.0, record {
-    all = all;
-    enough = let long = ap length b.2 in omega (arith, long);
-    about = (b.0, path, ap (λ l. slice_get l 0) b.2, f, f.1);
-  })
+  read_of path text slot b f = (
+    f.0,
+    record {
+      all = all;
+      enough = let long = ap length b.2 in omega (arith, long);
+      about = (b.0, path, ap (λ l. slice_get l 0) b.2, f, f.1);
+    },
+  )
 
   -- Where they don't begin as they should they are too few.
   pub few : ((path text : List ℕ) → BeginWith said path text → ⊥) → length said < 2
@@ -232,3 +244,43 @@ pub yes_tells_truth : (table : Nodes) (graph : Graph) (certificate : List ℕ) (
     → IfOk result (IsVerdictOf table graph certificate) → result ≡ Ok Yes → TellsTruth table graph certificate
 yes_tells_truth table graph certificate result is_table sound fits verdict accepted =
     accepted_tells_truth table graph certificate (record { table = is_table; sound = sound; fits = fits }) (subst (λ r. IfOk r (IsVerdictOf table graph certificate)) accepted verdict)
+
+-- ---- how the entries begin
+
+pub do_begin : (entries : List kinds.Entry) (n : ℕ) (path text : Bor (List ℕ)) → 2 ≤ length entries → get_or entries 0 first_entry ≡ variants.Why n path → get_or entries 1 first_entry ≡ variants.Value text
+    → BeginWith (map entry_of entries) path.now text.now
+do_begin [] n path text long is also = absurd (omega (arith, long))
+do_begin (a ∷ []) n path text long is also = absurd (omega (arith, long))
+do_begin (a ∷ d ∷ entries) n path text long is also = (n, map entry_of entries, λ i. entry_of (is i) ∷ entry_of (also i) ∷ map entry_of entries)
+
+-- ---- answers of calls
+
+pub none_there : (graph : Graph) (slot : ℕ) (at : SlotAt) (said : List Entry) (code : VerifyCode) (found : Option ℕ) → FindsLine graph slot at said code found → ((line : ℕ) → found ≡ Some line → ⊥) → AppliesSomewhere graph slot at said code → ⊥
+none_there graph slot at said code None finds other = finds
+none_there graph slot at said code (Some line) finds other = absurd (other line refl)
+
+pub text_differs : (a b : List ℕ) (answer : Bool) → answer ≡ not (bytes_eq a b) → answer ≡ true → a ≢ b
+text_differs a b answer is differs e = let bad : true ≡ false = sym differs ∙ is ∙ ap not ((bytes_eq-Decides a b).1 e) in cc bad
+
+not_false : (b : Bool) → not b ≡ false → b ≡ true
+not_false true e = refl
+not_false false e = absurd (cc e)
+
+pub text_is : (a b : List ℕ) (answer : Bool) → answer ≡ not (bytes_eq a b) → answer ≡ false → a ≡ b
+text_is a b answer is same = (bytes_eq-Decides a b).0 (not_false (bytes_eq a b) (sym is ∙ same))
+
+pub verdicts_so : (table : Nodes) (graph : Graph) (said : List Entry) (slot : ℕ) (path text : List ℕ) (result : Result Verified Memory) → BeginWith said path text → FindsSlot table path (Some slot)
+    → IfOk result (λ verdict. (certificate : List ℕ) (at : SlotAt) → IsRead table graph certificate said slot at → IsVerdictOf table graph certificate verdict)
+    → IfOk result (λ verdict. (certificate : List ℕ) → SaysAll table graph certificate said → IsVerdictOf table graph certificate verdict)
+verdicts_so table graph said slot path text (Ok verdict) b f told = λ certificate all. let r = read_of table graph certificate said all path text slot b f in told certificate r.0 r.1
+verdicts_so table graph said slot path text (Err e) b f told = tt
+
+pub cut_short : (table : Nodes) (graph : Graph) (entries : List kinds.Entry) → ((path text : List ℕ) → BeginWith (map entry_of entries) path text → ⊥) → (certificate : List ℕ) → SaysAll table graph certificate (map entry_of entries)
+    → IsVerdictOf table graph certificate (No (length entries + 1) codes.Form)
+cut_short table graph entries none certificate all =
+    inr (inl (map entry_of entries, all, few table graph certificate (map entry_of entries) all none, (let long = length-map entries entry_of in omega (arith, long)), refl))
+
+pub told_here : (table : Nodes) (graph : Graph) (certificate : List ℕ) (said : List Entry) (result : Result Verified Memory) → SaysAll table graph certificate said
+    → IfOk result (λ verdict. (certificate : List ℕ) → SaysAll table graph certificate said → IsVerdictOf table graph certificate verdict) → IfOk result (IsVerdictOf table graph certificate)
+told_here table graph certificate said (Ok verdict) all told = told certificate all
+told_here table graph certificate said (Err e) all told = tt

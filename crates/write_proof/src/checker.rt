@@ -31,10 +31,16 @@ fn heading_of<'a>(entries: &[Entry<'a>]) -> Option<Heading<'a>>
     ensures { MatchOption result ((path text : List ℕ) → BeginWith (map entry_of entries.now) path text → ⊥)
         (λ heading. BeginWith (map entry_of entries.now) heading.path.now heading.text.now) }
 {
-    match entries {
-        [Entry::Why { step: _, path }, Entry::Value { text }, ..] => Some(Heading { path, text }),
-        _ => None,
+    if entries.len() < 2 {
+        return None;
     }
+    let Entry::Why { step: _, path } = entries[0] else {
+        return None;
+    };
+    let Entry::Value { text } = entries[1] else {
+        return None;
+    };
+    Some(Heading { path, text })
 }
 
 /// The verdict by the rules over all lines, which are good by themselves.

@@ -14,16 +14,14 @@ contributed_value-requires-clause-step t c = c.requires.steps (get_or c.args.ste
 
 pub join_steps-requires : goal.join_steps-requires
 join_steps-requires t c =
-    let steps = c.args.steps.now in
-    (
+    let steps = c.args.steps.now in (
       omega (arith, c.decreases, c.split_at.ensures.front_len, c.in_default.len_at_least),
       (c.requires.table, (c.requires.slot, λ step i. c.requires.steps step (front_in (length steps / 2) steps step (subst (λ l. IsIn step l) c.split_at.ensures.front i)))),
     )
 
 pub join_steps-requires-in_default : goal.join_steps-requires-in_default
 join_steps-requires-in_default t c =
-    let steps = c.args.steps.now in
-    (
+    let steps = c.args.steps.now in (
       omega (arith, c.decreases, c.split_at.ensures.back_len, c.in_default.len_at_least),
       (c.requires.table, (c.requires.slot, λ step i. c.requires.steps step (back_in (length steps / 2) steps step (subst (λ l. IsIn step l) c.split_at.ensures.back i)))),
     )

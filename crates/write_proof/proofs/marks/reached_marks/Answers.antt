@@ -21,19 +21,19 @@ loop-entry-preserved c =
     let marks = c.loop-entry.marks.items in
     let there = slice_get-get_or entries i first_entry c.loop-entry-test.true in
     elim c.match-entry.branch [
-  | in-Reach w ↦
-    let within : w.in-Reach.step < c.args.steps = c.requires w.in-Reach.step (reached_here entries i (get_or entries i first_entry) w.in-Reach.step w.in-Reach.child there w.in-Reach.is) in
-    record {
-      long = ap (λ v. length v.items) w.marks-is ∙ length-set marks w.in-Reach.step true ∙ c.loop-entry.invariant.long;
-      marked =
-          subst (λ l. AreMarksOf l (reached (map entry_of (take (i + 1) entries)))) (sym (ap (λ v. v.items) w.marks-is))
-          (subst (AreMarksOf (set marks w.in-Reach.step true)) (sym (reached_this entries i (get_or entries i first_entry) there w.in-Reach.step w.in-Reach.child w.in-Reach.is))
-          (one_marked marks (reached (map entry_of (take i entries))) w.in-Reach.step c.loop-entry.invariant.marked (omega (arith, within, c.loop-entry.invariant.long))));
-    }
-  | in_default w ↦ record {
-    long = ap (λ v. length v.items) w.marks-is ∙ c.loop-entry.invariant.long;
-    marked =
-        subst (λ l. AreMarksOf l (reached (map entry_of (take (i + 1) entries)))) (sym (ap (λ v. v.items) w.marks-is))
-        (subst (AreMarksOf marks) (sym (reached_no_more entries i (get_or entries i first_entry) there w.in_default.not-Reach)) c.loop-entry.invariant.marked);
-  }
-]
+      | in-Reach w ↦
+          let within : w.in-Reach.step < c.args.steps = c.requires w.in-Reach.step (reached_here entries i (get_or entries i first_entry) w.in-Reach.step w.in-Reach.child there w.in-Reach.is) in
+          record {
+            long = ap (λ v. length v.items) w.marks-is ∙ length-set marks w.in-Reach.step true ∙ c.loop-entry.invariant.long;
+            marked =
+                subst (λ l. AreMarksOf l (reached (map entry_of (take (i + 1) entries)))) (sym (ap (λ v. v.items) w.marks-is))
+                (subst (AreMarksOf (set marks w.in-Reach.step true)) (sym (reached_this entries i (get_or entries i first_entry) there w.in-Reach.step w.in-Reach.child w.in-Reach.is))
+                (one_marked marks (reached (map entry_of (take i entries))) w.in-Reach.step c.loop-entry.invariant.marked (omega (arith, within, c.loop-entry.invariant.long))));
+          }
+      | in_default w ↦ record {
+        long = ap (λ v. length v.items) w.marks-is ∙ c.loop-entry.invariant.long;
+        marked =
+            subst (λ l. AreMarksOf l (reached (map entry_of (take (i + 1) entries)))) (sym (ap (λ v. v.items) w.marks-is))
+            (subst (AreMarksOf marks) (sym (reached_no_more entries i (get_or entries i first_entry) there w.in_default.not-Reach)) c.loop-entry.invariant.marked);
+      }
+    ]

@@ -11,7 +11,7 @@ loop-entry-preserved c =
     let there = slice_get-get_or entries i first_entry c.loop-entry-test.true in
     elim c.match-entry.branch [
       | in-Uses+in_ok-push w ↦
-        ap (λ v. v.items) w.steps-is ∙ w.in_ok-push.ensures.items ∙ ap (λ l. l ++ w.in-Uses.step ∷ []) c.loop-entry.invariant
-        ∙ sym (used_this entries i (get_or entries i first_entry) there w.in-Uses.step w.in-Uses.is)
+          ap (λ v. v.items) w.steps-is ∙ w.in_ok-push.ensures.items ∙ ap (λ l. l ++ w.in-Uses.step ∷ []) c.loop-entry.invariant
+          ∙ sym (used_this entries i (get_or entries i first_entry) there w.in-Uses.step w.in-Uses.is)
       | in_default w ↦ ap (λ v. v.items) w.steps-is ∙ c.loop-entry.invariant ∙ sym (used_no_more entries i (get_or entries i first_entry) there w.in_default.not-Uses)
     ]
