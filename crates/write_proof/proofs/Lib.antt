@@ -1,0 +1,17 @@
+mod Decided
+mod Contributing
+mod Forms
+mod Looking
+mod LineByLine
+mod Keyed
+mod BelowKinds
+mod SaidTogether
+mod Parts
+mod BelowCalls
+mod Said
+mod Sound
+mod OneVerdict
+mod MarkCalls
+mod FirstCalls
+mod ContributionCalls
+mod WholeVerdict

@@ -1,0 +1,14 @@
+pub mod Names
+pub mod Lines
+pub mod LineRules
+pub mod WholeRules
+pub mod Verdicts
+pub mod Certificates
+pub mod Views
+pub mod Together
+pub mod Belows
+pub mod Contributions
+pub mod Joins
+pub mod Marks
+pub mod FirstLines
+pub mod Checker
