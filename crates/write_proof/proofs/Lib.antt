@@ -1,0 +1,13 @@
+mod Decided
+mod Contributing
+mod Forms
+mod Looking
+mod LineByLine
+mod Keyed
+mod BelowKinds
+mod SaidTogether
+mod Parts
+mod BelowCalls
+mod Said
+mod Sound
+mod OneVerdict

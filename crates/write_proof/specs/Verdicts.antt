@@ -1,0 +1,80 @@
+-- The verdict on a certificate, and what one that is accepted tells.
+use Rattle.std.specs.Prelude.{◌≡◌, ◌⊎◌, ◌↔◌, ℕ, suc, ◌<◌, ◌≤◌, List, [], ◌∷◌, length, Some}
+use Rattle.std.specs.List.{slice_get}
+use Rattle.bag_model.specs.Shapes.{Nodes}
+use Rattle.bag_model.specs.Slots.{SlotAt, FindsSlot}
+use Rattle.bag_model.specs.SlotValues.{HasSlot}
+use Rattle.bag_model.specs.Tables.{IsTable}
+use Rattle.bag_model.specs.Values.{Value}
+use Rattle.report_text.specs.ValueTexts.{value_text}
+use Rattle.text_lines.specs.Readings.{AllSay, IsFirstBad, IsFirstOf, NoneOf}
+use Rattle.trace_model.specs.Graphs.{Graph}
+use Rattle.trace_model.specs.Truth.{Reaches, IsTruthAt}
+use Rattle.write_proof.specs.declared.verdicts.VerifyCode.{VerifyCode}
+use Rattle.write_proof.specs.declared.verdicts.VerifyCode.TheVariants.{Form}
+use Rattle.write_proof.specs.declared.verdicts.Verified.{Verified}
+use Rattle.write_proof.specs.declared.verdicts.Verified.TheVariants.{Yes, No}
+use Rattle.write_proof.specs.Lines.{Entry, Why, ValueText, lines_in}
+use Rattle.write_proof.specs.LineRules.{certificate_lines}
+use Rattle.write_proof.specs.WholeRules.{IsListed, AppliesSomewhere, IsFirstLine, rules_over_all}
+
+-- The lines of the certificate say these entries.
+abbrev pub SaysAll : Nodes → Graph → List ℕ → List Entry → Type 0
+SaysAll table graph certificate said = AllSay (certificate_lines table graph) [] (lines_in certificate) said
+
+-- The certificate is about this slot: its first entry has the slot's path.
+abbrev pub IsAbout : Nodes → List Entry → ℕ → SlotAt → Type 0
+IsAbout table said slot at =
+    (n : ℕ) × (path : List ℕ) × (slice_get said 0 ≡ Some (Why n path)) × FindsSlot table path (Some slot) × HasSlot table slot at
+
+-- No line is bad by itself, and the lines say these entries about this slot, the first two among them.
+pub record IsRead (table : Nodes) (graph : Graph) (certificate : List ℕ) (said : List Entry) (slot : ℕ) (at : SlotAt) : Type 0 where
+  pub all : SaysAll table graph certificate said
+  pub enough : 2 ≤ length said
+  pub about : IsAbout table said slot at
+
+-- The lines are all good, but there is no second or not even a first.
+abbrev pub IsCutShort : Nodes → Graph → List ℕ → ℕ → VerifyCode → Type 0
+IsCutShort table graph certificate line code =
+    (said : List Entry) × SaysAll table graph certificate said × (length said < 2) × (line ≡ suc (length said)) × (code ≡ Form)
+
+-- No rule over all lines applies.
+abbrev pub IsAccepted : Nodes → Graph → List ℕ → Type 0
+IsAccepted table graph certificate =
+    (said : List Entry) × (slot : ℕ) × (at : SlotAt) × IsRead table graph certificate said slot at
+    × NoneOf (AppliesSomewhere graph slot at said) rules_over_all
+
+-- This is the first rule over all lines that applies, and the line is the first to which it does.
+abbrev pub IsRejected : Nodes → Graph → List ℕ → ℕ → VerifyCode → Type 0
+IsRejected table graph certificate line code =
+    (said : List Entry) × (slot : ℕ) × (at : SlotAt) × IsRead table graph certificate said slot at
+    × IsFirstOf (AppliesSomewhere graph slot at said) rules_over_all code × IsFirstLine graph slot at said code line
+
+-- The verdict on a certificate: no where a line is bad by itself, the first of them, or where a rule over all lines applies; else yes.
+abbrev pub IsVerdictOf : Nodes → Graph → List ℕ → Verified → Type 0
+IsVerdictOf table graph certificate Yes = IsAccepted table graph certificate
+IsVerdictOf table graph certificate (No line code) =
+    IsFirstBad (certificate_lines table graph) (lines_in certificate) line code
+    ⊎ (IsCutShort table graph certificate line code ⊎ IsRejected table graph certificate line code)
+
+-- A certificate tells the truth: the text that it has for a slot at a step is that of the truth there, and the steps that it lists are exactly those that reach
+-- the step.
+pub record TellsTruth (table : Nodes) (graph : Graph) (certificate : List ℕ) : Type 0 where
+  pub n : ℕ
+  pub path : List ℕ
+  pub text : List ℕ
+  pub more : List Entry
+  pub says : SaysAll table graph certificate (Why n path ∷ ValueText text ∷ more)
+  pub slot : ℕ
+  pub at : SlotAt
+  pub finds : FindsSlot table path (Some slot)
+  pub there : HasSlot table slot at
+  pub value : Value
+  pub truth : IsTruthAt table graph n slot value
+  pub is : text ≡ value_text at.shape value
+  pub steps : (w : ℕ) → IsListed (Why n path ∷ ValueText text ∷ more) w ↔ Reaches graph w n
+
+-- A certificate has one verdict.
+abbrev pub VerdictsAreOne : Type 0
+VerdictsAreOne = (table : Nodes) (graph : Graph) (certificate : List ℕ) (a b : Verified) → IsTable table
+    → IsVerdictOf table graph certificate a → IsVerdictOf table graph certificate b → a ≡ b

@@ -1,0 +1,14 @@
+//! Certificates: why a slot has its value at a step of a recorded graph, in lines that can be checked without running a step.
+#![tactic(auto)]
+
+mod belows;
+mod entries;
+mod laws;
+mod line_rules;
+mod reading;
+mod verdicts;
+
+pub use laws::{
+    certificates_have_one_verdict, certificates_that_verify_tell_the_truth, lines_are_definite,
+};
+pub use verdicts::{Verified, VerifyCode};

@@ -1,0 +1,61 @@
+//! The verdict on a certificate.
+
+use std::fmt;
+
+/// The rule that a certificate breaks. The first five after `Form` are for a line by itself, where the first of them counts at
+/// the first line that breaks one. The last four are over all lines, and count after those.
+#[derive(Clone, Copy, Debug, PartialEq, Eq)]
+pub enum VerifyCode {
+    /// The line isn't the one of its kind in the order of the kinds, or its line feed is missing.
+    Form,
+    /// The certificate's step is none of the graph.
+    StepRange,
+    /// The certificate's path is that of no slot.
+    NoSuchPath,
+    /// The step of a line isn't above that of the line of its kind before, or is above the certificate's, or is the certificate's
+    /// on a line of a step that reaches it.
+    Order,
+    /// The child on a line hasn't the line's step as a parent.
+    NotParent,
+    /// A used step is neither a write nor a context that is received.
+    NotWrite,
+    /// The child of a step, or a used step, is neither the certificate's step nor that of a line of a step that reaches it.
+    NotListed,
+    /// A parent of the line's step is on no line.
+    Missing,
+    /// The text isn't that of the join of what the used steps contribute.
+    Value,
+    /// The line's step contributes more than that join.
+    TooMuch,
+}
+
+/// The verdict on a certificate.
+#[derive(Clone, Copy, Debug, PartialEq, Eq)]
+pub enum Verified {
+    /// It tells the truth.
+    Yes,
+    /// It breaks this rule at the line with this number, from 1, the first that counts.
+    No { line: u64, code: VerifyCode },
+}
+
+impl fmt::Display for VerifyCode {
+    ghost use Rattle.std.specs.Prelude.{Some};
+    ghost use Rattle.write_proof.specs.Names.{code_name};
+
+    ghost output = { λ code. Some (code_name code) };
+
+    fn fmt<W: fmt::Write>(&self, f: &mut fmt::Formatter<W>) -> fmt::Result {
+        match self {
+            VerifyCode::Form => write!(f, "Form"),
+            VerifyCode::StepRange => write!(f, "StepRange"),
+            VerifyCode::NoSuchPath => write!(f, "NoSuchPath"),
+            VerifyCode::Order => write!(f, "Order"),
+            VerifyCode::NotParent => write!(f, "NotParent"),
+            VerifyCode::NotWrite => write!(f, "NotWrite"),
+            VerifyCode::NotListed => write!(f, "NotListed"),
+            VerifyCode::Missing => write!(f, "Missing"),
+            VerifyCode::Value => write!(f, "Value"),
+            VerifyCode::TooMuch => write!(f, "TooMuch"),
+        }
+    }
+}
