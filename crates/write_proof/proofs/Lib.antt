@@ -11,3 +11,7 @@ mod BelowCalls
 mod Said
 mod Sound
 mod OneVerdict
+mod Feeds
+mod AsWritten
+mod SlotNames
+mod Complete

@@ -10,5 +10,6 @@ mod verdicts;
 
 pub use laws::{
     certificates_have_one_verdict, certificates_that_verify_tell_the_truth, lines_are_definite,
+    runs_have_certificates_that_verify,
 };
 pub use verdicts::{Verified, VerifyCode};
