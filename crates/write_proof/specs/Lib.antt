@@ -7,3 +7,4 @@ pub mod Certificates
 pub mod Views
 pub mod Together
 pub mod Belows
+pub mod Contributions

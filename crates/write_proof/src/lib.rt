@@ -2,6 +2,7 @@
 #![tactic(auto)]
 
 mod belows;
+mod contributions;
 mod entries;
 mod laws;
 mod line_rules;
