@@ -80,7 +80,7 @@ of_earlier v w [] i = absurd i
 of_earlier v w (u ∷ us) i = left v w (nat_lt u w) u us refl (of_earlier v w us) i
 
 -- An act brings values, or contributes nothing.
-brings_or_bottom : (slot : ℕ) (at : SlotAt) (act : Act) (x : Value) → Contributes slot at act x → BringsValues act ⊎ (x ≡ bottom at.shape)
+pub brings_or_bottom : (slot : ℕ) (at : SlotAt) (act : Act) (x : Value) → Contributes slot at act x → BringsValues act ⊎ (x ≡ bottom at.shape)
 brings_or_bottom slot at Start x c = inr c
 brings_or_bottom slot at (Recv received) x c = inl tt
 brings_or_bottom slot at (Set parent own v) x c = inl tt

@@ -15,3 +15,6 @@ mod Feeds
 mod AsWritten
 mod SlotNames
 mod Complete
+mod Reached
+mod ContributionCalls
+mod Newly

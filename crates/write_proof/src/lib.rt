@@ -6,6 +6,8 @@ mod contributions;
 mod entries;
 mod laws;
 mod line_rules;
+mod news;
+mod reaching;
 mod reading;
 mod verdicts;
 
