@@ -2,6 +2,7 @@
 use Rattle.std.specs.Prelude.{◌≡◌, ◌≢◌, ◌↔◌, ℕ, ◌<◌, ◌≤◌, List, [], ◌∷◌, ◌++◌, length, map}
 use Rattle.std.specs.List.{flat_map}
 use Rattle.std.specs.Ordering.{nat_cmp}
+use Rattle.context_model.specs.Atoms.{Atom}
 use Rattle.context_model.specs.Ended.{IsEnded, field_path}
 use Rattle.context_model.specs.KeyedMerge.{keys_of, EachPair}
 use Rattle.context_model.specs.Orders.{IsIn, Rises}
@@ -77,3 +78,18 @@ abbrev pub CertificatesVerify : Type 0
 CertificatesVerify = (table : Nodes) (graph : Graph) (lists : Lists) (n slot : ℕ) (text : List ℕ) → IsRunStep table graph lists n
     → length graph.steps ≤ STEPS_MAX → IsEndedAt table lists n slot → IsCertificate table graph lists n slot text
     → IsVerdictOf table graph text Yes
+
+-- ---- the parts of a certificate, as they are written one after another
+
+-- The line of a step and of the path of a slot is appended.
+abbrev pub AddsWhy : Nodes → ℕ → ℕ → List ℕ → List ℕ → Type 0
+AddsWhy table n slot old new = (at : SlotAt) → HasSlot table slot at → new ≡ old ++ entry_line (Why n (name_path at))
+
+-- The text is appended of what a list says of a slot.
+abbrev pub AddsText : Nodes → List Atom → ℕ → List ℕ → List ℕ → Type 0
+AddsText table list slot old new = (at : SlotAt) → HasSlot table slot at → (v : Value) × SaysSlot list at v × (new ≡ old ++ value_text at.shape v)
+
+-- The line of that text is appended.
+abbrev pub AddsValue : Nodes → List Atom → ℕ → List ℕ → List ℕ → Type 0
+AddsValue table list slot old new =
+    (at : SlotAt) → HasSlot table slot at → (v : Value) × SaysSlot list at v × (new ≡ old ++ entry_line (ValueText (value_text at.shape v)))

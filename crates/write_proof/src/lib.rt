@@ -2,6 +2,7 @@
 #![tactic(auto)]
 
 mod belows;
+mod certificates;
 mod contributions;
 mod entries;
 mod laws;
@@ -16,3 +17,4 @@ pub use laws::{
     runs_have_certificates_that_verify,
 };
 pub use verdicts::{Verified, VerifyCode};
+pub use certificates::why;

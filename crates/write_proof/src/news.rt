@@ -22,7 +22,7 @@ use recorded_graph::Graph;
 use std::alloc::Global;
 
 /// Tells that the fields of a table are in order, and a graph is sound, as all are. It does nothing.
-fn known(table: &Table, graph: &Graph)
+pub(crate) fn known(table: &Table, graph: &Graph)
     ensures table { IsTable table.now }
     ensures graph { IsGraph graph.now }
 {
