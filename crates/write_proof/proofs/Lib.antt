@@ -16,5 +16,5 @@ mod AsWritten
 mod SlotNames
 mod Complete
 mod Reached
-mod ContributionCalls
 mod Newly
+mod Written

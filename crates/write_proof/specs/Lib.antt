@@ -8,6 +8,5 @@ pub mod Views
 pub mod Together
 pub mod Belows
 pub mod Contributions
-pub mod Joins
 pub mod Reaching
 pub mod News

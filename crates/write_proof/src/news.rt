@@ -1,11 +1,12 @@
 //! The steps that say something new of a slot.
 
-ghost use Rattle.std.specs.Prelude.{◌≡◌, ◌<◌, ◌++◌, [], ◌∷◌, ℕ, length, map, IfOk, OnOk};
+ghost use Rattle.std.specs.Prelude.{◌≡◌, ◌<◌, ◌≤◌, ◌++◌, [], ◌∷◌, ℕ, length, map, IfOk, OnOk};
 ghost use Rattle.std.specs.Ordering.{nat_cmp};
 ghost use Rattle.context_model.specs.Orders.{IsIn, Rises};
 ghost use Rattle.bag_model.specs.Slots.{slots_of};
 ghost use Rattle.bag_model.specs.Tables.{IsTable};
 ghost use Rattle.bag_value.specs.Plain.{plain};
+ghost use Rattle.recorded_graph.specs.declared.graphs.TheConstants.{STEPS_MAX};
 ghost use Rattle.trace_model.specs.Graphs.{IsGraph, IsOfTable};
 ghost use Rattle.write_proof.specs.Joins.{IsJoinAt};
 ghost use Rattle.write_proof.specs.Belows.{AreOfOne};
@@ -21,10 +22,11 @@ use outside::Memory;
 use recorded_graph::Graph;
 use std::alloc::Global;
 
-/// Tells that the fields of a table are in order, and a graph is sound, as all are. It does nothing.
+/// Tells that the fields of a table are in order, and a graph is sound and has no more steps than any has. It does nothing.
 pub(crate) fn known(table: &Table, graph: &Graph)
     ensures table { IsTable table.now }
     ensures graph { IsGraph graph.now }
+    ensures few { length graph.now.steps ≤ STEPS_MAX }
 {
     let _ = table.nodes();
     graph.known();
