@@ -1,18 +1,18 @@
 -- What steps contribute to a slot, and joins of that.
-use Rattle.std.proofs.Common.{◌≡◌, ◌≢◌, ◌⊎◌, inl, inr, ℕ, List, [], ◌∷◌, Option, Some, None, refl, sym, ap, ◌∙◌, subst}
+use Rattle.std.proofs.Common.{◌≡◌, inl, inr, ℕ, List, [], ◌∷◌, ◌++◌, Option, Some, None, refl, sym, ◌∙◌, subst}
 use Rattle.std.specs.List.{slice_get}
 use Rattle.context_model.specs.Ended.{field_path}
-use Rattle.context_model.specs.Orders.{IsIn}
 use Rattle.bag_model.specs.Joins.{join, IsValueBelow}
 use Rattle.bag_model.specs.Readings.{PathsOf, SaysValues}
-use Rattle.bag_model.specs.Shapes.{Shape, Nodes}
-use Rattle.bag_model.specs.Slots.{SlotAt, slots_of}
+use Rattle.bag_model.specs.Shapes.{Nodes}
+use Rattle.bag_model.specs.Slots.{SlotAt}
 use Rattle.bag_model.specs.SlotValues.{HasSlot, SaysSlot}
 use Rattle.bag_model.specs.Values.{Value, Values, bottom, IsOfShape}
 use Rattle.bag_model.specs.Views.{View}
-use Rattle.bag_model.proofs.BelowLaws.{below-onwards, below-first, below-second, below-least, below-bottom}
+use Rattle.bag_model.proofs.BelowLaws.{below-itself, below-both_ways, below-onwards, below-first, below-second, below-least, below-bottom}
 use Rattle.bag_model.proofs.EachSlot.{slots_read_apart}
 use Rattle.bag_model.proofs.Existence.{all_lists_say}
+use Rattle.bag_model.proofs.Finite.{in_append, in_append_first, in_append_second}
 use Rattle.bag_model.proofs.OfShape.{IsOfShape-bottom, IsOfShape-join, Reads-shape}
 use Rattle.bag_model.proofs.Uniqueness.{Reads-unique}
 use Rattle.trace_model.proofs.ReachLaws.{one_step}
@@ -79,7 +79,7 @@ module _ (nodes : Nodes) (slot : ℕ) (at : SlotAt) (there : HasSlot nodes slot 
     abbrev Joined : List ℕ → Value → Type 0
     Joined steps joined = IsLeastAbove at.shape (IsOfSteps graph slot at steps) joined
 
-    join_none : Joined [] (bottom at.shape)
+    pub join_none : Joined [] (bottom at.shape)
     join_none = record {
       of_shape = IsOfShape-bottom at.shape;
       all = λ x c. absurd c.1;
@@ -120,3 +120,34 @@ module _ (nodes : Nodes) (slot : ℕ) (at : SlotAt) (there : HasSlot nodes slot 
         by : (found : Option Step) → slice_get graph.steps w ≡ found → (joined : Value) × Joined steps joined → (joined : Value) × Joined (w ∷ steps) joined
         by None e j = (j.0, join_skipped w steps j.0 e j.1)
         by (Some step) e j = let own = contributed_some step.act in (join own.0 j.0, join_more w steps own.0 j.0 (step, e, own.1) j.1)
+
+    -- The join of what steps of two lists contribute is that of both.
+    pub join_both : (steps others : List ℕ) (a b : Value) → Joined steps a → Joined others b → Joined (steps ++ others) (join a b)
+    join_both steps others a b p q = record {
+      of_shape = both;
+      all = λ x c. elim (in_append c.0 steps others c.1) [
+        | inl i ↦ below-onwards at.shape x a (join a b) (step_shape c.0 x c.2) p.of_shape both (p.all x (c.0, i, c.2)) (below-first at.shape a b p.of_shape q.of_shape)
+        | inr i ↦ below-onwards at.shape x b (join a b) (step_shape c.0 x c.2) q.of_shape both (q.all x (c.0, i, c.2)) (below-second at.shape a b p.of_shape q.of_shape)
+      ];
+      lowest = λ y o f. below-least at.shape a b y p.of_shape q.of_shape o
+          (p.lowest y o (λ x c. f x (c.0, in_append_first c.0 steps others c.1, c.2)))
+          (q.lowest y o (λ x c. f x (c.0, in_append_second c.0 steps others c.1, c.2)));
+    }
+      where
+        both : IsOfShape at.shape (join a b)
+        both = IsOfShape-join at.shape a b p.of_shape q.of_shape
+
+    -- The join of what one step contributes is that.
+    pub join_single : (w : ℕ) (own : Value) → StepContributes graph slot at w own → Joined (w ∷ []) own
+    join_single w own o = record {
+      of_shape = step_shape w own o;
+      all = λ x c. elim c.1 [
+        | inl e ↦ subst (λ v. IsValueBelow v own) (sym (step_one graph w x own (subst (λ v. StepContributes graph slot at v x) e c.2) o)) (below-itself at.shape own (step_shape w own o))
+        | inr i ↦ absurd i
+      ];
+      lowest = λ y p f. f own (w, inl refl, o);
+    }
+
+    -- What some steps contribute has one join.
+    pub join_one : (steps : List ℕ) (a b : Value) → Joined steps a → Joined steps b → a ≡ b
+    join_one steps a b p q = below-both_ways at.shape a b p.of_shape q.of_shape (p.lowest b q.of_shape q.all) (q.lowest a p.of_shape p.all)

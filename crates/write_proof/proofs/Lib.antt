@@ -18,3 +18,7 @@ mod Complete
 mod Reached
 mod Newly
 mod Written
+mod MarkCalls
+mod FirstCalls
+mod ContributionCalls
+mod WholeVerdict

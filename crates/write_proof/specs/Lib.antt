@@ -10,3 +10,7 @@ pub mod Belows
 pub mod Contributions
 pub mod Reaching
 pub mod News
+pub mod Joins
+pub mod Marks
+pub mod FirstLines
+pub mod Checker

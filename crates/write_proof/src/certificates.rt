@@ -14,7 +14,8 @@ ghost use Rattle.write_proof.specs.Lines.{entry_line};
 ghost use Rattle.write_proof.specs.Reaching.{pairs_of};
 ghost use Rattle.write_proof.specs.Verdicts.{IsVerdictOf};
 
-use crate::news::{known, used_steps};
+use crate::joins::known;
+use crate::news::used_steps;
 use crate::reaching::{Reach, reaching_steps};
 use crate::verdicts::Verified;
 use atom_list::Context;
@@ -157,8 +158,9 @@ pub fn why(
     ensures certificate { IfOk result (λ text. IsCertificate table.now graph.now lists.now step slot text.items) }
     ensures verifies { IfOk result (λ text. IsVerdictOf table.now graph.now text.items Verified.Yes) }
 {
-    // The proof learns here that both are sound.
+    // The proof learns here that both are sound, and that the graph has no more steps than any has.
     known(table, graph);
+    graph.known();
     let reaching = reaching_steps(alloc, graph, step)?;
     let way = steps_on_way(alloc, reaching.as_slice(), step)?;
     let used = used_steps(alloc, table, graph, slot, way.as_slice())?;

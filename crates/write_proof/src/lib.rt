@@ -3,15 +3,20 @@
 
 mod belows;
 mod certificates;
+mod checker;
 mod contributions;
 mod entries;
+mod first_lines;
+mod joins;
 mod laws;
 mod line_rules;
 mod news;
 mod reaching;
+mod marks;
 mod reading;
 mod verdicts;
 
+pub use checker::verify;
 pub use laws::{
     certificates_have_one_verdict, certificates_that_verify_tell_the_truth, lines_are_definite,
     runs_have_certificates_that_verify,

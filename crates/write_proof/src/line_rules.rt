@@ -37,7 +37,7 @@ fn is_no_more(last: Option<Entry<'_>>, entry: Entry<'_>) -> bool
 }
 
 /// The step of the first entry.
-fn first_step(entries: &[Entry<'_>]) -> u64
+pub(crate) fn first_step(entries: &[Entry<'_>]) -> u64
     ensures { result ≡ step_of (map entry_of entries.now) }
 {
     match entries {

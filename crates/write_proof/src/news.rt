@@ -1,19 +1,18 @@
 //! The steps that say something new of a slot.
 
-ghost use Rattle.std.specs.Prelude.{◌≡◌, ◌<◌, ◌≤◌, ◌++◌, [], ◌∷◌, ℕ, length, map, IfOk, OnOk};
+ghost use Rattle.std.specs.Prelude.{◌<◌, ℕ, length, IfOk, OnOk};
 ghost use Rattle.std.specs.Ordering.{nat_cmp};
 ghost use Rattle.context_model.specs.Orders.{IsIn, Rises};
 ghost use Rattle.bag_model.specs.Slots.{slots_of};
-ghost use Rattle.bag_model.specs.Tables.{IsTable};
 ghost use Rattle.bag_value.specs.Plain.{plain};
-ghost use Rattle.recorded_graph.specs.declared.graphs.TheConstants.{STEPS_MAX};
-ghost use Rattle.trace_model.specs.Graphs.{IsGraph, IsOfTable};
+ghost use Rattle.trace_model.specs.Graphs.{IsOfTable};
 ghost use Rattle.write_proof.specs.Joins.{IsJoinAt};
 ghost use Rattle.write_proof.specs.Belows.{AreOfOne};
 ghost use Rattle.write_proof.specs.News.{AreNewsAt, IsNextAt, UsesValue};
 
 use crate::belows::is_below;
 use crate::contributions::contribution_of;
+use crate::joins::known;
 use bag_decode::bottom_of;
 use bag_value::Val;
 use counter_type::Lattice;
@@ -21,16 +20,6 @@ use field_table::Table;
 use outside::Memory;
 use recorded_graph::Graph;
 use std::alloc::Global;
-
-/// Tells that the fields of a table are in order, and a graph is sound and has no more steps than any has. It does nothing.
-pub(crate) fn known(table: &Table, graph: &Graph)
-    ensures table { IsTable table.now }
-    ensures graph { IsGraph graph.now }
-    ensures few { length graph.now.steps ≤ STEPS_MAX }
-{
-    let _ = table.nodes();
-    graph.known();
-}
 
 /// The steps that are used so far, and the join of what they contribute.
 #[derive(Drop)]

@@ -74,4 +74,4 @@ returns-clause-verifies c =
     let slot = c.args.slot in
     let recorded : IsRecorded table graph = record { table = c.known.ensures.table; sound = c.known.ensures.graph; fits = c.requires.table } in
     let ran : IsRunStep table graph lists n = record { recorded = recorded; run = c.requires.run; within = c.requires.step } in
-    certificates_verify table graph lists n slot c.put_used.new.into.items ran c.known.ensures.few c.requires.ended (returns-clause-certificate c)
+    certificates_verify table graph lists n slot c.put_used.new.into.items ran c.known-2.ensures.few c.requires.ended (returns-clause-certificate c)

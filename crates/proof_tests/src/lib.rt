@@ -1,0 +1,7 @@
+//! Tests of certificates and of the verdicts on them. Nothing but tests stands here.
+#![tactic(auto)]
+
+#[cfg(test)]
+mod fixtures;
+#[cfg(test)]
+mod verdicts;
