@@ -14,7 +14,7 @@ use Rattle.bag_model.specs.SlotValues.{HasSlot}
 use Rattle.graph_lines.specs.Forms.{IsNumber, IsPath}
 use Rattle.graph_lines.proofs.Separated.{free_append}
 use Rattle.text_lines.specs.FedLines.{fed_lines}
-use Rattle.text_lines.specs.Lines.{Line, numbered}
+use Rattle.text_lines.specs.Lines.{numbered}
 use Rattle.text_lines.specs.Readings.{AllSay, NoneOf}
 use Rattle.text_lines.proofs.FedLines.{fed_line}
 use Rattle.trace_model.specs.Graphs.{Graph}

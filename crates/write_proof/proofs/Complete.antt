@@ -1,16 +1,16 @@
 -- Each certificate of a run verifies.
-use Rattle.std.proofs.Common.{◌≡◌, ◌≢◌, ◌⊎◌, inl, inr, ℕ, zero, suc, ◌+◌, ◌<◌, ◌≤◌, ◌^◌, Bool, true, false, List, [], ◌∷◌, ◌++◌, length, map, filter, if◌then◌else◌, nat_lt, ltb-true, Some, refl, sym, ap, ◌∙◌, subst, arith}
+use Rattle.std.proofs.Common.{◌≡◌, ◌≢◌, ◌⊎◌, inl, inr, ℕ, zero, suc, ◌<◌, ◌≤◌, Bool, true, false, List, [], ◌∷◌, length, filter, if◌then◌else◌, nat_lt, ltb-true, Some, refl, sym, ap, subst, arith}
 use Rattle.std.specs.List.{AllByRecursion, slice_get}
 use Rattle.std.proofs.lemmas.Bool.Decides.{nat_tests}
 use Rattle.context_model.specs.Ended.{IsEnded, field_path}
 use Rattle.context_model.specs.KeyedMerge.{keys_of, EachPair, IsAt}
-use Rattle.context_model.specs.Orders.{IsIn, Rises}
+use Rattle.context_model.specs.Orders.{IsIn}
 use Rattle.context_model.proofs.MergeLaws.{EachPair-at, EachPair-from, IsIn-keys_of}
 use Rattle.bag_model.specs.Joins.{join, IsValueBelow}
-use Rattle.bag_model.specs.Shapes.{Shape, Nodes}
+use Rattle.bag_model.specs.Shapes.{Nodes}
 use Rattle.bag_model.specs.Slots.{SlotAt, name_path}
 use Rattle.bag_model.specs.Tables.{AreFields}
-use Rattle.bag_model.specs.SlotValues.{HasSlot, SaysSlot}
+use Rattle.bag_model.specs.SlotValues.{HasSlot}
 use Rattle.bag_model.specs.ValueCode.{value_code}
 use Rattle.bag_model.specs.Values.{Value, bottom, IsOfShape}
 use Rattle.bag_model.proofs.BelowLaws.{below-onwards, below-bottom}
@@ -20,21 +20,20 @@ use Rattle.graph_lines.specs.Forms.{IsNumber}
 use Rattle.text_lines.specs.Readings.{NoneOf}
 use Rattle.trace_model.specs.Contributions.{Contributes, IsContributed, IsLeastAbove}
 use Rattle.trace_model.specs.Faithful.{IsRunStep}
-use Rattle.trace_model.specs.Graphs.{Act, Start, Recv, Set, Branch, Forward, Trim, Join, Step, Graph, HasStep, parents_of, IsGraph, IsRecorded}
+use Rattle.trace_model.specs.Graphs.{Act, Start, Recv, Set, Branch, Forward, Trim, Join, Graph, IsGraph, IsRecorded}
 use Rattle.trace_model.specs.Runs.{Lists, list_at}
-use Rattle.trace_model.specs.Truth.{Reaches, itself, through, IsReachedBy, IsTruthAt}
+use Rattle.trace_model.specs.Truth.{Reaches, itself, through, IsTruthAt}
 use Rattle.trace_model.proofs.ContributedLaws.{least_alike, least_one, truths_are_contributed}
 use Rattle.trace_model.proofs.FaithfulLaws.{runs_are_faithful}
 use Rattle.trace_model.proofs.ReachLaws.{reaches_on}
 use Rattle.write_proof.specs.Lines.{Entry, Why, ValueText, Reach, Uses}
-use Rattle.write_proof.specs.LineRules.{HasParent, BringsValues, IsWrite}
-use Rattle.write_proof.specs.WholeRules.{reached, used, IsListed, SpeaksOf, StepContributes, IsOfSteps, IsJoinOfUsed, Applies, AppliesSomewhere, rules_over_all}
+use Rattle.write_proof.specs.LineRules.{HasParent, BringsValues}
+use Rattle.write_proof.specs.WholeRules.{used, IsListed, SpeaksOf, StepContributes, IsOfSteps, IsJoinOfUsed, Applies, AppliesSomewhere, rules_over_all}
 use Rattle.write_proof.specs.declared.verdicts.VerifyCode.TheVariants as codes
-use Rattle.write_proof.specs.Verdicts.{IsAccepted, IsRead}
-use Rattle.write_proof.specs.Certificates.{IsLeastChild, AreReachPairs, IsOfEarlier, IsNews, AreUsed, entries_of, IsCertificate, CertificatesVerify}
+use Rattle.write_proof.specs.Verdicts.{IsAccepted}
+use Rattle.write_proof.specs.Certificates.{IsLeastChild, IsOfEarlier, AreUsed, entries_of, IsCertificate, CertificatesVerify}
 use Rattle.write_proof.proofs.Decided.{coded_same, in_or_not, same_number}
 use Rattle.write_proof.proofs.Contributing.{step_shape, join_some}
-use Rattle.write_proof.proofs.Keyed.{key_value}
 use Rattle.write_proof.proofs.Feeds.{IsFed, value_fed}
 use Rattle.write_proof.proofs.SlotNames.{slot_path, slot_shape}
 use Rattle.write_proof.proofs.AsWritten.{text_says, entries_stand, IsPair, IsUse, reached_is, used_is, IsListedEntry, listed_at}
@@ -96,8 +95,8 @@ module _ (table : Nodes) (graph : Graph) (recorded : IsRecorded table graph) (sl
       let j = join_some table slot at there graph recorded (earlier_of w steps) in (
         j.0,
         least_alike at.shape (IsOfSteps graph slot at (earlier_of w steps)) (IsOfEarlier graph slot at steps w) j.0
-        (λ x c. let o = of_earlier c.0 w steps c.1 in (c.0, o.0, o.1, c.2))
-        (λ x c. (c.0, in_earlier c.0 w steps c.1 c.2, c.3)) j.1,
+            (λ x c. let o = of_earlier c.0 w steps c.1 in (c.0, o.0, o.1, c.2))
+            (λ x c. (c.0, in_earlier c.0 w steps c.1 c.2, c.3)) j.1,
       )
 
   module _ (n : ℕ) (steps : List ℕ) (uses : AreUsed graph n slot at steps) (v : Value) (least : IsLeastAbove at.shape (IsContributed graph n slot at) v) where

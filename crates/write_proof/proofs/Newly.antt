@@ -1,23 +1,22 @@
 -- The steps that say something new, one after another.
-use Rattle.std.proofs.Common.{◌≡◌, ◌≢◌, ◌⊎◌, ◌↔◌, inl, inr, ℕ, zero, suc, ◌+◌, ◌<◌, ◌≤◌, List, [], ◌∷◌, ◌++◌, length, take, get_or, Some, refl, sym, ap, ◌∙◌, subst, arith}
+use Rattle.std.proofs.Common.{◌≡◌, ◌⊎◌, inl, inr, ℕ, zero, suc, ◌+◌, ◌<◌, ◌≤◌, List, [], ◌∷◌, ◌++◌, length, take, get_or, refl, sym, subst, arith}
 use Rattle.std.specs.Ordering.{nat_cmp}
 use Rattle.std.specs.declared.cmp.Ordering.TheVariants.{Less}
 use Rattle.std.proofs.lemmas.Bool.Decides.{nat_tests}
 use Rattle.std.proofs.lemmas.List.{take_more}
 use Rattle.context_model.specs.KeyedMerge.{keys_of}
 use Rattle.context_model.specs.Orders.{IsIn, Rises}
-use Rattle.bag_model.specs.Joins.{join, IsValueBelow}
+use Rattle.bag_model.specs.Joins.{IsValueBelow}
 use Rattle.bag_model.specs.Shapes.{Nodes}
 use Rattle.bag_model.specs.Slots.{SlotAt}
 use Rattle.bag_model.specs.SlotValues.{HasSlot}
-use Rattle.bag_model.specs.Values.{Value, bottom, IsOfShape}
+use Rattle.bag_model.specs.Values.{Value, bottom}
 use Rattle.bag_model.proofs.BelowLaws.{below-bottom}
 use Rattle.trace_model.specs.Contributions.{IsLeastAbove}
 use Rattle.trace_model.specs.Graphs.{Graph, IsRecorded}
 use Rattle.trace_model.specs.Truth.{Reaches, itself}
 use Rattle.trace_model.proofs.ContributedLaws.{least_alike, least_one}
 use Rattle.write_proof.specs.Certificates.{AreReachPairs, IsOfEarlier, IsNews, AreUsed}
-use Rattle.write_proof.specs.Joins.{IsJoinAt}
 use Rattle.write_proof.specs.LineRules.{BringsValues, IsWrite}
 use Rattle.write_proof.specs.News.{UsesValue, IsNext, AreNewsOf}
 use Rattle.write_proof.specs.WholeRules.{StepContributes, IsOfSteps}

@@ -1,5 +1,5 @@
 -- A certificate that is written part by part.
-use Rattle.std.proofs.Common.{◌≡◌, ◌≢◌, inl, inr, ℕ, ◌<◌, ◌≤◌, List, [], ◌∷◌, ◌++◌, length, map, refl, sym, ap, ◌∙◌, subst, append_assoc, arith}
+use Rattle.std.proofs.Common.{◌≡◌, inl, inr, ℕ, ◌<◌, List, [], ◌∷◌, ◌++◌, length, map, sym, ap, ◌∙◌, subst, append_assoc, arith}
 use Rattle.std.specs.List.{flat_map}
 use Rattle.std.specs.Ordering.{nat_cmp}
 use Rattle.std.proofs.lemmas.List.Concat.{flat_map-append}
@@ -13,7 +13,7 @@ use Rattle.bag_model.specs.Values.{Value}
 use Rattle.report_text.specs.ValueTexts.{value_text}
 use Rattle.trace_model.specs.Graphs.{Graph, IsGraph, IsRecorded}
 use Rattle.trace_model.specs.Runs.{Lists, list_at}
-use Rattle.write_proof.specs.Certificates.{AreReachPairs, IsCertificate, AddsWhy, AddsValue, entries_of}
+use Rattle.write_proof.specs.Certificates.{AreReachPairs, IsCertificate, AddsWhy, AddsValue}
 use Rattle.write_proof.specs.Lines.{Entry, Why, ValueText, Reach, Uses, entry_line}
 use Rattle.write_proof.specs.News.{AreNewsAt}
 use Rattle.write_proof.proofs.BelowCalls.{place_some}

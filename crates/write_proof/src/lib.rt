@@ -10,16 +10,16 @@ mod first_lines;
 mod joins;
 mod laws;
 mod line_rules;
+mod marks;
 mod news;
 mod reaching;
-mod marks;
 mod reading;
 mod verdicts;
 
+pub use certificates::why;
 pub use checker::verify;
 pub use laws::{
     certificates_have_one_verdict, certificates_that_verify_tell_the_truth, lines_are_definite,
     runs_have_certificates_that_verify,
 };
 pub use verdicts::{Verified, VerifyCode};
-pub use certificates::why;

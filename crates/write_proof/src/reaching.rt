@@ -36,11 +36,7 @@ fn is_on_way(children: &[Option<usize>], last: usize, step: usize) -> bool
 
 /// The least child of each step on the way to the last; none for one that isn't on the way. Children are taken from the last
 /// down, so that of those of a step the least is put there last.
-fn least_children(
-    alloc: Global,
-    graph: &Graph,
-    last: usize,
-) -> Result<Vec<Option<usize>>, Memory>
+fn least_children(alloc: Global, graph: &Graph, last: usize) -> Result<Vec<Option<usize>>, Memory>
     requires { last < length graph.now.steps }
     ensures { IfOk result (λ children. AreChildren graph.now last 0 children.items) }
 {

@@ -9,10 +9,8 @@ use Rattle.bag_model.specs.Readings.{PathsOf}
 use Rattle.bag_model.specs.Typed.{AreTyped}
 use Rattle.trace_model.specs.Faithful.{IsRunStep}
 use Rattle.trace_model.specs.Graphs.{IsRecorded}
-use Rattle.trace_model.specs.Runs.{list_at}
 use Rattle.trace_model.proofs.FaithfulLaws.{runs_are_faithful}
 use Rattle.write_proof.specs.declared.reaching.Reach as code
-use Rattle.write_proof.specs.Certificates.{IsCertificate}
 use Rattle.write_proof.specs.Lines.{Reach, Uses, entry_line}
 use Rattle.write_proof.specs.News.{AreNewsAt}
 use Rattle.write_proof.specs.Reaching.{pairs_of}

@@ -1,4 +1,4 @@
-use Rattle.std.proofs.Common.{◌≡◌, List, ℕ, sym, ap, ◌∙◌, subst}
+use Rattle.std.proofs.Common.{◌≡◌, ℕ, subst}
 use Rattle.std.proofs.lemmas.Result.{on_ok_weaker}
 use Rattle.bag_value.specs.Plain.{plain}
 use Rattle.bag_model.specs.Shapes.{Shape, Nodes}
@@ -46,4 +46,4 @@ returns-clause-next c =
     let graph = c.args.graph.now in
     let recorded : IsRecorded table graph = record { table = c.known.ensures.table; sound = c.known.ensures.graph; fits = c.requires.table } in
     λ at there. next_nothing table graph recorded c.args.slot at there c.args.step (plain c.args.used.now.joined) c.args.used.now.steps.items
-        (subst (StepContributes graph c.args.slot at c.args.step) (c.in-None.ensures at.shape) (c.in_ok-own.ensures at there)) (c.requires.joined at there)
+    (subst (StepContributes graph c.args.slot at c.args.step) (c.in-None.ensures at.shape) (c.in_ok-own.ensures at there)) (c.requires.joined at there)

@@ -1,6 +1,5 @@
-use Rattle.std.proofs.Common.{◌≡◌, ◌<◌, ◌+◌, ℕ, List, [], length, take, get_or, refl, sym, ap, ◌∙◌, subst, arith}
-use Rattle.bag_model.specs.Shapes.{Nodes}
-use Rattle.trace_model.specs.Graphs.{Graph, IsRecorded}
+use Rattle.std.proofs.Common.{ℕ, List, [], get_or, refl, sym, subst, arith}
+use Rattle.trace_model.specs.Graphs.{IsRecorded}
 use Rattle.bag_value.specs.Plain.{plain}
 use Rattle.field_table.specs.Plain.{shape_of}
 use Rattle.trace_model.specs.Contributions.{IsLeastAbove}

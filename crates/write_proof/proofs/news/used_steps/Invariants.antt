@@ -7,5 +7,5 @@ use Rattle.write_proof.proofs.news.used_steps.Given as goal
 abbrev pub invariant-loop-step : goal.invariant-loop-step
 invariant-loop-step l = record {
   joined : IsJoinAt l.table l.graph l.slot l.used.steps.items (plain l.used.joined);
-  news : AreNewsAt l.table l.graph l.slot (take l.step-index l.steps) l.used.steps.items
+  news : AreNewsAt l.table l.graph l.slot (take l.step-index l.steps) l.used.steps.items;
 }

@@ -1,4 +1,4 @@
-use Rattle.std.proofs.Common.{◌≡◌, ◌↔◌, ℕ, suc, ◌+◌, ◌-◌, ◌<◌, ◌≤◌, Bool, true, false, List, Option, Some, None, IsTrue, length, refl, sym, ap, ◌∙◌, subst, arith}
+use Rattle.std.proofs.Common.{◌≡◌, ◌↔◌, ℕ, suc, ◌+◌, ◌-◌, ◌<◌, ◌≤◌, Bool, true, false, List, Option, Some, None, IsTrue, refl, sym, subst, arith}
 use Rattle.trace_model.specs.Graphs.{Graph, IsGraph}
 use Rattle.trace_model.specs.Truth.{Reaches}
 use Rattle.recorded_graph.specs.Plain.{step_of}

@@ -1,5 +1,4 @@
-use Rattle.std.proofs.Common.{◌≡◌, ◌<◌, ℕ, List, Option, Some, None, length, get_or, set, refl, sym, arith, length-set, get_or-set_same, get_or-set_other}
-use Rattle.context_model.specs.Orders.{IsIn}
+use Rattle.std.proofs.Common.{◌≡◌, ◌<◌, ℕ, List, Option, Some, None, length, get_or, set, refl, arith, length-set, get_or-set_same, get_or-set_other}
 use Rattle.write_proof.specs.Reaching.{child_at}
 use Rattle.write_proof.proofs.Reached.{place_in, marked_more}
 use Rattle.write_proof.proofs.reaching.mark_parents.Goals as goal
