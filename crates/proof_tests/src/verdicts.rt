@@ -2,6 +2,9 @@
 
 use crate::fixtures::{graph_of, table_of, verdict_on};
 use std::test::Fail;
+use write_proof::{
+    certificates_have_one_verdict, certificates_that_verify_tell_the_truth, lines_are_definite,
+};
 
 /// Two writes of one slot that are joined at a third service.
 const JOINED: &str = "service a all
@@ -148,6 +151,9 @@ fn certificates_with_their_verdicts(rt: HostRuntime) -> Result<(), Fail> {
         let own = verdict_on(alloc, &table, &graph, certificate)?;
         assert_eq!(rt; own.as_str(), verdict, "{certificate}");
     }
+    lines_are_definite();
+    certificates_have_one_verdict();
+    certificates_that_verify_tell_the_truth();
     Ok(())
 }
 

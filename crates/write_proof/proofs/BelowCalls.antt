@@ -1,5 +1,5 @@
 -- What calls that compare values owe and answer.
-use Rattle.std.proofs.Common.{◌≡◌, ◌≢◌, ◌⊎◌, inl, inr, ◌↔◌, ℕ, zero, suc, ◌+◌, ◌*◌, ◌<◌, ◌≤◌, true, false, IsTrue, IsSome, List, [], ◌∷◌, length, map, get_or, Option, Some, None, refl, sym, ap, ◌∙◌, subst, arith}
+use Rattle.std.proofs.Common.{◌≡◌, ◌⊎◌, inl, inr, ◌↔◌, ℕ, zero, suc, ◌+◌, ◌<◌, ◌≤◌, true, false, IsTrue, IsSome, List, [], ◌∷◌, length, map, get_or, Option, Some, None, refl, sym, ap, ◌∙◌, subst, arith}
 use Rattle.std.specs.Cmp.{IsTotalOrder, tied_itself}
 use Rattle.std.specs.FinMap.{IsAntisymmetric}
 use Rattle.std.specs.List.{slice_get}
@@ -7,17 +7,15 @@ use Rattle.std.specs.Option.{option_map}
 use Rattle.std.specs.declared.cmp.Ordering.{Ordering}
 use Rattle.std.specs.declared.cmp.Ordering.TheVariants.{Less, Equal, Greater}
 use Rattle.std.proofs.lemmas.Bool.{cases_lt}
-use Rattle.context_model.specs.KeyedMerge.{keys_of, IsAt}
+use Rattle.context_model.specs.KeyedMerge.{IsAt}
 use Rattle.context_model.specs.Merge.{first_of}
 use Rattle.context_model.specs.Orders.{IsIn, by_order}
 use Rattle.context_model.proofs.MergeLaws.{EachPair-at}
 use Rattle.bag_model.specs.Joins.{Alike, join, join_values, IsValueBelow, Proper}
 use Rattle.bag_model.specs.Scalars.{ScalarKind, ScalarValue, IsScalarOf}
 use Rattle.bag_model.specs.Shapes.{Shape, Nodes, no_node, node}
-use Rattle.bag_model.specs.Values.{Value, Entries, Values, Taint, Scalar, Set, Counter, Map, Bag, no_entry, entry, no_value, value, pairs, values_list, size_of, size_of_entries, size_of_values, IsOfShape, AreOfShapes}
+use Rattle.bag_model.specs.Values.{Value, Entries, Values, Set, Counter, Map, Bag, no_entry, entry, no_value, value, pairs, values_list, size_of, size_of_entries, size_of_values, IsOfShape, AreOfShapes}
 use Rattle.bag_model.proofs.OfShape.{Alike-shape, Proper-shape}
-use Rattle.bag_value.specs.declared.lists.Entry.{Entry as CodeEntry}
-use Rattle.bag_value.specs.Plain.{pair_of}
 use Rattle.write_proof.specs.Belows.{AreOfOne, AreOfOneBag}
 use Rattle.write_proof.proofs.BelowKinds.{set_below, set_within, counter_below, counter_within, map_below, map_within}
 

@@ -1,24 +1,22 @@
 -- What it takes for a value to say no more than another, kind by kind.
-use Rattle.std.proofs.Common.{◌≡◌, ◌≢◌, ◌⊎◌, inl, inr, ◌↔◌, ℕ, ◌^◌, ◌<◌, ◌≤◌, max, Bool, true, false, ◌||◌, List, [], ◌∷◌, Option, Some, None, refl, sym, ap, ◌∙◌, subst, arith}
+use Rattle.std.proofs.Common.{◌≡◌, ◌≢◌, inl, inr, ℕ, ◌≤◌, max, List, Some, refl, sym, ap, ◌∙◌, subst, arith}
 use Rattle.std.specs.FinMap.{IsAntisymmetric}
 use Rattle.std.specs.Coded.{Coded, coded_ℕ, coded_list}
-use Rattle.std.specs.List.{AllByRecursion}
 use Rattle.std.specs.declared.cmp.Ordering.{Ordering}
 use Rattle.std.specs.declared.cmp.Ordering.TheVariants.{Less, Equal, Greater}
-use Rattle.context_model.specs.KeyedMerge.{keys_of, IsAt}
+use Rattle.context_model.specs.KeyedMerge.{IsAt}
 use Rattle.context_model.specs.Merge.{first_of}
-use Rattle.context_model.specs.Orders.{IsIn, Rises, atom_cmp, by_order}
+use Rattle.context_model.specs.Orders.{IsIn, atom_cmp, by_order}
 use Rattle.context_model.proofs.GreedyElements.{Rises-unique}
-use Rattle.context_model.proofs.MergeLaws.{IsIn-keys_of, IsAt-unique}
 use Rattle.context_model.proofs.OrderLaws.{atoms_total, atoms_anti}
 use Rattle.bag_model.specs.declared.Pick.{Pick}
-use Rattle.bag_model.specs.Joins.{join, join_entries, join_values, IsValueBelow, Proper}
+use Rattle.bag_model.specs.Joins.{join, join_values, IsValueBelow, Proper}
 use Rattle.bag_model.specs.Scalars.{ScalarKind, ScalarValue, scalar_cmp, pick_cmp}
 use Rattle.bag_model.specs.ValueCode.{scalar_code}
-use Rattle.bag_model.specs.Values.{Value, Entries, Values, Taint, Scalar, Set, Counter, Map, Bag, pairs, value, no_value}
+use Rattle.bag_model.specs.Values.{Value, Entries, Values, Scalar, Set, Counter, Map, Bag, pairs, value}
 use Rattle.bag_model.proofs.JoinUnionLaws.{joins_are_unions}
 use Rattle.bag_model.proofs.PairLaws.{pairs-injective}
-use Rattle.bag_model.proofs.ScalarOrder.{scalar_total, scalar_exact, pick_total, pick_exact}
+use Rattle.bag_model.proofs.ScalarOrder.{scalar_total, scalar_exact, pick_exact}
 use Rattle.write_proof.proofs.Keyed.{union_same, same_union}
 
 -- ---- scalars

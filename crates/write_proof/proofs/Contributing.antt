@@ -1,12 +1,11 @@
 -- What steps contribute to a slot, and joins of that.
-use Rattle.std.proofs.Common.{◌≡◌, ◌≢◌, ◌⊎◌, inl, inr, ℕ, List, [], ◌∷◌, ◌++◌, Option, Some, None, refl, sym, ap, ◌∙◌, subst}
+use Rattle.std.proofs.Common.{◌≡◌, inl, inr, ℕ, List, [], ◌∷◌, ◌++◌, Option, Some, None, refl, sym, ◌∙◌, subst}
 use Rattle.std.specs.List.{slice_get}
 use Rattle.context_model.specs.Ended.{field_path}
-use Rattle.context_model.specs.Orders.{IsIn}
 use Rattle.bag_model.specs.Joins.{join, IsValueBelow}
 use Rattle.bag_model.specs.Readings.{PathsOf, SaysValues}
-use Rattle.bag_model.specs.Shapes.{Shape, Nodes}
-use Rattle.bag_model.specs.Slots.{SlotAt, slots_of}
+use Rattle.bag_model.specs.Shapes.{Nodes}
+use Rattle.bag_model.specs.Slots.{SlotAt}
 use Rattle.bag_model.specs.SlotValues.{HasSlot, SaysSlot}
 use Rattle.bag_model.specs.Values.{Value, Values, bottom, IsOfShape}
 use Rattle.bag_model.specs.Views.{View}

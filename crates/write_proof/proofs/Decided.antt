@@ -1,5 +1,5 @@
 -- What is decided: two values are one or not, and a number is in a list or not.
-use Rattle.std.proofs.Common.{◌≡◌, ◌≢◌, ◌⊎◌, inl, inr, ℕ, zero, suc, List, [], ◌∷◌, refl, sym, ap, ◌∙◌, subst, arith}
+use Rattle.std.proofs.Common.{◌≡◌, ◌≢◌, ◌⊎◌, inl, inr, ℕ, zero, suc, List, [], ◌∷◌, refl, ap, arith}
 use Rattle.std.specs.Coded.{Coded, coded_ℕ, coded_list}
 use Rattle.context_model.specs.Orders.{IsIn}
 use base.Stored.{Gv, gnil, gnum, gcons}

@@ -1,5 +1,5 @@
 -- The forms of lines: a line says one entry, and words are made of characters.
-use Rattle.std.proofs.Common.{◌≡◌, ◌≢◌, ℕ, zero, suc, ◌^◌, ◌<◌, ◌==◌, ◌&&◌, ◌||◌, not, Bool, true, false, List, [], ◌∷◌, ◌++◌, length, refl, sym, ap, ◌∙◌, subst, length-append, nat_lt, ltb-true, arith}
+use Rattle.std.proofs.Common.{◌≡◌, ◌≢◌, ℕ, zero, suc, ◌^◌, ◌<◌, ◌==◌, ◌||◌, Bool, true, false, List, [], ◌∷◌, ◌++◌, length, refl, sym, ap, ◌∙◌, subst, length-append, nat_lt, ltb-true, arith}
 use Rattle.std.specs.Prelude.{codes}
 use Rattle.std.specs.Char.{is_ascii_digit}
 use Rattle.std.specs.Fmt.{decimal}
@@ -12,12 +12,12 @@ use Rattle.std.proofs.lemmas.Fmt.{decimal_is_IsNumeral}
 use Rattle.std.proofs.lemmas.Str.{IsUtf8-from_ascii}
 use Rattle.std.proofs.lemmas.Str.Parse.{digit_from_value}
 use Rattle.bag_model.specs.Slots.{dotted}
-use Rattle.bag_model.specs.Words.{is_letter, is_word}
+use Rattle.bag_model.specs.Words.{is_letter}
 use Rattle.graph_lines.specs.Forms.{IsNumber, IsName, IsPath, HasNoSpace}
 use Rattle.graph_lines.specs.Taken.{IsCut}
 use Rattle.graph_lines.proofs.Decimals.{same_number, number_no_space}
 use Rattle.graph_lines.proofs.Separated.{same_cut}
-use Rattle.write_proof.specs.Lines.{Entry, Why, ValueText, Reach, Uses, IsSound, entry_text, entry_line, HasForm}
+use Rattle.write_proof.specs.Lines.{Entry, Why, ValueText, Reach, Uses, IsSound, entry_text, HasForm}
 use Rattle.write_proof.specs.Views.{IsOfWords, IsInWords}
 
 -- ---- a line says one entry

@@ -1,17 +1,13 @@
 -- What one value says no more than another.
-use Rattle.std.proofs.Common.{◌≡◌, ◌≢◌, ◌⊎◌, inl, inr, ◌↔◌, ℕ, ◌≤◌, max, Bool, true, false, ◌||◌, List, [], ◌∷◌, Option, Some, None, refl, sym, ap, ◌∙◌, subst, arith}
+use Rattle.std.proofs.Common.{◌≡◌, ◌⊎◌, inl, inr, List, [], ◌∷◌, refl, subst}
 use Rattle.std.specs.Cmp.{IsTotalOrder}
 use Rattle.std.specs.FinMap.{IsAntisymmetric}
-use Rattle.std.specs.Coded.{Coded, coded_ℕ, coded_list}
+use Rattle.std.specs.Coded.{Coded}
 use Rattle.std.specs.declared.cmp.Ordering.{Ordering}
-use Rattle.std.specs.declared.cmp.Ordering.TheVariants.{Less, Equal, Greater}
-use Rattle.context_model.specs.KeyedMerge.{keys_of, EachPair, IsAt, IsUnion}
-use Rattle.context_model.specs.Orders.{IsIn, Rises, atom_cmp}
+use Rattle.context_model.specs.KeyedMerge.{keys_of, IsAt, IsUnion}
+use Rattle.context_model.specs.Orders.{IsIn, Rises}
 use Rattle.context_model.proofs.GreedyElements.{Rises-unique}
 use Rattle.context_model.proofs.MergeLaws.{EachPair-from, IsIn-keys_of, IsAt-unique}
-use Rattle.context_model.proofs.OrderLaws.{atoms_total, atoms_anti}
-use Rattle.bag_model.specs.ValueCode.{scalar_code}
-use Rattle.bag_model.specs.Scalars.{ScalarValue, scalar_cmp}
 use Rattle.bag_model.proofs.PairLaws.{pairs_one}
 use Rattle.write_proof.proofs.Decided.{coded_same}
 

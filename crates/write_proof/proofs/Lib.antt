@@ -11,6 +11,13 @@ mod BelowCalls
 mod Said
 mod Sound
 mod OneVerdict
+mod Feeds
+mod AsWritten
+mod SlotNames
+mod Complete
+mod Reached
+mod Newly
+mod Written
 mod MarkCalls
 mod FirstCalls
 mod ContributionCalls

@@ -1,10 +1,10 @@
 -- Lines that are read one after another.
-use Rattle.std.proofs.Common.{◌≡◌, ◌≢◌, inl, inr, ℕ, ◌+◌, List, [], ◌∷◌, ◌++◌, length, map, refl, sym, ap, subst, ◌∙◌, append_assoc, append-nil, length-append, arith}
+use Rattle.std.proofs.Common.{◌≡◌, inl, ℕ, ◌+◌, List, [], ◌∷◌, ◌++◌, length, refl, sym, ap, subst, ◌∙◌, append_assoc, append-nil, length-append, arith}
 use Rattle.bag_model.specs.Shapes.{Nodes}
 use Rattle.text_lines.specs.FedLines.{fed_lines}
 use Rattle.text_lines.specs.Lines.{Line, numbered}
 use Rattle.text_lines.specs.Readings.{AllSay, IsFirstBad}
-use Rattle.text_lines.proofs.ReadingLaws.{all_say-length, all_say_more, next_bad}
+use Rattle.text_lines.proofs.ReadingLaws.{all_say_more, next_bad}
 use Rattle.trace_model.specs.Graphs.{Graph}
 use Rattle.write_proof.specs.declared.verdicts.VerifyCode.{VerifyCode}
 use Rattle.write_proof.specs.declared.verdicts.VerifyCode.TheVariants.{Form}

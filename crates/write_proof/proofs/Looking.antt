@@ -1,12 +1,10 @@
 -- Looking through lists.
-use Rattle.std.proofs.Common.{◌≡◌, ◌⊎◌, inl, inr, ◌↔◌, ℕ, zero, suc, ◌-◌, ◌<◌, ◌≤◌, ◌==◌, ◌||◌, Bool, true, false, List, [], ◌∷◌, ◌++◌, length, map, Option, Some, None, IsTrue, nat_lt, ltb-true, refl, sym, ap, ◌∙◌, subst, arith}
+use Rattle.std.proofs.Common.{◌≡◌, ◌⊎◌, inl, inr, ◌↔◌, ℕ, zero, suc, ◌-◌, ◌<◌, ◌≤◌, ◌==◌, ◌||◌, Bool, true, false, List, [], ◌∷◌, length, map, Some, IsTrue, nat_lt, ltb-true, refl, sym, ap, ◌∙◌, subst, arith}
 use Rattle.std.specs.List.{slice_get, list_any}
 use Rattle.std.specs.Option.{option_map}
 use Rattle.std.proofs.lemmas.Bool.{eqb-true, eq-eqb}
-use Rattle.std.proofs.lemmas.Option.{slice_get-map}
 use Rattle.context_model.specs.Orders.{IsIn}
 use Rattle.write_proof.specs.declared.entries.Entry as code
-use Rattle.write_proof.specs.Lines.{Entry}
 use Rattle.trace_model.specs.Graphs.{Graph, Step, HasStep, parents_of}
 use Rattle.trace_model.proofs.ReachLaws.{one_step}
 use Rattle.write_proof.specs.LineRules.{last_of, HasParent}

@@ -1,5 +1,5 @@
 -- Marks, and lists of steps, that grow line by line.
-use Rattle.std.proofs.Common.{◌≡◌, ◌≢◌, ◌⊎◌, inl, inr, ◌↔◌, ℕ, zero, suc, ◌+◌, ◌<◌, ◌≤◌, Bool, true, false, List, [], ◌∷◌, ◌++◌, length, map, take, get_or, set, Option, Some, None, refl, sym, ap, ◌∙◌, subst, append-nil, add-one, get_or-set_other, get_or-set_same, arith}
+use Rattle.std.proofs.Common.{◌≡◌, ◌≢◌, ◌⊎◌, inl, inr, ◌↔◌, ℕ, zero, suc, ◌+◌, ◌<◌, Bool, true, false, List, [], ◌∷◌, ◌++◌, length, map, take, get_or, set, Some, refl, sym, ap, ◌∙◌, subst, append-nil, add-one, get_or-set_other, get_or-set_same}
 use Rattle.std.specs.List.{slice_get}
 use Rattle.context_model.specs.Orders.{IsIn}
 use Rattle.bag_model.proofs.Finite.{in_append, in_append_first, in_append_second}

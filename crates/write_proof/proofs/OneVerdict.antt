@@ -1,5 +1,5 @@
 -- A certificate has one verdict.
-use Rattle.std.proofs.Common.{◌≡◌, ◌⊎◌, inl, inr, ℕ, zero, suc, ◌<◌, ◌≤◌, List, [], ◌∷◌, length, Some, refl, sym, ap, ◌∙◌, subst, arith}
+use Rattle.std.proofs.Common.{◌≡◌, ◌⊎◌, inl, inr, ℕ, suc, ◌<◌, ◌≤◌, List, length, Some, refl, sym, ap, ◌∙◌, subst, arith}
 use Rattle.std.specs.List.{slice_get}
 use Rattle.std.proofs.lemmas.Bool.{cases_lt}
 use Rattle.bag_model.specs.Shapes.{Nodes}
@@ -12,8 +12,8 @@ use Rattle.trace_model.specs.Graphs.{Graph}
 use Rattle.write_proof.specs.declared.verdicts.VerifyCode.{VerifyCode}
 use Rattle.write_proof.specs.declared.verdicts.Verified.{Verified}
 use Rattle.write_proof.specs.declared.verdicts.Verified.TheVariants.{Yes, No}
-use Rattle.write_proof.specs.Lines.{Entry, Why, HasForm, lines_in}
-use Rattle.write_proof.specs.LineRules.{last_of, MayFollow, BreaksAlone, rules_alone, IsGood, IsBad, certificate_lines}
+use Rattle.write_proof.specs.Lines.{Entry, Why, lines_in}
+use Rattle.write_proof.specs.LineRules.{BreaksAlone, rules_alone, IsGood, IsBad, certificate_lines}
 use Rattle.write_proof.specs.WholeRules.{AppliesSomewhere, IsFirstLine, rules_over_all}
 use Rattle.write_proof.specs.Verdicts.{SaysAll, IsAbout, IsRead, IsCutShort, IsAccepted, IsRejected, IsVerdictOf, VerdictsAreOne}
 use Rattle.write_proof.proofs.Forms.{one_form}

@@ -1,16 +1,16 @@
 -- What the entries of good lines keep.
-use Rattle.std.proofs.Common.{◌≡◌, ◌⊎◌, inl, inr, ℕ, zero, suc, ◌<◌, ◌≤◌, List, [], ◌∷◌, ◌++◌, length, Option, Some, None, refl, sym, ap, ◌∙◌, subst, arith}
+use Rattle.std.proofs.Common.{◌≡◌, ◌⊎◌, inl, inr, ℕ, zero, suc, ◌≤◌, List, [], ◌∷◌, ◌++◌, length, Option, Some, None, refl, sym, ap, ◌∙◌, subst, arith}
 use Rattle.std.specs.List.{slice_get}
 use Rattle.context_model.specs.Orders.{IsIn}
 use Rattle.bag_model.specs.Shapes.{Nodes}
 use Rattle.text_lines.specs.Lines.{Line}
 use Rattle.text_lines.specs.Readings.{AllSay}
-use Rattle.trace_model.specs.Graphs.{Graph, Step, HasStep, parents_of}
+use Rattle.trace_model.specs.Graphs.{Graph, Step, parents_of}
 use Rattle.trace_model.proofs.ReachLaws.{one_step}
 use Rattle.write_proof.specs.Lines.{Entry, Why, ValueText, Reach, Uses}
-use Rattle.write_proof.specs.LineRules.{last_of, step_of, MayFollow, HasParent, IsGood, certificate_lines}
-use Rattle.write_proof.specs.WholeRules.{reached, used, IsListed, SpeaksOf}
-use Rattle.write_proof.proofs.Decided.{surely, same_number, in_or_not}
+use Rattle.write_proof.specs.LineRules.{step_of, MayFollow, HasParent, IsGood, certificate_lines}
+use Rattle.write_proof.specs.WholeRules.{reached, used, IsListed}
+use Rattle.write_proof.proofs.Decided.{same_number, in_or_not}
 
 -- ---- decided
 

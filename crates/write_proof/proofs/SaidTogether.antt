@@ -1,16 +1,16 @@
 -- What some values say together is what their join says.
-use Rattle.std.proofs.Common.{◌≡◌, ◌≢◌, ◌⊎◌, inl, inr, ℕ, ◌≤◌, Bool, true, false, List, [], ◌∷◌, Option, Some, None, refl, sym, ap, ◌∙◌, subst, arith}
+use Rattle.std.proofs.Common.{◌≡◌, ◌≢◌, inl, inr, true, false, Option, Some, None, refl, sym, ap, ◌∙◌, subst, arith}
 use Rattle.std.specs.Cmp.{tied_itself}
 use Rattle.std.specs.declared.cmp.Ordering.TheVariants.{Less, Equal}
-use Rattle.context_model.specs.KeyedMerge.{keys_of, EachPair, IsAt}
+use Rattle.context_model.specs.KeyedMerge.{IsAt}
 use Rattle.context_model.specs.Merge.{first_of}
-use Rattle.context_model.specs.Orders.{IsIn, by_order}
+use Rattle.context_model.specs.Orders.{by_order}
 use Rattle.context_model.proofs.MergeLaws.{EachPair-at, IsAt-unique}
 use Rattle.bag_model.specs.declared.Pick.{Pick}
-use Rattle.bag_model.specs.Joins.{join, join_values, IsValueBelow, Proper}
-use Rattle.bag_model.specs.Scalars.{ScalarKind, ScalarValue, scalar_cmp, pick_cmp, IsScalarOf}
+use Rattle.bag_model.specs.Joins.{join, join_values, IsValueBelow}
+use Rattle.bag_model.specs.Scalars.{ScalarValue, scalar_cmp, pick_cmp, IsScalarOf}
 use Rattle.bag_model.specs.Shapes.{Shape, Nodes, no_node, node}
-use Rattle.bag_model.specs.Values.{Value, Entries, Values, Taint, Scalar, Set, Counter, Map, Bag, no_entry, entry, no_value, value, pairs, bottom, IsOfShape, AreOfShapes}
+use Rattle.bag_model.specs.Values.{Value, Entries, Values, Taint, Scalar, Set, Counter, Map, Bag, no_entry, entry, no_value, value, pairs, IsOfShape, AreOfShapes}
 use Rattle.bag_model.proofs.BelowLaws.{below-onwards, below-bottom}
 use Rattle.bag_model.proofs.OfShape.{Proper-shape}
 use Rattle.bag_model.proofs.ScalarOrder.{scalar_total, pick_total}

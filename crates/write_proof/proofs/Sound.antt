@@ -1,8 +1,7 @@
 -- A certificate that is accepted tells the truth.
-use Rattle.std.proofs.Common.{◌≡◌, ◌≢◌, ◌⊎◌, inl, inr, ℕ, zero, suc, ◌+◌, ◌<◌, ◌≤◌, List, [], ◌∷◌, length, Some, refl, sym, ap, ◌∙◌, subst, arith}
+use Rattle.std.proofs.Common.{◌≡◌, ◌⊎◌, inl, inr, ℕ, zero, suc, ◌+◌, ◌<◌, ◌≤◌, List, [], ◌∷◌, length, Some, refl, sym, ap, ◌∙◌, subst, arith}
 use Rattle.std.specs.List.{slice_get}
 use Rattle.std.proofs.lemmas.Bool.{cases_lt}
-use Rattle.context_model.specs.Orders.{IsIn}
 use Rattle.bag_model.specs.Joins.{join, IsValueBelow}
 use Rattle.bag_model.specs.Shapes.{Nodes}
 use Rattle.bag_model.specs.Slots.{SlotAt, FindsSlot}
@@ -12,13 +11,12 @@ use Rattle.bag_model.specs.Values.{Value}
 use Rattle.report_text.specs.ValueTexts.{value_text}
 use Rattle.text_lines.specs.Readings.{NoneOf}
 use Rattle.trace_model.specs.Contributions.{IsContributed, IsLeastAbove}
-use Rattle.trace_model.specs.Graphs.{Graph, Step, HasStep, parents_of, IsRecorded}
-use Rattle.trace_model.specs.Truth.{Reaches, itself, through, IsReachedBy}
+use Rattle.trace_model.specs.Graphs.{Graph, IsRecorded}
+use Rattle.trace_model.specs.Truth.{Reaches, itself, through}
 use Rattle.trace_model.proofs.ContributedLaws.{truths_are_contributed}
-use Rattle.trace_model.proofs.ReachLaws.{one_step}
 use Rattle.write_proof.specs.Lines.{Entry, Why, ValueText, Reach, Uses, lines_in}
-use Rattle.write_proof.specs.LineRules.{step_of, HasParent, IsGood}
-use Rattle.write_proof.specs.WholeRules.{reached, used, IsListed, SpeaksOf, StepContributes, IsOfSteps, IsJoinOfUsed, AppliesSomewhere, rules_over_all}
+use Rattle.write_proof.specs.LineRules.{step_of, HasParent}
+use Rattle.write_proof.specs.WholeRules.{reached, used, IsListed, SpeaksOf, StepContributes, IsJoinOfUsed, AppliesSomewhere, rules_over_all}
 use Rattle.write_proof.specs.Verdicts.{IsAbout, IsRead, IsAccepted, TellsTruth}
 use Rattle.write_proof.proofs.Decided.{surely, coded_same, same_text, in_or_not}
 use Rattle.write_proof.proofs.Contributing.{join_some}

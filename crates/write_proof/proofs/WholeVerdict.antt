@@ -16,7 +16,7 @@ use Rattle.bag_model.specs.Tables.{IsTable}
 use Rattle.outside.specs.declared.Memory.{Memory}
 use Rattle.report_text.specs.ValueTexts.{value_text}
 use Rattle.text_lines.specs.Lines.{Line}
-use Rattle.text_lines.specs.Readings.{AllSay, NoneOf}
+use Rattle.text_lines.specs.Readings.{AllSay}
 use Rattle.trace_model.specs.Graphs as model
 use Rattle.trace_model.specs.Graphs.{Act, Graph, HasStep, IsGraph, IsOfTable, IsRecorded}
 use Rattle.write_proof.specs.declared.verdicts.VerifyCode.{VerifyCode}
@@ -28,15 +28,15 @@ use Rattle.write_proof.specs.declared.entries.Entry.TheVariants as variants
 use Rattle.write_proof.specs.Checker.{BeginWith}
 use Rattle.write_proof.specs.FirstLines.{FindsLine}
 use Rattle.write_proof.specs.Lines.{Entry, Why, ValueText, Reach, Uses, lines_in}
-use Rattle.write_proof.specs.LineRules.{last_of, step_of, HasParent, BringsValues, IsWrite, IsGood, MayFollow, certificate_lines}
-use Rattle.write_proof.specs.WholeRules.{reached, used, IsJoinOfUsed, Applies, AppliesAt, AppliesSomewhere, IsFirstLine, rules_over_all}
-use Rattle.write_proof.specs.Verdicts.{SaysAll, IsAbout, IsRead, IsVerdictOf, TellsTruth}
+use Rattle.write_proof.specs.LineRules.{last_of, HasParent, BringsValues, IsWrite, MayFollow, certificate_lines}
+use Rattle.write_proof.specs.WholeRules.{reached, used, IsJoinOfUsed, Applies, AppliesSomewhere, IsFirstLine}
+use Rattle.write_proof.specs.Verdicts.{SaysAll, IsRead, IsVerdictOf, TellsTruth}
 use Rattle.write_proof.specs.Views.{entry_of}
 use Rattle.write_proof.proofs.BelowCalls.{place_within}
 use Rattle.write_proof.proofs.MarkCalls.{first_entry}
 use Rattle.write_proof.proofs.Contributing.{join_one}
 use Rattle.write_proof.proofs.Decided.{surely}
-use Rattle.write_proof.proofs.Said.{parent_or_not, reached_at, used_at, said_at, Begins, begins}
+use Rattle.write_proof.proofs.Said.{parent_or_not, reached_at, used_at, said_at, begins}
 use Rattle.write_proof.proofs.Sound.{accepted_tells_truth}
 
 -- ---- decided

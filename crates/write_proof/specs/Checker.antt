@@ -1,5 +1,5 @@
 -- How the entries of a certificate begin.
-use Rattle.std.specs.Prelude.{◌≡◌, ◌≢◌, ℕ, List, ◌∷◌}
+use Rattle.std.specs.Prelude.{◌≡◌, ℕ, List, ◌∷◌}
 use Rattle.write_proof.specs.Lines.{Entry, Why, ValueText}
 
 -- They begin with a step and this path, and with the value's text.

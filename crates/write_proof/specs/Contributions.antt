@@ -1,5 +1,5 @@
 -- What steps contribute to a slot, as the code answers it.
-use Rattle.std.specs.Prelude.{◌≡◌, ℕ, Option, Some, None}
+use Rattle.std.specs.Prelude.{ℕ}
 use Rattle.bag_model.specs.Shapes.{Shape, Nodes}
 use Rattle.bag_model.specs.Slots.{SlotAt}
 use Rattle.bag_model.specs.SlotValues.{HasSlot}

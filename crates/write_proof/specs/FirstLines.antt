@@ -1,5 +1,5 @@
 -- The first lines to which rules over all lines apply.
-use Rattle.std.specs.Prelude.{◌≡◌, ℕ, List, Option, Some, None}
+use Rattle.std.specs.Prelude.{ℕ, List, Option, Some, None}
 use Rattle.bag_model.specs.Slots.{SlotAt}
 use Rattle.trace_model.specs.Graphs.{Graph}
 use Rattle.write_proof.specs.declared.verdicts.VerifyCode.{VerifyCode}

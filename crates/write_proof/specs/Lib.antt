@@ -8,6 +8,8 @@ pub mod Views
 pub mod Together
 pub mod Belows
 pub mod Contributions
+pub mod Reaching
+pub mod News
 pub mod Joins
 pub mod Marks
 pub mod FirstLines

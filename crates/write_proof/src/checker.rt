@@ -26,7 +26,7 @@ struct Heading<'a> {
     text: &'a [u8],
 }
 
-/// How the entries begin, if they are so many.
+/// How the entries begin, if there are two.
 fn heading_of<'a>(entries: &[Entry<'a>]) -> Option<Heading<'a>>
     ensures { MatchOption result ((path text : List ℕ) → BeginWith (map entry_of entries.now) path text → ⊥)
         (λ heading. BeginWith (map entry_of entries.now) heading.path.now heading.text.now) }

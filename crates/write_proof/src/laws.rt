@@ -6,6 +6,7 @@ ghost use Rattle.text_lines.specs.Readings.{IsDefinite};
 ghost use Rattle.trace_model.specs.Graphs.{Graph, IsRecorded};
 ghost use Rattle.write_proof.specs.declared.verdicts.Verified.TheVariants as verdicts;
 ghost use Rattle.write_proof.specs.LineRules.{certificate_lines};
+ghost use Rattle.write_proof.specs.Certificates.{CertificatesVerify};
 ghost use Rattle.write_proof.specs.Verdicts.{IsVerdictOf, TellsTruth, VerdictsAreOne};
 
 /// A line says one entry or breaks one rule first, never both.
@@ -23,4 +24,9 @@ pub fn certificates_have_one_verdict()
 pub fn certificates_that_verify_tell_the_truth()
     ensures { (table : Nodes) (graph : Graph) (certificate : List ℕ) → IsRecorded table graph
         → IsVerdictOf table graph certificate verdicts.Yes → TellsTruth table graph certificate }
+{}
+
+/// The certificate for a slot that is ended in the list of a step verifies, whatever graph of a table was run.
+pub fn runs_have_certificates_that_verify()
+    ensures { CertificatesVerify }
 {}

@@ -2,6 +2,7 @@
 #![tactic(auto)]
 
 mod belows;
+mod certificates;
 mod checker;
 mod contributions;
 mod entries;
@@ -10,11 +11,15 @@ mod joins;
 mod laws;
 mod line_rules;
 mod marks;
+mod news;
+mod reaching;
 mod reading;
 mod verdicts;
 
+pub use certificates::why;
 pub use checker::verify;
 pub use laws::{
     certificates_have_one_verdict, certificates_that_verify_tell_the_truth, lines_are_definite,
+    runs_have_certificates_that_verify,
 };
 pub use verdicts::{Verified, VerifyCode};

@@ -1,10 +1,8 @@
-use Rattle.std.proofs.Common.{◌≡◌, ℕ, ◌<◌, ◌≤◌, List, Some, sym, ap, ◌∙◌, subst, refl, arith}
-use Rattle.std.specs.List.{slice_get}
-use Rattle.context_model.specs.KeyedMerge.{keys_of, IsAt}
-use Rattle.context_model.specs.Orders.{atom_cmp, Rises}
+use Rattle.std.proofs.Common.{arith}
+use Rattle.context_model.specs.Orders.{atom_cmp}
 use Rattle.context_model.proofs.MergeLaws.{IsIn-keys_of, IsAt-unique}
 use Rattle.context_model.proofs.OrderLaws.{atoms_total}
-use Rattle.write_proof.proofs.BelowCalls.{answered, at_place, place_at, place_within, yes_answer, no_answer, each_more}
+use Rattle.write_proof.proofs.BelowCalls.{answered, at_place, place_at, place_within, yes_answer, no_answer}
 use Rattle.write_proof.proofs.belows.are_counts_below.Goals as goal
 
 pub returns-in_default : goal.returns-in_default

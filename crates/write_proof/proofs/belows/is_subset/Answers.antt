@@ -1,9 +1,9 @@
-use Rattle.std.proofs.Common.{◌≡◌, ℕ, ◌<◌, List, map, Some, sym, ap, ◌∙◌, subst, refl, arith}
+use Rattle.std.proofs.Common.{◌≡◌, List, map, Some, sym, ap, ◌∙◌, subst, refl, arith}
 use Rattle.std.specs.List.{slice_get}
 use Rattle.std.specs.Option.{option_copied}
 use Rattle.context_model.specs.Orders.{IsIn}
 use Rattle.context_model.proofs.GreedyElements.{All-at}
-use Rattle.bag_model.specs.Scalars.{ScalarValue, IsScalarOf}
+use Rattle.bag_model.specs.Scalars.{IsScalarOf}
 use Rattle.scalar_types.specs.KindLaws.{scalar_of, scalar_back}
 use Rattle.scalar_types.specs.KindViews.{kind_of}
 use Rattle.scalar_types.specs.ScalarViews.{value_of}

@@ -1,4 +1,4 @@
-use Rattle.std.proofs.Common.{map, Some, subst, arith}
+use Rattle.std.proofs.Common.{map, subst}
 use Rattle.bag_model.specs.Slots.{FindsSlot}
 use Rattle.write_proof.specs.Views.{entry_of}
 use Rattle.write_proof.proofs.WholeVerdict.{path_known, read_of, slot_found, verdicts_so, cut_short}

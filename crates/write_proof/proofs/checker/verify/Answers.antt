@@ -1,8 +1,6 @@
 use Rattle.std.proofs.Common.{List, map, sym, subst}
-use Rattle.std.specs.Prelude.{IfOk}
 use Rattle.write_proof.specs.declared.entries.Entry.{Entry}
-use Rattle.write_proof.specs.declared.verdicts.Verified.{Verified}
-use Rattle.write_proof.specs.Verdicts.{SaysAll, IsVerdictOf}
+use Rattle.write_proof.specs.Verdicts.{SaysAll}
 use Rattle.write_proof.specs.Views.{entry_of}
 use Rattle.write_proof.proofs.WholeVerdict.{told_here, yes_tells_truth}
 use Rattle.write_proof.proofs.checker.verify.Goals as goal

@@ -1,5 +1,5 @@
 use Rattle.bag_model.specs.Shapes.{Shape}
-use Rattle.bag_model.specs.Values.{Value, bottom}
+use Rattle.bag_model.specs.Values.{bottom}
 use Rattle.bag_value.specs.Plain.{plain}
 use Rattle.write_proof.specs.Contributions.{contributed}
 use Rattle.write_proof.proofs.BelowCalls.{alike_of, no_answer}

@@ -1,5 +1,4 @@
-use Rattle.std.proofs.Common.{◌≡◌, ◌≤◌, Some, length, get_or, ◌∙◌, sym, ap, subst, refl, arith}
-use Rattle.std.specs.List.{slice_get}
+use Rattle.std.proofs.Common.{get_or, subst, arith}
 use Rattle.std.proofs.lemmas.Option.{slice_get-get_or, get_or_from_slice_get}
 use Rattle.write_proof.specs.Marks.{IsMarked}
 use Rattle.write_proof.proofs.BelowCalls.{in_place, place_in, place_within, yes_answer, no_answer}

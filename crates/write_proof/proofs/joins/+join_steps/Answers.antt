@@ -1,4 +1,4 @@
-use Rattle.std.proofs.Common.{◌≡◌, ◌++◌, [], ◌∷◌, length, take, drop, get_or, ◌/◌, sym, ap, ◌∙◌, subst, arith}
+use Rattle.std.proofs.Common.{◌≡◌, ◌++◌, length, get_or, ◌/◌, sym, ◌∙◌, subst, arith}
 use Rattle.context_model.specs.Orders.{IsIn}
 use Rattle.bag_model.specs.Values.{bottom}
 use Rattle.bag_value.specs.declared.vals.Val.{Val}

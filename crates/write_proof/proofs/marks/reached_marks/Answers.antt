@@ -1,4 +1,4 @@
-use Rattle.std.proofs.Common.{◌≡◌, ◌<◌, ◌++◌, [], ◌∷◌, length, true, map, take, get_or, set, ◌+◌, length-set, sym, ap, ◌∙◌, subst, refl, arith}
+use Rattle.std.proofs.Common.{◌<◌, length, true, map, take, get_or, set, ◌+◌, length-set, sym, ap, ◌∙◌, subst, arith}
 use Rattle.std.proofs.lemmas.Option.{slice_get-get_or}
 use Rattle.write_proof.specs.Marks.{AreMarksOf}
 use Rattle.write_proof.specs.Views.{entry_of}

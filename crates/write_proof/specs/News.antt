@@ -1,0 +1,41 @@
+-- How the steps are found that say something new.
+use Rattle.std.specs.Prelude.{◌≡◌, ◌⊎◌, ◌↔◌, ℕ, List, [], ◌∷◌, ◌++◌}
+use Rattle.std.specs.Ordering.{nat_cmp}
+use Rattle.context_model.specs.Orders.{IsIn, Rises}
+use Rattle.bag_model.specs.Joins.{join, IsValueBelow}
+use Rattle.bag_model.specs.Shapes.{Nodes}
+use Rattle.bag_model.specs.Slots.{SlotAt}
+use Rattle.bag_model.specs.SlotValues.{HasSlot}
+use Rattle.bag_model.specs.Values.{Value}
+use Rattle.trace_model.specs.Contributions.{IsLeastAbove}
+use Rattle.trace_model.specs.Graphs.{Graph}
+use Rattle.write_proof.specs.Certificates.{IsNews}
+use Rattle.write_proof.specs.LineRules.{IsWrite}
+use Rattle.write_proof.specs.WholeRules.{StepContributes, IsOfSteps}
+
+-- A step that contributes this value is used exactly where the join of the used ones doesn't say it, and then the value is joined.
+abbrev pub UsesValue : ℕ → Value → List ℕ → Value → List ℕ → Value → Type 0
+UsesValue w own before joined steps next =
+    ((IsValueBelow own joined → ⊥) × (steps ≡ before ++ w ∷ []) × (next ≡ join joined own))
+    ⊎ (IsValueBelow own joined × (steps ≡ before) × (next ≡ joined))
+
+-- Step w is used next, exactly where it contributes more than the join of what the steps before it contribute.
+pub record IsNext (graph : Graph) (slot : ℕ) (at : SlotAt) (w : ℕ) (before steps : List ℕ) : Type 0 where
+  pub own : Value
+  pub contributes : StepContributes graph slot at w own
+  pub joined : Value
+  pub join : IsLeastAbove at.shape (IsOfSteps graph slot at before) joined
+  pub is : ((IsValueBelow own joined → ⊥) × (steps ≡ before ++ w ∷ [])) ⊎ (IsValueBelow own joined × (steps ≡ before))
+
+-- The same, at the slot with this place of the table.
+abbrev pub IsNextAt : Nodes → Graph → ℕ → ℕ → List ℕ → List ℕ → Type 0
+IsNextAt table graph slot w before steps = (at : SlotAt) → HasSlot table slot at → IsNext graph slot at w before steps
+
+-- Of the steps that were seen these say something that the used ones before them don't say.
+pub record AreNewsOf (graph : Graph) (slot : ℕ) (at : SlotAt) (seen steps : List ℕ) : Type 0 where
+  pub rises : Rises nat_cmp steps
+  pub all : (w : ℕ) → IsIn w steps ↔ (IsIn w seen × IsWrite graph w × IsNews graph slot at steps w)
+
+-- The same, at the slot with this place of the table.
+abbrev pub AreNewsAt : Nodes → Graph → ℕ → List ℕ → List ℕ → Type 0
+AreNewsAt table graph slot seen steps = (at : SlotAt) → HasSlot table slot at → AreNewsOf graph slot at seen steps
