@@ -1,7 +1,7 @@
 use Rattle.std.proofs.Common.{◌≡◌, length, Some, rules, sym, ap, ◌∙◌}
 use Rattle.std.specs.List.{slice_get}
 use Rattle.baggage_cli.specs.Commands.{command_of}
-use Rattle.baggage_cli.proofs.ThreeWords.{three_words}
+use Rattle.baggage_cli.proofs.FewWords.{three_words, four_words}
 use Rattle.baggage_cli.proofs.commands.command_of.Goals as goal
 
 pub returns-in_ok-get-in-3-2-clause-task : goal.returns-in_ok-get-in-3-2-clause-task
