@@ -205,7 +205,7 @@ second_ending : (old new : Origin) (scene : Scene) (answer : ℕ) (half : Halfwa
     → Delivers outcome scene.out scene.errs answer → Ending (compare old new) scene answer
 second_ending old new scene answer half before outcome taken unread (inl (refusal, obtains, begun, is)) delivers =
     untabled_ending (compare old new) new scene (since half.files half.faults scene.library) (since half.asked half.faults scene.requests) answer refusal outcome
-    tt (rose_behind scene.library.faults_before half.faults scene.library.faults_after taken.1.0) (second_refused old new scene half before taken refusal) obtains unread is delivers
+    tt (rose_behind scene.library.faults_before half.faults scene.library.faults_after taken.1) (second_refused old new scene half before taken refusal) obtains unread is delivers
 second_ending old new scene answer half before outcome taken unread (inr (after, obtains, inl wanting)) delivers = wanting_ending (compare old new) scene answer outcome wanting delivers
 second_ending old new scene answer half before outcome taken unread (inr (after, obtains, inr (line, right, is))) delivers =
     files_ending (compare old new) scene answer line outcome tt (λ reads. reads)

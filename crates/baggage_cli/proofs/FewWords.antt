@@ -1,6 +1,13 @@
--- Lists of three words, and of four.
+-- Lists of two words, of three and of four.
 use Rattle.std.proofs.Common.{◌≡◌, ℕ, List, [], ◌∷◌, length, Some, arith}
 use Rattle.std.specs.List.{slice_get}
+
+-- Two words, by each of them.
+pub two_words : (words : List (List ℕ)) (name word : List ℕ) → length words ≡ 2 → slice_get words 0 ≡ Some name → slice_get words 1 ≡ Some word → words ≡ name ∷ word ∷ []
+two_words [] name word two first second = absurd (omega arith)
+two_words (x ∷ []) name word two first second = absurd (omega arith)
+two_words (x ∷ y ∷ []) name word two first second = cc (first, second)
+two_words (x ∷ y ∷ z ∷ more) name word two first second = absurd (omega arith)
 
 -- Three words, by each of them.
 pub three_words : (words : List (List ℕ)) (name file bag : List ℕ) → length words ≡ 3 → slice_get words 0 ≡ Some name → slice_get words 1 ≡ Some file → slice_get words 2 ≡ Some bag

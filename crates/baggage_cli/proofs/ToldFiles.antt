@@ -60,7 +60,7 @@ rose_behind before half after counts rose = omega (arith, counts, rose)
 pub first_refused : (old new : Origin) (scene : Scene) (refusal : Refusal) → CameFrom old scene.library scene.requests (λ held. TableGives old held (Err refusal))
     → OfFiles scene (compare old new) (λ held. RefusesFiles (compare old new) held refusal)
 first_refused old new scene refusal came = λ held told.
-    let (bad, names, all, asked) = came_told old scene.library scene.requests (λ h. TableGives old h (Err refusal)) held told came in
+    let (bad, (names, all, asked)) = came_told old scene.library scene.requests (λ h. TableGives old h (Err refusal)) held told came in
     (inl bad, (names, inl (refusal, bad, all), asked))
 
 module _ (old new : Origin) (scene : Scene) (half : Halfway) (before : Nodes)
@@ -71,8 +71,8 @@ module _ (old new : Origin) (scene : Scene) (half : Halfway) (before : Nodes)
   second_came outcome came = λ held told.
       let one = until half.files half.faults scene.library in
       let two = since half.files half.faults scene.library in
-      let (is, front, needed, asked) = came_told old one (until half.asked half.faults scene.requests) (λ h. TableGives old h (Ok before)) held told (obtained_table old one (until half.asked half.faults scene.requests) before taken) in
-      let (gave, rest, wanted, more) = came_told new two (since half.asked half.faults scene.requests) (λ h. TableGives new h outcome) held (taken.0 ∙ told) came in
+      let (is, (front, needed, asked)) = came_told old one (until half.asked half.faults scene.requests) (λ h. TableGives old h (Ok before)) held told (obtained_table old one (until half.asked half.faults scene.requests) before taken) in
+      let (gave, (rest, wanted, more)) = came_told new two (since half.asked half.faults scene.requests) (λ h. TableGives new h outcome) held (taken.0 ∙ told) came in
       ((is, gave), (front ++ rest, inr (before, front, rest, is, needed, wanted, refl), asks_then front rest scene.requests.before half.asked scene.requests.after asked more))
 
   -- The second is refused.

@@ -72,10 +72,20 @@ static ROWS: [Row; 28] = [
     // What both definitions import is fetched for each of them.
     ("evolve first second M", 0, "ok 2\n", "first in second in"),
     ("evolve second first M", 0, "ok 2\n", "second in first in"),
-    ("evolve first third M", 0, "ok 2\n", "first in third in first"),
+    (
+        "evolve first third M",
+        0,
+        "ok 2\n",
+        "first in third in first",
+    ),
     ("evolve in first In", 0, "ok 2\n", "in first in"),
     // Where the old definition is refused the new one isn't fetched.
-    ("evolve gone q Req", 1, "definition gone 1:1 NoFile\n", "gone"),
+    (
+        "evolve gone q Req",
+        1,
+        "definition gone 1:1 NoFile\n",
+        "gone",
+    ),
     (
         "evolve gone away Req",
         1,
@@ -146,7 +156,11 @@ fn evolves<R: Abort + Threads + Sync>(rt: &R, alloc: Global, row: &Row) -> Resul
     let (line, status, text, names) = row;
     let mut objects = Objects::new(alloc, FILES, b"-\n")?;
     let came = call(rt, alloc, &Open, line, &mut objects)?;
-    let (out, errs) = if *status == 0 { (*text, "") } else { ("", *text) };
+    let (out, errs) = if *status == 0 {
+        (*text, "")
+    } else {
+        ("", *text)
+    };
     assert_eq!(rt; came, *status, "{line}");
     assert_eq!(rt; objects.out.taken(), out.as_bytes(), "{line}");
     assert_eq!(rt; objects.errs.taken(), errs.as_bytes(), "{line}");
