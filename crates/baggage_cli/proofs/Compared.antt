@@ -1,5 +1,5 @@
 -- Two tables that are taken one after the other.
-use Rattle.std.proofs.Common.{◌≡◌, inl, inr, ℕ, List, Result, Ok, Err, IfOk, ap}
+use Rattle.std.proofs.Common.{◌≡◌, inl, inr, ℕ, List, Result, Ok, Err, ap}
 use Rattle.std.specs.Global.{Vec}
 use Rattle.std.specs.Result.{IsErrAnd}
 use Rattle.bag_model.specs.Shapes.{Nodes}
@@ -9,7 +9,7 @@ use Rattle.baggage_cli.specs.declared.refusals.Refusal.{Refusal}
 use Rattle.baggage_cli.specs.declared.refusals.Refusal.TheVariants.{Plain}
 use Rattle.baggage_cli.specs.Commands.{Origin}
 use Rattle.baggage_cli.specs.Comparing.{ComparesTables, Compares}
-use Rattle.baggage_cli.specs.Outcomes.{outcome_of, Then}
+use Rattle.baggage_cli.specs.Outcomes.{outcome_of}
 use Rattle.baggage_cli.specs.Scene.{Change, Halfway, until, since}
 use Rattle.baggage_cli.specs.Tables.{Obtains}
 use Rattle.baggage_cli.proofs.Obtained.{unobtained}

@@ -1,5 +1,5 @@
 -- What is so of the files that a library told, and what it was asked for.
-use Rattle.std.proofs.Common.{◌≡◌, ◌⊎◌, inl, inr, ℕ, ◌≤◌, List, [], ◌++◌, Option, Some, None, IfSome, Result, Ok, Err, refl, sym, ◌∙◌, ap, subst, append_assoc, arith}
+use Rattle.std.proofs.Common.{◌≡◌, inl, inr, ℕ, ◌≤◌, List, ◌++◌, Option, Some, None, IfSome, Result, Ok, Err, refl, sym, ◌∙◌, ap, subst, append_assoc, arith}
 use Rattle.outside.specs.Causes.{Rose}
 use Rattle.outside.specs.Told.{Asked, Asks}
 use Rattle.bag_model.specs.Shapes.{Nodes}
