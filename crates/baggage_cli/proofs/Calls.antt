@@ -1,7 +1,7 @@
 -- What holds of every call.
-use Rattle.std.proofs.Common.{◌≡◌, ◌≢◌, ◌⊎◌, inl, inr, ℕ, List, Option, Some, None, Ok, Err, refl, arith}
+use Rattle.std.proofs.Common.{◌≡◌, ◌≢◌, ◌⊎◌, inl, inr, ℕ, List, Option, Some, None, Ok, Err, refl, ◌∙◌, arith}
 use Rattle.std.specs.Io.KnownBytes.{Appends}
-use Rattle.baggage_cli.specs.Commands.{Task, alone, load, build, under}
+use Rattle.baggage_cli.specs.Commands.{Task, alone, load, build, under, compare}
 use Rattle.baggage_cli.specs.declared.refusals.Notice.TheVariants.{WordsRefused}
 use Rattle.baggage_cli.specs.Delivery.{Tells, Delivers}
 use Rattle.baggage_cli.specs.Outcomes.{Outcome}
@@ -31,6 +31,11 @@ came_kept (build product origin) scene outcome (unread, inl (refusal, (same, cou
 came_kept (build product origin) scene outcome (unread, inr (table, (same, counts, why), built)) = (same, counts, same_never_fell scene.source unread)
 came_kept (under purpose origin) scene outcome (inl (refusal, (same, counts, why), unread, is)) = (same, counts, same_never_fell scene.source unread)
 came_kept (under purpose origin) scene outcome (inr (table, (same, counts, why), (kept, rest))) = (same, counts, kept)
+came_kept (compare old new) scene outcome (unread, inl (refusal, (same, counts, why), begun, is)) = (same, counts, same_never_fell scene.source unread)
+came_kept (compare old new) scene outcome (unread, inr (half, before, (same, counts, why), inl (refusal, (kept, more, how), begun, is))) =
+    (kept ∙ same, omega (arith, counts, more), same_never_fell scene.source unread)
+came_kept (compare old new) scene outcome (unread, inr (half, before, (same, counts, why), inr (after, (kept, more, how), compared))) =
+    (kept ∙ same, omega (arith, counts, more), same_never_fell scene.source unread)
 
 delivered_kept : (outcome : Outcome) (out errs : Change (List ℕ)) (answer : ℕ) → Delivers outcome out errs answer → NeverFell out × NeverFell errs
 delivered_kept (Ok output) out errs answer (inl done) = (takes_never_fell out output done.1, same_never_fell errs done.2)

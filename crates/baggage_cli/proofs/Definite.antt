@@ -28,7 +28,7 @@ use Rattle.text_lines.specs.Lines.{Line, lines_of}
 use Rattle.text_lines.specs.Readings.{Reading, IsDefinite, AllSay, IsFirstBad}
 use Rattle.text_lines.proofs.HexLaws.{hex_lines_definite}
 use Rattle.text_lines.proofs.ReadingLaws.{all_say_one, first_bad_one, good_not_bad, none_bad, at_most_definite}
-use Rattle.baggage_cli.specs.Commands.{Origin, Form, as_lines, as_json, Purpose, decoding, running, Filter, trimming, merging, carrying, collecting, Task, alone, load, build, under}
+use Rattle.baggage_cli.specs.Commands.{Origin, Form, as_lines, as_json, Purpose, decoding, running, Filter, trimming, merging, carrying, collecting, Task, alone, load, build, under, compare}
 use Rattle.baggage_cli.specs.declared.merging.TheConstants.{LINES_MAX}
 use Rattle.baggage_cli.specs.declared.refusals.InputCode.TheVariants.{Form as Excess, TooManyLines}
 use Rattle.baggage_cli.specs.declared.refusals.InputFault.{InputFault}
@@ -342,6 +342,7 @@ pub input_gives_one : Laws → (task : Task) (files : Option Holding) → GivesO
 input_gives_one laws (alone filter) files = within_one (FiltersLines filter) (filters_lines_one laws filter)
 input_gives_one laws (load rounds) files = λ input a b f g. absurd f
 input_gives_one laws (build product origin) files = λ input a b f g. absurd f
+input_gives_one laws (compare old new) files = λ input a b f g. absurd f
 input_gives_one laws (under purpose origin) files = λ input a b (held, told, table, is, gave) (other, same, found, known, given).
     input_under_one laws table (laws.tables.is_table origin held table is) purpose input a b gave
     (subst (λ t. InputUnder purpose t input b) (same_table laws.tables origin files held other table found told is same known) given)

@@ -1,12 +1,12 @@
 -- How a refusal is delivered.
 use Rattle.std.proofs.Common.{inl, inr, ℕ, List, Some, Err, refl}
 use Rattle.bdl_load.specs.Loading.{Holding}
-use Rattle.baggage_cli.specs.Commands.{Task, alone, load, build, under}
+use Rattle.baggage_cli.specs.Commands.{Task, alone, load, build, under, compare}
 use Rattle.baggage_cli.specs.declared.refusals.Notice.TheVariants.{Memory}
 use Rattle.baggage_cli.specs.declared.refusals.Refusal.{Refusal}
 use Rattle.baggage_cli.specs.declared.refusals.Refusal.TheVariants.{Input, Definition, Table, Plain}
 use Rattle.baggage_cli.specs.Delivery.{Refuses}
-use Rattle.baggage_cli.specs.Scene.{Change, Scene, IsSame}
+use Rattle.baggage_cli.specs.Scene.{Change, since, Scene, IsSame}
 use Rattle.baggage_cli.specs.Top.{Comes, Answers}
 use Rattle.baggage_cli.proofs.Obtained.{obtains_memory}
 
@@ -21,6 +21,12 @@ memory_instead (build product origin) library requests source refusal (same, inr
 memory_instead (under purpose origin) library requests source refusal (inl (other, obtains, same, is)) =
     inl (Plain Memory, obtains_memory origin library requests other obtains, same, refl)
 memory_instead (under purpose origin) library requests source refusal (inr (table, obtains, (counts, why))) = inr (table, obtains, (counts, inl refl))
+memory_instead (compare old new) library requests source refusal (same, inl (other, obtains, begun, is)) =
+    (same, inl (Plain Memory, obtains_memory old library requests other obtains, tt, refl))
+memory_instead (compare old new) library requests source refusal (same, inr (half, before, taken, inl (other, obtains, begun, is))) =
+    (same, inr (half, before, taken, inl (Plain Memory, obtains_memory new (since half.files half.faults library) (since half.asked half.faults requests) other obtains, tt, refl)))
+memory_instead (compare old new) library requests source refusal (same, inr (half, before, taken, inr (after, obtains, compared))) =
+    (same, inr (half, before, taken, inr (after, obtains, inl refl)))
 
 -- A refusal that is said answers the call.
 pub refused : (task : Task) (scene : Scene) (refusal : Refusal) (answer : ℕ) → Comes task scene.library scene.requests scene.source (Err refusal)

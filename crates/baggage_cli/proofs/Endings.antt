@@ -12,22 +12,20 @@ use Rattle.baggage_cli.specs.declared.refusals.Notice.TheVariants.{LibraryFailed
 use Rattle.baggage_cli.specs.declared.refusals.Refusal.{Refusal}
 use Rattle.baggage_cli.specs.declared.refusals.Refusal.TheVariants.{Input, Plain}
 use Rattle.baggage_cli.specs.Building.{product_text}
-use Rattle.baggage_cli.specs.Commands.{Origin, compiled, printed, Product, decoding, running, Filter, trimming, merging, carrying, collecting, Task, alone, load, build, under, ReadsSource, FetchesFiles, TakesTable}
+use Rattle.baggage_cli.specs.Comparing.{ComparesTables}
+use Rattle.baggage_cli.specs.Commands.{Origin, compiled, printed, Product, decoding, running, Filter, trimming, merging, carrying, collecting, Task, alone, load, build, under, compare, ReadsSource, FetchesFiles}
 use Rattle.baggage_cli.specs.Delivery.{Delivers}
 use Rattle.baggage_cli.specs.Filters.{FiltersLines, FilterGives}
 use Rattle.baggage_cli.specs.Loading.{IsLoadOutput, LoadGives}
-use Rattle.baggage_cli.specs.Outcomes.{Outcome}
+use Rattle.baggage_cli.specs.Outcomes.{Outcome, Then}
 use Rattle.baggage_cli.specs.Reading.{IsRead, Reads}
 use Rattle.baggage_cli.specs.Refusals.{status_of, line_of, input_status, input_line, notice_line, piece_refusal}
-use Rattle.baggage_cli.specs.Scene.{Scene, IsSame, HasFailed, Takes}
+use Rattle.baggage_cli.specs.Scene.{Change, Halfway, until, since, Scene, IsSame, HasFailed, Takes}
 use Rattle.baggage_cli.specs.Tables.{IsUnprinted, TableGives, CameFrom, Obtains}
-use Rattle.baggage_cli.specs.Top.{Answers}
+use Rattle.baggage_cli.specs.Top.{RefusesFiles, Answers}
 use Rattle.baggage_cli.specs.Under.{InputUnder}
 use Rattle.baggage_cli.proofs.Obtained.{obtained_table}
-
--- It is so of the files that the library holds, and it was asked for all that a table needs.
-abbrev pub OfFiles : Scene → Origin → (Holding → Type 0) → Type 0
-OfFiles scene origin Holds = CameFrom origin scene.library scene.requests Holds
+use Rattle.baggage_cli.proofs.ToldFiles.{OfFiles, FilesGive, came_told, rose_behind, first_refused, second_refused, both_compared}
 
 -- What an input gives for a task, with a table that came of the files of the library where the task reads under one.
 abbrev pub Gives : Task → Scene → List ℕ → Outcome → Type 0
@@ -35,7 +33,8 @@ Gives (alone filter) scene = FilterGives filter
 Gives (load rounds) scene = λ input outcome. ⊥
 Gives (build product origin) scene = λ input outcome. ⊥
 Gives (under purpose origin) scene = λ input outcome.
-    (table : Nodes) × OfFiles scene origin (λ held. TableGives origin held (Ok table)) × InputUnder purpose table input outcome
+    (table : Nodes) × OfFiles scene (under purpose origin) (λ held. TableGives origin held (Ok table)) × InputUnder purpose table input outcome
+Gives (compare old new) scene = λ input outcome. ⊥
 
 -- The line was said, and nothing was written.
 abbrev pub Said : Scene → List ℕ → Type 0
@@ -48,12 +47,12 @@ Written scene output = Takes scene.out output × IsSame scene.errs
 pub data Ending (task : Task) (scene : Scene) (answer : ℕ) : Type 0 where
   read_out : (input output : List ℕ) → answer ≡ 0 → ReadsSource task → IsRead scene.source input → Gives task scene input (Ok output)
       → Written scene output → Ending task scene answer
-  table_out : (product : Product) (origin : Origin) (table : Nodes) → answer ≡ 0 → task ≡ build product origin
-      → OfFiles scene origin (λ held. TableGives origin held (Ok table)) → IsSame scene.source → Written scene (product_text product table) → Ending task scene answer
+  files_out : (output : List ℕ) → answer ≡ 0 → FetchesFiles task → (ReadsSource task → ⊥) → OfFiles scene task (λ held. FilesGive task held output)
+      → IsSame scene.source → Written scene output → Ending task scene answer
   load_out : (rounds : ℕ) (output : List ℕ) → answer ≡ 0 → task ≡ load rounds → IsSame scene.source → IsLoadOutput rounds output → Written scene output → Ending task scene answer
   bad_input : (input : List ℕ) (number : ℕ) (fault : InputFault) → answer ≡ input_status fault → ReadsSource task → IsRead scene.source input
       → Gives task scene input (Err (Input number fault)) → Said scene (input_line number fault) → Ending task scene answer
-  bad_table : (origin : Origin) (refusal : Refusal) → answer ≡ 1 → TakesTable task origin → OfFiles scene origin (λ held. TableGives origin held (Err refusal))
+  bad_files : (refusal : Refusal) → answer ≡ 1 → FetchesFiles task → OfFiles scene task (λ held. RefusesFiles task held refusal)
       → IsSame scene.source → Said scene (line_of refusal) → Ending task scene answer
   library_failed : answer ≡ 4 → FetchesFiles task → HasFailed scene.library → Said scene (notice_line LibraryFailed) → Ending task scene answer
   source_failed : answer ≡ 4 → ReadsSource task → HasFailed scene.source → Said scene (notice_line SourceFailed) → Ending task scene answer
@@ -102,6 +101,7 @@ refuses_input (alone filter) scene input refusal (inl long) = (0, Code TooLong, 
 refuses_input (alone filter) scene input refusal (inr (short, refused)) = refuses_lines filter (lines_of input) refusal refused
 refuses_input (load rounds) scene input refusal gave = absurd gave
 refuses_input (build product origin) scene input refusal gave = absurd gave
+refuses_input (compare old new) scene input refusal gave = absurd gave
 refuses_input (under decoding origin) scene input refusal (table, came, inl long) = (0, Code TooLong, cc (long.1))
 refuses_input (under decoding origin) scene input refusal (table, came, inr (short, inl none)) = (0, Code NoLine, cc (none.1))
 refuses_input (under decoding origin) scene input refusal (table, came, inr (short, inr (number, fault, bad, is))) = (number, fault, is)
@@ -137,14 +137,8 @@ reading_ending task scene answer outcome gives reads turns (counts, inr (inr (in
 
 -- ---- tasks that take a table
 
-pub err_same : (r s : Refusal) → ◌≡◌ {A = Result Nodes Refusal} (Err r) (Err s) → r ≡ s
+err_same : (r s : Refusal) → ◌≡◌ {A = Result Nodes Refusal} (Err r) (Err s) → r ≡ s
 err_same r s e = cc e
-
-pub fetches_table : (task : Task) (origin : Origin) → TakesTable task origin → FetchesFiles task
-fetches_table (alone filter) origin takes = absurd takes
-fetches_table (load rounds) origin takes = absurd takes
-fetches_table (build product own) origin takes = tt
-fetches_table (under purpose own) origin takes = tt
 
 unprinted_status : (file : List ℕ) (content : Option (List ℕ)) (refusal : Refusal) → IsUnprinted file content refusal → status_of refusal ≡ 1
 unprinted_status file None refusal is = ap status_of is
@@ -156,45 +150,72 @@ table_status : (origin : Origin) (held : Holding) (refusal : Refusal) → TableG
 table_status (compiled file bag) held refusal (fault, first, is) = ap status_of is
 table_status (printed file) held refusal bad = unprinted_status file (held file) refusal bad
 
--- A task without its table.
-untabled_ending : (task : Task) (origin : Origin) (scene : Scene) (answer : ℕ) (refusal : Refusal) (outcome : Outcome) → TakesTable task origin
-    → Obtains origin scene.library scene.requests (Err refusal) → IsSame scene.source
+-- A task without a table that it takes with this part of the changes of the library.
+untabled_ending : (task : Task) (origin : Origin) (scene : Scene) (library : Change Holding) (requests : Change (List (List ℕ))) (answer : ℕ) (refusal : Refusal) (outcome : Outcome)
+    → FetchesFiles task → (HasFailed library → HasFailed scene.library)
+    → (CameFrom origin library requests (λ held. TableGives origin held (Err refusal)) → OfFiles scene task (λ held. RefusesFiles task held refusal))
+    → Obtains origin library requests (Err refusal) → IsSame scene.source
     → outcome ≡ Err refusal → Delivers outcome scene.out scene.errs answer → Ending task scene answer
-untabled_ending task origin scene answer refusal outcome takes (same, counts, inl wanting) unread is delivers = elim (refusal_delivered scene answer outcome (Plain Memory) (is ∙ ap Err (err_same refusal (Plain Memory) wanting.0)) delivers) [
+untabled_ending task origin scene library requests answer refusal outcome fetches rises turns (same, counts, inl wanting) unread is delivers = elim (refusal_delivered scene answer outcome (Plain Memory) (is ∙ ap Err (err_same refusal (Plain Memory) wanting.0)) delivers) [
   | inl said ↦ memory_wanting said.0 said.1
   | inr failed ↦ sink_failed failed.0 (inr failed.1)
 ]
-untabled_ending task origin scene answer refusal outcome takes (same, counts, inr (inl lost)) unread is delivers = elim (refusal_delivered scene answer outcome (Plain LibraryFailed) (is ∙ ap Err (err_same refusal (Plain LibraryFailed) lost.0)) delivers) [
-  | inl said ↦ library_failed said.0 (fetches_table task origin takes) lost.1 said.1
+untabled_ending task origin scene library requests answer refusal outcome fetches rises turns (same, counts, inr (inl lost)) unread is delivers = elim (refusal_delivered scene answer outcome (Plain LibraryFailed) (is ∙ ap Err (err_same refusal (Plain LibraryFailed) lost.0)) delivers) [
+  | inl said ↦ library_failed said.0 fetches (rises lost.1) said.1
   | inr failed ↦ sink_failed failed.0 (inr failed.1)
 ]
-untabled_ending task origin scene answer refusal outcome takes (same, counts, inr (inr (held, names, told, asked, (gave, all)))) unread is delivers =
+untabled_ending task origin scene library requests answer refusal outcome fetches rises turns (same, counts, inr (inr (held, names, told, asked, (gave, all)))) unread is delivers =
     elim (refusal_delivered scene answer outcome refusal is delivers) [
-      | inl said ↦ bad_table origin refusal (said.0 ∙ table_status origin held refusal gave) takes (held, names, told, asked, (gave, all)) unread said.1
+      | inl said ↦ bad_files refusal (said.0 ∙ table_status origin held refusal gave) fetches (turns (held, names, told, asked, (gave, all))) unread said.1
       | inr failed ↦ sink_failed failed.0 (inr failed.1)
     ]
 
--- A table of which something is made.
-table_ending : (product : Product) (origin : Origin) (scene : Scene) (answer : ℕ) (table : Nodes) (outcome : Outcome) → OfFiles scene origin (λ held. TableGives origin held (Ok table))
-    → (outcome ≡ Err (Plain Memory)) ⊎ (outcome ≡ Ok (product_text product table)) → IsSame scene.source → Delivers outcome scene.out scene.errs answer → Ending (build product origin) scene answer
-table_ending product origin scene answer table outcome came (inl wanting) unread delivers = elim (refusal_delivered scene answer outcome (Plain Memory) wanting delivers) [
+-- A task that makes something of its files alone.
+files_ending : (task : Task) (scene : Scene) (answer : ℕ) (output : List ℕ) (outcome : Outcome) → FetchesFiles task → (ReadsSource task → ⊥) → OfFiles scene task (λ held. FilesGive task held output)
+    → outcome ≡ Ok output → IsSame scene.source → Delivers outcome scene.out scene.errs answer → Ending task scene answer
+files_ending task scene answer output outcome fetches unasked gave is unread delivers =
+    elim (output_delivered scene answer outcome output is delivers) [
+      | inl done ↦ files_out output done.0 fetches unasked gave unread done.1
+      | inr failed ↦ sink_failed failed.0 (inl failed.1)
+    ]
+
+-- Memory was wanting.
+wanting_ending : (task : Task) (scene : Scene) (answer : ℕ) (outcome : Outcome) → outcome ≡ Err (Plain Memory) → Delivers outcome scene.out scene.errs answer → Ending task scene answer
+wanting_ending task scene answer outcome wanting delivers = elim (refusal_delivered scene answer outcome (Plain Memory) wanting delivers) [
   | inl said ↦ memory_wanting said.0 said.1
   | inr failed ↦ sink_failed failed.0 (inr failed.1)
 ]
-table_ending product origin scene answer table outcome came (inr built) unread delivers =
-    elim (output_delivered scene answer outcome (product_text product table) built delivers) [
-      | inl done ↦ table_out product origin table done.0 refl came unread done.1
-      | inr failed ↦ sink_failed failed.0 (inl failed.1)
-    ]
+
+-- A table of which something is made.
+table_ending : (product : Product) (origin : Origin) (scene : Scene) (answer : ℕ) (table : Nodes) (outcome : Outcome) → Obtains origin scene.library scene.requests (Ok table)
+    → (outcome ≡ Err (Plain Memory)) ⊎ (outcome ≡ Ok (product_text product table)) → IsSame scene.source → Delivers outcome scene.out scene.errs answer → Ending (build product origin) scene answer
+table_ending product origin scene answer table outcome obtains (inl wanting) unread delivers = wanting_ending (build product origin) scene answer outcome wanting delivers
+table_ending product origin scene answer table outcome obtains (inr built) unread delivers =
+    files_ending (build product origin) scene answer (product_text product table) outcome tt (λ reads. reads) gave built unread delivers
+  where
+    gave : OfFiles scene (build product origin) (λ held. FilesGive (build product origin) held (product_text product table))
+    gave held told =
+        let (is, all) = came_told origin scene.library scene.requests (λ h. TableGives origin h (Ok table)) held told (obtained_table origin scene.library scene.requests table obtains) in
+        ((table, is, refl), all)
+
+-- The second of two tables was taken, or why there is none, and they were compared.
+second_ending : (old new : Origin) (scene : Scene) (answer : ℕ) (half : Halfway) (before : Nodes) (outcome : Outcome)
+    → Obtains old (until half.files half.faults scene.library) (until half.asked half.faults scene.requests) (Ok before) → IsSame scene.source
+    → Then (Obtains new (since half.files half.faults scene.library) (since half.asked half.faults scene.requests)) (Unit {0}) (ComparesTables before) outcome
+    → Delivers outcome scene.out scene.errs answer → Ending (compare old new) scene answer
+second_ending old new scene answer half before outcome taken unread (inl (refusal, obtains, begun, is)) delivers =
+    untabled_ending (compare old new) new scene (since half.files half.faults scene.library) (since half.asked half.faults scene.requests) answer refusal outcome
+    tt (rose_behind scene.library.faults_before half.faults scene.library.faults_after taken.1) (second_refused old new scene half before taken refusal) obtains unread is delivers
+second_ending old new scene answer half before outcome taken unread (inr (after, obtains, inl wanting)) delivers = wanting_ending (compare old new) scene answer outcome wanting delivers
+second_ending old new scene answer half before outcome taken unread (inr (after, obtains, inr (line, right, is))) delivers =
+    files_ending (compare old new) scene answer line outcome tt (λ reads. reads)
+    (both_compared old new scene half before taken after line (obtained_table new (since half.files half.faults scene.library) (since half.asked half.faults scene.requests) after obtains) right) is unread delivers
 
 -- ---- loads
 
 load_ending : (rounds : ℕ) (scene : Scene) (answer : ℕ) (outcome : Outcome) → IsSame scene.source → LoadGives rounds outcome → Delivers outcome scene.out scene.errs answer
     → Ending (load rounds) scene answer
-load_ending rounds scene answer outcome unread (inl wanting) delivers = elim (refusal_delivered scene answer outcome (Plain Memory) wanting delivers) [
-  | inl said ↦ memory_wanting said.0 said.1
-  | inr failed ↦ sink_failed failed.0 (inr failed.1)
-]
+load_ending rounds scene answer outcome unread (inl wanting) delivers = wanting_ending (load rounds) scene answer outcome wanting delivers
 load_ending rounds scene answer outcome unread (inr (output, made, is)) delivers =
     elim (output_delivered scene answer outcome output is delivers) [
       | inl done ↦ load_out rounds output done.0 refl unread made done.1
@@ -208,10 +229,19 @@ pub ending : (task : Task) (scene : Scene) (answer : ℕ) → Answers (Some task
 ending (alone filter) scene answer (outcome, (same, unasked, reads), delivers) = reading_ending (alone filter) scene answer outcome (FilterGives filter) tt (λ input gave. gave) reads delivers
 ending (load rounds) scene answer (outcome, (same, unasked, unread, gives), delivers) = load_ending rounds scene answer outcome unread gives delivers
 ending (build product origin) scene answer (outcome, (unread, inl (refusal, obtains, begun, is)), delivers) =
-    untabled_ending (build product origin) origin scene answer refusal outcome refl obtains unread is delivers
+    untabled_ending (build product origin) origin scene scene.library scene.requests answer refusal outcome tt (λ failed. failed)
+    (λ came. λ held told. came_told origin scene.library scene.requests (λ h. TableGives origin h (Err refusal)) held told came) obtains unread is delivers
 ending (build product origin) scene answer (outcome, (unread, inr (table, obtains, built)), delivers) =
-    table_ending product origin scene answer table outcome (obtained_table origin scene.library scene.requests table obtains) built unread delivers
+    table_ending product origin scene answer table outcome obtains built unread delivers
 ending (under purpose origin) scene answer (outcome, inl (refusal, obtains, unread, is), delivers) =
-    untabled_ending (under purpose origin) origin scene answer refusal outcome refl obtains unread is delivers
+    untabled_ending (under purpose origin) origin scene scene.library scene.requests answer refusal outcome tt (λ failed. failed)
+    (λ came. λ held told. came_told origin scene.library scene.requests (λ h. TableGives origin h (Err refusal)) held told came) obtains unread is delivers
 ending (under purpose origin) scene answer (outcome, inr (table, obtains, reads), delivers) =
-    reading_ending (under purpose origin) scene answer outcome (InputUnder purpose table) tt (λ input gave. (table, obtained_table origin scene.library scene.requests table obtains, gave)) reads delivers
+    reading_ending (under purpose origin) scene answer outcome (InputUnder purpose table) tt (λ input gave. (table, given, gave)) reads delivers
+  where
+    given : OfFiles scene (under purpose origin) (λ held. TableGives origin held (Ok table))
+    given held told = came_told origin scene.library scene.requests (λ h. TableGives origin h (Ok table)) held told (obtained_table origin scene.library scene.requests table obtains)
+ending (compare old new) scene answer (outcome, (unread, inl (refusal, obtains, begun, is)), delivers) =
+    untabled_ending (compare old new) old scene scene.library scene.requests answer refusal outcome tt (λ failed. failed) (first_refused old new scene refusal) obtains unread is delivers
+ending (compare old new) scene answer (outcome, (unread, inr (half, before, taken, rest)), delivers) =
+    second_ending old new scene answer half before outcome taken unread rest delivers

@@ -1,14 +1,16 @@
 -- What follows from how a call ends.
-use Rattle.std.proofs.Common.{◌≡◌, ◌≢◌, ◌⊎◌, inl, inr, ℕ, ◌+◌, ◌≤◌, List, [], ◌∷◌, ◌++◌, length, take, drop, Option, Some, None, Result, Ok, Err, IfSome, refl, sym, ◌∙◌, ap, subst, arith}
+use Rattle.std.proofs.Common.{◌≡◌, ◌≢◌, ◌⊎◌, inl, inr, ℕ, ◌+◌, ◌≤◌, List, [], ◌∷◌, ◌++◌, length, take, drop, Option, Some, None, Ok, Err, IfSome, refl, sym, ◌∙◌, ap, subst, arith}
 use Rattle.std.proofs.lemmas.List.{take-append-drop}
 use Rattle.std.proofs.Math.Seq.{drop-append_seam}
 use Rattle.std.specs.Io.KnownBytes.{Appends, Consumes, IsAtEnd}
-use Rattle.outside.specs.Told.{Asks}
 use Rattle.context_model.specs.Atoms.{Atom}
 use Rattle.context_model.specs.Framing.{bytes_of}
 use Rattle.context_model.specs.Merged.{IsMerged}
 use Rattle.bag_model.specs.Shapes.{Nodes}
+use Rattle.bag_model.specs.Tables.{IsTable}
 use Rattle.bdl_load.specs.Loading.{Holding}
+use Rattle.def_evolve.specs.Common.{IsVerdict}
+use Rattle.def_evolve.specs.declared.verdicts.Verdict.{Verdict}
 use Rattle.bdl_check.specs.Definitions.{IsTableOf}
 use Rattle.report_text.specs.Blocks.{IsBlock}
 use Rattle.trace_model.specs.Graphs as model
@@ -28,7 +30,8 @@ use Rattle.text_carrier.specs.Carried.{carried_text}
 use Rattle.baggage_cli.specs.Building.{product_text}
 use Rattle.baggage_cli.specs.Carrying.{byte_lines}
 use Rattle.baggage_cli.specs.Collecting.{CollectsLines}
-use Rattle.baggage_cli.specs.Commands.{Origin, compiled, Product, Form, as_json, Purpose, decoding, running, trimming, carrying, Task, alone, trim, merge, carry, collect, load, build, under, decode, run_json, ReadsSource, FetchesFiles, TakesTable}
+use Rattle.baggage_cli.specs.Commands.{Origin, compiled, Product, Form, as_json, Purpose, decoding, running, trimming, carrying, Task, alone, trim, merge, carry, collect, load, build, under, compare, decode, run_json, evolve, ReadsSource, FetchesFiles}
+use Rattle.baggage_cli.specs.Comparing.{verdict_line, SafeWhereItFits}
 use Rattle.baggage_cli.specs.declared.merging.TheConstants.{LINES_MAX}
 use Rattle.baggage_cli.specs.declared.refusals.InputCode.TheVariants.{TooLong, Form as Excess, TooManyLines}
 use Rattle.baggage_cli.specs.declared.refusals.InputFault.{InputFault}
@@ -45,16 +48,16 @@ use Rattle.baggage_cli.specs.Refusals.{status_of, input_status, input_line, line
 use Rattle.baggage_cli.specs.Loading.{load_heading, IsLoadOutput}
 use Rattle.baggage_cli.specs.Running.{IsReportAs, ShowsTruth}
 use Rattle.baggage_cli.specs.Scene.{Change, Scene, scene_of, IsSame, IsSteady, HasFailed, Takes, HasNoFault}
-use Rattle.baggage_cli.specs.Tables.{TableGives, AsksNames}
-use Rattle.baggage_cli.specs.Top.{TellsFiles, TellsAll, InputGives, Comes, Answers, SaysList, SaysContexts, SaysBytes, SaysPieces, IsRefusedFor, FailsSink, IsFailure}
+use Rattle.baggage_cli.specs.Tables.{TableGives}
+use Rattle.baggage_cli.specs.Top.{TellsFiles, TellsAll, InputGives, RefusesFiles, Comes, Answers, SaysList, SaysContexts, SaysBytes, SaysPieces, IsRefusedFor, FailsSink, IsFailure}
 use Rattle.baggage_cli.specs.Top.IsRefusedFor.{by_files, by_input}
 use Rattle.baggage_cli.specs.Trimming.{trimmed_line}
 use Rattle.baggage_cli.specs.Under.{LinesGive, InputUnder, SaysTyped}
 use Rattle.baggage_cli.proofs.GraphInputs.{ran_graph}
 use Rattle.baggage_cli.proofs.Definite.{ok_no_err, input_gives_one}
-use Rattle.baggage_cli.proofs.Endings.{Ending, OfFiles, Gives, err_same, fetches_table, ending}
-use Rattle.baggage_cli.proofs.Endings.Ending.{read_out, table_out, load_out, bad_input, bad_table, library_failed, source_failed, memory_wanting, sink_failed}
-use Rattle.baggage_cli.proofs.Obtained.{no_ok}
+use Rattle.baggage_cli.proofs.Endings.{Ending, Gives, ending}
+use Rattle.baggage_cli.proofs.Endings.Ending.{read_out, files_out, load_out, bad_input, bad_files, library_failed, source_failed, memory_wanting, sink_failed}
+use Rattle.baggage_cli.proofs.ToldFiles.{AskedAll, FilesGive, refused_once, given_not_refused, no_table_given}
 
 -- No status of an input is another's.
 input_status_some : (fault : InputFault) (n : ℕ) → n ≡ input_status fault → (n ≡ 2) ⊎ (n ≡ 3)
@@ -93,18 +96,6 @@ read_left source told input is read =
 
 -- ---- what the library told
 
--- What is so of the files of the library is so of those that it told, and it was asked for all that the table needs.
-of_told : (scene : Scene) (origin : Origin) (Holds : Holding → Type 0) (held : Holding) → scene.library.before ≡ Some held → OfFiles scene origin Holds
-    → Holds held × ((names : List (List ℕ)) × AsksNames held origin names × Asks names scene.requests.before scene.requests.after)
-of_told scene origin Holds held told (files, names, tells, asked, (found, all)) =
-    let files_are : held ≡ files = subst (λ before. IfSome before (λ t. t ≡ files)) told tells in
-    (subst Holds (sym files_are) found, (names, subst (λ h. AsksNames h origin names) (sym files_are) all, asked))
-
--- What files give where a table comes from, those that were told give.
-told_result : (scene : Scene) (origin : Origin) (held : Holding) (outcome : Result Nodes Refusal) → scene.library.before ≡ Some held
-    → OfFiles scene origin (λ h. TableGives origin h outcome) → TableGives origin held outcome
-told_result scene origin held outcome told came = (of_told scene origin (λ h. TableGives origin h outcome) held told came).0
-
 -- What an input gives for a task, it gives with the files that the library told.
 told_gives : (task : Task) (scene : Scene) (input : List ℕ) (outcome : Outcome) → TellsFiles task scene.library.before → Gives task scene input outcome → InputGives task scene.library.before input outcome
 told_gives (alone filter) scene input outcome tells gave = gave
@@ -112,34 +103,23 @@ told_gives (load rounds) scene input outcome tells gave = absurd gave
 told_gives (build product origin) scene input outcome tells gave = absurd gave
 told_gives (under purpose origin) scene input outcome tells (table, came, gave) =
     let held = tells tt in
-    (held.0, held.1, table, told_result scene origin held.0 (Ok table) held.1 came, gave)
+    (held.0, held.1, table, (came held.0 held.1).0, gave)
+told_gives (compare old new) scene input outcome tells gave = absurd gave
 
 given_tells : (task : Task) (files : Option Holding) (input : List ℕ) (outcome : Outcome) → InputGives task files input outcome → TellsFiles task files
 given_tells (alone filter) files input outcome gave = λ fetches. absurd fetches
 given_tells (load rounds) files input outcome gave = absurd gave
 given_tells (build product origin) files input outcome gave = absurd gave
 given_tells (under purpose origin) files input outcome gave = λ fetches. (gave.0, gave.1)
+given_tells (compare old new) files input outcome gave = absurd gave
 
--- A task takes its table from one place.
-takes_one : (task : Task) (a b : Origin) → TakesTable task a → TakesTable task b → a ≡ b
-takes_one (alone filter) a b takes also = absurd takes
-takes_one (load rounds) a b takes also = absurd takes
-takes_one (build product own) a b takes also = sym takes ∙ also
-takes_one (under purpose own) a b takes also = sym takes ∙ also
-
--- Where files give a table they give no refusal.
-not_both : Laws → (origin : Origin) (held : Holding) (table : Nodes) (refusal : Refusal) → TableGives origin held (Ok table) → TableGives origin held (Err refusal) → ⊥
-not_both laws origin held table refusal gave bad = no_ok table refusal (laws.tables.gives_one origin held (Ok table) (Err refusal) gave bad)
-
--- An input gives nothing under a table that is refused.
-no_table_given : Laws → (task : Task) (origin : Origin) (held : Holding) (refusal : Refusal) (files : Option Holding) (input : List ℕ) (outcome : Outcome) → TakesTable task origin
-    → files ≡ Some held → TableGives origin held (Err refusal) → InputGives task files input outcome → ⊥
-no_table_given laws (alone filter) origin held refusal files input outcome takes told bad gave = takes
-no_table_given laws (load rounds) origin held refusal files input outcome takes told bad gave = takes
-no_table_given laws (build product own) origin held refusal files input outcome takes told bad gave = gave
-no_table_given laws (under purpose own) origin held refusal files input outcome takes told bad (other, tells, table, is, gave) =
-    let same : held ≡ other = cc (told, tells) in
-    not_both laws own other table refusal is (subst (λ o. TableGives o other (Err refusal)) (sym takes) (subst (λ h. TableGives origin h (Err refusal)) same bad))
+-- A task of which an input gives something reads the source.
+given_reads : (task : Task) (files : Option Holding) (input : List ℕ) (outcome : Outcome) → InputGives task files input outcome → ReadsSource task
+given_reads (alone filter) files input outcome gave = tt
+given_reads (load rounds) files input outcome gave = gave
+given_reads (build product origin) files input outcome gave = gave
+given_reads (under purpose origin) files input outcome gave = tt
+given_reads (compare old new) files input outcome gave = gave
 
 -- ---- status 0
 
@@ -154,10 +134,10 @@ pub record ReadOut (task : Task) (scene : Scene) : Type 0 where
 pub read_done : (task : Task) (scene : Scene) (answer : ℕ) → Ending task scene answer → ReadsSource task → answer ≡ 0 → ReadOut task scene
 read_done task scene answer (read_out input output zero reads read gave written) some is =
     record { input = input; output = output; read = read; gave = gave; out = written.0 }
-read_done task scene answer (table_out product origin table zero asks came unread written) some is = absurd (subst ReadsSource asks some)
+read_done task scene answer (files_out output zero fetches none came unread written) some is = absurd (none some)
 read_done task scene answer (load_out rounds output zero asks unread made written) some is = absurd (subst ReadsSource asks some)
 read_done task scene answer (bad_input input number fault status reads read gave said) some is = absurd (not_input fault answer status (λ two. omega arith) (λ three. omega arith))
-read_done task scene answer (bad_table origin refusal one takes came unread said) some is = absurd (omega arith)
+read_done task scene answer (bad_files refusal one fetches came unread said) some is = absurd (omega arith)
 read_done task scene answer (library_failed four fetches failed said) some is = absurd (omega arith)
 read_done task scene answer (source_failed four reads failed said) some is = absurd (omega arith)
 read_done task scene answer (memory_wanting six said) some is = absurd (omega arith)
@@ -238,7 +218,7 @@ gave_under purpose origin held input scene answer answers told content zero =
     record {
       table = done.gave.0;
       output = done.output;
-      is = told_result scene origin held (Ok done.gave.0) told done.gave.1;
+      is = (done.gave.1 held told).0;
       gave = subst (λ i. InputUnder purpose done.gave.0 i (Ok done.output)) (sym (told_input scene.source input done.input content done.read)) done.gave.2;
       written = done.out.0;
     }
@@ -285,19 +265,16 @@ run_json_appends laws file bag held input scene answer answers told content zero
 
 -- ---- loads
 
-no_load : (product : Product) (origin : Origin) (rounds : ℕ) → ◌≡◌ {A = Task} (build product origin) (load rounds) → ⊥
-no_load product origin rounds e = cc e
-
 same_rounds : (a b : ℕ) → ◌≡◌ {A = Task} (load a) (load b) → a ≡ b
 same_rounds a b e = cc e
 
 load_written : (rounds : ℕ) (scene : Scene) (answer : ℕ) → Ending (load rounds) scene answer → answer ≡ 0
     → (output : List ℕ) × IsLoadOutput rounds output × Appends scene.out.before scene.out.after output
 load_written rounds scene answer (read_out input output zero reads read gave written) is = absurd reads
-load_written rounds scene answer (table_out product origin table zero asks came unread written) is = absurd (no_load product origin rounds (sym asks))
+load_written rounds scene answer (files_out output zero fetches none came unread written) is = absurd fetches
 load_written rounds scene answer (load_out other output zero asks unread made written) is = (output, subst (λ n. IsLoadOutput n output) (sym (same_rounds rounds other asks)) made, written.0.0)
 load_written rounds scene answer (bad_input input number fault status reads read gave said) is = absurd reads
-load_written rounds scene answer (bad_table origin refusal one takes came unread said) is = absurd (omega arith)
+load_written rounds scene answer (bad_files refusal one fetches came unread said) is = absurd (omega arith)
 load_written rounds scene answer (library_failed four fetches failed said) is = absurd (omega arith)
 load_written rounds scene answer (source_failed four reads failed said) is = absurd (omega arith)
 load_written rounds scene answer (memory_wanting six said) is = absurd (omega arith)
@@ -315,106 +292,100 @@ load_appends laws rounds scene answer answers zero =
 
 -- ---- tables
 
--- A task that makes something of a table makes one thing, of a table from one place.
-same_product : (a b : Product) (own origin : Origin) → ◌≡◌ {A = Task} (build a own) (build b origin) → a ≡ b
-same_product a b own origin e = cc e
-
-same_origin : (a b : Product) (own origin : Origin) → ◌≡◌ {A = Task} (build a own) (build b origin) → own ≡ origin
-same_origin a b own origin e = cc e
+-- With status 0 of a task that reads nothing, what its files give was written.
+files_written : (task : Task) (held : Holding) (scene : Scene) (answer : ℕ) → Ending task scene answer → FetchesFiles task → (ReadsSource task → ⊥) → scene.library.before ≡ Some held → answer ≡ 0
+    → (output : List ℕ) × FilesGive task held output × Appends scene.out.before scene.out.after output
+files_written task held scene answer (read_out input output zero reads read gave written) fetching unasked told is = absurd (unasked reads)
+files_written task held scene answer (files_out output zero fetches none came unread written) fetching unasked told is = (output, (came held told).0, written.0.0)
+files_written task held scene answer (load_out rounds output zero asks unread made written) fetching unasked told is = absurd (subst FetchesFiles asks fetching)
+files_written task held scene answer (bad_input input number fault status reads read gave said) fetching unasked told is = absurd (unasked reads)
+files_written task held scene answer (bad_files refusal one fetches came unread said) fetching unasked told is = absurd (omega arith)
+files_written task held scene answer (library_failed four fetches failed said) fetching unasked told is = absurd (omega arith)
+files_written task held scene answer (source_failed four reads failed said) fetching unasked told is = absurd (omega arith)
+files_written task held scene answer (memory_wanting six said) fetching unasked told is = absurd (omega arith)
+files_written task held scene answer (sink_failed five failed) fetching unasked told is = absurd (omega arith)
 
 -- Where the answer is 0, what is made of the table was written.
 pub build_appends : (product : Product) (origin : Origin) (held : Holding) (scene : Scene) (answer : ℕ) → Answers (Some (build product origin)) scene answer → scene.library.before ≡ Some held → answer ≡ 0
     → (table : Nodes) × TableGives origin held (Ok table) × Appends scene.out.before scene.out.after (product_text product table)
-build_appends product origin held scene answer answers told is = by (ending (build product origin) scene answer answers)
+build_appends product origin held scene answer answers told zero =
+    let (output, (table, gave, is), written) = files_written (build product origin) held scene answer (ending (build product origin) scene answer answers) tt (λ reads. reads) told zero in
+    (table, gave, subst (Appends scene.out.before scene.out.after) is written)
+
+-- Contexts of a table are safe under one that fits.
+safe_where_it_fits : Laws → (old new : Nodes) (verdict : Verdict) → IsTable old → IsTable new → IsVerdict old new verdict → SafeWhereItFits old new verdict
+safe_where_it_fits laws old new verdict is also right = λ common fits. laws.fitting_is_safe old new is also (subst (IsVerdict old new) fits right).0
+
+-- Where the answer is 0, the verdict on two tables was written.
+pub evolve_appends : Laws → (old new bag : List ℕ) (held : Holding) (scene : Scene) (answer : ℕ) → Answers (Some (evolve old new bag)) scene answer → scene.library.before ≡ Some held → answer ≡ 0
+    → (before : Nodes) × (after : Nodes) × (verdict : Verdict) × IsTableOf held old bag before × IsTableOf held new bag after
+    × IsVerdict before after verdict × SafeWhereItFits before after verdict × Appends scene.out.before scene.out.after (verdict_line verdict)
+evolve_appends laws old new bag held scene answer answers told zero =
+    let (output, (before, after, (is, also), (verdict, right, line)), written) = files_written (evolve old new bag) held scene answer (ending (evolve old new bag) scene answer answers) tt (λ reads. reads) told zero in
+    let safe = safe_where_it_fits laws before after verdict (laws.tables.is_table (compiled old bag) held before is) (laws.tables.is_table (compiled new bag) held after also) right in
+    (before, after, verdict, is, also, right, safe, subst (Appends scene.out.before scene.out.after) line written)
+
+-- A task that fetches asked for all files that it needs, in order, and for no others.
+pub has_asked : (task : Task) (held : Holding) (scene : Scene) (answer : ℕ) → Answers (Some task) scene answer → FetchesFiles task → scene.library.before ≡ Some held → answer ≤ 3
+    → AskedAll held task scene
+has_asked task held scene answer answers fetching told few = by (ending task scene answer answers)
   where
-    by : Ending (build product origin) scene answer → (table : Nodes) × TableGives origin held (Ok table) × Appends scene.out.before scene.out.after (product_text product table)
-    by (read_out input output zero reads read gave written) = absurd reads
-    by (table_out other own table zero builds came unread written) =
-        let here = subst (λ o. TableGives o held (Ok table)) (sym (same_origin product other origin own builds)) (told_result scene own held (Ok table) told came) in
-        (table, here, subst (λ p. Appends scene.out.before scene.out.after (product_text p table)) (sym (same_product product other origin own builds)) written.0.0)
-    by (load_out rounds output zero asks unread made written) = absurd (no_load product origin rounds asks)
-    by (bad_input input number fault status reads read gave said) = absurd reads
-    by (bad_table own refusal one takes came unread said) = absurd (omega arith)
-    by (library_failed four fetches failed said) = absurd (omega arith)
-    by (source_failed four reads failed said) = absurd (omega arith)
-    by (memory_wanting six said) = absurd (omega arith)
-    by (sink_failed five failed) = absurd (omega arith)
-
--- The library was asked for all files that a table needs, in order, and for no others.
-abbrev pub AskedAll : Holding → Origin → Scene → Type 0
-AskedAll held origin scene = (names : List (List ℕ)) × AsksNames held origin names × Asks names scene.requests.before scene.requests.after
-
-pub has_asked : (task : Task) (origin : Origin) (held : Holding) (scene : Scene) (answer : ℕ) → Answers (Some task) scene answer → TakesTable task origin → scene.library.before ≡ Some held → answer ≤ 3
-    → AskedAll held origin scene
-has_asked task origin held scene answer answers takes told few = by (ending task scene answer answers)
-  where
-    asked_all : (own : Origin) (Holds : Holding → Type 0) → own ≡ origin → OfFiles scene own Holds → AskedAll held origin scene
-    asked_all own Holds same came = subst (λ o. AskedAll held o scene) same (of_told scene own Holds held told came).1
-
-    asked_given : (t : Task) (input : List ℕ) (outcome : Outcome) → TakesTable t origin → Gives t scene input outcome → AskedAll held origin scene
+    asked_given : (t : Task) (input : List ℕ) (outcome : Outcome) → FetchesFiles t → Gives t scene input outcome → AskedAll held t scene
     asked_given (alone filter) input outcome own gave = absurd own
     asked_given (load rounds) input outcome own gave = absurd own
-    asked_given (build product o) input outcome own gave = absurd gave
-    asked_given (under purpose o) input outcome own (table, came, gave) = asked_all o (λ h. TableGives o h (Ok table)) own came
+    asked_given (build product origin) input outcome own gave = absurd gave
+    asked_given (under purpose origin) input outcome own (table, came, gave) = (came held told).1
+    asked_given (compare old new) input outcome own gave = absurd gave
 
-    by : Ending task scene answer → AskedAll held origin scene
-    by (read_out input output zero reads read gave written) = asked_given task input (Ok output) takes gave
-    by (table_out product own table zero builds came unread written) =
-        asked_all own (λ h. TableGives own h (Ok table)) (takes_one task own origin (subst (λ t. TakesTable t own) (sym builds) refl) takes) came
-    by (load_out rounds output zero asks unread made written) = absurd (subst (λ t. TakesTable t origin) asks takes)
-    by (bad_input input number fault status reads read gave said) = asked_given task input (Err (Input number fault)) takes gave
-    by (bad_table own refusal one also came unread said) = asked_all own (λ h. TableGives own h (Err refusal)) (takes_one task own origin also takes) came
+    by : Ending task scene answer → AskedAll held task scene
+    by (read_out input output zero reads read gave written) = asked_given task input (Ok output) fetching gave
+    by (files_out output zero fetches none came unread written) = (came held told).1
+    by (load_out rounds output zero asks unread made written) = absurd (subst FetchesFiles asks fetching)
+    by (bad_input input number fault status reads read gave said) = asked_given task input (Err (Input number fault)) fetching gave
+    by (bad_files refusal one fetches came unread said) = (came held told).1
     by (library_failed four fetches failed said) = absurd (omega arith)
     by (source_failed four reads failed said) = absurd (omega arith)
     by (memory_wanting six said) = absurd (omega arith)
     by (sink_failed five failed) = absurd (omega arith)
 
--- What is wrong with where a table comes from was told to the errors.
-abbrev pub TellsTable : Holding → Task → Scene → Type 0
-TellsTable held task scene =
-    (origin : Origin) × (refusal : Refusal) × TakesTable task origin × TableGives origin held (Err refusal)
+-- What is wrong with where tables come from was told to the errors.
+abbrev pub TellsFault : Holding → Task → Scene → Type 0
+TellsFault held task scene = (refusal : Refusal) × RefusesFiles task held refusal
     × Appends scene.errs.before scene.errs.after (line_of refusal)
 
 -- The answer 1 comes only for that.
-pub table_told : (task : Task) (held : Holding) (scene : Scene) (answer : ℕ) → Answers (Some task) scene answer → scene.library.before ≡ Some held → answer ≡ 1 → TellsTable held task scene
-table_told task held scene answer answers told is = by (ending task scene answer answers)
+pub fault_told : (task : Task) (held : Holding) (scene : Scene) (answer : ℕ) → Answers (Some task) scene answer → scene.library.before ≡ Some held → answer ≡ 1 → TellsFault held task scene
+fault_told task held scene answer answers told is = by (ending task scene answer answers)
   where
-    by : Ending task scene answer → TellsTable held task scene
+    by : Ending task scene answer → TellsFault held task scene
     by (read_out input output zero reads read gave written) = absurd (omega arith)
-    by (table_out product own table zero builds came unread written) = absurd (omega arith)
+    by (files_out output zero fetches none came unread written) = absurd (omega arith)
     by (load_out rounds output zero asks unread made written) = absurd (omega arith)
     by (bad_input input number fault status reads read gave said) = absurd (not_input fault answer status (λ two. omega arith) (λ three. omega arith))
-    by (bad_table origin refusal one takes came unread said) = (origin, refusal, takes, told_result scene origin held (Err refusal) told came, said.1.0)
+    by (bad_files refusal one fetches came unread said) = (refusal, (came held told).0, said.1.0)
     by (library_failed four fetches failed said) = absurd (omega arith)
     by (source_failed four reads failed said) = absurd (omega arith)
     by (memory_wanting six said) = absurd (omega arith)
     by (sink_failed five failed) = absurd (omega arith)
 
--- A table that is refused is what the call is refused for, unless the world outside or memory failed.
-pub refusal_told : Laws → (task : Task) (origin : Origin) (held : Holding) (refusal : Refusal) (scene : Scene) (answer : ℕ) → Answers (Some task) scene answer → TakesTable task origin
-    → scene.library.before ≡ Some held → TableGives origin held (Err refusal)
+-- Where files are refused, the call is refused for it, unless the world outside or memory failed.
+pub refusal_told : Laws → (task : Task) (held : Holding) (refusal : Refusal) (scene : Scene) (answer : ℕ) → Answers (Some task) scene answer
+    → scene.library.before ≡ Some held → RefusesFiles task held refusal
     → ((answer ≡ 1) × Appends scene.errs.before scene.errs.after (line_of refusal)) ⊎ IsFailure answer
-refusal_told laws task origin held refusal scene answer answers takes told bad = by (ending task scene answer answers)
+refusal_told laws task held refusal scene answer answers told bad = by (ending task scene answer answers)
   where
     -- The task gave nothing of an input.
     not_given : (input : List ℕ) (outcome : Outcome) → Gives task scene input outcome → ⊥
     not_given input outcome gave =
-        no_table_given laws task origin held refusal scene.library.before input outcome takes told bad (told_gives task scene input outcome (λ fetches. (held, told)) gave)
-
-    -- Whatever its files gave is that.
-    gave_same : (own : Origin) (outcome : Result Nodes Refusal) → own ≡ origin → OfFiles scene own (λ h. TableGives own h outcome) → outcome ≡ Err refusal
-    gave_same own outcome same came =
-        laws.tables.gives_one origin held outcome (Err refusal) (subst (λ o. TableGives o held outcome) same (told_result scene own held outcome told came)) bad
+        no_table_given laws task held refusal scene.library.before input outcome told bad (told_gives task scene input outcome (λ fetches. (held, told)) gave)
 
     by : Ending task scene answer → ((answer ≡ 1) × Appends scene.errs.before scene.errs.after (line_of refusal)) ⊎ IsFailure answer
     by (read_out input output zero reads read gave written) = absurd (not_given input (Ok output) gave)
-    by (table_out product own table zero builds came unread written) =
-        absurd (no_ok table refusal (gave_same own (Ok table) (takes_one task own origin (subst (λ t. TakesTable t own) (sym builds) refl) takes) came))
-    by (load_out rounds output zero asks unread made written) = absurd (subst (λ t. TakesTable t origin) asks takes)
+    by (files_out output zero fetches none came unread written) = absurd (given_not_refused laws task held output refusal (came held told).0 bad)
+    by (load_out rounds output zero asks unread made written) = absurd (subst (λ t. RefusesFiles t held refusal) asks bad)
     by (bad_input input number other status reads read gave said) = absurd (not_given input (Err (Input number other)) gave)
-    by (bad_table own other one also came unread said) =
-        let same = err_same other refusal (gave_same own (Err other) (takes_one task own origin also takes) came) in
-        inl (one, subst (λ r. Appends scene.errs.before scene.errs.after (line_of r)) same said.1.0)
+    by (bad_files other one fetches came unread said) =
+        inl (one, subst (λ r. Appends scene.errs.before scene.errs.after (line_of r)) (refused_once laws task held other refusal (came held told).0 bad) said.1.0)
     by (library_failed four fetches failed said) = inr (inl four)
     by (source_failed four reads failed said) = inr (inl four)
     by (memory_wanting six said) = inr (inr (inr six))
@@ -438,12 +409,12 @@ input_told task input scene answer answers tells told ended = by (ending task sc
 
     by : Ending task scene answer → TellsInput task input scene answer
     by (read_out bytes output zero reads read gave written) = absurd (neither (λ two. omega arith) (λ three. omega arith))
-    by (table_out product own table zero asks came unread written) = absurd (neither (λ two. omega arith) (λ three. omega arith))
+    by (files_out output zero fetches none came unread written) = absurd (neither (λ two. omega arith) (λ three. omega arith))
     by (load_out rounds output zero asks unread made written) = absurd (neither (λ two. omega arith) (λ three. omega arith))
     by (bad_input bytes number fault status reads read gave said) =
         let given = told_gives task scene bytes (Err (Input number fault)) tells gave in
         (number, fault, status, subst (λ i. InputGives task scene.library.before i (Err (Input number fault))) (sym (told_input scene.source input bytes told read)) given, said.1.0)
-    by (bad_table origin refusal one takes came unread said) = absurd (neither (λ two. omega arith) (λ three. omega arith))
+    by (bad_files refusal one fetches came unread said) = absurd (neither (λ two. omega arith) (λ three. omega arith))
     by (library_failed four fetches failed said) = absurd (neither (λ two. omega arith) (λ three. omega arith))
     by (source_failed four reads failed said) = absurd (neither (λ two. omega arith) (λ three. omega arith))
     by (memory_wanting six said) = absurd (neither (λ two. omega arith) (λ three. omega arith))
@@ -467,15 +438,14 @@ bad_told laws task input number fault scene answer answers told bad = by (ending
 
     by : Ending task scene answer → ((answer ≡ input_status fault) × Appends scene.errs.before scene.errs.after (input_line number fault)) ⊎ IsFailure answer
     by (read_out bytes output zero reads read gave written) = absurd (ok_no_err output (Input number fault) (gave_same bytes (Ok output) read gave))
-    by (table_out product origin table zero asks came unread written) = absurd (subst (λ t. InputGives t scene.library.before input (Err (Input number fault))) asks bad)
+    by (files_out output zero fetches none came unread written) = absurd (none (given_reads task scene.library.before input (Err (Input number fault)) bad))
     by (load_out rounds output zero asks unread made written) = absurd (subst (λ t. InputGives t scene.library.before input (Err (Input number fault))) asks bad)
     by (bad_input bytes line other status reads read gave said) =
         let same = input_same line number other fault (gave_same bytes (Err (Input line other)) read gave) in
         inl (status ∙ ap input_status same.1, subst (λ n. Appends scene.errs.before scene.errs.after (input_line n fault)) same.0 (subst (λ f. Appends scene.errs.before scene.errs.after (input_line line f)) same.1 said.1.0))
-    by (bad_table own refusal one takes came unread said) =
-        let held = given_tells task scene.library.before input (Err (Input number fault)) bad (fetches_table task own takes) in
-        let is = told_result scene own held.0 (Err refusal) held.1 came in
-        absurd (no_table_given laws task own held.0 refusal scene.library.before input (Err (Input number fault)) takes held.1 is bad)
+    by (bad_files refusal one fetches came unread said) =
+        let held = given_tells task scene.library.before input (Err (Input number fault)) bad fetches in
+        absurd (no_table_given laws task held.0 refusal scene.library.before input (Err (Input number fault)) held.1 (came held.0 held.1).0 bad)
     by (library_failed four fetches failed said) = inr (inl four)
     by (source_failed four reads failed said) = inr (inl four)
     by (memory_wanting six said) = inr (inr (inr six))
@@ -486,19 +456,19 @@ pub left_told : (task : Task) (input : List ℕ) (scene : Scene) (answer : ℕ) 
     → (answer ≡ 0) ⊎ (answer ≡ 2) ⊎ (answer ≡ 3) → scene.source.after ≡ Some (drop (INPUT_MAX + 1) input)
 left_told task input scene answer answers reading told ended = by (ending task scene answer answers)
   where
-    none : (answer ≡ 0 → ⊥) → (answer ≡ 2 → ⊥) → (answer ≡ 3 → ⊥) → ⊥
-    none not_zero not_two not_three = elim ended [ inl zero ↦ not_zero zero | inr bad ↦ elim bad [ inl two ↦ not_two two | inr three ↦ not_three three ] ]
+    never : (answer ≡ 0 → ⊥) → (answer ≡ 2 → ⊥) → (answer ≡ 3 → ⊥) → ⊥
+    never not_zero not_two not_three = elim ended [ inl zero ↦ not_zero zero | inr bad ↦ elim bad [ inl two ↦ not_two two | inr three ↦ not_three three ] ]
 
     by : Ending task scene answer → scene.source.after ≡ Some (drop (INPUT_MAX + 1) input)
     by (read_out bytes output zero reads read gave written) = read_left scene.source input bytes told read
-    by (table_out product origin table zero asks came unread written) = absurd (subst ReadsSource asks reading)
+    by (files_out output zero fetches none came unread written) = absurd (none reading)
     by (load_out rounds output zero asks unread made written) = absurd (subst ReadsSource asks reading)
     by (bad_input bytes number fault status reads read gave said) = read_left scene.source input bytes told read
-    by (bad_table origin refusal one takes came unread said) = absurd (none (λ zero. omega arith) (λ two. omega arith) (λ three. omega arith))
-    by (library_failed four fetches failed said) = absurd (none (λ zero. omega arith) (λ two. omega arith) (λ three. omega arith))
-    by (source_failed four reads failed said) = absurd (none (λ zero. omega arith) (λ two. omega arith) (λ three. omega arith))
-    by (memory_wanting six said) = absurd (none (λ zero. omega arith) (λ two. omega arith) (λ three. omega arith))
-    by (sink_failed five failed) = absurd (none (λ zero. omega arith) (λ two. omega arith) (λ three. omega arith))
+    by (bad_files refusal one fetches came unread said) = absurd (never (λ zero. omega arith) (λ two. omega arith) (λ three. omega arith))
+    by (library_failed four fetches failed said) = absurd (never (λ zero. omega arith) (λ two. omega arith) (λ three. omega arith))
+    by (source_failed four reads failed said) = absurd (never (λ zero. omega arith) (λ two. omega arith) (λ three. omega arith))
+    by (memory_wanting six said) = absurd (never (λ zero. omega arith) (λ two. omega arith) (λ three. omega arith))
+    by (sink_failed five failed) = absurd (never (λ zero. omega arith) (λ two. omega arith) (λ three. omega arith))
 
 within_short : (gives : List Line → Outcome → Type 0) (input output : List ℕ) → Within gives input (Ok output) → length input ≤ INPUT_MAX
 within_short gives input output (inl long) = absurd (ok_no_err output (Input 0 (Code TooLong)) long.1)
@@ -508,6 +478,7 @@ short_given : (task : Task) (scene : Scene) (input output : List ℕ) → Gives 
 short_given (alone filter) scene input output gave = within_short (FiltersLines filter) input output gave
 short_given (load rounds) scene input output gave = absurd gave
 short_given (build product origin) scene input output gave = absurd gave
+short_given (compare old new) scene input output gave = absurd gave
 short_given (under purpose origin) scene input output (table, came, gave) = within_short (LinesGive purpose table) input output gave
 
 -- After an output nothing is left of a source that was read.
@@ -524,10 +495,10 @@ steady_done task scene answer answers is = by (ending task scene answer answers)
   where
     by : Ending task scene answer → IsSteady scene.source × IsSteady scene.out × IsSame scene.errs
     by (read_out input output zero reads read gave written) = (read.steady (short_given task scene input output gave), written.0.1, written.1)
-    by (table_out product origin table zero asks came unread written) = (unread.1, written.0.1, written.1)
+    by (files_out output zero fetches none came unread written) = (unread.1, written.0.1, written.1)
     by (load_out rounds output zero asks unread made written) = (unread.1, written.0.1, written.1)
     by (bad_input input number fault status reads read gave said) = absurd (not_input fault answer status (λ two. omega arith) (λ three. omega arith))
-    by (bad_table origin refusal one takes came unread said) = absurd (omega arith)
+    by (bad_files refusal one fetches came unread said) = absurd (omega arith)
     by (library_failed four fetches failed said) = absurd (omega arith)
     by (source_failed four reads failed said) = absurd (omega arith)
     by (memory_wanting six said) = absurd (omega arith)
@@ -539,10 +510,10 @@ unread_task task scene answer answers is = by (ending task scene answer answers)
   where
     by : Ending task scene answer → IsSame scene.source
     by (read_out input output zero reads read gave written) = absurd (omega arith)
-    by (table_out product origin table zero asks came unread written) = unread
+    by (files_out output zero fetches none came unread written) = unread
     by (load_out rounds output zero asks unread made written) = unread
     by (bad_input input number fault status reads read gave said) = absurd (not_input fault answer status (λ two. omega arith) (λ three. omega arith))
-    by (bad_table origin refusal one takes came unread said) = unread
+    by (bad_files refusal one fetches came unread said) = unread
     by (library_failed four fetches failed said) = absurd (omega arith)
     by (source_failed four reads failed said) = absurd (omega arith)
     by (memory_wanting six said) = absurd (omega arith)
@@ -557,10 +528,10 @@ failed_told task scene answer answers is = by (ending task scene answer answers)
     by : Ending task scene answer → (FetchesFiles task × HasFailed scene.library × Appends scene.errs.before scene.errs.after (notice_line LibraryFailed))
         ⊎ (ReadsSource task × HasFailed scene.source × Appends scene.errs.before scene.errs.after (notice_line SourceFailed))
     by (read_out input output zero reads read gave written) = absurd (omega arith)
-    by (table_out product origin table zero asks came unread written) = absurd (omega arith)
+    by (files_out output zero fetches none came unread written) = absurd (omega arith)
     by (load_out rounds output zero asks unread made written) = absurd (omega arith)
     by (bad_input input number fault status reads read gave said) = absurd (not_input fault answer status (λ two. omega arith) (λ three. omega arith))
-    by (bad_table origin refusal one takes came unread said) = absurd (omega arith)
+    by (bad_files refusal one fetches came unread said) = absurd (omega arith)
     by (library_failed four fetches failed said) = inl (fetches, failed, said.1.0)
     by (source_failed four reads failed said) = inr (reads, failed, said.1.0)
     by (memory_wanting six said) = absurd (omega arith)
@@ -572,10 +543,10 @@ memory_told task scene answer answers is = by (ending task scene answer answers)
   where
     by : Ending task scene answer → Appends scene.errs.before scene.errs.after (notice_line Memory)
     by (read_out input output zero reads read gave written) = absurd (omega arith)
-    by (table_out product origin table zero asks came unread written) = absurd (omega arith)
+    by (files_out output zero fetches none came unread written) = absurd (omega arith)
     by (load_out rounds output zero asks unread made written) = absurd (omega arith)
     by (bad_input input number fault status reads read gave said) = absurd (not_input fault answer status (λ two. omega arith) (λ three. omega arith))
-    by (bad_table origin refusal one takes came unread said) = absurd (omega arith)
+    by (bad_files refusal one fetches came unread said) = absurd (omega arith)
     by (library_failed four fetches failed said) = absurd (omega arith)
     by (source_failed four reads failed said) = absurd (omega arith)
     by (memory_wanting six said) = said.1.0
@@ -587,10 +558,10 @@ never_seven task scene answer answers is = by (ending task scene answer answers)
   where
     by : Ending task scene answer → ⊥
     by (read_out input output zero reads read gave written) = omega arith
-    by (table_out product origin table zero asks came unread written) = omega arith
+    by (files_out output zero fetches none came unread written) = omega arith
     by (load_out rounds output zero asks unread made written) = omega arith
     by (bad_input input number fault status reads read gave said) = not_input fault answer status (λ two. omega arith) (λ three. omega arith)
-    by (bad_table origin refusal one takes came unread said) = omega arith
+    by (bad_files refusal one fetches came unread said) = omega arith
     by (library_failed four fetches failed said) = omega arith
     by (source_failed four reads failed said) = omega arith
     by (memory_wanting six said) = omega arith
@@ -602,10 +573,10 @@ quiet_task task scene answer answers not_zero not_five = by (ending task scene a
   where
     by : Ending task scene answer → scene.out.after ≡ scene.out.before
     by (read_out input output zero reads read gave written) = absurd (not_zero zero)
-    by (table_out product origin table zero asks came unread written) = absurd (not_zero zero)
+    by (files_out output zero fetches none came unread written) = absurd (not_zero zero)
     by (load_out rounds output zero asks unread made written) = absurd (not_zero zero)
     by (bad_input input number fault status reads read gave said) = said.0.0
-    by (bad_table origin refusal one takes came unread said) = said.0.0
+    by (bad_files refusal one fetches came unread said) = said.0.0
     by (library_failed four fetches failed said) = said.0.0
     by (source_failed four reads failed said) = said.0.0
     by (memory_wanting six said) = said.0.0
@@ -616,10 +587,10 @@ sink_told task scene answer answers is = by (ending task scene answer answers)
   where
     by : Ending task scene answer → HasFailed scene.out ⊎ HasFailed scene.errs
     by (read_out input output zero reads read gave written) = absurd (omega arith)
-    by (table_out product origin table zero asks came unread written) = absurd (omega arith)
+    by (files_out output zero fetches none came unread written) = absurd (omega arith)
     by (load_out rounds output zero asks unread made written) = absurd (omega arith)
     by (bad_input input number fault status reads read gave said) = absurd (not_input fault answer status (λ two. omega arith) (λ three. omega arith))
-    by (bad_table origin refusal one takes came unread said) = absurd (omega arith)
+    by (bad_files refusal one fetches came unread said) = absurd (omega arith)
     by (library_failed four fetches failed said) = absurd (omega arith)
     by (source_failed four reads failed said) = absurd (omega arith)
     by (memory_wanting six said) = absurd (omega arith)
@@ -634,15 +605,15 @@ completes task scene answer answers tells sound sure = by (ending task scene ans
   where
     by : Ending task scene answer → (answer ≡ 0) ⊎ (answer ≡ 6)
     by (read_out input output zero reads read gave written) = inl zero
-    by (table_out product origin table zero asks came unread written) = inl zero
+    by (files_out output zero fetches none came unread written) = inl zero
     by (load_out rounds output zero asks unread made written) = inl zero
     by (bad_input input number fault status reads read gave said) =
         let told = tells.1 reads in
         let same = told_input scene.source told.0 input told.1 read in
         absurd (sound (Input number fault) (by_input input (told.1 ∙ ap Some same) (told_gives task scene input (Err (Input number fault)) tells.0 gave)))
-    by (bad_table origin refusal one takes came unread said) =
-        let held = tells.0 (fetches_table task origin takes) in
-        absurd (sound refusal (by_files origin held.0 takes held.1 (told_result scene origin held.0 (Err refusal) held.1 came)))
+    by (bad_files refusal one fetches came unread said) =
+        let held = tells.0 fetches in
+        absurd (sound refusal (by_files held.0 held.1 (came held.0 held.1).0))
     by (library_failed four fetches failed said) = absurd (sure.library failed)
     by (source_failed four reads failed said) = absurd (sure.source failed)
     by (memory_wanting six said) = inr six
@@ -680,9 +651,11 @@ unfetched_files (alone filter) scene answer (outcome, (same, unasked, reads), de
 unfetched_files (load rounds) scene answer (outcome, (same, unasked, unread, gives), delivers) none = (same, unasked)
 unfetched_files (build product origin) scene answer answers none = absurd (none tt)
 unfetched_files (under purpose origin) scene answer answers none = absurd (none tt)
+unfetched_files (compare old new) scene answer answers none = absurd (none tt)
 
 pub unread_input : (task : Task) (scene : Scene) (answer : ℕ) → Answers (Some task) scene answer → (ReadsSource task → ⊥) → IsSame scene.source
 unread_input (alone filter) scene answer answers none = absurd (none tt)
 unread_input (load rounds) scene answer (outcome, (same, unasked, unread, gives), delivers) none = unread
 unread_input (build product origin) scene answer (outcome, (unread, builds), delivers) none = unread
 unread_input (under purpose origin) scene answer answers none = absurd (none tt)
+unread_input (compare old new) scene answer (outcome, (unread, compares), delivers) none = unread

@@ -9,10 +9,12 @@ pub mod Loads
 pub mod Obtained
 pub mod TableLaws
 pub mod Printed
-pub mod ThreeWords
+pub mod FewWords
 pub mod HexLengths
 pub mod Delivered
 pub mod Definite
+pub mod Compared
+pub mod ToldFiles
 pub mod Endings
 pub mod Facts
 pub mod Calls

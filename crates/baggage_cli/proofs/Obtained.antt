@@ -16,7 +16,7 @@ use Rattle.baggage_cli.specs.Commands.{Origin, compiled, printed}
 use Rattle.baggage_cli.specs.Outcomes.{Outcome, outcome_of, Then}
 use Rattle.baggage_cli.specs.Refusals.{refusal_of}
 use Rattle.baggage_cli.specs.Scene.{Change, NeverFell, HasFailed}
-use Rattle.baggage_cli.specs.Tables.{TableGives, AsksNames, AsksFront, CameFrom, AsksSome, Obtains}
+use Rattle.baggage_cli.specs.Tables.{TableGives, AsksForTable, AsksFront, CameFrom, AsksSome, Obtains}
 
 -- ---- definitions
 
@@ -65,7 +65,7 @@ same_but_last held names = each (take (length names - 1) names)
     each [] = tt
     each (name ∷ those) = (refl, each those)
 
-names_front : (origin : Origin) (held : Holding) (names : List (List ℕ)) → AsksNames held origin names → AsksFront held origin names
+names_front : (origin : Origin) (held : Holding) (names : List (List ℕ)) → AsksForTable held origin names → AsksFront held origin names
 names_front (compiled file bag) held names all = (held, same_but_last held names, all)
 names_front (printed file) held names all = all
 

@@ -1,5 +1,5 @@
 -- What the words of a command line ask for.
-use Rattle.std.specs.Prelude.{◌≡◌, ℕ, ◌^◌, ◌==◌, ◌&&◌, ◌||◌, not, List, [], ◌∷◌, length, nat_lt, slice_index, if◌then◌else◌, codes, bytes_eq, Option, Some, None, option_and_then, ◌≤◌}
+use Rattle.std.specs.Prelude.{ℕ, ◌^◌, ◌==◌, ◌&&◌, ◌||◌, not, List, [], ◌∷◌, length, nat_lt, slice_index, if◌then◌else◌, codes, bytes_eq, Option, Some, None, option_and_then, ◌≤◌}
 use Rattle.std.specs.Option.{option_map}
 use Rattle.std.specs.Int.NonZero.{non_zero_u32_get}
 use Rattle.std.specs.Str.{all_ascii_digits}
@@ -48,13 +48,14 @@ pub data Filter : Type 0 where
   carrying : ℕ → Filter
   collecting : Filter
 
--- What is to be done: something is made of an input by itself, the load of so many rounds is run, and something is made of a
--- table, or of an input under one.
+-- What is to be done: something is made of an input by itself, the load of so many rounds is run, something is made of a table, or
+-- of an input under one, and a table is compared with the one that may take its place.
 pub data Task : Type 0 where
   alone : Filter → Task
   load : ℕ → Task
   build : Product → Origin → Task
   under : Purpose → Origin → Task
+  compare : Origin → Origin → Task
 
 -- A list is cut to a budget, contexts are merged, and a context goes into lines of text and comes back from them.
 abbrev pub trim : ℕ → Task
@@ -89,6 +90,10 @@ run_json file bag = under (running as_json) (compiled file bag)
 abbrev pub run_table : List ℕ → Task
 run_table file = under (running as_lines) (printed file)
 
+-- The table of a bag is compared with the one that a newer definition gives it.
+abbrev pub evolve : List ℕ → List ℕ → List ℕ → Task
+evolve old new bag = compare (compiled old bag) (compiled new bag)
+
 -- ---- the commands of the code
 
 abbrev pub filter_of : CodeFilter → Filter
@@ -119,6 +124,7 @@ task_of (code.Alone filter) = alone (filter_of filter)
 task_of (code.Load rounds) = load rounds
 task_of (code.Build product origin) = build (product_of product) (origin_of origin)
 task_of (code.Read purpose origin) = under (purpose_of purpose) (origin_of origin)
+task_of (code.Compare old new) = compare (origin_of old) (origin_of new)
 
 -- ---- words
 
@@ -140,6 +146,7 @@ width_of word = option_and_then (λ width. if nat_lt width WIDTH_MIN || nat_lt W
 
 -- What the words ask for, by their first one and their number; `None` where they have no form.
 unfoldable pub command_of : List (List ℕ) → Option Task
+command_of (name ∷ old ∷ new ∷ bag ∷ []) = if bytes_eq name (codes "evolve") then Some (evolve old new bag) else None
 command_of (name ∷ file ∷ bag ∷ []) =
     if bytes_eq name (codes "check") then Some (check file bag)
     else if bytes_eq name (codes "table") then Some (print file bag)
@@ -167,6 +174,7 @@ ReadsSource (alone filter) = Unit {0}
 ReadsSource (load rounds) = ⊥
 ReadsSource (build product origin) = ⊥
 ReadsSource (under purpose origin) = Unit {0}
+ReadsSource (compare old new) = ⊥
 
 -- The task fetches files of the library.
 abbrev pub FetchesFiles : Task → Type 0
@@ -174,13 +182,7 @@ FetchesFiles (alone filter) = ⊥
 FetchesFiles (load rounds) = ⊥
 FetchesFiles (build product origin) = Unit {0}
 FetchesFiles (under purpose origin) = Unit {0}
-
--- The task takes its table from there.
-abbrev pub TakesTable : Task → Origin → Type 0
-TakesTable (alone filter) origin = ⊥
-TakesTable (load rounds) origin = ⊥
-TakesTable (build product own) origin = own ≡ origin
-TakesTable (under purpose own) origin = own ≡ origin
+FetchesFiles (compare old new) = Unit {0}
 
 -- A piece has at least so many bytes, and not too many.
 abbrev pub HasWidth : Filter → Type 0
@@ -195,3 +197,4 @@ IsInRange (alone filter) = HasWidth filter
 IsInRange (load rounds) = (1 ≤ rounds) × (rounds ≤ ROUNDS_MAX)
 IsInRange (build product origin) = Unit {0}
 IsInRange (under purpose origin) = Unit {0}
+IsInRange (compare old new) = Unit {0}

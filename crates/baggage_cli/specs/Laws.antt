@@ -11,6 +11,8 @@ use Rattle.trace_model.specs.Shown.{ShownIsHonest}
 use Rattle.graph_report.specs.Reports.{HasOneReport}
 use Rattle.report_json.specs.JsonReports.{HasOneJsonReport}
 use Rattle.graph_text.specs.GraphLines.{IsGraphOf, LinesAreDefinite}
+use Rattle.def_evolve.specs.Breaks.{IsFitting}
+use Rattle.def_evolve.specs.Safety.{IsSafe}
 use Rattle.baggage_cli.specs.declared.refusals.Refusal.{Refusal}
 use Rattle.baggage_cli.specs.Commands.{Origin}
 use Rattle.baggage_cli.specs.Tables.{TableGives}
@@ -33,9 +35,10 @@ pub record GraphLaws : Type 0 where
   pub one_json_report : HasOneJsonReport
   pub honest : ShownIsHonest
 
--- All of them. A list has one block, and lines of pieces one answer.
+-- All of them. A list has one block, lines of pieces have one answer, and contexts are safe under a table that fits.
 pub record Laws : Type 0 where
   pub one_collected : CollectOneWay
   pub tables : TableLaws
   pub one_block : HasOneBlock
   pub graphs : GraphLaws
+  pub fitting_is_safe : (old new : Nodes) → IsTable old → IsTable new → IsFitting old new → IsSafe old new

@@ -10,6 +10,7 @@ pub mod Collecting
 pub mod Filters
 pub mod Tables
 pub mod Building
+pub mod Comparing
 pub mod Decoding
 pub mod Running
 pub mod Under

@@ -1,9 +1,11 @@
 -- What the work of a command comes to: an output, or why there is none.
 use Rattle.std.specs.Prelude.{◌≡◌, ◌⊎◌, ℕ, List, Result, Ok, Err}
 use Rattle.std.specs.Global.{Vec}
+use Rattle.bdl_load.specs.Loading.{Holding}
 use Rattle.baggage_cli.specs.declared.refusals.Notice.TheVariants.{Memory}
 use Rattle.baggage_cli.specs.declared.refusals.Refusal.{Refusal}
 use Rattle.baggage_cli.specs.declared.refusals.Refusal.TheVariants.{Plain}
+use Rattle.baggage_cli.specs.Scene.{Change, Halfway, until, since}
 
 -- The output, or why there is none.
 abbrev pub Outcome : Type 0
@@ -28,6 +30,18 @@ abbrev pub Then : {A : Type 0} → (Result A Refusal → Type 0) → Type 0 → 
 Then {A} first unbegun rest outcome =
     ((refusal : Refusal) × first (Err refusal) × unbegun × (outcome ≡ Err refusal))
     ⊎ ((value : A) × first (Ok value) × rest value outcome)
+
+-- What may come of a use of the library, with its files and the names that it was asked for, before and after.
+abbrev pub Use : Type 0 → Type 1
+Use A = Change Holding → Change (List (List ℕ)) → Result A Refusal → Type 0
+
+-- One use of the library comes first. Where it is refused, that is the outcome, and the rest isn't begun; what it gives otherwise
+-- decides the rest, which uses the library as the first use left it.
+abbrev pub ThenUses : {A B : Type 0} → Use A → Type 0 → (A → Use B) → Use B
+ThenUses {A} {B} first unbegun rest library requests outcome =
+    ((refusal : Refusal) × first library requests (Err refusal) × unbegun × (outcome ≡ Err refusal))
+    ⊎ ((half : Halfway) × (value : A) × first (until half.files half.faults library) (until half.asked half.faults requests) (Ok value)
+    × rest value (since half.files half.faults library) (since half.asked half.faults requests) outcome)
 
 -- There is one outcome for an input, or for the files of a library.
 abbrev pub GivesOne : {A : Type 0} → (A → Outcome → Type 0) → Type 0

@@ -21,6 +21,20 @@ change content faults old new = record {
   faults_after = faults new;
 }
 
+-- What the library tells between two uses: its files, the names that it was asked for, and its count of faults.
+pub record Halfway : Type 0 where
+  pub files : Option Holding
+  pub asked : Option (List (List ℕ))
+  pub faults : ℕ
+
+-- The part of a change that ends where this is told, with this count of faults.
+abbrev pub until : {A : Type 0} → Option A → ℕ → Change A → Change A
+until told faults c = record { before = c.before; after = told; faults_before = c.faults_before; faults_after = faults }
+
+-- The part that begins there.
+abbrev pub since : {A : Type 0} → Option A → ℕ → Change A → Change A
+since told faults c = record { before = told; after = c.after; faults_before = faults; faults_after = c.faults_after }
+
 -- The four objects of a call: of the library, its files and the names that it was asked for.
 pub record Scene : Type 0 where
   pub library : Change Holding

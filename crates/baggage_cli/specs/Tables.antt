@@ -43,10 +43,10 @@ TableGives (compiled file bag) held (Err refusal) =
 TableGives (printed file) held (Ok table) = IsPrinted (held file) table
 TableGives (printed file) held (Err refusal) = IsUnprinted file (held file) refusal
 
--- All names that are asked for, in order.
-abbrev pub AsksNames : Holding → Origin → List (List ℕ) → Type 0
-AsksNames held (compiled file bag) names = AsksAll held file names
-AsksNames held (printed file) names = names ≡ file ∷ []
+-- All names that are asked for a table, in order.
+abbrev pub AsksForTable : Holding → Origin → List (List ℕ) → Type 0
+AsksForTable held (compiled file bag) names = AsksAll held file names
+AsksForTable held (printed file) names = names ≡ file ∷ []
 
 -- The first of them.
 abbrev pub AsksFront : Holding → Origin → List (List ℕ) → Type 0
@@ -56,7 +56,7 @@ AsksFront held (printed file) names = names ≡ file ∷ []
 -- It is so of the files of the library, which was asked for all names that the table needs, and for no others.
 abbrev pub CameFrom : Origin → Change Holding → Change (List (List ℕ)) → (Holding → Type 0) → Type 0
 CameFrom origin library requests Holds =
-    OfLibrary library.before requests.before requests.after (λ held names. Holds held × AsksNames held origin names)
+    OfLibrary library.before requests.before requests.after (λ held names. Holds held × AsksForTable held origin names)
 
 -- The library was asked for the first names that the table needs.
 abbrev pub AsksSome : Origin → Change Holding → Change (List (List ℕ)) → Type 0

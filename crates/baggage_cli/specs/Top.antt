@@ -1,5 +1,5 @@
 -- What a call of the program may come to.
-use Rattle.std.specs.Prelude.{◌≡◌, ◌⊎◌, ℕ, ◌≤◌, List, [], ◌∷◌, length, Option, Some, None, Ok, Err}
+use Rattle.std.specs.Prelude.{◌≡◌, ◌⊎◌, ℕ, ◌≤◌, List, [], ◌∷◌, ◌++◌, length, Option, Some, None, Ok, Err}
 use Rattle.text_lines.specs.declared.TheConstants.{INPUT_MAX}
 use Rattle.text_lines.specs.Lines.{lines_of}
 use Rattle.text_lines.specs.Readings.{AllSay}
@@ -11,7 +11,8 @@ use Rattle.baggage_cli.specs.declared.refusals.Refusal.{Refusal}
 use Rattle.baggage_cli.specs.Building.{BuildsProduct}
 use Rattle.text_carrier.specs.Collected.{Collects}
 use Rattle.baggage_cli.specs.Carrying.{AreOfContext, byte_lines}
-use Rattle.baggage_cli.specs.Commands.{Task, Origin, ReadsSource, FetchesFiles, TakesTable, alone, load, build, under}
+use Rattle.baggage_cli.specs.Comparing.{Compares}
+use Rattle.baggage_cli.specs.Commands.{Task, Origin, ReadsSource, FetchesFiles, alone, load, build, under, compare}
 use Rattle.baggage_cli.specs.Delivery.{Notifies, Delivers}
 use Rattle.baggage_cli.specs.Filters.{FilterGives}
 use Rattle.baggage_cli.specs.Loading.{LoadGives}
@@ -19,7 +20,7 @@ use Rattle.baggage_cli.specs.Outcomes.{Outcome}
 use Rattle.baggage_cli.specs.Reading.{Framed, Reads, cut_lines, context_lines}
 use Rattle.baggage_cli.specs.Refusals.{line_of, notice_line}
 use Rattle.baggage_cli.specs.Scene.{Change, Scene, IsSame, Takes, TakesPart}
-use Rattle.baggage_cli.specs.Tables.{TableGives}
+use Rattle.baggage_cli.specs.Tables.{TableGives, AsksForTable}
 use Rattle.baggage_cli.specs.Under.{InputUnder, ReadsUnder}
 
 -- The library tells which files it holds, where the task fetches any.
@@ -35,6 +36,32 @@ InputGives (build product origin) files = λ input outcome. ⊥
 InputGives (under purpose origin) files = λ input outcome.
     (held : Holding) × (files ≡ Some held) × (table : Nodes) × TableGives origin held (Ok table)
     × InputUnder purpose table input outcome
+InputGives (compare old new) files = λ input outcome. ⊥
+
+-- What is first wrong with the files that a task takes its tables from. The second of two tables is wanted where the first is given.
+abbrev pub RefusesFiles : Task → Holding → Refusal → Type 0
+RefusesFiles (alone filter) held refusal = ⊥
+RefusesFiles (load rounds) held refusal = ⊥
+RefusesFiles (build product origin) held refusal = TableGives origin held (Err refusal)
+RefusesFiles (under purpose origin) held refusal = TableGives origin held (Err refusal)
+RefusesFiles (compare old new) held refusal =
+    TableGives old held (Err refusal)
+    ⊎ ((table : Nodes) × TableGives old held (Ok table) × TableGives new held (Err refusal))
+
+-- All names that are asked for two tables, in order: those of the first, and behind them those of the second where the first is given.
+abbrev pub AsksForBoth : Holding → Origin → Origin → List (List ℕ) → Type 0
+AsksForBoth held old new names =
+    ((refusal : Refusal) × TableGives old held (Err refusal) × AsksForTable held old names)
+    ⊎ ((table : Nodes) × (front : List (List ℕ)) × (rest : List (List ℕ)) × TableGives old held (Ok table)
+    × AsksForTable held old front × AsksForTable held new rest × (names ≡ front ++ rest))
+
+-- All names that a task asks for, in order.
+abbrev pub AsksNames : Holding → Task → List (List ℕ) → Type 0
+AsksNames held (alone filter) names = names ≡ []
+AsksNames held (load rounds) names = names ≡ []
+AsksNames held (build product origin) names = AsksForTable held origin names
+AsksNames held (under purpose origin) names = AsksForTable held origin names
+AsksNames held (compare old new) names = AsksForBoth held old new names
 
 -- What a task may come to, with the library and the source before and after it.
 abbrev pub Comes : Task → Change Holding → Change (List (List ℕ)) → Change (List ℕ) → Outcome → Type 0
@@ -45,6 +72,7 @@ Comes (load rounds) library requests source outcome =
 Comes (build product origin) library requests source outcome =
     IsSame source × BuildsProduct product origin library requests outcome
 Comes (under purpose origin) library requests source outcome = ReadsUnder purpose origin library requests source outcome
+Comes (compare old new) library requests source outcome = IsSame source × Compares old new library requests outcome
 
 -- The call answers: words that ask for nothing are refused and nothing else is touched; otherwise what the
 -- task comes to is delivered.
@@ -77,10 +105,9 @@ SaysPieces input bytes = (length input ≤ INPUT_MAX) × Collects (lines_of inpu
 abbrev pub TellsAll : Task → Option Holding → Option (List ℕ) → Type 0
 TellsAll task files content = TellsFiles task files × (ReadsSource task → (input : List ℕ) × (content ≡ Some input))
 
--- What the library and the source tell is refused for this: the files that a table comes from, or the input.
+-- What the library and the source tell is refused for this: the files that tables come from, or the input.
 pub data IsRefusedFor (task : Task) (files : Option Holding) (content : Option (List ℕ)) (refusal : Refusal) : Type 0 where
-  by_files : (origin : Origin) (held : Holding) → TakesTable task origin → files ≡ Some held
-      → TableGives origin held (Err refusal) → IsRefusedFor task files content refusal
+  by_files : (held : Holding) → files ≡ Some held → RefusesFiles task held refusal → IsRefusedFor task files content refusal
   by_input : (input : List ℕ) → content ≡ Some input → InputGives task files input (Err refusal)
       → IsRefusedFor task files content refusal
 

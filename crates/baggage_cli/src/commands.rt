@@ -77,6 +77,11 @@ pub enum Command<'a> {
         purpose: Purpose,
         origin: Origin<'a>,
     },
+    /// Compare a table with the one that may take its place.
+    Compare {
+        old: Origin<'a>,
+        new: Origin<'a>,
+    },
 }
 
 /// A number from 1 to 4,294,967,295, without sign or leading zero.
@@ -189,6 +194,26 @@ fn definition_command<'a>(name: &str, file: &'a str, bag: &'a str) -> Option<Com
     }
 }
 
+/// The command that a word asks for with two files and a bag.
+#[tactic(auto, unfolding(crate::specs::Commands::command_of))]
+fn comparing_command<'a>(
+    name: &str,
+    old: &'a str,
+    new: &'a str,
+    bag: &'a str,
+) -> Option<Command<'a>>
+    ensures task { option_map spec.task_of result ≡ spec.command_of (name.now ∷ old.now ∷ new.now ∷ bag.now ∷ []) }
+    ensures range { IfSome result (λ command. spec.IsInRange (spec.task_of command)) }
+{
+    match name {
+        "evolve" => Some(Command::Compare {
+            old: Origin::Bag { file: old, bag },
+            new: Origin::Bag { file: new, bag },
+        }),
+        _ => None,
+    }
+}
+
 /// The command that the words ask for; `None` where they have no form.
 #[tactic(auto, unfolding(crate::specs::Commands::command_of))]
 pub fn command_of(words: &Words) -> Option<Command<'_>>
@@ -200,6 +225,10 @@ pub fn command_of(words: &Words) -> Option<Command<'_>>
         1 => bare_command(name),
         2 => numbered_command(name, words.get(1)?.as_str()),
         3 => definition_command(name, words.get(1)?.as_str(), words.get(2)?.as_str()),
+        4 => {
+            let (old, new, bag) = (words.get(1)?, words.get(2)?, words.get(3)?);
+            comparing_command(name, old.as_str(), new.as_str(), bag.as_str())
+        }
         _ => None,
     }
 }

@@ -5,6 +5,7 @@ mod building;
 mod carrying;
 mod collecting;
 mod commands;
+mod comparing;
 mod decoding;
 mod delivery;
 mod filters;

@@ -11,6 +11,8 @@ ghost use Rattle.bag_model.specs.Slots.{slots_of};
 ghost use Rattle.bdl_load.specs.Loading.{Holding};
 ghost use Rattle.bdl_check.specs.Definitions.{IsTableOf};
 ghost use Rattle.report_text.specs.Blocks.{IsBlock};
+ghost use Rattle.def_evolve.specs.Common.{IsVerdict};
+ghost use Rattle.def_evolve.specs.declared.verdicts.Verdict.{Verdict};
 ghost use Rattle.trace_model.specs.Graphs.{Graph};
 ghost use Rattle.trace_model.specs.Runs.{Lists, IsRun};
 ghost use Rattle.graph_report.specs.Reports.{IsReport};
@@ -21,7 +23,7 @@ ghost use Rattle.graph_text.specs.GraphLines.{IsGraphOf};
 ghost use Rattle.text_carrier.specs.Carried.{carried_text};
 ghost use Rattle.text_lines.specs.declared.TheConstants.{INPUT_MAX};
 ghost use Rattle.text_lines.specs.HexLines.{hex_line};
-ghost use Rattle.baggage_cli.specs.Commands.{Task, Origin, task_of, command_of, trim, merge, carry, collect, load, check, print, decode, run, run_json, run_table, ReadsSource, FetchesFiles, TakesTable, IsInRange};
+ghost use Rattle.baggage_cli.specs.Commands.{Task, task_of, command_of, trim, merge, carry, collect, load, check, print, decode, run, run_json, run_table, evolve, ReadsSource, FetchesFiles, IsInRange};
 ghost use Rattle.baggage_cli.specs.Refusals.{input_status, input_line, notice_line, line_of};
 ghost use Rattle.baggage_cli.specs.Scene.{change, scene_of, HasNoFault};
 ghost use Rattle.baggage_cli.specs.Laws.{Laws};
@@ -30,20 +32,23 @@ ghost use Rattle.baggage_cli.specs.Trimming.{trimmed_line};
 ghost use Rattle.baggage_cli.specs.Merging.{lists_of, widest};
 ghost use Rattle.baggage_cli.specs.Reading.{Framed};
 ghost use Rattle.baggage_cli.specs.Building.{ok_line};
+ghost use Rattle.baggage_cli.specs.Comparing.{verdict_line, SafeWhereItFits};
 ghost use Rattle.baggage_cli.specs.Loading.{load_heading};
 ghost use Rattle.baggage_cli.specs.Running.{ShowsTruth};
-ghost use Rattle.baggage_cli.specs.Tables.{IsPrinted, TableGives, AsksNames};
-ghost use Rattle.baggage_cli.specs.Top.{TellsFiles, TellsAll, InputGives, Comes, Answers, SaysList, SaysContexts, SaysBytes, SaysPieces, IsRefusedFor, FailsSink, IsFailure};
+ghost use Rattle.baggage_cli.specs.Tables.{IsPrinted};
+ghost use Rattle.baggage_cli.specs.Top.{TellsFiles, TellsAll, InputGives, Comes, Answers, SaysList, SaysContexts, SaysBytes, SaysPieces, RefusesFiles, AsksNames, IsRefusedFor, FailsSink, IsFailure};
 ghost use Rattle.baggage_cli.specs.Under.{SaysTyped};
 
 use crate::building::build;
 use crate::commands::{Command, command_of};
+use crate::comparing::compare;
 use crate::delivery::{deliver, notify, refuse};
 use crate::filters::filter_source;
 use crate::loading::run_load;
 use crate::refusals::{InputFault, Notice, Refusal};
 use crate::under::read_under;
 use bdl_check::laws;
+use def_evolve::fitting_tables_are_safe;
 use graph_report::laws::lists_have_one_report;
 use graph_text::laws::{lines_are_definite, texts_give_recorded_graphs};
 use outside::{Gate, Library, Sink, Source, Words};
@@ -55,8 +60,9 @@ use table_text::laws::{printed_texts_have_no_fault, texts_have_one_fault, texts_
 use text_carrier::laws::lines_collect_one_way;
 use trace_model::laws::{graphs_have_one_run, shown_values_are_honest};
 
-/// Tells that a definition has one table or one first fault, a list one block, and a text one graph or one first fault; and
-/// that a graph has one run and one report, which shows the truth. It does nothing.
+/// Tells that a definition has one table or one first fault, a list one block, and a text one graph or one first fault;
+/// that a graph has one run and one report, which shows the truth; and that contexts are safe under a table that fits. It does
+/// nothing.
 fn tell_laws()
     ensures { Laws }
 {
@@ -75,6 +81,7 @@ fn tell_laws()
     lists_have_one_report();
     lists_have_one_json_report();
     shown_values_are_honest();
+    fitting_tables_are_safe();
 }
 
 /// Carries a command out: its output, or why there is none.
@@ -98,6 +105,7 @@ fn carry_out<R: Threads + Sync, G: Gate, L: Library, S: Source>(
         Command::Read { purpose, origin } => {
             read_under(rt, alloc, gate, library, source, purpose, origin)
         }
+        Command::Compare { old, new } => compare(alloc, library, old, new),
     }
 }
 
@@ -143,6 +151,7 @@ fn answer_words<R: Threads + Sync, G: Gate, L: Library, S: Source, K: Sink, E: S
 /// | `run FILE BAG` | the same, then a recorded graph of steps | the number and the block of each step that it shows |
 /// | `runjson FILE BAG` | the same | these as JSON |
 /// | `runtable FILE` | the text of a table, then a graph | as `run` |
+/// | `evolve OLD NEW BAG` | the definitions of both files, OLD's first | `ok C`, with the number of slots that are in both of the bag's tables, or `breaks PATH CODE`, with the first field that NEW's table breaks |
 /// | `load N` | nothing | the report of a graph of `42 N + 1` steps, which is made here |
 ///
 /// Files come from the library, and lines from the source; lines that are empty or begin with `#` are skipped. Where a
@@ -228,10 +237,16 @@ pub fn baggage_top<R: Threads + Sync, G: Gate, L: Library, S: Source, K: Sink, E
         × IsRun load_table graph lists × IsReport load_table graph lists text
         × ShowsTruth load_table graph lists
         × Appends (K.written out.old) (K.written out.new) (load_heading rounds ++ text) }
-    ensures fetched { (task : Task) (origin : Origin) (held : Holding)
-        → command_of words.now ≡ Some task → TakesTable task origin
+    ensures evolve { (old new bag : List ℕ) (held : Holding)
+        → command_of words.now ≡ Some (evolve old new bag) → L.files library.old ≡ Some held → result ≡ 0
+        → (before : Nodes) × (after : Nodes) × (verdict : Verdict)
+        × IsTableOf held old bag before × IsTableOf held new bag after
+        × IsVerdict before after verdict × SafeWhereItFits before after verdict
+        × Appends (K.written out.old) (K.written out.new) (verdict_line verdict) }
+    ensures fetched { (task : Task) (held : Holding)
+        → command_of words.now ≡ Some task → FetchesFiles task
         → L.files library.old ≡ Some held → result ≤ 3
-        → (names : List (List ℕ)) × AsksNames held origin names
+        → (names : List (List ℕ)) × AsksNames held task names
         × Asks names (L.asked library.old) (L.asked library.new) }
 
     // What holds of the objects.
@@ -267,15 +282,13 @@ pub fn baggage_top<R: Threads + Sync, G: Gate, L: Library, S: Source, K: Sink, E
     ensures errs_steady { result ≡ 0 → E.faults errs.new ≡ E.faults errs.old }
     ensures errs { result ≡ 0 → E.written errs.new ≡ E.written errs.old }
 
-    // What is first wrong with where the table comes from is status 1 with its line, unless the world outside or memory failed.
+    // What is first wrong with where the tables come from is status 1 with its line, unless the world outside or memory failed.
     ensures definition { (task : Task) (held : Holding) → command_of words.now ≡ Some task
         → L.files library.old ≡ Some held → result ≡ 1
-        → (origin : Origin) × (refusal : Refusal)
-        × TakesTable task origin × TableGives origin held (Err refusal)
+        → (refusal : Refusal) × RefusesFiles task held refusal
         × Appends (E.written errs.old) (E.written errs.new) (line_of refusal) }
-    ensures fault { (task : Task) (origin : Origin) (held : Holding) (refusal : Refusal)
-        → command_of words.now ≡ Some task → TakesTable task origin
-        → L.files library.old ≡ Some held → TableGives origin held (Err refusal)
+    ensures fault { (task : Task) (held : Holding) (refusal : Refusal)
+        → command_of words.now ≡ Some task → L.files library.old ≡ Some held → RefusesFiles task held refusal
         → ((result ≡ 1) × Appends (E.written errs.old) (E.written errs.new) (line_of refusal))
         ⊎ IsFailure result }
 

@@ -128,7 +128,8 @@ pub fn holds<R: Abort + Threads + Sync>(
 
 /// Whether a command reads the source.
 fn reads(line: &str) -> bool {
-    !line.starts_with("check") && !line.starts_with("table") && !line.starts_with("load")
+    let silent = ["check", "table", "load", "evolve"];
+    !silent.iter().any(|name| line.starts_with(*name))
 }
 
 /// Calls the program for each row, with the definitions above.

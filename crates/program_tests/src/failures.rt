@@ -18,6 +18,8 @@ in.bdl|bag In { bool a = 3; bool b = 3; }
 
 m2.bdl|import "in.bdl"; bag M { bool a = 0; bool b = 0; }
 
+n.bdl|bag Req { uint32 id = 0; }
+
 t|baggage table 1
 0 0 id scalar fixed32
 "#;
@@ -48,7 +50,7 @@ enum Object {
 /// a call of its own.
 type Taking = (&'static str, &'static str, Object, u64);
 
-static TAKINGS: [Taking; 21] = [
+static TAKINGS: [Taking; 26] = [
     ("trim 10", LINE, Object::Source, 32),
     ("trim 9", LINE, Object::Source, 32),
     ("merge", LINE, Object::Source, 32),
@@ -70,13 +72,18 @@ static TAKINGS: [Taking; 21] = [
     ("runjson q.bdl Req", GRAPH, Object::Library, 1),
     ("runtable t", GRAPH, Object::Library, 1),
     ("runtable z", GRAPH, Object::Library, 1),
+    ("evolve q.bdl q.bdl Req", "-\n", Object::Library, 2),
+    ("evolve q.bdl n.bdl Req", "-\n", Object::Library, 2),
+    ("evolve q.bdl m2.bdl Req", "-\n", Object::Library, 3),
+    ("evolve q.bdl z.bdl Req", "-\n", Object::Library, 2),
+    ("evolve z.bdl q.bdl Req", "-\n", Object::Library, 1),
 ];
 
 /// A call whose writes fail, each in a call of its own: its words, its input, the sink that fails, and a front of what the
 /// program would write to it.
 type Giving = (&'static str, &'static str, Object, &'static str);
 
-static GIVINGS: [Giving; 18] = [
+static GIVINGS: [Giving; 22] = [
     ("trim 10", LINE, Object::Output, "02f80005000000000700\n"),
     (
         "merge",
@@ -107,6 +114,13 @@ static GIVINGS: [Giving; 18] = [
         "baggage table 1\n0 0 id",
     ),
     ("load 1", "", Object::Output, "load 1\nsteps 43\nstep 42"),
+    ("evolve q.bdl q.bdl Req", "", Object::Output, "ok 5\n"),
+    (
+        "evolve q.bdl n.bdl Req",
+        "",
+        Object::Output,
+        "breaks 0 Kind\n",
+    ),
     ("trim 0", LINE, Object::Errors, "words refused\n"),
     (
         "trim 9",
@@ -137,6 +151,18 @@ static GIVINGS: [Giving; 18] = [
     (
         "runtable z",
         GRAPH,
+        Object::Errors,
+        "definition z 1:1 NoFile\n",
+    ),
+    (
+        "evolve z q.bdl Req",
+        "",
+        Object::Errors,
+        "definition z 1:1 NoFile\n",
+    ),
+    (
+        "evolve q.bdl z Req",
+        "",
         Object::Errors,
         "definition z 1:1 NoFile\n",
     ),
@@ -199,13 +225,20 @@ type Full = (
     &'static str,
 );
 
-static FULL: [Full; 6] = [
+static FULL: [Full; 7] = [
     ("trim 10", LINE, [5, 4], "02f80", "sink"),
     ("trim 10", LINE, [0, 64], "", "sink failed\n"),
     ("trim 10", LINE, [0, 0], "", ""),
     ("merge", "0", [64, 5], "", "input"),
     ("check q.bdl Req", "", [2, 10], "ok", "sink faile"),
     ("check q.bdl Nix", "", [2, 10], "", "definition"),
+    (
+        "evolve q.bdl n.bdl Req",
+        "",
+        [6, 64],
+        "breaks",
+        "sink failed\n",
+    ),
 ];
 
 /// Calls the program with such sinks.

@@ -10,6 +10,8 @@ mod decodings;
 #[cfg(test)]
 mod definitions;
 #[cfg(test)]
+mod evolutions;
+#[cfg(test)]
 mod failures;
 #[cfg(test)]
 mod gates;

@@ -274,7 +274,7 @@ fn long_inputs(rt: HostRuntime) -> Result<(), Fail> {
 /// A call with long files: its words, the files, an input, the status, and what it writes.
 type FileRow = (&'static str, Long, &'static str, u8, Long);
 
-static LONG_FILES: [FileRow; 9] = [
+static LONG_FILES: [FileRow; 11] = [
     // The deepest bags.
     (
         "check chain.bdl B0",
@@ -315,6 +315,31 @@ static LONG_FILES: [FileRow; 9] = [
     ),
     (
         "check f0.bdl B",
+        (
+            "f0.bdl|import \"f1.bdl\";",
+            "\n\nf@.bdl|import \"f%.bdl\";",
+            63,
+            "\n\nf64.bdl|bag B { }",
+        ),
+        "",
+        1,
+        ("definition f63.bdl 1:8 TooManyFiles\n", "", 0, ""),
+    ),
+    // Each of two definitions has the most files.
+    (
+        "evolve f0.bdl f0.bdl B",
+        (
+            "f0.bdl|import \"f1.bdl\";",
+            "\n\nf@.bdl|import \"f%.bdl\";",
+            62,
+            "\n\nf63.bdl|bag B { }",
+        ),
+        "",
+        0,
+        ("ok 0\n", "", 0, ""),
+    ),
+    (
+        "evolve f1.bdl f0.bdl B",
         (
             "f0.bdl|import \"f1.bdl\";",
             "\n\nf@.bdl|import \"f%.bdl\";",

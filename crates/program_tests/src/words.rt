@@ -4,7 +4,7 @@ use crate::calls::{FILES, Objects, call};
 use outside::Open;
 use std::test::Fail;
 
-static REFUSED: [&str; 48] = [
+static REFUSED: [&str; 54] = [
     "",
     "trim",
     "trim 0",
@@ -53,6 +53,12 @@ static REFUSED: [&str; 48] = [
     "carry 4294967300",
     "collect x",
     "Collect",
+    "evolve",
+    "evolve q.bdl",
+    "evolve q.bdl Req",
+    "evolve q.bdl q.bdl Req Req",
+    "Evolve q.bdl q.bdl Req",
+    "check q.bdl q.bdl Req",
 ];
 
 /// The library and the source stay as they were.

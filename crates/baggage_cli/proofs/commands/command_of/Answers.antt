@@ -1,8 +1,18 @@
 use Rattle.std.proofs.Common.{◌≡◌, length, Some, rules, sym, ap, ◌∙◌}
 use Rattle.std.specs.List.{slice_get}
 use Rattle.baggage_cli.specs.Commands.{command_of}
-use Rattle.baggage_cli.proofs.ThreeWords.{three_words}
+use Rattle.baggage_cli.proofs.FewWords.{two_words, three_words, four_words}
 use Rattle.baggage_cli.proofs.commands.command_of.Goals as goal
+
+pub returns-in_ok-get-in-2-clause-task : goal.returns-in_ok-get-in-2-clause-task
+returns-in_ok-get-in-2-clause-task c =
+    let words = c.args.words.now in
+    let name = c.as_str-name.result.now in
+    let word = c.as_str.result.now in
+    let count : length words ≡ 2 = search rules in
+    let first : slice_get words 0 ≡ Some name = search rules in
+    let second : slice_get words 1 ≡ Some word = search rules in
+    c.numbered_command.ensures.task ∙ ap command_of (sym (two_words words name word count first second))
 
 pub returns-in_ok-get-in-3-2-clause-task : goal.returns-in_ok-get-in-3-2-clause-task
 returns-in_ok-get-in-3-2-clause-task c =
@@ -15,3 +25,17 @@ returns-in_ok-get-in-3-2-clause-task c =
     let second : slice_get words 1 ≡ Some file = search rules in
     let third : slice_get words 2 ≡ Some bag = search rules in
     c.definition_command.ensures.task ∙ ap command_of (sym (three_words words name file bag count first second third))
+
+pub returns-in_ok-bag-in-4-clause-task : goal.returns-in_ok-bag-in-4-clause-task
+returns-in_ok-bag-in-4-clause-task c =
+    let words = c.args.words.now in
+    let name = c.as_str-name.result.now in
+    let old = c.as_str-in-4.result.now in
+    let new = c.as_str-in-4-2.result.now in
+    let bag = c.as_str-in-4-3.result.now in
+    let count : length words ≡ 4 = search rules in
+    let first : slice_get words 0 ≡ Some name = search rules in
+    let second : slice_get words 1 ≡ Some old = search rules in
+    let third : slice_get words 2 ≡ Some new = search rules in
+    let fourth : slice_get words 3 ≡ Some bag = search rules in
+    c.comparing_command.ensures.task ∙ ap command_of (sym (four_words words name old new bag count first second third fourth))

@@ -1,7 +1,7 @@
 use Rattle.baggage_cli.specs.Commands.{compiled, printed, slot_line, whole_text, as_lines}
 use Rattle.baggage_cli.specs.Scene.{change, scene_of}
 use Rattle.baggage_cli.proofs.Calls.{files_kept, counts_kept, steady_call, unread_call, quiet_call, sink_call, words_call, unasked_call, untouched_call}
-use Rattle.baggage_cli.proofs.Facts.{trim_appends, merge_appends, carry_appends, collect_appends, decode_appends, run_appends, run_json_appends, load_appends, build_appends, has_asked, ended_source, left_told, table_told, refusal_told, input_told, bad_told, failed_told, memory_told, completes, part_told, unfetched_files, unread_input}
+use Rattle.baggage_cli.proofs.Facts.{trim_appends, merge_appends, carry_appends, collect_appends, decode_appends, run_appends, run_json_appends, load_appends, build_appends, evolve_appends, has_asked, ended_source, left_told, fault_told, refusal_told, input_told, bad_told, failed_told, memory_told, completes, part_told, unfetched_files, unread_input}
 use Rattle.baggage_cli.proofs.top.baggage_top.Goals as goal
 
 pub returns-clause-trim : goal.returns-clause-trim
@@ -86,6 +86,16 @@ returns-clause-load g c =
     (change g.E.Sink.written g.E.Sink.faults c.args.errs.now c.answer_words.new.errs) in
     λ rounds is done. load_appends c.tell_laws.ensures rounds scene c.answer_words.result (rw is at c.answer_words.ensures) done
 
+pub returns-clause-evolve : goal.returns-clause-evolve
+returns-clause-evolve g c =
+    let scene = scene_of
+    (change g.L.Library.files g.L.Library.faults c.args.library.now c.answer_words.new.library)
+    (change g.L.Library.asked g.L.Library.faults c.args.library.now c.answer_words.new.library)
+    (change g.S.Source.left g.S.Source.faults c.args.source.now c.answer_words.new.source)
+    (change g.K.Sink.written g.K.Sink.faults c.args.out.now c.answer_words.new.out)
+    (change g.E.Sink.written g.E.Sink.faults c.args.errs.now c.answer_words.new.errs) in
+    λ old new bag held is told done. evolve_appends c.tell_laws.ensures old new bag held scene c.answer_words.result (rw is at c.answer_words.ensures) told done
+
 pub returns-clause-fetched : goal.returns-clause-fetched
 returns-clause-fetched g c =
     let scene = scene_of
@@ -94,7 +104,7 @@ returns-clause-fetched g c =
     (change g.S.Source.left g.S.Source.faults c.args.source.now c.answer_words.new.source)
     (change g.K.Sink.written g.K.Sink.faults c.args.out.now c.answer_words.new.out)
     (change g.E.Sink.written g.E.Sink.faults c.args.errs.now c.answer_words.new.errs) in
-    λ task origin held is takes told few. has_asked task origin held scene c.answer_words.result (rw is at c.answer_words.ensures) takes told few
+    λ task held is fetches told few. has_asked task held scene c.answer_words.result (rw is at c.answer_words.ensures) fetches told few
 
 pub returns-clause-same : goal.returns-clause-same
 returns-clause-same g c = files_kept _ _ c.answer_words.result c.answer_words.ensures
@@ -139,7 +149,7 @@ pub returns-clause-errs : goal.returns-clause-errs
 returns-clause-errs g c = λ done. (steady_call _ _ c.answer_words.result c.answer_words.ensures done).2.0
 
 pub returns-clause-definition : goal.returns-clause-definition
-returns-clause-definition g c = λ task held is told one. table_told task held _ c.answer_words.result (rw is at c.answer_words.ensures) told one
+returns-clause-definition g c = λ task held is told one. fault_told task held _ c.answer_words.result (rw is at c.answer_words.ensures) told one
 
 pub returns-clause-fault : goal.returns-clause-fault
 returns-clause-fault g c =
@@ -149,7 +159,7 @@ returns-clause-fault g c =
     (change g.S.Source.left g.S.Source.faults c.args.source.now c.answer_words.new.source)
     (change g.K.Sink.written g.K.Sink.faults c.args.out.now c.answer_words.new.out)
     (change g.E.Sink.written g.E.Sink.faults c.args.errs.now c.answer_words.new.errs) in
-    λ task origin held refusal is takes told bad. refusal_told c.tell_laws.ensures task origin held refusal scene c.answer_words.result (rw is at c.answer_words.ensures) takes told bad
+    λ task held refusal is told bad. refusal_told c.tell_laws.ensures task held refusal scene c.answer_words.result (rw is at c.answer_words.ensures) told bad
 
 pub returns-clause-input : goal.returns-clause-input
 returns-clause-input g c = λ task input is tells told ended. input_told task input _ c.answer_words.result (rw is at c.answer_words.ensures) tells told ended

@@ -18,3 +18,10 @@ returns-in-Read g c =
     let requests = change g.L.Library.asked g.L.Library.faults c.args.library.now c.read_under.new.library in
     let source = change g.S.Source.left g.S.Source.faults c.args.source.now c.read_under.new.source in
     subst (λ command. Comes (task_of command) library requests source (outcome_of c.read_under.result)) (sym c.in-Read.is) c.read_under.ensures
+
+pub returns-in-Compare : goal.returns-in-Compare
+returns-in-Compare g c =
+    let library = change g.L.Library.files g.L.Library.faults c.args.library.now c.compare.new.library in
+    let requests = change g.L.Library.asked g.L.Library.faults c.args.library.now c.compare.new.library in
+    let source = change g.S.Source.left g.S.Source.faults c.args.source.now c.args.source.now in
+    subst (λ command. Comes (task_of command) library requests source (outcome_of c.compare.result)) (sym c.in-Compare.is) ((refl, refl), c.compare.ensures)

@@ -1,0 +1,40 @@
+-- Two tables that are taken one after the other.
+use Rattle.std.proofs.Common.{◌≡◌, inl, inr, ℕ, List, Result, Ok, Err, ap}
+use Rattle.std.specs.Global.{Vec}
+use Rattle.std.specs.Result.{IsErrAnd}
+use Rattle.bag_model.specs.Shapes.{Nodes}
+use Rattle.bdl_load.specs.Loading.{Holding}
+use Rattle.baggage_cli.specs.declared.refusals.Notice.TheVariants.{Memory}
+use Rattle.baggage_cli.specs.declared.refusals.Refusal.{Refusal}
+use Rattle.baggage_cli.specs.declared.refusals.Refusal.TheVariants.{Plain}
+use Rattle.baggage_cli.specs.Commands.{Origin}
+use Rattle.baggage_cli.specs.Comparing.{ComparesTables, Compares}
+use Rattle.baggage_cli.specs.Outcomes.{outcome_of}
+use Rattle.baggage_cli.specs.Scene.{Change, Halfway, until, since}
+use Rattle.baggage_cli.specs.Tables.{Obtains}
+use Rattle.baggage_cli.proofs.Obtained.{unobtained}
+
+-- Where the first table is refused, that is the outcome.
+pub first_unobtained : (old new : Origin) (library : Change Holding) (requests : Change (List (List ℕ))) (refusal : Refusal) (result : Result (Vec ℕ) Refusal)
+    → IsErrAnd result (λ other. other ≡ refusal) → Obtains old library requests (Err refusal) → Compares old new library requests (outcome_of result)
+first_unobtained old new library requests refusal (Ok output) is obtains = absurd is
+first_unobtained old new library requests refusal (Err other) is obtains = inl (refusal, obtains, tt, ap Err is)
+
+module _ (old new : Origin) (library : Change Holding) (requests : Change (List (List ℕ))) (half : Halfway) (before : Nodes)
+    (taken : Obtains old (until half.files half.faults library) (until half.asked half.faults requests) (Ok before)) where
+  -- Where the second is refused, that is the outcome.
+  pub second_unobtained : (refusal : Refusal) (result : Result (Vec ℕ) Refusal) → IsErrAnd result (λ other. other ≡ refusal)
+      → Obtains new (since half.files half.faults library) (since half.asked half.faults requests) (Err refusal) → Compares old new library requests (outcome_of result)
+  second_unobtained refusal result is obtains =
+      inr (half, before, taken, unobtained (Unit {0}) (ComparesTables before) new (since half.files half.faults library) (since half.asked half.faults requests) refusal result is obtains tt)
+
+  -- Otherwise they are compared.
+  pub compared : (after : Nodes) (result : Result (Vec ℕ) Refusal)
+      → Obtains new (since half.files half.faults library) (since half.asked half.faults requests) (Ok after) → ComparesTables before after (outcome_of result)
+      → Compares old new library requests (outcome_of result)
+  compared after result obtains compares = inr (half, before, taken, inr (after, obtains, compares))
+
+-- Memory was wanting.
+pub memory_came : (result : Result (Vec ℕ) Refusal) → IsErrAnd result (λ other. other ≡ Plain Memory) → outcome_of result ≡ Err (Plain Memory)
+memory_came (Ok output) is = absurd is
+memory_came (Err refusal) is = ap Err is
