@@ -2,14 +2,16 @@
 
 ghost use Rattle.trace_model.specs.Graphs.{IsOfTable};
 
+use bag_scan::{State, state_of};
 use bdl_check::compile;
 use field_table::Table;
+use graph_runner::run_all;
 use graph_text::{Graph, read_graph};
 use outside::SureLibrary;
 use std::alloc::Global;
 use std::process::Abort;
 use std::test::Fail;
-use write_proof::{Verified, verify};
+use write_proof::{Verified, verify, why};
 
 /// A field of each kind.
 const DEFINITION: &str =
@@ -49,4 +51,26 @@ pub fn verdict_on(
         Verified::No { line, code } => format!(in alloc; "no {line} {code}")?,
     };
     Ok(text)
+}
+
+/// The certificate for a slot in the context of a step. The slot is ended there.
+pub fn certificate_of(
+    rt: &impl Abort,
+    alloc: Global,
+    table: &Table,
+    graph: &Graph,
+    step: usize,
+    path: &str,
+) -> Result<Vec<u8>, Fail>
+    requires { IsOfTable table.now graph.now }
+{
+    let lists = run_all(alloc, table, graph)?;
+    let Some(slot) = table.find(path) else {
+        panic!(rt; "no slot {path}");
+    };
+    assert!(rt; step < graph.steps());
+    match state_of(table, &lists[step], slot) {
+        State::Exact => Ok(why(alloc, table, graph, lists.as_slice(), step, slot)?),
+        State::Partial => panic!(rt; "{path} isn't ended"),
+    }
 }

@@ -1,0 +1,71 @@
+//! The certificates of steps.
+
+use crate::fixtures::{certificate_of, graph_of, table_of};
+use std::test::Fail;
+use write_proof::runs_have_certificates_that_verify;
+
+/// Graphs, each with a step, the path of a slot and the certificate for it.
+static CERTIFICATES: [(&str, usize, &str, &str); 9] = [
+    (
+        "service a all\nservice n none\nstart 0 a\nset 1 0 id 7\nset 2 0 id 9\nforward 3 1 n\nforward 4 2 n\njoin 5 3 4\n",
+        5,
+        "id",
+        "why 5 id\nvalue 7\nreach 0 1\nreach 1 3\nreach 2 4\nreach 3 5\nreach 4 5\nuses 1\n",
+    ),
+    ("service a all\nstart 0 a\n", 0, "id", "why 0 id\nvalue -\n"),
+    (
+        "service a all\nstart 0 a\nset 1 0 tags \"b\"\nset 2 1 tags \"a\"\nset 3 2 tags \"b\"\n",
+        3,
+        "tags",
+        "why 3 tags\nvalue {\"a\",\"b\"}\nreach 0 1\nreach 1 2\nreach 2 3\nuses 1\nuses 2\n",
+    ),
+    (
+        "service a all\nrecv 0 a 02f800050000000007\nset 1 0 id 9\nset 2 1 id 5\n",
+        2,
+        "id",
+        "why 2 id\nvalue 5\nreach 0 1\nreach 1 2\nuses 0\nuses 2\n",
+    ),
+    (
+        "service a all\nrecv 0 a 02f800050000000007\nset 1 0 debug on\n",
+        0,
+        "debug",
+        "why 0 debug\nvalue off\n",
+    ),
+    (
+        "service a all\nstart 0 a\nset 1 0 load \"x\":300\nset 2 1 load \"y\":1\nbranch 3 1\njoin 4 3 2 2\n",
+        4,
+        "load",
+        "why 4 load\nvalue {\"x\":300,\"y\":1}\nreach 0 1\nreach 1 2\nreach 2 4\nreach 3 4\nuses 1\nuses 2\n",
+    ),
+    (
+        "service a all\nstart 0 a\nbranch 1 0\nbranch 2 0\nbranch 3 0\nset 4 2 id 1\n",
+        4,
+        "id",
+        "why 4 id\nvalue 1\nreach 0 2\nreach 2 4\nuses 4\n",
+    ),
+    (
+        "service a all\nstart 0 a\nset 1 0 hops \"\":0\n",
+        1,
+        "tags",
+        "why 1 tags\nvalue {}\nreach 0 1\n",
+    ),
+    (
+        "service a all\nstart 0 a\nset 1 0 id 7\ntrim 2 1 1000\n",
+        2,
+        "id",
+        "why 2 id\nvalue 7\nreach 0 1\nreach 1 2\nuses 1\n",
+    ),
+];
+
+#[test]
+fn certificates_of_steps(rt: HostRuntime) -> Result<(), Fail> {
+    let alloc = rt.alloc();
+    let table = table_of(&rt, alloc)?;
+    for &(text, step, path, certificate) in &CERTIFICATES {
+        let graph = graph_of(&rt, alloc, &table, text);
+        let own = certificate_of(&rt, alloc, &table, &graph, step, path)?;
+        assert_eq!(rt; own.as_slice(), certificate.as_bytes(), "{text}");
+    }
+    runs_have_certificates_that_verify();
+    Ok(())
+}
