@@ -1,5 +1,5 @@
--- What is said of numbers that are handed in, before anything else is looked at.
-use Rattle.std.specs.Prelude.{◌≡◌, ℕ, List, Option, Some, None, ◌==◌, nat_lt, if◌then◌else◌, MatchOption, MatchBool}
+-- What is said of the numbers of forms and of budgets, before anything else is looked at.
+use Rattle.std.specs.Prelude.{◌≡◌, ℕ, List, Result, Ok, Err, ◌==◌, nat_lt, if◌then◌else◌}
 use Rattle.context_model.specs.declared.Form.{Form}
 use Rattle.context_model.specs.declared.Form.TheVariants.{One, Two}
 use Rattle.context_model.specs.Framing.{least_budget}
@@ -7,16 +7,20 @@ use Rattle.baggage_c.specs.declared.answers.Answer.{Answer}
 use Rattle.baggage_c.specs.declared.answers.TheConstants.{BUDGET, FORM}
 use Rattle.baggage_c.specs.Answers.{refused}
 
--- The form that has this number.
-abbrev pub form_numbered : ℕ → Option Form
-form_numbered number = if number == 1 then Some One else if number == 2 then Some Two else None
+-- The form that has this number, or the status of its refusal.
+abbrev pub form_numbered : ℕ → Result Form ℕ
+form_numbered number = if number == 1 then Ok One else if number == 2 then Ok Two else Err FORM
 
--- The number is that of a form, and the answer is as this says of that form; or it is none, which is the answer, and the room is as before.
-abbrev pub InForm : ℕ → (Form → Answer → Type 0) → List ℕ → List ℕ → Answer → Type 0
-InForm number Answers old new answer =
-    MatchOption (form_numbered number) ((answer ≡ refused FORM) × (new ≡ old)) (λ form. Answers form answer)
+-- The form, unless the budget is below its least one, or the status of the refusal.
+abbrev pub enough : Result Form ℕ → ℕ → Result Form ℕ
+enough (Ok form) budget = if nat_lt budget (least_budget form) then Err BUDGET else Ok form
+enough (Err status) budget = Err status
 
--- The same, where a budget that is below the least one of the form is refused too.
-abbrev pub InBudget : ℕ → ℕ → (Form → Answer → Type 0) → List ℕ → List ℕ → Answer → Type 0
-InBudget number budget Answers old new =
-    InForm number (λ form answer. MatchBool (nat_lt budget (least_budget form)) ((answer ≡ refused BUDGET) × (new ≡ old)) (Answers form answer)) old new
+-- The form that has this number, in which a list can be cut to this budget, or the status of the refusal.
+abbrev pub form_within : ℕ → ℕ → Result Form ℕ
+form_within number budget = enough (form_numbered number) budget
+
+-- There is such a form, and the answer is as this says of it; or there is none: the answer tells the status, and the room is as before.
+abbrev pub InForm : Result Form ℕ → (Form → Answer → Type 0) → List ℕ → List ℕ → Answer → Type 0
+InForm (Ok form) Answers old new answer = Answers form answer
+InForm (Err status) Answers old new answer = (answer ≡ refused status) × (new ≡ old)

@@ -5,10 +5,10 @@ ghost use Rattle.byte_calls.specs.Contexts.{IsFaultAt, IsMergeOf};
 ghost use Rattle.byte_calls.specs.Calls.{Checks, IsTrimOf, IsCutMergeOf};
 ghost use Rattle.byte_calls.specs.Room.{Writes};
 ghost use Rattle.baggage_c.specs.Answers.{Tells};
-ghost use Rattle.baggage_c.specs.Forms.{InForm, InBudget};
+ghost use Rattle.baggage_c.specs.Forms.{form_numbered, form_within, InForm};
 
-use crate::answers::{Answer, BUDGET, FORM};
-use crate::forms::form_numbered;
+use crate::answers::Answer;
+use crate::forms::{form_numbered, form_within};
 use byte_calls::{check, forward_into, merge_into, trim_into};
 use std::alloc::Global;
 
@@ -30,12 +30,12 @@ pub extern "C" fn baggage_merge(
     room: &mut [u8],
 ) -> Answer
     ensures { let inputs = first.now ∷ second.now ∷ [] in
-        InForm form (λ form. Tells (Writes form (IsMergeOf inputs) (IsFaultAt inputs) room.old room.new)) room.old room.new result }
+        InForm (form_numbered form) (λ form. Tells (Writes form (IsMergeOf inputs) (IsFaultAt inputs) room.old room.new)) room.old room.new result }
 {
-    let Some(form) = form_numbered(form) else {
-        return Answer::refused(FORM);
-    };
-    Answer::of(merge_into(alloc, form, first, second, room))
+    match form_numbered(form) {
+        Ok(form) => Answer::of(merge_into(alloc, form, first, second, room)),
+        Err(status) => Answer::refused(status),
+    }
 }
 
 /// A context within a budget of bytes.
@@ -47,17 +47,14 @@ pub extern "C" fn baggage_trim(
     budget: u64,
     room: &mut [u8],
 ) -> Answer
-    ensures { InBudget form budget
+    ensures { InForm (form_within form budget)
         (λ form. Tells (Writes form (IsTrimOf form budget context.now) (IsFaultAt (context.now ∷ [])) room.old room.new))
         room.old room.new result }
 {
-    let Some(form) = form_numbered(form) else {
-        return Answer::refused(FORM);
-    };
-    if budget < form.least_budget() {
-        return Answer::refused(BUDGET);
+    match form_within(form, budget) {
+        Ok(form) => Answer::of(trim_into(alloc, form, context, budget, room)),
+        Err(status) => Answer::refused(status),
     }
-    Answer::of(trim_into(alloc, form, context, budget, room))
 }
 
 /// The merge of two contexts within a budget of bytes.
@@ -71,14 +68,11 @@ pub extern "C" fn baggage_forward(
     room: &mut [u8],
 ) -> Answer
     ensures { let inputs = first.now ∷ second.now ∷ [] in
-        InBudget form budget
+        InForm (form_within form budget)
         (λ form. Tells (Writes form (IsCutMergeOf form budget inputs) (IsFaultAt inputs) room.old room.new)) room.old room.new result }
 {
-    let Some(form) = form_numbered(form) else {
-        return Answer::refused(FORM);
-    };
-    if budget < form.least_budget() {
-        return Answer::refused(BUDGET);
+    match form_within(form, budget) {
+        Ok(form) => Answer::of(forward_into(alloc, form, first, second, budget, room)),
+        Err(status) => Answer::refused(status),
     }
-    Answer::of(forward_into(alloc, form, first, second, budget, room))
 }
