@@ -6,8 +6,8 @@
  * Each call is an export of the crate baggage_c and is proved to do what is said here: crates/baggage_c/src/exports.rt has the
  * statements. What no proof covers is what the caller owes, and nothing else:
  *
- * - A pointer and the length behind it are those of an array that can be read, or written where it is `room`, for the whole call, and
- *   that nobody else writes meanwhile. It may be null where the length is 0. No length is above 2^63 - 1.
+ * - A pointer and the length behind it, in a span too, are those of an array that can be read, or written where it is `room`, for the
+ *   whole call, and that nobody else writes meanwhile. It may be null where the length is 0. No array has more than 2^63 - 1 bytes.
  * - The room shares no byte with an input. Inputs may share bytes, and may be the same.
  * - `malloc`, `realloc` and `free` are from one allocator. No call is made in a signal handler, nor in a forked child of a process with
  *   threads.
@@ -73,6 +73,14 @@ baggage_answer baggage_check(const uint8_t *context, size_t context_len);
 /* The merge of two contexts: the one context that has exactly the paths of both. */
 baggage_answer baggage_merge(uint32_t form, const uint8_t *first, size_t first_len, const uint8_t *second, size_t second_len,
                              uint8_t *room, size_t room_len);
+
+/* The merge of any number of contexts, as if they were merged one after another. That of none is the empty context. */
+typedef struct baggage_span {
+    const uint8_t *bytes;
+    size_t length;
+} baggage_span;
+
+baggage_answer baggage_merge_many(uint32_t form, const baggage_span *contexts, size_t contexts_len, uint8_t *room, size_t room_len);
 
 /* The context itself where it has at most `budget` bytes in this form; otherwise its longest front that leaves place for a marker, and
  * the marker, which says that something was cut off. */

@@ -1,5 +1,5 @@
 -- Inputs that are read as contexts.
-use Rattle.std.specs.Prelude.{◌≡◌, ℕ, zero, suc, List, [], ◌∷◌}
+use Rattle.std.specs.Prelude.{◌≡◌, ℕ, ◌+◌, zero, suc, List, [], ◌∷◌}
 use Rattle.context_model.specs.Atoms.{Atom}
 use Rattle.context_model.specs.ByteCodes.{ByteCode}
 use Rattle.context_model.specs.ContextFault.{IsContextOf, IsFirstContextFault}
@@ -35,3 +35,9 @@ abbrev pub IsRefusalAt : ℕ → List ℕ → Refusal → Type 0
 IsRefusalAt place bytes (Fault context offset code) = (context ≡ place) × IsFirstContextFault bytes offset (byte_code_of code)
 IsRefusalAt place bytes Memory = Unit {0}
 IsRefusalAt place bytes (Room size) = ⊥
+
+-- The refusal tells the fault of some inputs, the first of which stands at this place.
+abbrev pub IsRefusalFrom : ℕ → List (List ℕ) → Refusal → Type 0
+IsRefusalFrom first inputs (Fault context offset code) = (place : ℕ) × (context ≡ first + place) × IsFaultAt inputs place offset (byte_code_of code)
+IsRefusalFrom first inputs Memory = Unit {0}
+IsRefusalFrom first inputs (Room size) = ⊥

@@ -5,10 +5,12 @@ ghost use Rattle.context_model.specs.Framing.{least_budget};
 ghost use Rattle.byte_calls.specs.Contexts.{IsFaultAt, IsMergeOf};
 ghost use Rattle.byte_calls.specs.Calls.{Checks, IsTrimOf, IsCutMergeOf};
 ghost use Rattle.byte_calls.specs.Room.{Writes};
+ghost use Rattle.byte_calls.specs.Spans.{inputs_of};
 
-use crate::contexts::{read_at, read_merged};
+use crate::contexts::{read_all_merged, read_at, read_merged};
 use crate::refusals::Refusal;
 use crate::room::write_into;
+use crate::spans::Span;
 use overflow_trim::trim_context;
 use std::alloc::Global;
 use wire_bytes::Form;
@@ -34,6 +36,20 @@ pub fn merge_into(
         Writes form (IsMergeOf inputs) (IsFaultAt inputs) room.old room.new result }
 {
     let merged = read_merged(alloc, first, second)?;
+    write_into(alloc, form, merged.list(), room)
+}
+
+/// Writes the merge of any number of contexts, as [`merge_into`] writes that of two. That of none is the empty context.
+pub fn merge_many_into(
+    alloc: Global,
+    form: Form,
+    inputs: &[Span<'_>],
+    room: &mut [u8],
+) -> Result<usize, Refusal>
+    ensures { let inputs = inputs_of inputs.now in
+        Writes form (IsMergeOf inputs) (IsFaultAt inputs) room.old room.new result }
+{
+    let merged = read_all_merged(alloc, 0, inputs)?;
     write_into(alloc, form, merged.list(), room)
 }
 

@@ -6,6 +6,8 @@ mod calls;
 mod contexts;
 mod refusals;
 mod room;
+mod spans;
 
-pub use calls::{check, forward_into, merge_into, trim_into};
+pub use calls::{check, forward_into, merge_into, merge_many_into, trim_into};
 pub use refusals::Refusal;
+pub use spans::Span;
