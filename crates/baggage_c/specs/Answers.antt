@@ -5,7 +5,25 @@ use Rattle.wire_bytes.specs.declared.contexts.ByteCode.TheVariants.{CutLength, B
 use Rattle.byte_calls.specs.declared.refusals.Refusal.{Refusal}
 use Rattle.byte_calls.specs.declared.refusals.Refusal.TheVariants.{Fault, Memory, Room}
 use Rattle.baggage_c.specs.declared.answers.Answer.{Answer}
-use Rattle.baggage_c.specs.declared.answers.TheConstants.{OK, FAULT, ROOM, MEMORY}
+
+-- The numbers of the statuses, as the header has them.
+abbrev pub ok : ℕ
+ok = 0
+
+abbrev pub fault : ℕ
+fault = 1
+
+abbrev pub room : ℕ
+room = 2
+
+abbrev pub memory : ℕ
+memory = 3
+
+abbrev pub form : ℕ
+form = 4
+
+abbrev pub budget : ℕ
+budget = 5
 
 -- The number of a code, as the header has it.
 abbrev pub code_number : ByteCode → ℕ
@@ -21,10 +39,10 @@ code_number OutOfOrder = 9
 
 -- The numbers of an outcome. What it doesn't speak of is 0.
 abbrev pub answer_of : Result ℕ Refusal → Answer
-answer_of (Ok size) = record { status = OK; code = 0; context = 0; offset = 0; size = size }
-answer_of (Err (Fault context offset code)) = record { status = FAULT; code = code_number code; context = context; offset = offset; size = 0 }
-answer_of (Err Memory) = record { status = MEMORY; code = 0; context = 0; offset = 0; size = 0 }
-answer_of (Err (Room size)) = record { status = ROOM; code = 0; context = 0; offset = 0; size = size }
+answer_of (Ok size) = record { status = ok; code = 0; context = 0; offset = 0; size = size }
+answer_of (Err (Fault context offset code)) = record { status = fault; code = code_number code; context = context; offset = offset; size = 0 }
+answer_of (Err Memory) = record { status = memory; code = 0; context = 0; offset = 0; size = 0 }
+answer_of (Err (Room size)) = record { status = room; code = 0; context = 0; offset = 0; size = size }
 
 -- The refusal of a number that was handed in.
 abbrev pub refused : ℕ → Answer

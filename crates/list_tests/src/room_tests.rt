@@ -23,12 +23,12 @@ enum Call {
 }
 
 /// Tries a call with a room of so many bytes, each of which is 238, and answers with the room.
-fn tried(
+fn tried<'a>(
     rt: &impl Abort,
     alloc: Global,
     call: Call,
     form: Form,
-    inputs: (&[u8], &[u8]),
+    inputs: (&'a [u8], &'a [u8]),
     room_len: usize,
 ) -> Result<(Result<usize, Refusal>, Vec<u8>), Fail> {
     let (first, second) = inputs;
