@@ -9,3 +9,5 @@ mod cut_tests;
 mod list_tests;
 #[cfg(test)]
 mod merge_tests;
+#[cfg(test)]
+mod room_tests;

@@ -1,0 +1,7 @@
+//! The static library for other languages. Its exports are declared and described in `include/baggage.h`; each restates what is proved
+//! of the call behind it.
+#![tactic(auto)]
+
+mod answers;
+mod exports;
+mod forms;

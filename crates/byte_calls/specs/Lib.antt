@@ -1,0 +1,4 @@
+pub mod Contexts
+pub mod Room
+pub mod Spans
+pub mod Calls

@@ -1,0 +1,65 @@
+//! Contexts from their bytes, of which the first that are none are told.
+
+ghost use Rattle.std.specs.Prelude.{◌+◌, ◌^◌, ◌<◌, [], ◌∷◌, length, IfOk, IfErr};
+ghost use Rattle.context_model.specs.ContextFault.{IsContextOf};
+ghost use Rattle.byte_calls.specs.Contexts.{IsMergeOf, IsRefusalAt, IsRefusalFrom, IsRefusalOf};
+ghost use Rattle.byte_calls.specs.Spans.{inputs_of};
+
+use crate::refusals::Refusal;
+use crate::spans::Span;
+use atom_list::Context;
+use lex_merge::laws::{merges_few, merges_in_groups};
+use lex_merge::merge;
+use std::alloc::Global;
+use wire_bytes::{ContextFault, read_context};
+
+/// The context of the bytes at a place among the inputs.
+pub(crate) fn read_at(alloc: Global, place: usize, bytes: &[u8]) -> Result<Context, Refusal>
+    ensures found { IfOk result (λ context. IsContextOf context bytes.now) }
+    ensures refused { IfErr result (IsRefusalAt place bytes.now) }
+{
+    match read_context(alloc, bytes) {
+        Ok(context) => Ok(context),
+        Err(ContextFault::At { offset, code }) => Err(Refusal::Fault {
+            context: place,
+            offset,
+            code,
+        }),
+        Err(ContextFault::Memory) => Err(Refusal::Memory),
+    }
+}
+
+/// The merge of the contexts of two inputs.
+pub(crate) fn read_merged(alloc: Global, first: &[u8], second: &[u8]) -> Result<Context, Refusal>
+    ensures merged { IfOk result (IsMergeOf (first.now ∷ second.now ∷ [])) }
+    ensures refused { IfErr result (IsRefusalOf (first.now ∷ second.now ∷ [])) }
+{
+    let first = read_at(alloc, 0, first)?;
+    let second = read_at(alloc, 1, second)?;
+    Ok(merge(alloc, &first, &second)?)
+}
+
+/// The merge of the contexts of any number of inputs, the first of which stands at this place: by halves of halves.
+pub(crate) fn read_all_merged(
+    alloc: Global,
+    place: usize,
+    inputs: &[Span<'_>],
+) -> Result<Context, Refusal>
+    requires { place + length inputs.now < 2 ^ 64 }
+    ensures merged { IfOk result (IsMergeOf (inputs_of inputs.now)) }
+    ensures refused { IfErr result (IsRefusalFrom place (inputs_of inputs.now)) }
+{
+    // The proof learns here what few contexts come to, and that the merge of two merges is the merge of all.
+    merges_few();
+    merges_in_groups();
+    match inputs {
+        [] => Ok(Context::empty(alloc)),
+        [input] => read_at(alloc, place, input.bytes),
+        _ => {
+            let (left, right) = inputs.split_at(inputs.len() / 2);
+            let first = read_all_merged(alloc, place, left)?;
+            let second = read_all_merged(alloc, place + left.len(), right)?;
+            Ok(merge(alloc, &first, &second)?)
+        }
+    }
+}

@@ -1,0 +1,13 @@
+//! Calls from bytes to bytes, for programs that hold contexts as bytes and know nothing of lists: what is made is written into the
+//! caller's room.
+#![tactic(auto)]
+
+mod calls;
+mod contexts;
+mod refusals;
+mod room;
+mod spans;
+
+pub use calls::{check, forward_into, merge_into, merge_many_into, trim_into};
+pub use refusals::Refusal;
+pub use spans::Span;
