@@ -37,7 +37,7 @@ def defines(path, name):
         return os.path.basename(path) == f"{name}.edit"
     if path.endswith(".antt"):
         return re.search(rf"(?m)^\s*(?:(?:abbrev|unfoldable|mutual|pub|data|record) )*{word} ?[:({{]", text)
-    return re.search(rf"(?m)^\s*(?:pub(?:\(crate\))? )?(?:extern "C" )?(?:fn|trait|enum|struct) {word}\b", text)
+    return re.search(rf'(?m)^\s*(?:pub(?:\(crate\))? )?(?:extern "C" )?(?:fn|trait|enum|struct) {word}\b', text)
 
 
 def check_links():
