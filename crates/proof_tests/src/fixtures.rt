@@ -68,7 +68,9 @@ pub fn certificate_of(
     let Some(slot) = table.find(path) else {
         panic!(rt; "no slot {path}");
     };
+    assert!(rt; slot < table.slots());
     assert!(rt; step < graph.steps());
+    assert!(rt; step < lists.len());
     match state_of(table, &lists[step], slot) {
         State::Exact => Ok(why(alloc, table, graph, lists.as_slice(), step, slot)?),
         State::Partial => panic!(rt; "{path} isn't ended"),
