@@ -1,6 +1,6 @@
 //! Calls that write into room of the caller's: what is written, what is left of the room, and what is refused.
 
-use crate::atom_texts::{bytes_of, expect_bytes};
+use crate::byte_texts::{bytes_of, expect_bytes};
 use byte_calls::{Refusal, Span, check, forward_into, merge_into, merge_many_into, trim_into};
 use std::alloc::Global;
 use std::process::Abort;
@@ -98,14 +98,16 @@ fn writes_into_rooms(rt: HostRuntime) -> Result<(), Fail> {
     for (row, (call, form, first, second, written)) in WRITTEN.iter().enumerate() {
         let (first, second) = (bytes_of(alloc, first)?, bytes_of(alloc, second)?);
         let size = bytes_of(alloc, written)?.len();
-        for room_len in [size, size + 1, size + 100] {
+        for spare in [0, 1, 100] {
+            let room_len = size.saturating_add(spare);
             let (answer, room) = tried(&rt, alloc, *call, *form, (&first, &second), room_len)?;
             assert_eq!(&rt; answer, Ok(size), "row {row}");
-            expect_bytes(&rt, alloc, &room[..size], written)?;
-            expect_unchanged(&rt, &room[size..], row);
+            let (front, rest) = room.split_at_checked(size).ok_or("the room is short")?;
+            expect_bytes(&rt, alloc, front, written)?;
+            expect_unchanged(&rt, rest, row);
         }
-        if 0 < size {
-            let (answer, room) = tried(&rt, alloc, *call, *form, (&first, &second), size - 1)?;
+        if let Some(room_len) = size.checked_sub(1) {
+            let (answer, room) = tried(&rt, alloc, *call, *form, (&first, &second), room_len)?;
             assert_eq!(&rt; answer, Err(Refusal::Room { size }), "row {row}");
             expect_unchanged(&rt, &room, row);
         }
