@@ -101,8 +101,9 @@ fn writes_into_rooms(rt: HostRuntime) -> Result<(), Fail> {
         for room_len in [size, size + 1, size + 100] {
             let (answer, room) = tried(&rt, alloc, *call, *form, (&first, &second), room_len)?;
             assert_eq!(&rt; answer, Ok(size), "row {row}");
-            expect_bytes(&rt, alloc, &room[..size], written)?;
-            expect_unchanged(&rt, &room[size..], row);
+            let (front, rest) = room.split_at_checked(size).ok_or("the room is short")?;
+            expect_bytes(&rt, alloc, front, written)?;
+            expect_unchanged(&rt, rest, row);
         }
         if 0 < size {
             let (answer, room) = tried(&rt, alloc, *call, *form, (&first, &second), size - 1)?;
