@@ -1,21 +1,16 @@
 -- Numbers and the digits that say them.
-use Rattle.std.proofs.Common.{◌≡◌, ℕ, ◌^◌, ◌<◌, ◌==◌, Bool, true, false, nat_lt, Option, None, Some, List, [], ◌∷◌, map, refl, sym, ◌∙◌, arith}
+use Rattle.std.proofs.Common.{◌≡◌, ℕ, ◌^◌, ◌<◌, ◌==◌, List, [], ◌∷◌, map, refl, arith}
 use Rattle.std.specs.Prelude.{◌≢◌}
-use Rattle.std.specs.Bool.{then_some}
-use Rattle.std.specs.Option.{MatchOption}
 use Rattle.std.specs.Fmt.{decimal}
 use Rattle.std.specs.List.{AllByRecursion, list_any}
 use Rattle.std.specs.Str.Parse.{AllDigits}
 use Rattle.std.proofs.lemmas.Bool.{ne_eqb}
-use Rattle.std.proofs.lemmas.Bool.Decides.{nat_tests}
 use Rattle.std.proofs.lemmas.Str.Parse.{digit_from_value}
 use Rattle.std.proofs.lemmas.Fmt.{decimal_injective, decimal_is_IsNumeral}
-use Rattle.decimal_text.specs.Answers.{Answers}
 use Rattle.graph_lines.specs.Forms.{IsNumber, HasNoSpace}
-use Rattle.graph_lines.specs.Taken.{IsNumberText}
 use Rattle.graph_lines.proofs.Separated.{or_false}
 
-small_number : (n : ℕ) → IsNumber n → n < 2 ^ 64
+pub small_number : (n : ℕ) → IsNumber n → n < 2 ^ 64
 small_number n h = omega (arith, h)
 
 pub same_number : (m n : ℕ) → IsNumber m → IsNumber n → decimal m ≡ decimal n → m ≡ n
@@ -45,16 +40,3 @@ same_numbers (m ∷ a) (n ∷ b) p q e =
     let one = same_number m n p.0 q.0 first in
     let rest = same_numbers a b p.1 q.1 more in
     cc (one, rest)
-
--- A number that was read is kept where it has at most ten digits.
-pub kept : (Tested : ℕ → Bool → Type 0) (text : List ℕ) (read answer : Option ℕ)
-    → MatchOption read (answer ≡ None) (λ x. (b : Bool) × Tested x b × (answer ≡ then_some b x)) → ((x : ℕ) (b : Bool) → Tested x b → b ≡ nat_lt x (10 ^ 10))
-    → Answers (λ number. (text ≡ decimal number) × (number < 2 ^ 64)) read → Answers (IsNumberText text) answer
-kept Tested text None answer none test said = rw none (λ number is. said number (is.1, small_number number is.0))
-kept Tested text (Some x) answer (true, tested, is) test said =
-    let less : true ≡ nat_lt x (10 ^ 10) = test x true tested in
-    rw is (grind (arith, nat_tests, less), said.0)
-kept Tested text (Some x) answer (false, tested, is) test said =
-    let more : false ≡ nat_lt x (10 ^ 10) = test x false tested in
-    rw is (λ number other.
-    let same : x ≡ number = decimal_injective x number said.1 (small_number number other.0) (sym said.0 ∙ other.1) in grind (arith, nat_tests, more, same, other.0))

@@ -1,8 +1,9 @@
 -- Texts without a byte, and texts that are joined by it.
-use Rattle.std.proofs.Common.{◌≡◌, ℕ, ◌<◌, ◌==◌, ◌||◌, suc, Bool, true, false, List, [], ◌∷◌, ◌++◌, length, get_or, refl, sym, ◌∙◌, ap, arith}
+use Rattle.std.proofs.Common.{◌≡◌, ℕ, ◌<◌, ◌==◌, ◌||◌, suc, Bool, true, false, List, [], ◌∷◌, ◌++◌, length, get_or, take, refl, sym, ◌∙◌, ap, arith}
 use Rattle.std.specs.Prelude.{◌≢◌}
 use Rattle.std.specs.List.{AllByRecursion, list_any, slice_split, onto_first, join_with_byte}
 use Rattle.std.proofs.lemmas.Bool.{eq-eqb, ne_eqb}
+use Rattle.std.proofs.lemmas.List.{get_or-take, length-take-le}
 use Rattle.std.proofs.lemmas.List.Folds.{list_any-append}
 use Rattle.std.proofs.lemmas.List.Splits.{slice_split-cons_yes, slice_split-cons_no}
 
@@ -53,6 +54,12 @@ pub free_from : (sep : ℕ) (text : List ℕ) → ((k : ℕ) → k < length text
 free_from sep [] h = refl
 free_from sep (b ∷ bs) h =
     or_false (b == sep) (list_any (λ byte. byte == sep) bs) (ne_eqb b sep (h 0 (omega arith))) (free_from sep bs (λ k less. h (suc k) (omega (arith, less))))
+
+pub free_take : (sep : ℕ) (text : List ℕ) (n : ℕ) → n < length text → ((k : ℕ) → k < n → get_or text k 0 ≢ sep) → IsFree sep (take n text)
+free_take sep text n within h =
+    free_from sep (take n text) (λ k less.
+    let front : k < n = omega (arith, less, length-take-le n text, within) in
+    λ is. h k front (sym (get_or-take n text k 0 front) ∙ is))
 
 pub free_append : (sep : ℕ) (a b : List ℕ) → IsFree sep a → IsFree sep b → IsFree sep (a ++ b)
 free_append sep a b p q =

@@ -1,6 +1,6 @@
 //! The words of a line: names, paths, and what stands before a space.
 
-ghost use Rattle.std.specs.Prelude.{◌≡◌, ◌↔◌, ◌||◌, IsTrue, IfOk, map, MatchOption};
+ghost use Rattle.std.specs.Prelude.{◌≡◌, ◌↔◌, ◌<◌, ◌||◌, IsTrue, IfOk, map, length, take, slice_index, MatchOption};
 ghost use Rattle.std.specs.Char.{is_ascii_digit};
 ghost use Rattle.std.specs.List.{list_all};
 ghost use Rattle.std.specs.Option.{option_map};
@@ -12,12 +12,26 @@ ghost use Rattle.graph_lines.specs.Taken.{Takes, IsCut, NameThen, PathThen, AreP
 use outside::Memory;
 use std::alloc::Global;
 
+/// Where the first space stands.
+fn space_at(text: &[u8]) -> Option<usize>
+    ensures { MatchOption result (HasNoSpace text.now) (λ at. (at < length text.now)
+        × (slice_index text.now at ≡ 32) × HasNoSpace (take at text.now)) }
+{
+    for at in 0..text.len() {
+        if text[at] == b' ' {
+            return Some(at);
+        }
+    }
+    None
+}
+
 /// The first word of a text, and what stands behind the space after it; none where there is no space.
 pub fn cut_word(text: &str) -> Option<(&str, &str)>
     ensures { MatchOption result (HasNoSpace text.now)
         (λ cut. HasNoSpace cut.0.now × IsCut text.now cut.0.now cut.1.now) }
 {
-    text.split_once(' ')
+    let at = space_at(text.as_bytes())?;
+    Some((&text[..at], &text[at + 1..]))
 }
 
 /// Whether the byte is a letter or `_`.
@@ -53,11 +67,18 @@ pub fn is_path(text: &[u8]) -> bool
     text.split(|byte| *byte == b'.').all(is_name)
 }
 
+/// Whether no byte of a text, which may be long, is a space.
+fn has_no_space(text: &str) -> bool
+    ensures { IsTrue result ↔ HasNoSpace text.now }
+{
+    text.split_once(' ').is_none()
+}
+
 /// Whether the text is a word.
 pub(crate) fn is_one_word(text: &str) -> bool
     ensures { IsTrue result ↔ IsOneWord text.now }
 {
-    !text.is_empty() && cut_word(text).is_none()
+    !text.is_empty() && has_no_space(text)
 }
 
 /// A name at the front of a text, and what stands behind the space after it.
