@@ -13,6 +13,8 @@ use outside::Memory;
 use std::alloc::Global;
 
 /// Where the first space stands.
+// Inlined, the loop would keep all that its callers make of the place up to date at each byte.
+#[inline(never)]
 fn space_at(text: &[u8]) -> Option<usize>
     ensures { MatchOption result (HasNoSpace text.now) (λ at. (at < length text.now)
         × (slice_index text.now at ≡ 32) × HasNoSpace (take at text.now)) }
