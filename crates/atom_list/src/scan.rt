@@ -9,6 +9,7 @@ ghost use Rattle.atom_list.specs.Scan.{with_part};
 use crate::builder::BUFFER_MAX;
 use crate::lengths::length_bytes;
 use crate::lists::AtomList;
+use crate::starts::give_back_room;
 use bytes::Bytes;
 use outside::{ATOM_MAX, Memory};
 use std::alloc::Global;
@@ -111,7 +112,7 @@ impl Scan {
             mut starts,
         } = self;
         bytes.truncate(at);
-        starts.shrink_to_fit();
+        give_back_room(&mut starts);
         let laid = starts.len();
         Ok(AtomList {
             alloc,

@@ -1,8 +1,8 @@
 //! Runs: atoms that a merge takes from one of its lists, one after the other.
 
-ghost use Rattle.std.specs.Prelude.{◌≡◌, ◌<◌, ◌≤◌, length};
+ghost use Rattle.std.specs.Prelude.{◌≡◌, ◌<◌, ◌≤◌, length, false, IsTrue};
 ghost use Rattle.context_model.specs.Paths.{atom_at};
-ghost use Rattle.lex_merge.specs.Runs.{IsRun, IsLater, HasRoom, GoesOn};
+ghost use Rattle.lex_merge.specs.Runs.{IsRun, IsLater, IsTied, HasRoom, GoesOn};
 
 use atom_kinds::compare;
 use atom_list::{AtomList, Builder};
@@ -30,6 +30,25 @@ pub(crate) fn common_front(a: &AtomList, b: &AtomList) -> usize
     most
 }
 
+/// The place behind the atoms of the first list that come before one atom of the second, and whether an equal one stands there.
+fn run_before(a: &AtomList, i: usize, b: &AtomList, j: usize) -> (usize, bool)
+    requires first { i ≤ length a.now }
+    requires second { j < length b.now }
+    ensures run { IsRun a.now i b.now j result.0 j }
+    ensures equal { IsTrue result.1 → IsTied a.now result.0 b.now j }
+    ensures ends { result.1 ≡ false → IsLater a.now result.0 b.now j }
+{
+    let other = atom(b, j);
+    for at in i..a.len() {
+        match compare(atom(a, at), other) {
+            Ordering::Less => {}
+            Ordering::Equal => return (at, true),
+            Ordering::Greater => return (at, false),
+        }
+    }
+    (a.len(), false)
+}
+
 /// The places behind a run of the first list, whose atoms come before those of the second or are equal to them.
 pub(crate) fn run_end(a: &AtomList, i: usize, b: &AtomList, j: usize) -> (usize, usize)
     requires first { i ≤ length a.now }
@@ -37,18 +56,15 @@ pub(crate) fn run_end(a: &AtomList, i: usize, b: &AtomList, j: usize) -> (usize,
     ensures run { IsRun a.now i b.now j result.0 result.1 }
     ensures ends { IsLater a.now result.0 b.now result.1 }
 {
-    let (mut next, mut other) = (i, j);
-    while next < a.len() && other < b.len() {
-        match compare(atom(a, next), atom(b, other)) {
-            Ordering::Less => next += 1,
-            Ordering::Equal => {
-                next += 1;
-                other += 1;
-            }
-            Ordering::Greater => return (next, other),
+    let mut next = i;
+    for other in j..b.len() {
+        let (at, equal) = run_before(a, next, b, other);
+        if !equal {
+            return (at, other);
         }
+        next = at + 1;
     }
-    (next, other)
+    (next, b.len())
 }
 
 /// The same, where the first of these atoms is known to come before that of the second list: it isn't compared again.
