@@ -41,7 +41,7 @@ impl Model for Scan {
 }
 
 impl Scan {
-    /// Over these bytes, of which none is looked at yet. Room is taken for a frame in every eight bytes, so that a list of
+    /// Over these bytes, of which none is looked at yet. Room is taken for a frame in every six bytes, so that a list of
     /// short atoms is found without growing. A buffer holds fewer than 2 ^ 32 bytes: for more there is no memory.
     pub fn over(alloc: Global, bytes: Vec<u8>) -> Result<Scan, Memory>
         ensures atoms { IfOk result (λ scan. scan.atoms ≡ []) }
@@ -50,7 +50,7 @@ impl Scan {
         if BUFFER_MAX < bytes.len() {
             return Err(Memory);
         }
-        let starts = Vec::with_capacity(alloc, bytes.len() / 8)?;
+        let starts = Vec::with_capacity(alloc, bytes.len() / 6)?;
         Ok(Scan {
             alloc,
             bytes,
