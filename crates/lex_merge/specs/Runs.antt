@@ -1,6 +1,6 @@
 -- Runs: atoms that a merge takes from one of its lists, one after the other.
 use Rattle.std.specs.Prelude.{◌≡◌, ℕ, ◌+◌, ◌<◌, ◌≤◌, List, ◌++◌, length, drop, slice_range}
-use Rattle.std.specs.declared.cmp.Ordering.TheVariants.{Equal, Greater}
+use Rattle.std.specs.declared.cmp.Ordering.TheVariants.{Greater}
 use Rattle.context_model.specs.Atoms.{Atom}
 use Rattle.context_model.specs.Orders.{atom_cmp}
 use Rattle.context_model.specs.Paths.{atom_at}
@@ -24,10 +24,6 @@ pub record IsRun (a : List Atom) (i : ℕ) (b : List Atom) (j : ℕ) (next_a nex
 -- Where both lists go on at these places, the atom of the first comes later.
 abbrev pub IsLater : List Atom → ℕ → List Atom → ℕ → Type 0
 IsLater a i b j = i < length a → j < length b → atom_cmp (atom_at a i) (atom_at b j) ≡ Greater
-
--- Both lists go on at these places, with atoms that are equal.
-abbrev pub IsTied : List Atom → ℕ → List Atom → ℕ → Type 0
-IsTied a i b j = (i < length a) × (j < length b) × (atom_cmp (atom_at a i) (atom_at b j) ≡ Equal)
 
 -- There is room for what two lists have from these places on.
 pub record HasRoom (a : List Atom) (i : ℕ) (b : List Atom) (j : ℕ) (built : Built) : Type 0 where

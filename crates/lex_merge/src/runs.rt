@@ -1,8 +1,8 @@
 //! Runs: atoms that a merge takes from one of its lists, one after the other.
 
-ghost use Rattle.std.specs.Prelude.{◌≡◌, ◌<◌, ◌≤◌, length, false, IsTrue};
+ghost use Rattle.std.specs.Prelude.{◌≡◌, ◌+◌, ◌<◌, ◌≤◌, length, false, if◌then◌else◌};
 ghost use Rattle.context_model.specs.Paths.{atom_at};
-ghost use Rattle.lex_merge.specs.Runs.{IsRun, IsLater, IsTied, HasRoom, GoesOn};
+ghost use Rattle.lex_merge.specs.Runs.{IsRun, IsLater, HasRoom, GoesOn};
 
 use atom_kinds::compare;
 use atom_list::{AtomList, Builder};
@@ -30,19 +30,18 @@ pub(crate) fn common_front(a: &AtomList, b: &AtomList) -> usize
     most
 }
 
-/// The place behind the atoms of the first list that come before one atom of the second, and whether an equal one stands there.
-fn run_before(a: &AtomList, i: usize, b: &AtomList, j: usize) -> (usize, bool)
+/// The place behind the atoms of the first list that come before one atom of the second or are equal to it, and whether one is equal.
+fn run_to(a: &AtomList, i: usize, b: &AtomList, j: usize) -> (usize, bool)
     requires first { i ≤ length a.now }
     requires second { j < length b.now }
-    ensures run { IsRun a.now i b.now j result.0 j }
-    ensures equal { IsTrue result.1 → IsTied a.now result.0 b.now j }
+    ensures run { IsRun a.now i b.now j result.0 (if result.1 then j + 1 else j) }
     ensures ends { result.1 ≡ false → IsLater a.now result.0 b.now j }
 {
     let other = atom(b, j);
     for at in i..a.len() {
         match compare(atom(a, at), other) {
             Ordering::Less => {}
-            Ordering::Equal => return (at, true),
+            Ordering::Equal => return (at + 1, true),
             Ordering::Greater => return (at, false),
         }
     }
@@ -58,11 +57,11 @@ pub(crate) fn run_end(a: &AtomList, i: usize, b: &AtomList, j: usize) -> (usize,
 {
     let mut next = i;
     for other in j..b.len() {
-        let (at, equal) = run_before(a, next, b, other);
+        let (behind, equal) = run_to(a, next, b, other);
         if !equal {
-            return (at, other);
+            return (behind, other);
         }
-        next = at + 1;
+        next = behind;
     }
     (next, b.len())
 }
