@@ -72,7 +72,7 @@ fn lists(rt: HostRuntime) -> Result<(), Fail> {
 
 /// How many first atoms of a header and two data, which they are, and their bytes.
 static FRONTS: [(usize, &str, &str); 4] = [
-    (0, "", ""),
+    (0, "", "-"),
     (1, "f800", "02f800"),
     (2, "f800 0000000007", "02f800050000000007"),
     (

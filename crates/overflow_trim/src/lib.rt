@@ -84,7 +84,8 @@ fn frames_room(form: Form, list: &AtomList, budget: u64) -> u64
     let room = budget - form.head_len() as u64;
     match form {
         Form::Two => room,
-        Form::One if room <= LENGTH_MAX as u64 || !list.is_long() => room,
+        Form::One if room <= LENGTH_MAX as u64 => room,
+        Form::One if !list.is_long() => room,
         Form::One => LENGTH_MAX as u64,
     }
 }
@@ -165,12 +166,13 @@ pub fn trimmed_copy(form: Form, context: &Context, budget: u64) -> Result<Contex
     ensures well_formed { IfOk result IsWellFormed }
 {
     let keep = kept(form, context.list(), budget);
-    if keep == context.list().len() {
-        return context.copy();
+    if keep < context.list().len() {
+        let mut cut = context.front(keep + 1)?;
+        cut.cut_to_marker(keep);
+        Ok(cut)
+    } else {
+        context.copy()
     }
-    let mut cut = context.front(keep + 1)?;
-    cut.cut_to_marker(keep);
-    Ok(cut)
 }
 
 /// A list that doesn't fit its budget keeps its longest front that fits with a marker behind it.
