@@ -63,7 +63,7 @@ MayStand list at = MayFollow (path_before list at) (atom_at list at)
 abbrev pub IsWrongAt : ByteCode → List Atom → ℕ → Type 0
 IsWrongAt code list at = IsWrong code (path_before list at) (atom_at list at)
 
--- The atom at a place is greater than the one at the earlier place, where there is such a place.
-abbrev pub RisesAt : List Atom → Option ℕ → ℕ → Type 0
-RisesAt list earlier at =
-    (place : ℕ) → earlier ≡ Some place → atom_cmp (atom_at list place) (atom_at list at) ≡ Less
+-- The atom is greater than the one at the earlier place, where there is such a place.
+abbrev pub RisesTo : List Atom → Option ℕ → Atom → Type 0
+RisesTo list earlier atom =
+    (place : ℕ) → earlier ≡ Some place → atom_cmp (atom_at list place) atom ≡ Less

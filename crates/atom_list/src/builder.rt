@@ -155,7 +155,7 @@ impl Builder {
         self.push_run(list, from, list.len());
     }
 
-    /// The bytes of the list.
+    /// The bytes of the list in form one.
     pub fn into_bytes(self) -> Vec<u8>
         ensures { result.items ≡ frames One self.atoms }
     {

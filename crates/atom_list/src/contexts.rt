@@ -1,6 +1,6 @@
 //! Contexts: lists of atoms that are well formed.
 
-ghost use Rattle.std.specs.Prelude.{◌≡◌, ◌<◌, [], ◌∷◌, ◌++◌, length, take, IfOk, IfErr};
+ghost use Rattle.std.specs.Prelude.{◌≡◌, ◌<◌, ◌≤◌, [], ◌∷◌, ◌++◌, length, take, IfOk, IfErr};
 ghost use Rattle.std.specs.Ordering.{nat_cmp};
 ghost use Rattle.context_model.specs.Orders.{Rises};
 ghost use Rattle.context_model.specs.WellFormed.{IsWellFormed};
@@ -111,6 +111,15 @@ impl Context {
         ensures { self.new ≡ without gone.now self.old }
     {
         self.list.take_out(gone);
+    }
+
+    /// The context of the first `keep` atoms.
+    pub fn front(&self, keep: usize) -> Result<Context, Memory>
+        requires { keep ≤ length self.now }
+        ensures { IfOk result (λ made. made ≡ take keep self.now) }
+    {
+        let list = self.list.front(keep)?;
+        Ok(Context { list })
     }
 
     /// The same context again.

@@ -137,13 +137,21 @@ impl AtomList {
     pub fn copy(&self) -> Result<AtomList, Memory>
         ensures { IfOk result (λ made. made ≡ self.now) }
     {
-        let mut starts = Vec::with_capacity(self.alloc, self.starts.len())?;
-        starts.extend_from_slice(&self.starts)?;
+        self.front(self.len())
+    }
+
+    /// The list of the first `keep` atoms. The buffer isn't copied.
+    pub fn front(&self, keep: usize) -> Result<AtomList, Memory>
+        requires { keep ≤ length self.now }
+        ensures { IfOk result (λ made. made ≡ take keep self.now) }
+    {
+        let mut starts = Vec::with_capacity(self.alloc, keep)?;
+        starts.extend_from_slice(&self.starts[..keep])?;
         Ok(AtomList {
             alloc: self.alloc,
             bytes: self.bytes.clone()?,
             starts,
-            laid: self.laid,
+            laid: self.laid.min(keep),
         })
     }
 

@@ -4,7 +4,7 @@ ghost use Rattle.std.specs.Prelude.{◌≡◌, ◌+◌, ◌<◌, ◌≤◌, ◌�
 ghost use Rattle.std.specs.declared.cmp.Ordering.TheVariants.{Less};
 ghost use Rattle.context_model.specs.Orders.{atom_cmp};
 ghost use Rattle.atom_list.specs.Codes.{code_of};
-ghost use Rattle.atom_list.specs.Open.{IsOpenAt, IsHeaderOf, IsWrongAt, MayStand, RisesAt, atom_at};
+ghost use Rattle.atom_list.specs.Open.{IsOpenAt, IsHeaderOf, IsWrongAt, MayStand, RisesTo, atom_at};
 
 use crate::contexts::ShapeFault;
 use crate::lists::AtomList;
@@ -19,23 +19,21 @@ pub(crate) struct OpenHeaders {
     pub(crate) datum: Option<usize>,
 }
 
-/// Whether the atom at a place is greater than the one at an earlier place.
-fn rises(list: &AtomList, earlier: usize, at: usize) -> bool
-    requires earlier { earlier < length list.now }
-    requires at { at < length list.now }
-    ensures { IsTrue result ↔ (atom_cmp (atom_at list.now earlier) (atom_at list.now at) ≡ Less) }
+/// Whether an atom is greater than the one at an earlier place.
+fn rises(list: &AtomList, earlier: usize, atom: &[u8]) -> bool
+    requires { earlier < length list.now }
+    ensures { IsTrue result ↔ (atom_cmp (atom_at list.now earlier) atom.now ≡ Less) }
 {
-    compare(list.get(earlier).unwrap(), list.get(at).unwrap()) == Ordering::Less
+    compare(list.get(earlier).unwrap(), atom) == Ordering::Less
 }
 
-/// Whether the atom at a place is greater than the earlier one, where there is one.
-fn rises_behind(list: &AtomList, earlier: Option<usize>, at: usize) -> bool
-    requires earlier { (place : ℕ) → earlier ≡ Some place → place < length list.now }
-    requires at { at < length list.now }
-    ensures { IsTrue result ↔ RisesAt list.now earlier at }
+/// Whether an atom is greater than the earlier one, where there is one.
+fn rises_behind(list: &AtomList, earlier: Option<usize>, atom: &[u8]) -> bool
+    requires { (place : ℕ) → earlier ≡ Some place → place < length list.now }
+    ensures { IsTrue result ↔ RisesTo list.now earlier atom.now }
 {
     match earlier {
-        Some(place) => rises(list, place, at),
+        Some(place) => rises(list, place, atom),
         None => true,
     }
 }
@@ -59,26 +57,30 @@ impl OpenHeaders {
         ensures open { OnOk result (IsOpenAt list.now (at + 1) self.new.headers self.new.datum) }
         ensures err { IfErr result (λ fault. IsWrongAt (code_of fault) list.now at) }
     {
-        match kind_of(list.get(at).unwrap()) {
+        let atom = list.get(at).unwrap();
+        match kind_of(atom) {
             Ok(Kind::Marker) => Ok(()),
-            Ok(Kind::Datum) => self.admit_datum(list, at),
-            Ok(Kind::Indexed { level, .. }) => self.admit_header(list, at, usize::from(level)),
-            Ok(Kind::Keyed { level }) => self.admit_header(list, at, usize::from(level)),
+            Ok(Kind::Datum) => self.admit_datum(list, at, atom),
+            Ok(Kind::Indexed { level, .. }) => {
+                self.admit_header(list, at, atom, usize::from(level))
+            }
+            Ok(Kind::Keyed { level }) => self.admit_header(list, at, atom, usize::from(level)),
             Err(KindFault::BadPrefix) => Err(ShapeFault::BadPrefix),
             Err(KindFault::BadIndex) => Err(ShapeFault::BadIndex),
         }
     }
 
     /// Admits a datum.
-    fn admit_datum(&mut self, list: &AtomList, at: usize) -> Result<(), ShapeFault>
+    fn admit_datum(&mut self, list: &AtomList, at: usize, atom: &[u8]) -> Result<(), ShapeFault>
         requires at { at < length list.now }
+        requires atom { atom.now ≡ atom_at list.now at }
         requires open { IsOpenAt list.now at self.old.headers self.old.datum }
         requires datum { (payload : List ℕ) × (atom_at list.now at ≡ 0 ∷ payload) }
         ensures ok { OnOk result (MayStand list.now at) }
         ensures open { OnOk result (IsOpenAt list.now (at + 1) self.new.headers self.new.datum) }
         ensures err { IfErr result (λ fault. IsWrongAt (code_of fault) list.now at) }
     {
-        if !rises_behind(list, self.datum, at) {
+        if !rises_behind(list, self.datum, atom) {
             return Err(ShapeFault::OutOfOrder);
         }
         self.datum = Some(at);
@@ -86,8 +88,15 @@ impl OpenHeaders {
     }
 
     /// Admits a header of a level.
-    fn admit_header(&mut self, list: &AtomList, at: usize, level: usize) -> Result<(), ShapeFault>
+    fn admit_header(
+        &mut self,
+        list: &AtomList,
+        at: usize,
+        atom: &[u8],
+        level: usize,
+    ) -> Result<(), ShapeFault>
         requires at { at < length list.now }
+        requires atom { atom.now ≡ atom_at list.now at }
         requires open { IsOpenAt list.now at self.old.headers self.old.datum }
         requires header { IsHeaderOf (atom_at list.now at) level }
         ensures ok { OnOk result (MayStand list.now at) }
@@ -98,7 +107,7 @@ impl OpenHeaders {
         if count < level {
             return Err(ShapeFault::LevelJump);
         }
-        if level < count && !rises(list, self.headers.get(level), at) {
+        if level < count && !rises(list, self.headers.get(level), atom) {
             return Err(ShapeFault::OutOfOrder);
         }
         self.headers.truncate(level);

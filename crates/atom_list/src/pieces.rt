@@ -1,6 +1,6 @@
 //! Frames that follow one another in the buffer of a list.
 
-ghost use Rattle.std.specs.Prelude.{◌≡◌, ◌+◌, ◌*◌, ◌<◌, ◌≤◌, [], length, IfSome};
+ghost use Rattle.std.specs.Prelude.{◌≡◌, ◌+◌, ◌*◌, ◌<◌, ◌≤◌, [], length, take, IfSome};
 ghost use Rattle.context_model.specs.declared.Form.TheVariants.{One};
 ghost use Rattle.context_model.specs.Framing.{frames};
 ghost use Rattle.atom_list.specs.Builder.{room_of, run_room};
@@ -88,12 +88,29 @@ impl AtomList {
         }
     }
 
-    /// The bytes of the list, where they stand in its buffer: `None` where something was cut from it.
+    /// The bytes of the list in form one, where they stand in its buffer: `None` where something was cut from it.
     pub fn framed(&self) -> Option<&[u8]>
         ensures { IfSome result (λ bytes. bytes.now ≡ frames One self.now) }
     {
         let piece = self.piece(0, self.len());
         if piece.starts.len() == self.len() {
+            Some(piece.bytes)
+        } else {
+            None
+        }
+    }
+
+    /// The bytes of the first `keep` atoms in form one, where the buffer begins with them: `None` where something was cut from
+    /// among them. None of the atoms is looked at but the last of these, so a place in a list is found by halves.
+    pub fn framed_front(&self, keep: usize) -> Option<&[u8]>
+        requires { keep ≤ length self.now }
+        ensures { IfSome result (λ bytes. bytes.now ≡ frames One (take keep self.now)) }
+    {
+        if self.laid < keep {
+            return None;
+        }
+        let piece = self.front_piece(0, keep);
+        if piece.starts.len() == keep {
             Some(piece.bytes)
         } else {
             None

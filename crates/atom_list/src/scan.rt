@@ -9,6 +9,7 @@ ghost use Rattle.atom_list.specs.Scan.{with_part};
 use crate::builder::BUFFER_MAX;
 use crate::lengths::length_bytes;
 use crate::lists::AtomList;
+use crate::starts::give_back_room;
 use bytes::Bytes;
 use outside::{ATOM_MAX, Memory};
 use std::alloc::Global;
@@ -40,7 +41,8 @@ impl Model for Scan {
 }
 
 impl Scan {
-    /// Over these bytes, of which none is looked at yet. A buffer holds fewer than 2 ^ 32 bytes: for more there is no memory.
+    /// Over these bytes, of which none is looked at yet. Room is taken for a frame in every six bytes, so that a list of
+    /// short atoms is found without growing. A buffer holds fewer than 2 ^ 32 bytes: for more there is no memory.
     pub fn over(alloc: Global, bytes: Vec<u8>) -> Result<Scan, Memory>
         ensures atoms { IfOk result (λ scan. scan.atoms ≡ []) }
         ensures rest { IfOk result (λ scan. scan.rest ≡ bytes.items) }
@@ -48,11 +50,12 @@ impl Scan {
         if BUFFER_MAX < bytes.len() {
             return Err(Memory);
         }
+        let starts = Vec::with_capacity(alloc, bytes.len() / 6)?;
         Ok(Scan {
             alloc,
             bytes,
             at: 0,
-            starts: Vec::new(alloc),
+            starts,
         })
     }
 
@@ -63,7 +66,7 @@ impl Scan {
         &self.bytes[self.at..]
     }
 
-    /// How many bytes the list has.
+    /// How many bytes the list has in form one.
     pub fn offset(&self) -> usize
         ensures { result ≡ length (frames One self.now.atoms) }
     {
@@ -109,7 +112,7 @@ impl Scan {
             mut starts,
         } = self;
         bytes.truncate(at);
-        starts.shrink_to_fit();
+        give_back_room(&mut starts);
         let laid = starts.len();
         Ok(AtomList {
             alloc,

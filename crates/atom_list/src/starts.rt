@@ -84,6 +84,16 @@ pub(crate) fn put_moved(starts: &mut Vec<u32>, more: &[u32], from: u32, to: u32)
     }
 }
 
+/// Gives back the room that the starts don't take, where it is more than a third of all: to move them costs more than less room does.
+pub(crate) fn give_back_room(starts: &mut Vec<u32>)
+    ensures { starts.new.items ≡ starts.old.items }
+{
+    let room = starts.capacity();
+    if starts.len() < room - room / 3 {
+        starts.shrink_to_fit();
+    }
+}
+
 /// Takes out the starts at these places, of which there is one at least, and which rise; all others stay, in order. It takes
 /// no memory, and goes over the starts once.
 pub(crate) fn keep_others(starts: &mut Vec<u32>, gone: &[usize])

@@ -1,6 +1,6 @@
 //! Runs: atoms that a merge takes from one of its lists, one after the other.
 
-ghost use Rattle.std.specs.Prelude.{◌≡◌, ◌<◌, ◌≤◌, length};
+ghost use Rattle.std.specs.Prelude.{◌≡◌, ◌+◌, ◌<◌, ◌≤◌, length, false, if◌then◌else◌};
 ghost use Rattle.context_model.specs.Paths.{atom_at};
 ghost use Rattle.lex_merge.specs.Runs.{IsRun, IsLater, HasRoom, GoesOn};
 
@@ -30,6 +30,24 @@ pub(crate) fn common_front(a: &AtomList, b: &AtomList) -> usize
     most
 }
 
+/// The place behind the atoms of the first list that come before one atom of the second or are equal to it, and whether one is equal.
+fn run_to(a: &AtomList, i: usize, b: &AtomList, j: usize) -> (usize, bool)
+    requires first { i ≤ length a.now }
+    requires second { j < length b.now }
+    ensures run { IsRun a.now i b.now j result.0 (if result.1 then j + 1 else j) }
+    ensures ends { result.1 ≡ false → IsLater a.now result.0 b.now j }
+{
+    let other = atom(b, j);
+    for at in i..a.len() {
+        match compare(atom(a, at), other) {
+            Ordering::Less => {}
+            Ordering::Equal => return (at + 1, true),
+            Ordering::Greater => return (at, false),
+        }
+    }
+    (a.len(), false)
+}
+
 /// The places behind a run of the first list, whose atoms come before those of the second or are equal to them.
 pub(crate) fn run_end(a: &AtomList, i: usize, b: &AtomList, j: usize) -> (usize, usize)
     requires first { i ≤ length a.now }
@@ -37,18 +55,15 @@ pub(crate) fn run_end(a: &AtomList, i: usize, b: &AtomList, j: usize) -> (usize,
     ensures run { IsRun a.now i b.now j result.0 result.1 }
     ensures ends { IsLater a.now result.0 b.now result.1 }
 {
-    let (mut next, mut other) = (i, j);
-    while next < a.len() && other < b.len() {
-        match compare(atom(a, next), atom(b, other)) {
-            Ordering::Less => next += 1,
-            Ordering::Equal => {
-                next += 1;
-                other += 1;
-            }
-            Ordering::Greater => return (next, other),
+    let mut next = i;
+    for other in j..b.len() {
+        let (behind, equal) = run_to(a, next, b, other);
+        if !equal {
+            return (behind, other);
         }
+        next = behind;
     }
-    (next, other)
+    (next, b.len())
 }
 
 /// The same, where the first of these atoms is known to come before that of the second list: it isn't compared again.

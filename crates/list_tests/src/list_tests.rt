@@ -70,6 +70,52 @@ fn lists(rt: HostRuntime) -> Result<(), Fail> {
     Ok(())
 }
 
+/// How many first atoms of a header and two data, which they are, and their bytes.
+static FRONTS: [(usize, &str, &str); 4] = [
+    (0, "", "-"),
+    (1, "f800", "02f800"),
+    (2, "f800 0000000007", "02f800050000000007"),
+    (
+        3,
+        "f800 0000000007 0000000009",
+        "02f800050000000007050000000009",
+    ),
+];
+
+#[test]
+fn fronts(rt: HostRuntime) -> Result<(), Fail> {
+    let alloc = rt.alloc();
+    for (keep, atoms, bytes) in &FRONTS {
+        let list = list_of(&rt, alloc, "f800 0000000007 0000000009")?;
+        assert!(rt; *keep <= list.len());
+        let framed = list
+            .framed_front(*keep)
+            .ok_or("the bytes don't stand in the buffer")?;
+        expect_bytes(&rt, alloc, framed, bytes)?;
+        expect_atoms(&rt, alloc, &list.front(*keep)?, atoms)?;
+        let context = context_of(&rt, alloc, "f800 0000000007 0000000009")?;
+        assert!(rt; *keep <= context.list().len());
+        expect_atoms(&rt, alloc, context.front(*keep)?.list(), atoms)?;
+        expect_atoms(&rt, alloc, context.list(), "f800 0000000007 0000000009")?;
+    }
+    Ok(())
+}
+
+#[test]
+fn fronts_of_a_list_that_was_cut(rt: HostRuntime) -> Result<(), Fail> {
+    let alloc = rt.alloc();
+    let mut list = list_of(&rt, alloc, "f800 0000000007 0000000009")?;
+    cut(&rt, &mut list, 1);
+    assert_eq!(rt; list.len(), 2);
+    expect_atoms(&rt, alloc, &list.front(2)?, "f800 -")?;
+    assert!(rt; list.framed_front(2).is_none());
+    let front = list.front(1)?;
+    drop(list);
+    expect_atoms(&rt, alloc, &front, "f800")?;
+    let framed = front.framed().ok_or("the bytes don't stand in the buffer")?;
+    expect_bytes(&rt, alloc, framed, "02f800")
+}
+
 #[test]
 fn lists_that_are_built(rt: HostRuntime) -> Result<(), Fail> {
     let alloc = rt.alloc();

@@ -3,7 +3,7 @@
 use crate::atom_texts::{bytes_of, context_of, expect_atoms, expect_bytes, list_of};
 use atom_list::AtomList;
 use forwarding::forward;
-use overflow_trim::{kept, trim, trim_context};
+use overflow_trim::{kept, trim, trim_context, trimmed_copy};
 use std::test::Fail;
 use wire_bytes::{ByteCode, ContextFault, Form, write};
 
@@ -44,8 +44,11 @@ fn cuts_to_budgets(rt: HostRuntime) -> Result<(), Fail> {
         trim(form, &mut list, budget);
         expect_atoms(&rt, alloc, &list, left)?;
         let mut context = context_of(&rt, alloc, ATOMS)?;
+        let copy = trimmed_copy(form, &context, budget)?;
+        expect_atoms(&rt, alloc, context.list(), ATOMS)?;
         trim_context(form, &mut context, budget);
         expect_atoms(&rt, alloc, context.list(), left)?;
+        expect_atoms(&rt, alloc, copy.list(), left)?;
     }
     Ok(())
 }

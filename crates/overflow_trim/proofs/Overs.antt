@@ -1,5 +1,5 @@
 -- Lists that don't fit, and fronts that do.
-use Rattle.std.proofs.Common.{◌≡◌, inl, inr, Bool, true, false, ℕ, ◌+◌, ◌-◌, ◌<◌, ◌≤◌, List, [], length, take, slice_get, nat_lt, if◌then◌else◌, Some, refl, sym, ◌∙◌, ap, subst, arith}
+use Rattle.std.proofs.Common.{◌≡◌, inl, inr, Bool, true, false, ◌||◌, ℕ, ◌+◌, ◌-◌, ◌<◌, ◌≤◌, List, [], ◌∷◌, length, length-append, take, slice_get, nat_lt, if◌then◌else◌, Some, refl, sym, ◌∙◌, ap, subst, arith}
 use Rattle.std.proofs.lemmas.Option.{slice_get_within}
 use Rattle.std.proofs.lemmas.Bool.{cases_lt}
 use Rattle.std.proofs.lemmas.Bool.Decides.{nat_tests}
@@ -7,7 +7,7 @@ use Rattle.context_model.specs.declared.Form.{Form}
 use Rattle.context_model.specs.declared.Form.TheVariants.{One, Two}
 use Rattle.context_model.specs.declared.TheConstants.{LENGTH_MAX}
 use Rattle.context_model.specs.Atoms.{Atom, AreAtoms}
-use Rattle.context_model.specs.Framing.{frame, frames, head_len, written_in, size_of, least_budget}
+use Rattle.context_model.specs.Framing.{base_128, frame, frames, has_long, head_len, written_in, size_of, least_budget}
 use Rattle.context_model.specs.Trimmed.{kept_of}
 use Rattle.context_model.proofs.FramingLaws.{AreAtoms-take, frames_len-next, written-next, size_by_frames}
 use Rattle.context_model.proofs.TrimmedLaws.{kept_of-before, kept_of-fits}
@@ -25,10 +25,20 @@ pub head_len-le : (form : Form) → head_len form ≤ 12
 head_len-le One = omega arith
 head_len-le Two = omega arith
 
--- No atom.
-pub written_nothing : (form : Form) → form ≡ written_in form []
-written_nothing One = refl
-written_nothing Two = refl
+-- An atom that is too long for form one has more bytes than that.
+pub narrow : (list : List Atom) → length (frames One list) ≤ LENGTH_MAX → has_long list ≡ false
+narrow [] light = refl
+narrow (atom ∷ list) light =
+    let own = length-append (base_128 (length atom)) atom in
+    let all = length-append (frame One atom) (frames One list) in
+    let few : length atom ≤ LENGTH_MAX = omega arith in
+    let short : nat_lt LENGTH_MAX (length atom) ≡ false = grind (arith, nat_tests, few) in
+    ap (λ long. long || has_long list) short ∙ narrow list (omega arith)
+
+-- A front with no such atom is written in the form that is asked for.
+pub written_narrow : (form : Form) (list : List Atom) → has_long list ≡ false → written_in form list ≡ form
+written_narrow One list none = ap (λ long. if long then Two else One) none
+written_narrow Two list none = refl
 
 -- The head of the form that is taken is the one of the two heads.
 head_len-if : (b : Bool) (width : Form) → (if b then head_len Two else head_len width) ≡ head_len (if b then Two else width)

@@ -1,14 +1,14 @@
 //! Lists of atoms that are cut to a budget of bytes, with a marker where something was cut off.
 #![tactic(auto)]
 
-ghost use Rattle.std.specs.Prelude.{◌≡◌, ◌+◌, ◌^◌, ◌<◌, ◌≤◌, ◌↔◌, length, nat_lt, if◌then◌else◌, IsTrue};
+ghost use Rattle.std.specs.Prelude.{◌≡◌, ◌+◌, ◌^◌, ◌<◌, ◌≤◌, ◌↔◌, length, take, nat_lt, if◌then◌else◌, IsTrue, IfOk, ℕ};
 ghost use Rattle.context_model.specs.declared.Form.TheVariants.{One, Two};
-ghost use Rattle.context_model.specs.Framing.{frame, head_len, least_budget, size_of};
+ghost use Rattle.context_model.specs.Framing.{frame, frames, head_len, written_in, least_budget, size_of};
 ghost use Rattle.context_model.specs.Trimmed.{kept_of, trimmed, KeepsLongest, CutsOnce};
 ghost use Rattle.context_model.specs.WellFormed.{IsWellFormed};
 
 use atom_list::{AtomList, Context};
-use outside::ATOM_MAX;
+use outside::{ATOM_MAX, Memory};
 use wire_bytes::{Form, LENGTH_MAX, frame_len, size};
 
 /// A front of a list: how many bytes stand before its frames, and how many these have.
@@ -19,14 +19,14 @@ struct Front {
 }
 
 impl Front {
-    /// No atom, where this form is asked for.
-    fn empty(form: Form) -> Front
+    /// So many bytes of frames, in this form.
+    fn of(form: Form, frames: u64) -> Front
         ensures head { result.head ≡ head_len form }
-        ensures frames { result.frames ≡ 0 }
+        ensures frames { result.frames ≡ frames }
     {
         Front {
             head: form.head_len() as u64,
-            frames: 0,
+            frames,
         }
     }
 
@@ -75,8 +75,46 @@ fn fits(form: Form, list: &AtomList, budget: u64) -> bool
     size(form, list) <= u128::from(budget)
 }
 
+/// How many bytes the frames of a front may have that fits the budget and is written in the form that is asked for.
+fn frames_room(form: Form, list: &AtomList, budget: u64) -> u64
+    requires { least_budget form ≤ budget }
+    ensures fits { head_len form + result ≤ budget }
+    ensures form { (n : ℕ) → length (frames One (take n list.now)) ≤ result → written_in form (take n list.now) ≡ form }
+{
+    let room = budget - form.head_len() as u64;
+    match form {
+        Form::Two => room,
+        Form::One if room <= LENGTH_MAX as u64 => room,
+        Form::One if !list.is_long() => room,
+        Form::One => LENGTH_MAX as u64,
+    }
+}
+
+/// How many first atoms, and how many bytes of frames, that are at most so many. They are found by halves, as far as the list stands
+/// in its buffer as it was read or made.
+fn front_within(list: &AtomList, most: u64) -> (usize, u64)
+    ensures within { result.0 ≤ length list.now }
+    ensures frames { result.1 ≡ length (frames One (take result.0 list.now)) }
+    ensures fits { result.1 ≤ most }
+{
+    let (mut low, mut high) = (0, list.len());
+    let mut frames = 0;
+    while low < high {
+        let middle = high - (high - low) / 2;
+        match list.framed_front(middle) {
+            Some(bytes) if bytes.len() as u64 <= most => {
+                low = middle;
+                frames = bytes.len() as u64;
+            }
+            _ => high = middle - 1,
+        }
+    }
+    (low, frames)
+}
+
 /// How many atoms of a list stay within a budget of bytes where this form is asked for: all of them where the list fits, and
-/// otherwise as many as fit with the byte of a marker behind them. It goes over the list once and takes no memory.
+/// otherwise as many as fit with the byte of a marker behind them. It takes no memory. Where nothing was cut from the list, it looks at
+/// few of its atoms, unless one of them is too long for form one.
 pub fn kept(form: Form, list: &AtomList, budget: u64) -> usize
     requires { least_budget form ≤ budget }
     ensures { result ≡ kept_of form list.now budget }
@@ -84,8 +122,9 @@ pub fn kept(form: Form, list: &AtomList, budget: u64) -> usize
     if fits(form, list, budget) {
         return list.len();
     }
-    let mut front = Front::empty(form);
-    for at in 0..list.len() {
+    let (start, frames) = front_within(list, frames_room(form, list, budget));
+    let mut front = Front::of(form, frames);
+    for at in start..list.len() {
         let next = front.with(list.get(at).unwrap());
         if budget < next.size() {
             // Where the front fills the budget, its last atom makes room for the marker.
@@ -117,6 +156,22 @@ pub fn trim_context(form: Form, context: &mut Context, budget: u64)
     let keep = kept(form, context.list(), budget);
     if keep < context.list().len() {
         context.cut_to_marker(keep);
+    }
+}
+
+/// A copy of a context, cut to a budget of bytes, as [`trim_context`] cuts it. What is cut off isn't copied.
+pub fn trimmed_copy(form: Form, context: &Context, budget: u64) -> Result<Context, Memory>
+    requires { least_budget form ≤ budget }
+    ensures trimmed { IfOk result (λ cut. cut ≡ trimmed form context.now budget) }
+    ensures well_formed { IfOk result IsWellFormed }
+{
+    let keep = kept(form, context.list(), budget);
+    if keep < context.list().len() {
+        let mut cut = context.front(keep + 1)?;
+        cut.cut_to_marker(keep);
+        Ok(cut)
+    } else {
+        context.copy()
     }
 }
 

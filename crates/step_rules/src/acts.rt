@@ -1,8 +1,6 @@
 //! What each act gives.
 
-ghost use Rattle.std.specs.Prelude.{◌≡◌, ◌≤◌, map, IfOk};
-ghost use Rattle.context_model.specs.Framing.{least_budget};
-ghost use Rattle.context_model.specs.Trimmed.{trimmed};
+ghost use Rattle.std.specs.Prelude.{map, IfOk};
 ghost use Rattle.bag_model.specs.Normal.{IsNormalOf};
 ghost use Rattle.bag_value.specs.Plain.{plain};
 ghost use Rattle.field_table.specs.Views.{view_of};
@@ -16,12 +14,11 @@ use atom_list::Context;
 use bag_encode::encode_slot;
 use bag_normal::normal;
 use bag_value::Val;
-use context_model::Form;
 use fan_in::{merge_all, merge_alone};
 use field_table::{Table, View};
 use lex_merge::merge;
 use outside::{Memory, Open};
-use overflow_trim::trim_context;
+use overflow_trim::trimmed_copy;
 use recorded_graph::{Act, Service};
 use std::alloc::Global;
 use std::thread::Threads;
@@ -54,16 +51,6 @@ fn written(
     let written = encode_slot(alloc, table, slot, value)?;
     let merged = merge(alloc, before, &written)?;
     normal(alloc, table, view, merged)
-}
-
-/// A copy of a context, cut to a budget of bytes in the form.
-fn trimmed_copy(form: Form, context: &Context, budget: u64) -> Result<Context, Memory>
-    requires { least_budget form ≤ budget }
-    ensures { IfOk result (λ cut. cut ≡ trimmed form context.now budget) }
-{
-    let mut cut = context.copy()?;
-    trim_context(form, &mut cut, budget);
-    Ok(cut)
 }
 
 /// The normal form of the merge of the lists at the places.

@@ -34,7 +34,8 @@ fn written_in(form: Form, list: &AtomList) -> Form
     }
 }
 
-/// How many bytes the first `at` atoms have behind their lengths, in either form.
+/// How many bytes the first `at` atoms have behind their lengths, in either form. None but the last of them is looked at where nothing
+/// was cut from among them.
 pub(crate) fn frames_before(list: &AtomList, at: usize) -> u128
     requires { at ≤ length list.now }
     ensures frames { (width : Form) → result ≡ length (frames width (take at list.now)) }
@@ -42,6 +43,9 @@ pub(crate) fn frames_before(list: &AtomList, at: usize) -> u128
 {
     // It says that the frames of a list are no more than a buffer may have.
     let _count = list.len();
+    if let Some(bytes) = list.framed_front(at) {
+        return bytes.len() as u128;
+    }
     let mut total: u128 = 0;
     for i in 0..at {
         total += frame_len(list.get(i).unwrap()) as u128;

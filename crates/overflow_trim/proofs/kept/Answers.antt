@@ -4,7 +4,7 @@ use Rattle.context_model.specs.declared.Form.TheVariants.{One}
 use Rattle.context_model.specs.Framing.{head_len, written_in, size_of}
 use Rattle.context_model.proofs.FramingLaws.{frames_lens, frames_len-front}
 use Rattle.context_model.proofs.TrimmedLaws.{kept_of-fits}
-use Rattle.overflow_trim.proofs.Overs.{written_nothing, head_len-le, size_front, head_more, count_more, room_left, no_room}
+use Rattle.overflow_trim.proofs.Overs.{head_len-le, size_front, head_more, count_more, room_left, no_room}
 use Rattle.overflow_trim.proofs.kept.Goals as goal
 
 -- The whole list fits.
@@ -12,13 +12,16 @@ pub returns-then-fits : goal.returns-then-fits
 returns-then-fits c = c.len.ensures.len ∙ sym (kept_of-fits c.args.form c.args.list.now c.args.budget (c.fits.ensures.0 c.if-fits.true))
 
 pub loop-at-init : goal.loop-at-init
-loop-at-init c = record {
-  atoms = c.len-at-end.ensures.atoms;
-  light = omega (arith, c.len-at-end.ensures.light, frames_lens c.args.list.now c.len-at-end.ensures.atoms);
-  head = c.empty-front.ensures.head ∙ ap head_len (written_nothing c.args.form);
-  frames = c.empty-front.ensures.frames;
-  fits = omega (arith, c.empty-front.ensures.head, c.empty-front.ensures.frames, c.requires);
-}
+loop-at-init c =
+    let found = c.front_within-start.ensures in
+    let narrow = c.frames_room.ensures.form c.front_within-start.result.0 (omega (arith, found.frames, found.fits)) in
+    record {
+      atoms = c.len-at-end.ensures.atoms;
+      light = omega (arith, c.len-at-end.ensures.light, frames_lens c.args.list.now c.len-at-end.ensures.atoms);
+      head = c.of-front.ensures.head ∙ ap head_len (sym narrow);
+      frames = c.of-front.ensures.frames ∙ found.frames;
+      fits = omega (arith, c.of-front.ensures.head, c.of-front.ensures.frames, found.fits, c.frames_room.ensures.fits);
+    }
 
 pub with-next-requires-clause-frames : goal.with-next-requires-clause-frames
 with-next-requires-clause-frames c = omega (arith, c.loop-at.invariant.light, c.loop-at.invariant.frames, frames_len-front One c.loop-at.at c.args.list.now)

@@ -1,21 +1,21 @@
-use Rattle.std.proofs.Common.{◌≡◌, Less, Equal, sym, ◌∙◌, ap, arith}
-use Rattle.context_model.specs.Orders.{atom_cmp}
-use Rattle.context_model.specs.Paths.{atom_at}
-use Rattle.lex_merge.proofs.Taking.{run_less, run_equal}
+use Rattle.std.proofs.Common.{◌+◌, if◌then◌else◌, subst}
+use Rattle.lex_merge.specs.Runs.{IsRun}
+use Rattle.lex_merge.proofs.Taking.{run_none, run_run}
 use Rattle.lex_merge.proofs.runs.run_end.Goals as goal
 
-pub loop-next-preserved-in-Less : goal.loop-next-preserved-in-Less
-loop-next-preserved-in-Less c =
-    let a = c.args.a.now in
-    let b = c.args.b.now in
-    let less : atom_cmp (atom_at a c.loop-next.next) (atom_at b c.loop-next.other) ≡ Less =
-    ap (λ y. atom_cmp (atom_at a c.loop-next.next) y) (sym c.atom-in-loop-next.ensures) ∙ ap (λ x. atom_cmp x c.atom-in-loop-next.result.now) (sym c.atom.ensures) ∙ sym c.compare.ensures ∙ c.in-Less.is in
-    run_less a c.args.i b c.args.j c.loop-next.next c.loop-next.other c.loop-next.invariant (omega arith) (omega arith) less
+pub loop-other-init : goal.loop-other-init
+loop-other-init c = run_none c.args.a.now c.args.i c.args.b.now c.args.j c.requires.first c.requires.second
 
-pub loop-next-preserved : goal.loop-next-preserved
-loop-next-preserved c =
-    let a = c.args.a.now in
-    let b = c.args.b.now in
-    let equal : atom_cmp (atom_at a c.loop-next.next) (atom_at b c.loop-next.other) ≡ Equal =
-    ap (λ y. atom_cmp (atom_at a c.loop-next.next) y) (sym c.atom-in-loop-next.ensures) ∙ ap (λ x. atom_cmp x c.atom-in-loop-next.result.now) (sym c.atom.ensures) ∙ sym c.compare.ensures ∙ c.in-Equal.is in
-    run_equal a c.args.i b c.args.j c.loop-next.next c.loop-next.other c.loop-next.invariant (omega arith) (omega arith) equal
+pub returns-then-not-equal-clause-run : goal.returns-then-not-equal-clause-run
+returns-then-not-equal-clause-run c =
+    let behind = c.run_to-behind.result.0 in
+    let other = c.loop-other.other in
+    run_run c.args.a.now c.args.i c.args.b.now c.args.j c.loop-other.next other behind other c.loop-other.invariant
+    (subst (λ equal. IsRun c.args.a.now c.loop-other.next c.args.b.now other behind (if equal then other + 1 else other)) c.if-not-equal.true c.run_to-behind.ensures.run)
+
+pub loop-other-preserved : goal.loop-other-preserved
+loop-other-preserved c =
+    let behind = c.run_to-behind.result.0 in
+    let other = c.loop-other.other in
+    run_run c.args.a.now c.args.i c.args.b.now c.args.j c.loop-other.next other behind (other + 1) c.loop-other.invariant
+    (subst (λ equal. IsRun c.args.a.now c.loop-other.next c.args.b.now other behind (if equal then other + 1 else other)) c.if-not-equal.false c.run_to-behind.ensures.run)

@@ -30,3 +30,14 @@ returns-clause-frames c = λ width. (
 
 pub returns-clause-bound : goal.returns-clause-bound
 returns-clause-bound c = omega (arith, c.loop-i.invariant.sum, c.loop-i.invariant.bound, frames_len-front One c.loop-i.i c.args.list.now)
+
+pub returns-in-Some-clause-frames : goal.returns-in-Some-clause-frames
+returns-in-Some-clause-frames c = λ width. (
+    let list = c.args.list.now in
+    ap length c.in-Some.ensures ∙ frames_any width (take c.args.at list) (AreAtoms-take c.args.at list c.len-count.ensures.atoms)
+    )
+
+pub returns-in-Some-clause-bound : goal.returns-in-Some-clause-bound
+returns-in-Some-clause-bound c =
+    let list = c.args.list.now in
+    omega (arith, ap length c.in-Some.ensures, c.len-count.ensures.light, frames_lens list c.len-count.ensures.atoms, frames_len-front One c.args.at list)
