@@ -31,7 +31,7 @@ refusal_answer (Table line code) = record { status = status.table; code = table_
 refusal_answer NoField = refused status.field
 refusal_answer NoWrite = refused status.write
 refusal_answer (Fault offset code) = record { status = status.fault; code = code_number code; context = 0; offset = offset; size = 0 }
-refusal_answer (IllTyped place) = record { status = status.typing; code = 0; context = 0; offset = place; size = 0 }
+refusal_answer (IllTyped offset) = record { status = status.typing; code = 0; context = 0; offset = offset; size = 0 }
 refusal_answer Memory = refused status.memory
 refusal_answer (Room size) = record { status = status.room; code = 0; context = 0; offset = 0; size = size }
 

@@ -24,7 +24,7 @@ pub const FORM: u32 = 4;
 /// The budget is below the least one of the form.
 pub const BUDGET: u32 = 5;
 
-/// The text of a table is none.
+/// The text isn't that of a table.
 pub const TABLE: u32 = 6;
 
 /// No slot of the table has the name.
@@ -46,8 +46,7 @@ pub struct Answer {
     pub code: u32,
     /// Beside `FAULT`: the place of the input among the contexts that were handed in, from 0 on.
     pub context: usize,
-    /// Beside `FAULT`: how many bytes of that input stand before what is wrong. Beside `TABLE`: the line, from 1 on. Beside `TYPE`: the
-    /// place of the atom, from 0 on.
+    /// Beside `FAULT` and `TYPE`: how many bytes of that input stand before what is wrong. Beside `TABLE`: the line, from 1 on.
     pub offset: usize,
     /// Beside `OK`: how many bytes were written, or how many atoms a context has. Beside `ROOM`: how many bytes would be written.
     pub size: usize,

@@ -54,7 +54,7 @@ fn refusal_answer(refusal: FieldRefusal) -> Answer
         FieldRefusal::NoField => Answer::refused(FIELD),
         FieldRefusal::NoWrite => Answer::refused(WRITE),
         FieldRefusal::Fault { offset, code } => wrong(FAULT, code_number(code), offset),
-        FieldRefusal::IllTyped { place } => wrong(TYPE, 0, place),
+        FieldRefusal::IllTyped { offset } => wrong(TYPE, 0, offset),
         FieldRefusal::Memory => Answer::refused(MEMORY),
         FieldRefusal::Room { size } => Answer::plain(ROOM, size),
     }

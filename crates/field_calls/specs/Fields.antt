@@ -1,5 +1,5 @@
 -- Fields by their names.
-use Rattle.std.specs.Prelude.{◌≡◌, ◌⊎◌, ℕ, List, None, IsUtf8}
+use Rattle.std.specs.Prelude.{◌≡◌, ℕ, List, None}
 use Rattle.bag_model.specs.Shapes.{Nodes}
 use Rattle.bag_model.specs.Slots.{SlotAt, FindsSlot, name_path}
 use Rattle.bag_model.specs.SlotValues.{HasSlot}
@@ -12,9 +12,18 @@ use Rattle.field_calls.specs.declared.refusals.FieldRefusal.TheVariants.{NoField
 abbrev pub IsTableOf : Nodes → List ℕ → Type 0
 IsTableOf nodes text = IsTable nodes × (text ≡ table_text nodes)
 
--- No slot of the table has the name. Each slot's name is UTF-8.
+-- The slot with this place looks so and has this name path.
+pub record IsField (nodes : Nodes) (name : List ℕ) (slot : ℕ) (at : SlotAt) : Type 0 where
+  pub there : HasSlot nodes slot at
+  pub named : name_path at ≡ name
+
+-- Some slot of the table has this name path.
+abbrev pub HasField : Nodes → List ℕ → Type 0
+HasField nodes name = (slot : ℕ) × (at : SlotAt) × IsField nodes name slot at
+
+-- No slot of the table has it.
 abbrev pub HasNoField : Nodes → List ℕ → Type 0
-HasNoField nodes name = (¬ IsUtf8 name) ⊎ FindsSlot nodes name None
+HasNoField nodes name = FindsSlot nodes name None
 
 -- The refusal says that no slot has the name, and it is so; want of memory claims nothing.
 abbrev pub IsUnnamed : Nodes → List ℕ → FieldRefusal → Type 0

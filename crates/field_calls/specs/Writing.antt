@@ -5,46 +5,42 @@ use Rattle.context_model.specs.Atoms.{Atom}
 use Rattle.context_model.specs.Framing.{bytes_of}
 use Rattle.bag_model.specs.Encodings.{IsEncoding}
 use Rattle.bag_model.specs.Shapes.{Nodes}
-use Rattle.bag_model.specs.Slots.{SlotAt, name_path}
-use Rattle.bag_model.specs.SlotValues.{HasSlot, only}
+use Rattle.bag_model.specs.Slots.{SlotAt}
+use Rattle.bag_model.specs.SlotValues.{only}
 use Rattle.bag_model.specs.Values.{Value}
 use Rattle.table_text.specs.TableFaults.{IsTableFault}
 use Rattle.write_text.specs.Writes.{IsWrite}
 use Rattle.byte_calls.specs.Room.{BeginsWith, IsTooShortFor}
 use Rattle.field_calls.specs.declared.refusals.FieldRefusal.{FieldRefusal}
 use Rattle.field_calls.specs.declared.refusals.FieldRefusal.TheVariants.{Table, NoField, NoWrite, Memory, Room}
-use Rattle.field_calls.specs.Fields.{IsTableOf, HasNoField}
+use Rattle.field_calls.specs.Fields.{IsTableOf, IsField, HasNoField}
 
--- The table has a slot with this name path, the text is a write of a value to it in the form that is asked for, and the bytes are those
--- of the context that says this value of the slot and nothing else.
+-- A slot has this name path, the text is a write of a value to it in the form that is asked for, and the bytes are those of the context that
+-- says this value of the slot and nothing else.
 pub record SaysWrite (form : Form) (nodes : Nodes) (name text bytes : List ℕ) : Type 0 where
   pub slot : ℕ
   pub at : SlotAt
-  pub there : HasSlot nodes slot at
-  pub named : name_path at ≡ name
+  pub field : IsField nodes name slot at
   pub value : Value
   pub written : IsWrite form at.shape value text
   pub list : List Atom
   pub encoding : IsEncoding nodes (only nodes slot value) list
   pub sent : bytes ≡ bytes_of form list
 
--- The slot with this name path is there, and the text is no write to it.
-pub record HasNoWrite (form : Form) (nodes : Nodes) (name text : List ℕ) : Type 0 where
-  pub slot : ℕ
-  pub at : SlotAt
-  pub there : HasSlot nodes slot at
-  pub named : name_path at ≡ name
-  pub none : (value : Value) → IsWrite form at.shape value text → ⊥
+-- A slot has this name path, and the text is no write to it in the form that is asked for.
+abbrev pub HasNoWrite : Form → Nodes → List ℕ → List ℕ → Type 0
+HasNoWrite form nodes name text =
+    (slot : ℕ) × (at : SlotAt) × IsField nodes name slot at × ((value : Value) → IsWrite form at.shape value text → ⊥)
 
--- Why nothing is written. Want of memory claims nothing.
+-- Why nothing is written to a field of this table. Want of memory claims nothing.
 abbrev pub IsUnwrittenFor : Form → Nodes → List ℕ → List ℕ → FieldRefusal → Type 0
 IsUnwrittenFor form nodes name text NoField = HasNoField nodes name
 IsUnwrittenFor form nodes name text NoWrite = HasNoWrite form nodes name text
 IsUnwrittenFor form nodes name text Memory = Unit {0}
 IsUnwrittenFor form nodes name text other = ⊥
 
--- The bytes of the write stand at the front of the room, and the answer is their size; or the room is too short for them; or the table's
--- text or the write is refused. Where nothing was written the room is as before.
+-- The bytes of the write stand at the front of the room, and the answer is their size; or the room is too short for them. Or the table's
+-- text has this first fault, or it is that of a table and nothing is written to the field, and the room is as before.
 abbrev pub WritesField : Form → List ℕ → List ℕ → List ℕ → List ℕ → List ℕ → Result ℕ FieldRefusal → Type 0
 WritesField form table name text old new (Ok size) =
     (nodes : Nodes) × IsTableOf nodes table × (bytes : List ℕ) × SaysWrite form nodes name text bytes × BeginsWith bytes size old new

@@ -1,10 +1,11 @@
 //! What a context says of a field, as text.
 
 ghost use Rattle.std.specs.Prelude.{IfOk, IfErr};
-ghost use Rattle.field_calls.specs.Reading.{IsText, IsUnreadFor, ReadsField};
+ghost use Rattle.field_calls.specs.Reading.{IsMisread, IsText, IsTypedContextOf, IsUnreadFor, ReadsField};
 
 use crate::fields::field_named;
 use crate::refusals::FieldRefusal;
+use atom_list::Context;
 use bag_scan::State;
 use bag_typed::check_typed;
 use byte_calls::put;
@@ -12,7 +13,22 @@ use field_table::Table;
 use report_text::value_text;
 use std::alloc::Global;
 use table_text::read_table;
-use wire_bytes::read_context;
+use wire_bytes::{form_of, offset, read_context};
+
+/// The context of the bytes. Nobody on the way knows the types, so the reader looks whether each atom is spelled as its table says.
+fn typed_context(alloc: Global, table: &Table, bytes: &[u8]) -> Result<Context, FieldRefusal>
+    ensures read { IfOk result (λ context. IsTypedContextOf table.now context bytes.now) }
+    ensures refused { IfErr result (IsMisread table.now bytes.now) }
+{
+    let context = read_context(alloc, bytes)?;
+    match check_typed(table, &context) {
+        Ok(()) => Ok(context),
+        Err(place) => {
+            let offset = offset(form_of(bytes), context.list(), place) as usize;
+            Err(FieldRefusal::IllTyped { offset })
+        }
+    }
+}
 
 /// The state of a field in a context, and the text of its value.
 fn field_text(
@@ -25,9 +41,7 @@ fn field_text(
     ensures refused { IfErr result (IsUnreadFor table.now context.now name.now) }
 {
     let field = field_named(alloc, table, name)?;
-    let context = read_context(alloc, context)?;
-    // Nobody on the way knows the types, so the reader looks whether each atom is spelled as its table says.
-    check_typed(table, &context).map_err(|place| FieldRefusal::IllTyped { place })?;
+    let context = typed_context(alloc, table, context)?;
     let reading = field.get(alloc, table, &context)?;
     let text = value_text(alloc, &reading.value, field.shape(table))?;
     Ok((reading.state, text))

@@ -9,14 +9,14 @@ use wire_bytes::{ByteCode, ContextFault};
 pub enum FieldRefusal {
     /// The text is no printed table's: its first bad line, by its number from 1 on, and the rule that it breaks.
     Table { line: u64, code: TableCode },
-    /// No slot of the table has the name, or the name isn't UTF-8.
+    /// No slot of the table has the name.
     NoField,
     /// The text is no write to the field.
     NoWrite,
-    /// The bytes cease here to be those of a context.
+    /// Behind so many bytes they cease to be those of a context.
     Fault { offset: usize, code: ByteCode },
-    /// The atom at this place of the context isn't spelled as the type of its field says.
-    IllTyped { place: usize },
+    /// The atom behind so many bytes of the context isn't spelled as the type of its field says. It is the first.
+    IllTyped { offset: usize },
     /// There is no memory.
     Memory,
     /// The room is shorter than what is to be written, which has `size` bytes.
