@@ -19,6 +19,8 @@ pub(crate) fn field_named(
     ensures named { IfOk result (λ field. field.name ≡ name.now) }
     ensures refused { IfErr result (IsUnnamed table.now name.now) }
 {
+    // The proof learns here that the fields make a table, whose names are texts.
+    let _ = table.nodes();
     let Ok(name) = str::from_utf8(name) else {
         return Err(FieldRefusal::NoField);
     };
