@@ -1,10 +1,11 @@
 /* The library of baggage contexts: bytes in, bytes out, into room of the caller's.
  *
  * A context is what a request carries along. Where branches of a request join, their contexts are merged; where a channel has a budget,
- * a context is cut to it. Both are done on bytes, without any definition of what they mean. docs/FORMATS.md has the bytes.
+ * a context is cut to it. Both are done on bytes, without any definition of what they mean. Who has the table of a definition reads and
+ * writes single fields, as text. docs/FORMATS.md has the bytes, the tables and the texts.
  *
- * Each call is an export of the crate baggage_c and is proved to do what is said here: crates/baggage_c/src/exports.rt has the
- * statements. What no proof covers is what the caller owes, and nothing else:
+ * Each call is an export of the crate baggage_c and is proved to do what is said here: crates/baggage_c/src/exports.rt and
+ * field_exports.rt have the statements. What no proof covers is what the caller owes, and nothing else:
  *
  * - A pointer and the length behind it, in a span too, are those of an array that can be read, or written where it is `room`, for the
  *   whole call, and that nobody else writes meanwhile. It may be null where the length is 0. No array has more than 2^63 - 1 bytes.
@@ -25,14 +26,19 @@
 extern "C" {
 #endif
 
-/* What a call came to. Form and budget are looked at before all else, and the room last; want of memory may come at any time between. */
+/* What a call came to. Form and budget are looked at before all else, and the room last; want of memory may come at any time between.
+ * Of the others the first counts, in the order of the arguments that they speak of as each call names it. */
 enum baggage_status {
     BAGGAGE_OK = 0,     /* done */
     BAGGAGE_FAULT = 1,  /* an input isn't the bytes of a context: the first such input, and its first fault */
     BAGGAGE_ROOM = 2,   /* the room is too short: `size` says how many bytes are to be written */
     BAGGAGE_MEMORY = 3, /* malloc refused; nothing is said of the inputs */
     BAGGAGE_FORM = 4,   /* no form has this number */
-    BAGGAGE_BUDGET = 5  /* the budget is below the least one: 1 in form one, 13 in form two */
+    BAGGAGE_BUDGET = 5, /* the budget is below the least one: 1 in form one, 13 in form two */
+    BAGGAGE_TABLE = 6,  /* the text isn't that of a table: its first bad line */
+    BAGGAGE_FIELD = 7,  /* no slot of the table has this name path: a bag has none, nor has a field inside a map's values */
+    BAGGAGE_WRITE = 8,  /* the text is no write to the field in this form */
+    BAGGAGE_TYPE = 9    /* a datum or a key isn't spelled as the type of its field says: the first such atom of the context */
 };
 
 /* The forms of bytes. Inputs are read in the form that their own bytes begin with; what is written takes a form. Form one holds atoms of
@@ -55,12 +61,31 @@ enum baggage_code {
     BAGGAGE_OUT_OF_ORDER = 9   /* an atom doesn't come behind the one before it */
 };
 
+/* What is wrong with a line of a table's text. At one line the first of these counts. */
+enum baggage_table_code {
+    BAGGAGE_HEAD = 1,            /* the first line isn't `baggage table 1` */
+    BAGGAGE_LINE_FORM = 2,       /* the line hasn't the form of a field's, or its line feed is missing */
+    BAGGAGE_DEPTH = 3,           /* the field stands deeper than the lines before it let it */
+    BAGGAGE_ORDER = 4,           /* its number isn't greater than that of the field before it in the same bag */
+    BAGGAGE_DUPLICATE_FIELD = 5, /* an earlier field of the same bag has the name */
+    BAGGAGE_TOO_DEEP = 6,        /* its headers would need more levels than there are */
+    BAGGAGE_TOO_MANY_SLOTS = 7   /* as many fields as a table may have stand before it */
+};
+
+/* Whether what is read of a field is all that was said of it. */
+enum baggage_state {
+    BAGGAGE_EXACT = 1,  /* nothing of it can have been cut off */
+    BAGGAGE_PARTIAL = 2 /* something may have been cut off */
+};
+
 /* The answer of a call. A number that its status doesn't speak of is 0. */
 typedef struct baggage_answer {
     uint32_t status; /* an enum baggage_status */
-    uint32_t code;   /* beside BAGGAGE_FAULT: an enum baggage_code */
+    uint32_t code;   /* beside BAGGAGE_FAULT an enum baggage_code, beside BAGGAGE_TABLE an enum baggage_table_code; of baggage_read_field
+                        beside BAGGAGE_OK an enum baggage_state */
     size_t context;  /* beside BAGGAGE_FAULT: which input it is, from 0 on; those before it are contexts */
-    size_t offset;   /* beside BAGGAGE_FAULT: how many bytes of that input stand before what is wrong */
+    size_t offset;   /* beside BAGGAGE_FAULT and BAGGAGE_TYPE: how many bytes of that input stand before what is wrong; beside
+                        BAGGAGE_TABLE: the number of the line, from 1 on */
     size_t size;     /* beside BAGGAGE_OK and BAGGAGE_ROOM: a number of bytes, or for baggage_check one of atoms */
 } baggage_answer;
 
@@ -89,6 +114,22 @@ baggage_answer baggage_trim(uint32_t form, const uint8_t *context, size_t contex
 /* The merge of two contexts, trimmed: what a service sends on that received both. */
 baggage_answer baggage_forward(uint32_t form, const uint8_t *first, size_t first_len, const uint8_t *second, size_t second_len,
                                uint64_t budget, uint8_t *room, size_t room_len);
+
+/* The calls below know the types of one bag. `table` is the text that `baggage table FILE BAG` prints of a definition, without a byte more
+ * or less; a program can hold it as a constant. `name` is the name path of one of its slots: names with dots between them, as
+ * `baggage check FILE BAG` counts them and `baggage decode` prints them. Neither ends in a null byte. */
+
+/* What a context says of a field: the text of its value as in a report, with `code` for whether that is all that was said. Of a field
+ * of which nothing is said the text is that of its bottom, as `-`, `off` or `{}`. First the table is looked at, then the name, the bytes
+ * and the spelling of each atom of a field that the table has. */
+baggage_answer baggage_read_field(const uint8_t *table, size_t table_len, const uint8_t *context, size_t context_len, const uint8_t *name,
+                                  size_t name_len, uint8_t *room, size_t room_len);
+
+/* The context that says what `text` writes to the field, and nothing else; a merge with another context adds the write to that. The text
+ * is as in a `set` line of a graph: `7`, `"spring"`, `on`, `"writer":3` and so on. First the table is looked at, then the name and the
+ * text. */
+baggage_answer baggage_write_field(uint32_t form, const uint8_t *table, size_t table_len, const uint8_t *name, size_t name_len,
+                                   const uint8_t *text, size_t text_len, uint8_t *room, size_t room_len);
 
 #ifdef __cplusplus
 }

@@ -1,7 +1,10 @@
-// A few lines of C++ over the library: a class for what is received, and the context of two branches. It says nothing where all is well.
+// A few lines of C++ over the library: the context of two branches, and a field that is written and read by its name. It says nothing where
+// all is well.
 #include <cstdint>
 #include <cstdio>
 #include <optional>
+#include <string>
+#include <string_view>
 #include <vector>
 
 #include "baggage.h"
@@ -25,6 +28,43 @@ static std::optional<Bytes> forwarded(const Bytes &first, const Bytes &second, s
     }
 }
 
+// What the `table` command prints of a definition.
+static constexpr std::string_view table = "baggage table 1\n0 0 zone scalar string\n0 1 retries counter\n";
+
+static const std::uint8_t *bytes_of(std::string_view text) { return reinterpret_cast<const std::uint8_t *>(text.data()); }
+
+// What a call writes into room that grows until it is long enough, or nothing where the call is refused.
+template <class Call> static std::optional<Bytes> made(Call call) {
+    Bytes room;
+    for (;;) {
+        const baggage_answer answer = call(room.data(), room.size());
+        if (answer.status != BAGGAGE_OK && answer.status != BAGGAGE_ROOM)
+            return std::nullopt;
+        const bool done = answer.status == BAGGAGE_OK;
+        room.resize(answer.size);
+        if (done)
+            return room;
+    }
+}
+
+// The context that says what a text writes to a field.
+static std::optional<Bytes> written(std::string_view name, std::string_view text) {
+    return made([&](std::uint8_t *room, std::size_t room_len) {
+        return baggage_write_field(BAGGAGE_FORM_ONE, bytes_of(table), table.size(), bytes_of(name), name.size(), bytes_of(text), text.size(),
+                                   room, room_len);
+    });
+}
+
+// The text of what a context says of a field.
+static std::optional<std::string> field(const Bytes &context, std::string_view name) {
+    const auto text = made([&](std::uint8_t *room, std::size_t room_len) {
+        return baggage_read_field(bytes_of(table), table.size(), context.data(), context.size(), bytes_of(name), name.size(), room, room_len);
+    });
+    if (!text)
+        return std::nullopt;
+    return std::string(text->begin(), text->end());
+}
+
 int main() {
     const Bytes first{2, 0xf8, 1, 2, 0, 'a'}, second{2, 0xf8, 1, 2, 0, 'b'};
     if (forwarded(first, second, 100) != Bytes{2, 0xf8, 1, 2, 0, 'a', 2, 0, 'b'})
@@ -36,5 +76,10 @@ int main() {
         return std::puts("embed.cc: the empty context is another"), 1;
     if (forwarded(first, {7}, 100))
         return std::puts("embed.cc: a faulty context was merged"), 1;
+    const auto sent = written("zone", "\"north\"");
+    if (!sent || field(*sent, "zone") != "\"north\"" || field(*sent, "retries") != "0{}")
+        return std::puts("embed.cc: the field is another"), 1;
+    if (written("zone", "north") || field(*sent, "zones"))
+        return std::puts("embed.cc: what is no write or no field was taken"), 1;
     return 0;
 }

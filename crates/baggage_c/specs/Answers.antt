@@ -25,6 +25,18 @@ form = 4
 abbrev pub budget : ℕ
 budget = 5
 
+abbrev pub table : ℕ
+table = 6
+
+abbrev pub field : ℕ
+field = 7
+
+abbrev pub write : ℕ
+write = 8
+
+abbrev pub typing : ℕ
+typing = 9
+
 -- The number of a code, as the header has it.
 abbrev pub code_number : ByteCode → ℕ
 code_number CutLength = 1
@@ -49,5 +61,7 @@ abbrev pub refused : ℕ → Answer
 refused status = record { status = status; code = 0; context = 0; offset = 0; size = 0 }
 
 -- The numbers are those of an outcome for which this holds.
-abbrev pub Tells : (Result ℕ Refusal → Type 0) → Answer → Type 0
-Tells Holds answer = (outcome : Result ℕ Refusal) × Holds outcome × (answer ≡ answer_of outcome)
+pub record Tells {O : Type 0} (numbers : O → Answer) (Holds : O → Type 0) (answer : Answer) : Type 0 where
+  pub outcome : O
+  pub holds : Holds outcome
+  pub told : answer ≡ numbers outcome

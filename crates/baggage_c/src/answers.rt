@@ -24,24 +24,36 @@ pub const FORM: u32 = 4;
 /// The budget is below the least one of the form.
 pub const BUDGET: u32 = 5;
 
+/// The text isn't that of a table.
+pub const TABLE: u32 = 6;
+
+/// No slot of the table has the name.
+pub const FIELD: u32 = 7;
+
+/// The text is no write to the field.
+pub const WRITE: u32 = 8;
+
+/// An atom isn't spelled as the type of its field says.
+pub const TYPE: u32 = 9;
+
 /// The outcome of a call. A number that its status doesn't speak of is 0.
 #[repr(C)]
 #[derive(Clone, Copy)]
 pub struct Answer {
     /// One of the constants of this module.
     pub status: u32,
-    /// Beside `FAULT`: what is wrong, from 1 on.
+    /// Beside `FAULT` and `TABLE`: what is wrong, from 1 on. Beside `OK`: the state of a field that was read.
     pub code: u32,
     /// Beside `FAULT`: the place of the input among the contexts that were handed in, from 0 on.
     pub context: usize,
-    /// Beside `FAULT`: how many bytes of that input stand before what is wrong.
+    /// Beside `FAULT` and `TYPE`: how many bytes of that input stand before what is wrong. Beside `TABLE`: the line, from 1 on.
     pub offset: usize,
     /// Beside `OK`: how many bytes were written, or how many atoms a context has. Beside `ROOM`: how many bytes would be written.
     pub size: usize,
 }
 
 /// The number of a code.
-fn code_number(code: ByteCode) -> u32
+pub(crate) fn code_number(code: ByteCode) -> u32
     ensures { result ≡ code_number code }
 {
     match code {
@@ -59,7 +71,7 @@ fn code_number(code: ByteCode) -> u32
 
 impl Answer {
     /// The answer that has nothing but a status and a size.
-    fn plain(status: u32, size: usize) -> Answer
+    pub(crate) fn plain(status: u32, size: usize) -> Answer
         ensures { result ≡ record { status = status; code = 0; context = 0; offset = 0; size = size } }
     {
         Answer {

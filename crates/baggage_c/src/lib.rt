@@ -4,4 +4,6 @@
 
 mod answers;
 mod exports;
+mod field_answers;
+mod field_exports;
 mod forms;

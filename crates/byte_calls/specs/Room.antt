@@ -3,7 +3,7 @@ use Rattle.std.specs.Prelude.{◌≡◌, ℕ, ◌<◌, ◌≤◌, List, ◌++◌
 use Rattle.context_model.specs.declared.Form.{Form}
 use Rattle.context_model.specs.Atoms.{Atom}
 use Rattle.context_model.specs.ByteCodes.{ByteCode}
-use Rattle.context_model.specs.Framing.{bytes_of, size_of}
+use Rattle.context_model.specs.Framing.{bytes_of}
 use Rattle.wire_bytes.specs.Codes.{byte_code_of}
 use Rattle.byte_calls.specs.declared.refusals.Refusal.{Refusal}
 use Rattle.byte_calls.specs.declared.refusals.Refusal.TheVariants.{Fault, Memory, Room}
@@ -12,6 +12,10 @@ use Rattle.byte_calls.specs.declared.refusals.Refusal.TheVariants.{Fault, Memory
 abbrev pub BeginsWith : List ℕ → ℕ → List ℕ → List ℕ → Type 0
 BeginsWith bytes size old new = (size ≡ length bytes) × (size ≤ length old) × (new ≡ bytes ++ drop size old)
 
+-- The room has no place for these bytes, so many, and is as before.
+abbrev pub IsTooShortFor : List ℕ → ℕ → List ℕ → List ℕ → Type 0
+IsTooShortFor bytes size old new = (size ≡ length bytes) × (length old < size) × (new ≡ old)
+
 -- A list for which the first fact holds is written into the room, and its size is the answer. Otherwise nothing is written: the room is
 -- too short for such a list, of whose size the answer is; or an input has a fault, for which the second fact holds; or there is no memory.
 abbrev pub Writes : Form → (List Atom → Type 0) → (ℕ → ℕ → ByteCode → Type 0) → List ℕ → List ℕ → Result ℕ Refusal → Type 0
@@ -19,4 +23,4 @@ Writes form IsMade IsFault old new (Ok size) = (list : List Atom) × IsMade list
 Writes form IsMade IsFault old new (Err (Fault context offset code)) = IsFault context offset (byte_code_of code) × (new ≡ old)
 Writes form IsMade IsFault old new (Err Memory) = new ≡ old
 Writes form IsMade IsFault old new (Err (Room size)) =
-    (list : List Atom) × IsMade list × (size ≡ size_of form list) × (length old < size) × (new ≡ old)
+    (list : List Atom) × IsMade list × IsTooShortFor (bytes_of form list) size old new

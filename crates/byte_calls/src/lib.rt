@@ -10,4 +10,5 @@ mod spans;
 
 pub use calls::{check, forward_into, merge_into, merge_many_into, trim_into};
 pub use refusals::Refusal;
+pub use room::put;
 pub use spans::Span;

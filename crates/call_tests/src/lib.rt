@@ -4,4 +4,6 @@
 #[cfg(test)]
 mod byte_texts;
 #[cfg(test)]
+mod fields;
+#[cfg(test)]
 mod rooms;

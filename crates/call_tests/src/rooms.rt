@@ -1,6 +1,6 @@
 //! Calls that write into room of the caller's: what is written, what is left of the room, and what is refused.
 
-use crate::byte_texts::{bytes_of, expect_bytes};
+use crate::byte_texts::{bytes_of, expect_bytes, expect_unchanged};
 use byte_calls::{Refusal, Span, check, forward_into, merge_into, merge_many_into, trim_into};
 use std::alloc::Global;
 use std::process::Abort;
@@ -54,11 +54,6 @@ fn tried<'a>(
         }
     };
     Ok((answer, room))
-}
-
-/// That all bytes of a room are as before.
-fn expect_unchanged(rt: &impl Abort, room: &[u8], row: usize) {
-    assert!(rt; room.iter().all(|&byte| byte == 238), "row {row}");
 }
 
 /// Calls, forms, two contexts, and what is written.

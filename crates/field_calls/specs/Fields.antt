@@ -1,0 +1,32 @@
+-- Fields by their names.
+use Rattle.std.specs.Prelude.{◌≡◌, ℕ, List, None}
+use Rattle.bag_model.specs.Shapes.{Nodes}
+use Rattle.bag_model.specs.Slots.{SlotAt, FindsSlot, name_path}
+use Rattle.bag_model.specs.SlotValues.{HasSlot}
+use Rattle.bag_model.specs.Tables.{IsTable}
+use Rattle.table_text.specs.TableTexts.{table_text}
+use Rattle.field_calls.specs.declared.refusals.FieldRefusal.{FieldRefusal}
+use Rattle.field_calls.specs.declared.refusals.FieldRefusal.TheVariants.{NoField, Memory}
+
+-- The text is that of the table.
+abbrev pub IsTableOf : Nodes → List ℕ → Type 0
+IsTableOf nodes text = IsTable nodes × (text ≡ table_text nodes)
+
+-- The slot with this place looks so and has this name path.
+pub record IsField (nodes : Nodes) (name : List ℕ) (slot : ℕ) (at : SlotAt) : Type 0 where
+  pub there : HasSlot nodes slot at
+  pub named : name_path at ≡ name
+
+-- Some slot of the table has this name path.
+abbrev pub HasField : Nodes → List ℕ → Type 0
+HasField nodes name = (slot : ℕ) × (at : SlotAt) × IsField nodes name slot at
+
+-- No slot of the table has it.
+abbrev pub HasNoField : Nodes → List ℕ → Type 0
+HasNoField nodes name = FindsSlot nodes name None
+
+-- The refusal says that no slot has the name, and it is so; want of memory claims nothing.
+abbrev pub IsUnnamed : Nodes → List ℕ → FieldRefusal → Type 0
+IsUnnamed nodes name NoField = HasNoField nodes name
+IsUnnamed nodes name Memory = Unit {0}
+IsUnnamed nodes name other = ⊥

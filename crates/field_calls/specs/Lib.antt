@@ -1,0 +1,4 @@
+pub mod Refusals
+pub mod Fields
+pub mod Reading
+pub mod Writing

@@ -1,0 +1,67 @@
+//! What a context says of a field, as text.
+
+ghost use Rattle.std.specs.Prelude.{IfOk, IfErr};
+ghost use Rattle.field_calls.specs.Reading.{IsMisread, IsText, IsTypedContextOf, IsUnreadFor, ReadsField};
+
+use crate::fields::field_named;
+use crate::refusals::FieldRefusal;
+use atom_list::Context;
+use bag_scan::State;
+use bag_typed::check_typed;
+use byte_calls::put;
+use field_table::Table;
+use report_text::value_text;
+use std::alloc::Global;
+use table_text::read_table;
+use wire_bytes::{form_of, offset, read_context};
+
+/// The context of the bytes. Nobody on the way knows the types, so the reader looks whether each atom is spelled as its table says.
+fn typed_context(alloc: Global, table: &Table, bytes: &[u8]) -> Result<Context, FieldRefusal>
+    ensures read { IfOk result (λ context. IsTypedContextOf table.now context bytes.now) }
+    ensures refused { IfErr result (IsMisread table.now bytes.now) }
+{
+    let context = read_context(alloc, bytes)?;
+    match check_typed(table, &context) {
+        Ok(()) => Ok(context),
+        Err(place) => {
+            let offset = offset(form_of(bytes), context.list(), place) as usize;
+            Err(FieldRefusal::IllTyped { offset })
+        }
+    }
+}
+
+/// The state of a field in a context, and the text of its value.
+fn field_text(
+    alloc: Global,
+    table: &Table,
+    context: &[u8],
+    name: &[u8],
+) -> Result<(State, Vec<u8>), FieldRefusal>
+    ensures read { IfOk result (λ read. IsText table.now context.now name.now read.0 read.1.items) }
+    ensures refused { IfErr result (IsUnreadFor table.now context.now name.now) }
+{
+    let field = field_named(alloc, table, name)?;
+    let context = typed_context(alloc, table, context)?;
+    let reading = field.get(alloc, table, &context)?;
+    let text = value_text(alloc, &reading.value, field.shape(table))?;
+    Ok((reading.state, text))
+}
+
+/// Writes the text of what a context says of the field with this name path into the room, and answers how many bytes it has and whether
+/// that is all that was said of the field. The table is a printed one.
+pub fn read_field_into(
+    alloc: Global,
+    table: &[u8],
+    context: &[u8],
+    name: &[u8],
+    room: &mut [u8],
+) -> Result<(State, usize), FieldRefusal>
+    ensures { ReadsField table.now context.now name.now room.old room.new result }
+{
+    let table = read_table(alloc, table)?;
+    let (state, text) = field_text(alloc, &table, context, name)?;
+    match put(&text, room) {
+        Ok(size) => Ok((state, size)),
+        Err(size) => Err(FieldRefusal::Room { size }),
+    }
+}

@@ -1,0 +1,61 @@
+//! Why no field was read or written.
+
+use outside::Memory;
+use table_text::{TableCode, TableFault};
+use wire_bytes::{ByteCode, ContextFault};
+
+/// Why no field was read or written. The first of these counts, but for want of memory, which may come before any of the others.
+#[derive(Clone, Copy, Debug, PartialEq, Eq)]
+pub enum FieldRefusal {
+    /// The text is no printed table's: its first bad line, by its number from 1 on, and the rule that it breaks.
+    Table { line: u64, code: TableCode },
+    /// No slot of the table has the name.
+    NoField,
+    /// The text is no write to the field.
+    NoWrite,
+    /// Behind so many bytes they cease to be those of a context.
+    Fault { offset: usize, code: ByteCode },
+    /// The atom behind so many bytes of the context isn't spelled as the type of its field says. It is the first.
+    IllTyped { offset: usize },
+    /// There is no memory.
+    Memory,
+    /// The room is shorter than what is to be written, which has `size` bytes.
+    Room { size: usize },
+}
+
+impl From<Memory> for FieldRefusal {
+    ghost use Rattle.std.specs.Prelude.{◌≡◌};
+    ghost use Rattle.field_calls.specs.declared.refusals.FieldRefusal.TheVariants.{Memory};
+
+    ghost from_gives = { λ _ refusal. refusal ≡ Memory };
+
+    fn from(_want: Memory) -> FieldRefusal {
+        FieldRefusal::Memory
+    }
+}
+
+impl From<ContextFault> for FieldRefusal {
+    ghost use Rattle.field_calls.specs.Refusals.{TellsContext};
+
+    ghost from_gives = { TellsContext };
+
+    fn from(fault: ContextFault) -> FieldRefusal {
+        match fault {
+            ContextFault::At { offset, code } => FieldRefusal::Fault { offset, code },
+            ContextFault::Memory => FieldRefusal::Memory,
+        }
+    }
+}
+
+impl From<TableFault> for FieldRefusal {
+    ghost use Rattle.field_calls.specs.Refusals.{TellsTable};
+
+    ghost from_gives = { TellsTable };
+
+    fn from(fault: TableFault) -> FieldRefusal {
+        match fault {
+            TableFault::At { line, code } => FieldRefusal::Table { line, code },
+            TableFault::Memory => FieldRefusal::Memory,
+        }
+    }
+}

@@ -1,0 +1,57 @@
+//! The context of one write.
+
+ghost use Rattle.std.specs.Prelude.{IfOk, IfErr};
+ghost use Rattle.field_calls.specs.Writing.{IsUnwrittenFor, SaysWrite, WritesField};
+
+use crate::fields::field_named;
+use crate::refusals::FieldRefusal;
+use accessor_gen::laws::values_fit_at_slots;
+use byte_calls::put;
+use field_table::Table;
+use std::alloc::Global;
+use table_text::read_table;
+use wire_bytes::{Form, write};
+use write_text::laws::writes_are_of_their_shape;
+use write_text::read_write;
+
+/// The bytes of the context that says one write of a field, and nothing else.
+fn write_bytes(
+    alloc: Global,
+    form: Form,
+    table: &Table,
+    name: &[u8],
+    text: &[u8],
+) -> Result<Vec<u8>, FieldRefusal>
+    ensures written { IfOk result (λ bytes. SaysWrite form table.now name.now text.now bytes.items) }
+    ensures refused { IfErr result (IsUnwrittenFor form table.now name.now text.now) }
+{
+    // The proof rests on these laws.
+    writes_are_of_their_shape();
+    values_fit_at_slots();
+    let field = field_named(alloc, table, name)?;
+    let Some(value) = read_write(alloc, form, field.shape(table), text)? else {
+        return Err(FieldRefusal::NoWrite);
+    };
+    let context = field.write(alloc, table, &value)?;
+    Ok(write(alloc, form, context.list())?)
+}
+
+/// Writes the context into the room that says what the text writes to the field with this name path, and nothing else, in the form that is
+/// asked for, and answers how many bytes it has. The table is a printed one.
+pub fn write_field_into(
+    alloc: Global,
+    form: Form,
+    table: &[u8],
+    name: &[u8],
+    text: &[u8],
+    room: &mut [u8],
+) -> Result<usize, FieldRefusal>
+    ensures { WritesField form table.now name.now text.now room.old room.new result }
+{
+    let table = read_table(alloc, table)?;
+    let bytes = write_bytes(alloc, form, &table, name, text)?;
+    match put(&bytes, room) {
+        Ok(size) => Ok(size),
+        Err(size) => Err(FieldRefusal::Room { size }),
+    }
+}
