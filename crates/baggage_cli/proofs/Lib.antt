@@ -8,6 +8,7 @@ pub mod GraphInputs
 pub mod Loads
 pub mod Obtained
 pub mod TableLaws
+pub mod Brought
 pub mod Printed
 pub mod FewWords
 pub mod HexLengths
