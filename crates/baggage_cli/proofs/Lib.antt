@@ -15,6 +15,7 @@ pub mod HexLengths
 pub mod Delivered
 pub mod Definite
 pub mod Compared
+pub mod Checked
 pub mod ToldFiles
 pub mod Endings
 pub mod Facts
