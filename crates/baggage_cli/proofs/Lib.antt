@@ -5,6 +5,7 @@ pub mod ContextLines
 pub mod TypedLines
 pub mod CutLines
 pub mod GraphInputs
+pub mod Explained
 pub mod Loads
 pub mod Obtained
 pub mod TableLaws
