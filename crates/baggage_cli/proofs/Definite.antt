@@ -34,16 +34,14 @@ use Rattle.text_lines.proofs.ReadingLaws.{all_say_one, first_bad_one, good_not_b
 use Rattle.baggage_cli.specs.Commands.{Origin, Form, as_lines, as_json, Purpose, decoding, running, explaining, Filter, trimming, merging, carrying, collecting, Task, alone, load, build, under, compare, checking}
 use Rattle.baggage_cli.specs.declared.merging.TheConstants.{LINES_MAX}
 use Rattle.baggage_cli.specs.declared.refusals.InputCode.TheVariants.{Form as Excess, TooManyLines}
-use Rattle.baggage_cli.specs.declared.refusals.InputCode.{InputCode}
 use Rattle.baggage_cli.specs.declared.refusals.InputFault.{InputFault}
 use Rattle.baggage_cli.specs.declared.refusals.InputFault.TheVariants.{Code, Hex, Bytes}
 use Rattle.baggage_cli.specs.declared.refusals.Refusal.{Refusal}
-use Rattle.baggage_cli.specs.declared.refusals.Refusal.TheVariants.{Input}
 use Rattle.baggage_cli.specs.Carrying.{AreOfContext, own_bytes, byte_lines}
 use Rattle.baggage_cli.specs.Collecting.{CollectsLines}
 use Rattle.baggage_cli.specs.Checking.{verified_line, IsVerified, ChecksLines, VerdictUnder}
 use Rattle.baggage_cli.specs.Decoding.{DecodesLines}
-use Rattle.baggage_cli.specs.Explaining.{IsPlace, IsNoPlace, IsPartial, IsExplained, ExplainsLines}
+use Rattle.baggage_cli.specs.Explaining.{IsPlace, IsNoPlace, IsUnexplained, IsExplained, ExplainsLines}
 use Rattle.baggage_cli.specs.Filters.{FiltersLines}
 use Rattle.baggage_cli.specs.Laws.{TableLaws, GraphLaws, Laws}
 use Rattle.baggage_cli.specs.Merging.{lists_of, merged_lines, IsMergeOf}
@@ -289,6 +287,13 @@ graph_inputs_definite definite table is_table = record {
   not_both = λ earlier text said fault says (x, bad, is). (definite table is_table).not_both earlier text said x says bad;
 }
 
+-- An input comes to one outcome where its lines do.
+within_text_one : (gives : List Line → Outcome → Type 0) → ((text : List ℕ) (a b : Outcome) → gives (lines_of text) a → gives (lines_of text) b → a ≡ b) → GivesOne (Within gives)
+within_text_one gives one input a b (inl f) (inl g) = f.1 ∙ sym g.1
+within_text_one gives one input a b (inl f) (inr g) = absurd (let long = f.0 in let short = g.0 in omega arith)
+within_text_one gives one input a b (inr f) (inl g) = absurd (let long = g.0 in let short = f.0 in omega arith)
+within_text_one gives one input a b (inr f) (inr g) = one input a b f.1 g.1
+
 module _ (laws : GraphLaws) (table : Nodes) (is_table : IsTable table) where
   -- A run has one report of each form.
   reports_one : (form : Form) (graph : Graph) (lists : Lists) (x y : List ℕ) → IsReportAs form table graph lists x → IsReportAs form table graph lists y → x ≡ y
@@ -321,12 +326,8 @@ module _ (laws : GraphLaws) (table : Nodes) (is_table : IsTable table) where
   graph_gives_one gives one text (Err r) (Ok y) refused (every, all, gave) = absurd (graph_not_bad text every r all refused)
   graph_gives_one gives one text (Err r) (Err s) f g = ap Err (refuses_lines_one (graph_inputs table) (graph_inputs_definite laws.definite table is_table) (lines_of text) r s f g)
 
--- An input comes to one outcome where its lines do.
-within_text_one : (gives : List Line → Outcome → Type 0) → ((text : List ℕ) (a b : Outcome) → gives (lines_of text) a → gives (lines_of text) b → a ≡ b) → GivesOne (Within gives)
-within_text_one gives one input a b (inl f) (inl g) = f.1 ∙ sym g.1
-within_text_one gives one input a b (inl f) (inr g) = absurd (let long = f.0 in let short = g.0 in omega arith)
-within_text_one gives one input a b (inr f) (inl g) = absurd (let long = g.0 in let short = f.0 in omega arith)
-within_text_one gives one input a b (inr f) (inr g) = one input a b f.1 g.1
+  run_gives_one : (form : Form) → GivesOne (InputUnder (running form) table)
+  run_gives_one form = within_text_one (RunsLines form table) (graph_gives_one (IsRunReport form table) (runs_one form))
 
 -- ---- certificates
 
@@ -336,60 +337,57 @@ OneRefused (Ok x) (Ok y) = ⊥
 OneRefused (Ok x) (Err s) = Unit {0}
 OneRefused (Err r) b = Unit {0}
 
+-- A path is that of one slot, or of none.
+one_slot : (table : Nodes) (path : List ℕ) (a b : ℕ) → IsTable table → FindsSlot table path (Some a) → FindsSlot table path (Some b) → a ≡ b
+one_slot table path a b is_table (at, there, is) (other, also, same) = name_paths_differ table a b at other is_table there also (is ∙ sym same)
+
+no_slot : (table : Nodes) (path : List ℕ) (a : ℕ) → FindsSlot table path (Some a) → FindsSlot table path None → ⊥
+no_slot table path a (at, there, is) none = none a at there is
+
+-- What isn't there isn't there for one reason.
+no_place_one : (table : Nodes) (graph : Graph) (step : ℕ) (path : List ℕ) (a b : Refusal) → IsNoPlace table graph step path a → IsNoPlace table graph step path b → a ≡ b
+no_place_one table graph step path a b (inl (big, a_is)) (inl (also, b_is)) = a_is ∙ sym b_is
+no_place_one table graph step path a b (inl (big, a_is)) (inr (small, none, b_is)) = absurd (omega arith)
+no_place_one table graph step path a b (inr (small, none, a_is)) (inl (big, b_is)) = absurd (omega arith)
+no_place_one table graph step path a b (inr (small, none, a_is)) (inr (less, also, b_is)) = a_is ∙ sym b_is
+
+place_or_not : (table : Nodes) (graph : Graph) (step : ℕ) (path : List ℕ) (slot : ℕ) (refusal : Refusal) → IsPlace table graph step path slot → IsNoPlace table graph step path refusal → ⊥
+place_or_not table graph step path slot refusal (small, finds) (inl (big, is)) = omega arith
+place_or_not table graph step path slot refusal (small, finds) (inr (less, none, is)) = no_slot table path slot finds none
+
+-- What is left without a certificate is so for one reason.
+unexplained_one : (table : Nodes) (graph : Graph) (step : ℕ) (path : List ℕ) (a b : Refusal) → IsUnexplained table graph step path a → IsUnexplained table graph step path b → a ≡ b
+unexplained_one table graph step path a b (inl none) (inl also) = no_place_one table graph step path a b none also
+unexplained_one table graph step path a b (inl none) (inr (lists, slot, ran, place, unended, is)) = absurd (place_or_not table graph step path slot a place none)
+unexplained_one table graph step path a b (inr (lists, slot, ran, place, unended, is)) (inl none) = absurd (place_or_not table graph step path slot b place none)
+unexplained_one table graph step path a b (inr (lists, slot, ran, place, unended, a_is)) (inr (others, other, run, there, also, b_is)) = a_is ∙ sym b_is
+
+-- What has a certificate isn't left without one.
+explained_not_left : Laws → (table : Nodes) (graph : Graph) (step : ℕ) (path output : List ℕ) (refusal : Refusal) → IsRecorded table graph
+    → IsExplained step path table graph output → IsUnexplained table graph step path refusal → ⊥
+explained_not_left laws table graph step path output refusal recorded (lists, slot, explained) (inl none) = place_or_not table graph step path slot refusal explained.place none
+explained_not_left laws table graph step path output refusal recorded (lists, slot, explained) (inr (others, other, ran, place, unended, is)) =
+    let same : others ≡ lists = laws.graphs.one_run table graph others lists recorded ran explained.run in
+    let slots : other ≡ slot = one_slot table path other slot recorded.table place.1 explained.place.1 in
+    unended (subst (λ ls. IsEndedAt table ls step other) (sym same) (subst (λ s. IsEndedAt table lists step s) (sym slots) explained.ended))
+
 module _ (laws : Laws) (table : Nodes) (is_table : IsTable table) where
   -- A certificate has one verdict.
   verdicts_one : (certificate : List ℕ) (graph : Graph) → IsRecorded table graph → (x y : List ℕ) → IsVerified table certificate graph x → IsVerified table certificate graph y → x ≡ y
   verdicts_one certificate graph recorded x y (verdict, right, x_is) (other, also, y_is) =
       x_is ∙ ap verified_line (laws.certificates.one_verdict table graph certificate verdict other is_table right also) ∙ sym y_is
 
-  pub checks_one : (certificate : List ℕ) → GivesOne (VerdictUnder table certificate)
+  checks_one : (certificate : List ℕ) → GivesOne (VerdictUnder table certificate)
   checks_one certificate = within_text_one (ChecksLines table certificate) (graph_gives_one laws.graphs table is_table (IsVerified table certificate) (verdicts_one certificate))
 
-  -- A path is that of one slot.
-  one_slot : (path : List ℕ) (a b : ℕ) → FindsSlot table path (Some a) → FindsSlot table path (Some b) → a ≡ b
-  one_slot path a b (at, there, is) (other, also, same) = name_paths_differ table a b at other is_table there also (is ∙ sym same)
-
-  no_slot : (path : List ℕ) (a : ℕ) → FindsSlot table path (Some a) → FindsSlot table path None → ⊥
-  no_slot path a (at, there, is) none = none a at there is
-
-  module _ (step : ℕ) (path : List ℕ) (graph : Graph) (recorded : IsRecorded table graph) where
-    -- What isn't there isn't there for one reason.
-    no_place_one : (a b : InputCode) → IsNoPlace table graph step path a → IsNoPlace table graph step path b → a ≡ b
-    no_place_one a b (inl (big, a_is)) (inl (also, b_is)) = a_is ∙ sym b_is
-    no_place_one a b (inl (big, a_is)) (inr (small, none, b_is)) = absurd (omega arith)
-    no_place_one a b (inr (small, none, a_is)) (inl (big, b_is)) = absurd (omega arith)
-    no_place_one a b (inr (small, none, a_is)) (inr (less, also, b_is)) = a_is ∙ sym b_is
-
-    place_or_not : (slot : ℕ) (code : InputCode) → IsPlace table graph step path slot → IsNoPlace table graph step path code → ⊥
-    place_or_not slot code (small, finds) (inl (big, is)) = omega arith
-    place_or_not slot code (small, finds) (inr (less, none, is)) = no_slot path slot finds none
-
-    -- What has a certificate is ended.
-    explained_or_partial : (output : List ℕ) (code : InputCode) → IsExplained step path table graph output → IsPartial table graph step path code → ⊥
-    explained_or_partial output code (lists, slot, explained) (others, other, ran, place, unended, is) =
-        let same = laws.graphs.one_run table graph others lists recorded ran explained.run in
-        let slots = one_slot path other slot place.1 explained.place.1 in
-        unended (subst (λ ls. IsEndedAt table ls step other) (sym same) (subst (λ s. IsEndedAt table lists step s) (sym slots) explained.ended))
-
-    -- What is left without a certificate is so for one reason.
-    unexplained_one : (a b : InputCode) → IsNoPlace table graph step path a ⊎ IsPartial table graph step path a → IsNoPlace table graph step path b ⊎ IsPartial table graph step path b → a ≡ b
-    unexplained_one a b (inl none) (inl also) = no_place_one a b none also
-    unexplained_one a b (inl none) (inr (lists, slot, ran, place, unended, is)) = absurd (place_or_not slot a place none)
-    unexplained_one a b (inr (lists, slot, ran, place, unended, is)) (inl none) = absurd (place_or_not slot b place none)
-    unexplained_one a b (inr (lists, slot, ran, place, unended, a_is)) (inr (others, other, run, there, also, b_is)) = a_is ∙ sym b_is
-
-    explained_not_left : (output : List ℕ) (code : InputCode) → IsExplained step path table graph output → IsNoPlace table graph step path code ⊎ IsPartial table graph step path code → ⊥
-    explained_not_left output code (lists, slot, explained) (inl none) = place_or_not slot code explained.place none
-    explained_not_left output code explained (inr unended) = explained_or_partial output code explained unended
-
   -- Lines that have a certificate aren't refused.
-  explained_not_refused : (step : ℕ) (path text : List ℕ) (x : List ℕ) (s : Refusal) → ExplainsLines step path table (lines_of text) (Ok x) → ExplainsLines step path table (lines_of text) (Err s) → ⊥
+  explained_not_refused : (step : ℕ) (path text x : List ℕ) (s : Refusal) → ExplainsLines step path table (lines_of text) (Ok x) → ExplainsLines step path table (lines_of text) (Err s) → ⊥
   explained_not_refused step path text x s (inl (every, all, gave)) (inl bad) = graph_not_bad laws.graphs table is_table text every s all bad
-  explained_not_refused step path text x s (inl (every, all, gave)) (inr (others, code, say, why, is)) =
+  explained_not_refused step path text x s (inl (every, all, gave)) (inr (others, left, say, reason, is)) =
       let same = same_graph laws.graphs table is_table text every others all say in
-      explained_not_left step path (graph_of every) (graph_recorded laws.graphs table is_table text every all) x code gave
-      (subst (λ said. IsNoPlace table (graph_of said) step path code ⊎ IsPartial table (graph_of said) step path code) same why)
-  explained_not_refused step path text x s (inr (every, code, all, why, is)) g = ok_no_err x _ is
+      explained_not_left laws table (graph_of every) step path x left (graph_recorded laws.graphs table is_table text every all) gave
+      (subst (λ said. IsUnexplained table (graph_of said) step path left) same reason)
+  explained_not_refused step path text x s (inr (every, left, all, reason, is)) g = ok_no_err x left is
 
   -- Lines that are refused come to that alone.
   explains_one : (step : ℕ) (path text : List ℕ) (a b : Outcome) → OneRefused a b → ExplainsLines step path table (lines_of text) a → ExplainsLines step path table (lines_of text) b → a ≡ b
@@ -398,13 +396,12 @@ module _ (laws : Laws) (table : Nodes) (is_table : IsTable table) where
   explains_one step path text (Err r) (Ok y) refused f g = absurd (explained_not_refused step path text y r g f)
   explains_one step path text (Err r) (Err s) refused (inl f) (inl g) =
       ap Err (refuses_lines_one (graph_inputs table) (graph_inputs_definite laws.graphs.definite table is_table) (lines_of text) r s f g)
-  explains_one step path text (Err r) (Err s) refused (inl bad) (inr (every, code, all, why, is)) = absurd (graph_not_bad laws.graphs table is_table text every r all bad)
-  explains_one step path text (Err r) (Err s) refused (inr (every, code, all, why, is)) (inl bad) = absurd (graph_not_bad laws.graphs table is_table text every s all bad)
-  explains_one step path text (Err r) (Err s) refused (inr (every, code, all, why, r_is)) (inr (others, other, say, because, s_is)) =
+  explains_one step path text (Err r) (Err s) refused (inl bad) (inr (every, left, all, reason, is)) = absurd (graph_not_bad laws.graphs table is_table text every r all bad)
+  explains_one step path text (Err r) (Err s) refused (inr (every, left, all, reason, is)) (inl bad) = absurd (graph_not_bad laws.graphs table is_table text every s all bad)
+  explains_one step path text (Err r) (Err s) refused (inr (every, left, all, reason, r_is)) (inr (others, other, say, because, s_is)) =
       let same = same_graph laws.graphs table is_table text every others all say in
-      let one = unexplained_one step path (graph_of every) (graph_recorded laws.graphs table is_table text every all) code other why
-          (subst (λ said. IsNoPlace table (graph_of said) step path other ⊎ IsPartial table (graph_of said) step path other) same because) in
-      r_is ∙ ap (λ c. Err (Input 0 (Code c))) one ∙ sym s_is
+      let one = unexplained_one table (graph_of every) step path left other reason (subst (λ said. IsUnexplained table (graph_of said) step path other) same because) in
+      r_is ∙ ap Err one ∙ sym s_is
 
 -- ---- inputs under a table
 
@@ -413,8 +410,7 @@ module _ (laws : Laws) (table : Nodes) (is_table : IsTable table) where
   under_refused_one : (purpose : Purpose) (input : List ℕ) (a b : Outcome) → OneRefused a b → InputUnder purpose table input a → InputUnder purpose table input b → a ≡ b
   under_refused_one decoding input a b refused f g =
       within_one (DecodesLines table) (reads_one_one (typed_lines table) (typed_lines_definite table) (λ said. IsBlock table said.0 said.1) (λ said. laws.one_block table said.0 said.1)) input a b f g
-  under_refused_one (running form) input a b refused f g =
-      within_text_one (RunsLines form table) (graph_gives_one laws.graphs table is_table (IsRunReport form table) (runs_one laws.graphs table is_table form)) input a b f g
+  under_refused_one (running form) input a b refused f g = run_gives_one laws.graphs table is_table form input a b f g
   under_refused_one (explaining step path) input a b refused (inl f) (inl g) = f.1 ∙ sym g.1
   under_refused_one (explaining step path) input a b refused (inl f) (inr g) = absurd (let long = f.0 in let short = g.0 in omega arith)
   under_refused_one (explaining step path) input a b refused (inr f) (inl g) = absurd (let long = g.0 in let short = f.0 in omega arith)

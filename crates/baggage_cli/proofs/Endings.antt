@@ -2,10 +2,12 @@
 use Rattle.std.proofs.Common.{◌≡◌, ◌⊎◌, inl, inr, ℕ, List, [], ◌∷◌, Option, Some, None, Result, Ok, Err, refl, ◌∙◌, ap, subst}
 use Rattle.bag_model.specs.Shapes.{Nodes}
 use Rattle.bdl_load.specs.Loading.{Holding, OfLibrary}
+use Rattle.graph_text.specs.Additions.{graph_of}
+use Rattle.trace_model.specs.Graphs.{Graph}
 use Rattle.text_carrier.specs.declared.faults.CarryFault.{CarryFault}
 use Rattle.text_carrier.specs.declared.faults.CarryFault.TheVariants as pieces
 use Rattle.text_lines.specs.Lines.{Line, lines_of}
-use Rattle.baggage_cli.specs.declared.refusals.InputCode.TheVariants.{TooLong, NoLine, TooManyBytes}
+use Rattle.baggage_cli.specs.declared.refusals.InputCode.TheVariants.{TooLong, NoLine, TooManyBytes, StepRange, NoSuchPath, Partial}
 use Rattle.baggage_cli.specs.declared.refusals.InputFault.{InputFault}
 use Rattle.baggage_cli.specs.declared.refusals.InputFault.TheVariants.{Code, Piece, Missing, Bytes}
 use Rattle.baggage_cli.specs.declared.refusals.Notice.TheVariants.{LibraryFailed, SourceFailed, Memory}
@@ -16,6 +18,7 @@ use Rattle.baggage_cli.specs.Checking.{VerdictUnder, BringsAndChecks}
 use Rattle.baggage_cli.specs.Comparing.{ComparesTables}
 use Rattle.baggage_cli.specs.Commands.{Origin, compiled, printed, Product, decoding, running, explaining, Filter, trimming, merging, carrying, collecting, Task, alone, load, build, under, compare, checking, ReadsSource, FetchesFiles}
 use Rattle.baggage_cli.specs.Delivery.{Delivers}
+use Rattle.baggage_cli.specs.Explaining.{IsUnexplained}
 use Rattle.baggage_cli.specs.Filters.{FiltersLines, FilterGives}
 use Rattle.baggage_cli.specs.Loading.{IsLoadOutput, LoadGives}
 use Rattle.baggage_cli.specs.Outcomes.{Outcome, Then}
@@ -100,6 +103,12 @@ refuses_lines (carrying width) lines refusal (inr (number, fault, bad, is)) = (n
 refuses_lines collecting lines refusal (inl (fault, found, collects, is)) = let (number, its, same) = of_pieces fault found in (number, its, is ∙ same)
 refuses_lines collecting lines refusal (inr (bytes, offset, code, collects, first, is)) = (0, Bytes offset code, is)
 
+-- A graph without a certificate is refused as a whole.
+left_for : (table : Nodes) (graph : Graph) (step : ℕ) (path : List ℕ) (refusal : Refusal) → IsUnexplained table graph step path refusal → (fault : InputFault) × (refusal ≡ Input 0 fault)
+left_for table graph step path refusal (inl (inl (big, is))) = (Code StepRange, is)
+left_for table graph step path refusal (inl (inr (small, none, is))) = (Code NoSuchPath, is)
+left_for table graph step path refusal (inr (lists, slot, ran, place, unended, is)) = (Code Partial, is)
+
 refuses_input : (task : Task) (scene : Scene) (input : List ℕ) (refusal : Refusal) → Gives task scene input (Err refusal) → (number : ℕ) × (fault : InputFault) × (refusal ≡ Input number fault)
 refuses_input (alone filter) scene input refusal (inl long) = (0, Code TooLong, cc (long.1))
 refuses_input (alone filter) scene input refusal (inr (short, refused)) = refuses_lines filter (lines_of input) refusal refused
@@ -113,7 +122,10 @@ refuses_input (under (running form) origin) scene input refusal (table, came, in
 refuses_input (under (running form) origin) scene input refusal (table, came, inr (short, (number, fault, bad, is))) = (number, fault, is)
 refuses_input (under (explaining step path) origin) scene input refusal (table, came, inl long) = (0, Code TooLong, cc (long.1))
 refuses_input (under (explaining step path) origin) scene input refusal (table, came, inr (short, inl (number, fault, bad, is))) = (number, fault, is)
-refuses_input (under (explaining step path) origin) scene input refusal (table, came, inr (short, inr (every, code, all, why, is))) = (0, Code code, cc is)
+refuses_input (under (explaining step path) origin) scene input refusal (table, came, inr (short, inr (every, left, all, reason, is))) =
+    let (fault, left_is) = left_for table (graph_of every) step path left reason in
+    let same : refusal ≡ left = cc is in
+    (0, fault, same ∙ left_is)
 refuses_input (checking origin file) scene input refusal (table, certificate, came, inl long) = (0, Code TooLong, cc (long.1))
 refuses_input (checking origin file) scene input refusal (table, certificate, came, inr (short, (number, fault, bad, is))) = (number, fault, is)
 
@@ -191,7 +203,7 @@ untabled_ending : (task : Task) (origin : Origin) (scene : Scene) (library : Cha
     → Obtains origin library requests (Err refusal) → IsSame scene.source
     → outcome ≡ Err refusal → Delivers outcome scene.out scene.errs answer → Ending task scene answer
 untabled_ending task origin scene library requests answer refusal outcome fetches rises turns obtains unread is delivers =
-    untaken_ending Nodes (λ held. AsksFront held origin) (λ held. AsksForTable held origin) (TableGives origin) task scene library requests answer refusal outcome fetches rises
+    untaken_ending Nodes (λ held names. AsksFront held origin names) (λ held names. AsksForTable held origin names) (λ held outcome. TableGives origin held outcome) task scene library requests answer refusal outcome fetches rises
     (λ held bad. table_status origin held refusal bad) turns obtains unread is delivers
 
 -- A task that makes something of its files alone.
@@ -241,7 +253,7 @@ file_ending : (origin : Origin) (file : List ℕ) (scene : Scene) (answer : ℕ)
     → BringsAndChecks file scene.source table (since half.files half.faults scene.library) (since half.asked half.faults scene.requests) outcome
     → Delivers outcome scene.out scene.errs answer → Ending (checking origin file) scene answer
 file_ending origin file scene answer half table outcome taken (inl (refusal, brings, unread, is)) delivers =
-    untaken_ending (List ℕ) (λ held names. names ≡ file ∷ []) (λ held names. names ≡ file ∷ []) (λ held. FileGives file (held file)) (checking origin file) scene
+    untaken_ending (List ℕ) (λ held names. names ≡ file ∷ []) (λ held names. names ≡ file ∷ []) (λ held outcome. FileGives file (held file) outcome) (checking origin file) scene
     (since half.files half.faults scene.library) (since half.asked half.faults scene.requests) answer refusal outcome
     tt (rose_behind scene.library.faults_before half.faults scene.library.faults_after taken.1) (λ held bad. untaken_status file (held file) refusal bad)
     (file_refused origin file scene half table taken refusal) brings unread is delivers

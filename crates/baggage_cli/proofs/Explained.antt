@@ -1,5 +1,5 @@
 -- The certificate of a slot at a step, or why there is none.
-use Rattle.std.proofs.Common.{◌≡◌, ◌⊎◌, ◌↔◌, inl, inr, ℕ, ◌<◌, List, [], length, get_or, Some, Result, Ok, Err, refl, sym, ◌∙◌, ap, subst}
+use Rattle.std.proofs.Common.{◌≡◌, ◌↔◌, inl, inr, ℕ, ◌<◌, List, [], length, get_or, Some, Result, Ok, Err, refl, sym, ap, subst}
 use Rattle.std.proofs.lemmas.Option.{slice_get-get_or}
 use Rattle.std.specs.Global.{Vec}
 use Rattle.std.specs.Result.{IsErrAnd}
@@ -15,9 +15,8 @@ use Rattle.text_lines.specs.Lines.{lines_of}
 use Rattle.trace_model.specs.Graphs.{Graph}
 use Rattle.trace_model.specs.Runs.{Lists, list_at, IsRun}
 use Rattle.write_proof.specs.Certificates.{IsEndedAt}
-use Rattle.baggage_cli.specs.declared.refusals.InputCode.TheVariants.{Partial}
 use Rattle.baggage_cli.specs.declared.refusals.Refusal.{Refusal}
-use Rattle.baggage_cli.specs.Explaining.{IsPlace, IsNoPlace, IsPartial, RefusesPlace, CertifiesSlot, IsExplained, ExplainsLines}
+use Rattle.baggage_cli.specs.Explaining.{IsPlace, IsNoPlace, IsPartial, CertifiesSlot, IsExplained, ExplainsLines}
 use Rattle.baggage_cli.specs.Outcomes.{Outcome, outcome_of, OrMemory}
 use Rattle.baggage_cli.specs.Running.{GraphGives}
 use Rattle.baggage_cli.proofs.GraphInputs.{inputs_say, graph_gave}
@@ -44,10 +43,10 @@ module _ (step : ℕ) (path : List ℕ) (table : Nodes) (text : List ℕ) where
 
   -- What there isn't in the graph is refused.
   pub no_place_explained : (graph : Graph) (refusal : Refusal) (result : Result (Vec ℕ) Refusal) → IsErrAnd result (λ other. other ≡ refusal) → IsGraphOf table text graph
-      → RefusesPlace table graph step path refusal → OrMemory (ExplainsLines step path table (lines_of text)) (outcome_of result)
-  no_place_explained graph refusal (Ok output) is says refuses = absurd is
-  no_place_explained graph refusal (Err other) is (every, all, graph_is) (code, none, refused) =
-      inr (inr (every, code, inputs_say table [] (lines_of text) every all, inl (subst (λ g. IsNoPlace table g step path code) graph_is none), ap Err (is ∙ refused)))
+      → IsNoPlace table graph step path refusal → OrMemory (ExplainsLines step path table (lines_of text)) (outcome_of result)
+  no_place_explained graph refusal (Ok output) is says none = absurd is
+  no_place_explained graph refusal (Err other) is (every, all, graph_is) none =
+      inr (inr (every, refusal, inputs_say table [] (lines_of text) every all, inl (subst (λ g. IsNoPlace table g step path refusal) graph_is none), ap Err is))
 
   -- What a place gives is what the lines come to.
   pub place_explained : (graph : Graph) (lists : Lists) (slot : ℕ) (outcome : Outcome) → IsGraphOf table text graph → IsRun table graph lists → IsPlace table graph step path slot
@@ -56,4 +55,4 @@ module _ (step : ℕ) (path : List ℕ) (table : Nodes) (text : List ℕ) where
       inl (graph_gave (IsExplained step path table) table text graph output says
       (lists, slot, record { run = ran; place = place; ended = ended; certificate = certificate; verifies = verifies }))
   place_explained graph lists slot (Err refusal) (every, all, graph_is) ran place (unended, refused) =
-      inr (every, Partial, inputs_say table [] (lines_of text) every all, inr (subst (λ g. IsPartial table g step path Partial) graph_is (lists, slot, ran, place, unended, refl)), ap Err refused)
+      inr (every, refusal, inputs_say table [] (lines_of text) every all, inr (subst (λ g. IsPartial table g step path refusal) graph_is (lists, slot, ran, place, unended, refused)), refl)

@@ -278,7 +278,7 @@ explained_graph : (step : ℕ) (path : List ℕ) (table : Nodes) (input output :
     → (graph : model.Graph) × IsGraphOf table input graph × IsExplained step path table graph output
 explained_graph step path table input output (inl long) = absurd (ok_no_err output _ long.1)
 explained_graph step path table input output (inr (short, inl gave)) = said_graph (IsExplained step path table) table input output gave
-explained_graph step path table input output (inr (short, inr (every, code, all, why, is))) = absurd (ok_no_err output _ is)
+explained_graph step path table input output (inr (short, inr (every, left, all, reason, is))) = absurd (ok_no_err output _ is)
 
 -- Where the answer is 0, the certificate of the slot at the step was written.
 pub why_appends : (file bag path : List ℕ) (step : ℕ) (held : Holding) (input : List ℕ) (scene : Scene) (answer : ℕ) → Answers (Some (why file bag step path)) scene answer

@@ -1,7 +1,8 @@
 -- A printed table, from what its file gives.
-use Rattle.std.proofs.Common.{◌≡◌, ◌⊎◌, inl, inr, ℕ, ◌≤◌, List, [], ◌∷◌, length, Option, Some, None, Result, Ok, Err, refl, ap, subst, sym, ◌∙◌}
+use Rattle.std.proofs.Common.{◌≡◌, ◌⊎◌, inl, inr, ℕ, ◌≤◌, List, length, Option, Some, None, Result, Ok, Err, ap, subst, sym}
 use Rattle.std.specs.Result.{IsErrAnd}
 use Rattle.bag_model.specs.Shapes.{Nodes}
+use Rattle.bdl_lexer.specs.declared.TheConstants.{MAX_SOURCE}
 use Rattle.bdl_load.specs.Loading.{Holding}
 use Rattle.baggage_cli.specs.declared.refusals.Notice.TheVariants.{LibraryFailed, Memory}
 use Rattle.baggage_cli.specs.declared.refusals.Refusal.{Refusal}
@@ -46,3 +47,9 @@ obtains_printed file library requests text outcome brings came =
       | inl wanting ↦ (brings.0, brings.1, inl (wanting, (held, names, told, asks, all)))
       | inr gives ↦ (brings.0, brings.1, inr (inr (held, names, told, asks, (given file held outcome (subst (λ content. PrintedGives file content outcome) (sym is.0) gives), all))))
     ]
+
+-- A file that was taken isn't too long.
+pub brought_short : (file : List ℕ) (library : Change Holding) (requests : Change (List (List ℕ))) (text : List ℕ) → Brings file library requests (Ok text) → length text ≤ MAX_SOURCE
+brought_short file library requests text brings =
+    let (held, names, told, asks, (is, all)) = brought_file file library requests text brings in
+    is.1

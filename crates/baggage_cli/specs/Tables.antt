@@ -88,8 +88,9 @@ TakesFrom Front All gives library requests outcome =
 
 -- A table is taken from where it comes.
 abbrev pub Obtains : Origin → Use Nodes
-Obtains origin = TakesFrom (λ held. AsksFront held origin) (λ held. AsksForTable held origin) (TableGives origin)
+Obtains origin =
+    TakesFrom (λ held names. AsksFront held origin names) (λ held names. AsksForTable held origin names) (λ held outcome. TableGives origin held outcome)
 
 -- All that a file holds is taken. The library is asked for it alone.
 abbrev pub Brings : List ℕ → Use (List ℕ)
-Brings file = TakesFrom (λ held names. names ≡ file ∷ []) (λ held names. names ≡ file ∷ []) (λ held. FileGives file (held file))
+Brings file = TakesFrom (λ held names. names ≡ file ∷ []) (λ held names. names ≡ file ∷ []) (λ held outcome. FileGives file (held file) outcome)

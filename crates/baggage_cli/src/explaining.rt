@@ -1,11 +1,11 @@
 //! The command that says why a slot has its value at a step.
 
-ghost use Rattle.std.specs.Prelude.{◌≡◌, ◌×◌, ◌<◌, length, IfOk, IfErr};
+ghost use Rattle.std.specs.Prelude.{◌≡◌, ◌<◌, length, IfOk, IfErr};
 ghost use Rattle.bag_model.specs.Slots.{slots_of};
 ghost use Rattle.text_lines.specs.Lines.{lines_of};
-ghost use Rattle.trace_model.specs.Graphs.{IsOfTable, IsTypedContext};
-ghost use Rattle.trace_model.specs.Runs.{IsRun, list_at};
-ghost use Rattle.baggage_cli.specs.Explaining.{CertifiesSlot, ExplainsLines, IsPlace, RefusesPlace};
+ghost use Rattle.trace_model.specs.Graphs.{IsOfTable};
+ghost use Rattle.trace_model.specs.Runs.{IsRun};
+ghost use Rattle.baggage_cli.specs.Explaining.{CertifiesSlot, ExplainsLines, IsNoPlace, IsPlace, of_graph};
 ghost use Rattle.baggage_cli.specs.Outcomes.{outcome_of, OrMemory};
 
 use crate::refusals::{InputCode, InputFault, Refusal};
@@ -22,7 +22,7 @@ use write_proof::why;
 
 /// The refusal of an input as a whole, for what there isn't in its graph.
 fn unexplained(code: InputCode) -> Refusal
-    ensures { result ≡ Refusal.Input 0 (InputFault.Code code) }
+    ensures { result ≡ of_graph code }
 {
     Refusal::Input {
         line: 0,
@@ -33,7 +33,7 @@ fn unexplained(code: InputCode) -> Refusal
 /// The slot of this name path, where it and the step are there.
 fn slot_at(table: &Table, graph: &Graph, step: u64, path: &str) -> Result<usize, Refusal>
     ensures ok { IfOk result (IsPlace table.now graph.now step path.now) }
-    ensures err { IfErr result (RefusesPlace table.now graph.now step path.now) }
+    ensures err { IfErr result (IsNoPlace table.now graph.now step path.now) }
 {
     if graph.steps() as u64 <= step {
         return Err(unexplained(InputCode::StepRange));
