@@ -236,12 +236,7 @@ fn two_file_command<'a>(
 }
 
 /// The command that asks for the certificate of a slot at the step whose number this word says.
-fn why_command<'a>(
-    file: &'a str,
-    bag: &'a str,
-    word: &str,
-    path: &'a str,
-) -> Option<Command<'a>>
+fn why_command<'a>(file: &'a str, bag: &'a str, word: &str, path: &'a str) -> Option<Command<'a>>
     ensures task { option_map spec.task_of result ≡ option_map (λ step. spec.why file.now bag.now step path.now) (spec.step_of word.now) }
     ensures range { IfSome result (λ command. spec.IsInRange (spec.task_of command)) }
 {

@@ -1,7 +1,7 @@
 //! Certificates, written and verified.
 
-use crate::calls::{FILES, Objects, Row, all_hold, call};
-use outside::{MemoryLibrary, Open};
+use crate::calls::{FILES, Objects, Row, all_hold, asked, call};
+use outside::Open;
 use std::alloc::Global;
 use std::process::Abort;
 use std::test::Fail;
@@ -165,19 +165,6 @@ fn objects_with(alloc: Global, certificate: &str, input: &str) -> Result<Objects
     content.push(b'x')?;
     objects.library.add("long", content.as_slice())?;
     Ok(objects)
-}
-
-/// The names that a library was asked for, in order.
-fn asked(alloc: Global, library: &MemoryLibrary) -> Result<String, Fail> {
-    let names = library.asked().ok_or("names")?;
-    let mut text = String::new(alloc);
-    for at in 0..names.len() {
-        if 0 < at {
-            text.push(' ')?;
-        }
-        text.push_str(names.get(at).ok_or("a name")?.as_str())?;
-    }
-    Ok(text)
 }
 
 /// Calls the program, and compares what it answers, writes and fetches. The input stays where a file is refused.
