@@ -8,14 +8,15 @@ use std::test::Fail;
 use std::thread::Threads;
 
 /// Two writes of one field meet at step 5.
-const MEETING: &str = "service a all\nservice n none\nstart 0 a\nset 1 0 id 7\nset 2 0 id 9\nforward 3 1 n\nforward 4 2 n\njoin 5 3 4\n";
+const MEETING: &str =
+    "service a all\nservice n none\nstart 0 a\nset 1 0 id 7\nset 2 0 id 9\nforward 3 1 n\nforward 4 2 n\njoin 5 3 4\n";
 
 /// A cut takes what was written last.
-const CUT: &str =
-    "service a all\nstart 0 a\nset 1 0 id 7\nset 2 1 tags \"a\"\ntrim 3 2 13\n";
+const CUT: &str = "service a all\nstart 0 a\nset 1 0 id 7\nset 2 1 tags \"a\"\ntrim 3 2 13\n";
 
 /// The certificate for the field at step 5.
-const CERTIFICATE: &str = "why 5 id\nvalue 7\nreach 0 1\nreach 1 3\nreach 2 4\nreach 3 5\nreach 4 5\nuses 1\n";
+const CERTIFICATE: &str =
+    "why 5 id\nvalue 7\nreach 0 1\nreach 1 3\nreach 2 4\nreach 3 5\nreach 4 5\nuses 1\n";
 
 static WRITTEN: [Row; 20] = [
     ("why q.bdl Req 5 id", MEETING, 0, CERTIFICATE),
@@ -53,12 +54,7 @@ static WRITTEN: [Row; 20] = [
     ("why q.bdl Req 3 tags", CUT, 2, "input line 0 Partial\n"),
     ("why q.bdl Req 3 hops", CUT, 2, "input line 0 Partial\n"),
     // The step counts before the path, and both before the run.
-    (
-        "why q.bdl Req 6 id",
-        MEETING,
-        2,
-        "input line 0 StepRange\n",
-    ),
+    ("why q.bdl Req 6 id", MEETING, 2, "input line 0 StepRange\n"),
     (
         "why q.bdl Req 9999999999 ids",
         MEETING,
@@ -137,33 +133,62 @@ static VERDICTS: [(&str, &str); 14] = [
     ("why 5 id\nvalue 7\nuses 1", "no 3 Form\n"),
 ];
 
-/// Calls that verify a certificate that is there, one that is too long, or one that isn't: the words, the input, the status, what
-/// is written, and the names of the files that are fetched.
+/// Calls that verify a certificate that is there, or one that isn't: the words, the input, the status, what is written, and the
+/// names of the files that are fetched.
 type Fetching = (&'static str, &'static str, u8, &'static str, &'static str);
 
-static FETCHES: [Fetching; 10] = [
+static FETCHES: [Fetching; 8] = [
     ("verify q.bdl Req c", MEETING, 0, "yes\n", "q.bdl c"),
-    ("verify two.bdl Two c", MEETING, 2, "input line 4 NoSuchPath\n", "two.bdl q.bdl c"),
-    ("verify q.bdl Req full", MEETING, 0, "no 1 Form\n", "q.bdl full"),
-    ("verify q.bdl Req long", MEETING, 1, "definition long 1:1 DefTooLong\n", "q.bdl long"),
-    ("verify q.bdl Req gone", MEETING, 1, "definition gone 1:1 NoFile\n", "q.bdl gone"),
+    (
+        "verify two.bdl Two c",
+        MEETING,
+        2,
+        "input line 4 NoSuchPath\n",
+        "two.bdl q.bdl c",
+    ),
+    (
+        "verify q.bdl Req gone",
+        MEETING,
+        1,
+        "definition gone 1:1 NoFile\n",
+        "q.bdl gone",
+    ),
     // The definition counts before the certificate, and that before the input.
-    ("verify away Req gone", MEETING, 1, "definition away 1:1 NoFile\n", "away"),
-    ("verify q.bdl Nix gone", MEETING, 1, "definition q.bdl 1:1 NoSuchBag\n", "q.bdl"),
-    ("verify q.bdl Req gone", "nothing\n", 1, "definition gone 1:1 NoFile\n", "q.bdl gone"),
-    ("verify q.bdl Req c", "nothing\n", 2, "input line 1 Form\n", "q.bdl c"),
+    (
+        "verify away Req gone",
+        MEETING,
+        1,
+        "definition away 1:1 NoFile\n",
+        "away",
+    ),
+    (
+        "verify q.bdl Nix gone",
+        MEETING,
+        1,
+        "definition q.bdl 1:1 NoSuchBag\n",
+        "q.bdl",
+    ),
+    (
+        "verify q.bdl Req gone",
+        "nothing\n",
+        1,
+        "definition gone 1:1 NoFile\n",
+        "q.bdl gone",
+    ),
+    (
+        "verify q.bdl Req c",
+        "nothing\n",
+        2,
+        "input line 1 Form\n",
+        "q.bdl c",
+    ),
     ("verify q.bdl Req c", "", 0, "no 1 StepRange\n", "q.bdl c"),
 ];
 
-/// The objects of a call with this certificate, and with files that are as long as one may be and longer.
+/// The objects of a call with this certificate.
 fn objects_with(alloc: Global, certificate: &str, input: &str) -> Result<Objects, Fail> {
     let mut objects = Objects::new(alloc, FILES, input.as_bytes())?;
     objects.library.add("c", certificate.as_bytes())?;
-    let mut content = Vec::new(alloc);
-    content.resize(1 << 20, b'x')?;
-    objects.library.add("full", content.as_slice())?;
-    content.push(b'x')?;
-    objects.library.add("long", content.as_slice())?;
     Ok(objects)
 }
 
