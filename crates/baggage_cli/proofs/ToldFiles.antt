@@ -163,7 +163,6 @@ refused_once laws (compare old new) held r s (inl bad) (inl also) = one_refusal 
 refused_once laws (compare old new) held r s (inl bad) (inr (table, is, also)) = absurd (not_both laws old held table r is bad)
 refused_once laws (compare old new) held r s (inr (table, is, bad)) (inl also) = absurd (not_both laws old held table s is also)
 refused_once laws (compare old new) held r s (inr (table, is, bad)) (inr (other, gave, also)) = one_refusal laws new held r s bad also
-
 refused_once laws (checking origin file) held r s (inl bad) (inl also) = one_refusal laws origin held r s bad also
 refused_once laws (checking origin file) held r s (inl bad) (inr (table, is, also)) = absurd (not_both laws origin held table r is bad)
 refused_once laws (checking origin file) held r s (inr (table, is, bad)) (inl also) = absurd (not_both laws origin held table s is also)

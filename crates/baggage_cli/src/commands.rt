@@ -281,9 +281,19 @@ pub fn command_of(words: &Words) -> Option<Command<'_>>
             two_file_command(name, file.as_str(), second.as_str(), third.as_str())
         }
         5 => {
-            let (file, bag, step, path) =
-                (words.get(1)?, words.get(2)?, words.get(3)?, words.get(4)?);
-            place_command(name, file.as_str(), bag.as_str(), step.as_str(), path.as_str())
+            let (file, bag, step, path) = (
+                words.get(1)?,
+                words.get(2)?,
+                words.get(3)?,
+                words.get(4)?,
+            );
+            place_command(
+                name,
+                file.as_str(),
+                bag.as_str(),
+                step.as_str(),
+                path.as_str(),
+            )
         }
         _ => None,
     }

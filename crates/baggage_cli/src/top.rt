@@ -164,10 +164,12 @@ fn answer_words<R: Threads + Sync, G: Gate, L: Library, S: Source, K: Sink, E: S
 /// | `runjson FILE BAG` | the same | these as JSON |
 /// | `runtable FILE` | the text of a table, then a graph | as `run` |
 /// | `evolve OLD NEW BAG` | the definitions of both files, OLD's first | `ok C`, with the number of slots that are in both of the bag's tables, or `breaks PATH CODE`, with the first field that NEW's table breaks |
+/// | `why FILE BAG STEP PATH` | the definition, then a graph | the certificate for the slot `PATH` at step `STEP` |
+/// | `verify FILE BAG CERT` | the definition, then the file of a certificate, then a graph | `yes`, or `no LINE CODE` with the line of the certificate that breaks a rule |
 /// | `load N` | nothing | the report of a graph of `42 N + 1` steps, which is made here |
 ///
 /// Files come from the library, and lines from the source; lines that are empty or begin with `#` are skipped. Where a
-/// definition or a table is refused, the source isn't read. A rank of steps and a join of many contexts may be cut into
+/// definition, a table or the file of a certificate is refused, the source isn't read. A rank of steps and a join of many contexts may be cut into
 /// pieces that run in threads; each piece passes the gate.
 pub fn baggage_top<R: Threads + Sync, G: Gate, L: Library, S: Source, K: Sink, E: Sink>(
     rt: &R,

@@ -17,5 +17,8 @@ pub returns : goal.returns
 returns g c =
     let source = change g.S.Source.left g.S.Source.faults c.args.source.now c.check_source.new.source in
     let came = outcome_of c.check_source.result in
-    inr (c.in_ok-certificate.certificate.items, c.in_ok-certificate.ensures,
-    subst (λ (text : List ℕ). Reads (VerdictUnder c.args.table.now text) source came) c.as_slice.ensures.value c.check_source.ensures)
+    inr (
+      c.in_ok-certificate.certificate.items,
+      c.in_ok-certificate.ensures,
+      subst (λ (text : List ℕ). Reads (VerdictUnder c.args.table.now text) source came) c.as_slice.ensures.value c.check_source.ensures,
+    )

@@ -17,8 +17,11 @@ returns-in-Partial c =
     let many = c.requires.run.as_many in
     let within : c.args.step < length lists = (let l = c.requires.step in omega (arith, many, l)) in
     let list = sym (get_or_read lists c.args.step c.index-lists-step.result within c.index-lists-step.is []) in
-    inr (partial_unended c.args.table.now lists c.args.step c.args.slot c.index-lists-step.result list c.state_of.result c.state_of.ensures c.requires.slot
-    (λ exact. let partial = c.in-Partial.is in cc (exact, partial)), c.unexplained.ensures)
+    inr (
+      partial_unended c.args.table.now lists c.args.step c.args.slot c.index-lists-step.result list c.state_of.result c.state_of.ensures c.requires.slot
+          (λ exact. let partial = c.in-Partial.is in cc (exact, partial)),
+      c.unexplained.ensures,
+    )
 
 pub returns-in_ok-why-in-Exact : goal.returns-in_ok-why-in-Exact
 returns-in_ok-why-in-Exact c =

@@ -39,6 +39,6 @@ returns g c =
     elim c.certificate.ensures [
       | inl memory ↦ inl memory
       | inr gave ↦
-      let certifies = subst (λ (lists : Lists). CertifiesSlot table graph lists c.args.step c.in_ok-slot.slot came) c.as_slice.ensures.value gave in
-      inr (place_explained c.args.step c.args.path.now table c.args.input.now graph c.in_ok-lists.lists.items c.in_ok-slot.slot came c.in_ok-graph.ensures.graph c.in_ok-lists.ensures.run place certifies)
+          let certifies = subst (λ (lists : Lists). CertifiesSlot table graph lists c.args.step c.in_ok-slot.slot came) c.as_slice.ensures.value gave in
+          inr (place_explained c.args.step c.args.path.now table c.args.input.now graph c.in_ok-lists.lists.items c.in_ok-slot.slot came c.in_ok-graph.ensures.graph c.in_ok-lists.ensures.run place certifies)
     ]
