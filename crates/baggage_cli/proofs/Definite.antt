@@ -1,5 +1,5 @@
 -- Lines and inputs come to one thing.
-use Rattle.std.proofs.Common.{◌≡◌, ◌⊎◌, inl, inr, ℕ, ◌≤◌, List, [], ◌∷◌, ◌++◌, Option, Some, None, Result, Ok, Err, refl, sym, ◌∙◌, ap, subst, arith}
+use Rattle.std.proofs.Common.{◌≡◌, inl, inr, ℕ, ◌≤◌, List, [], ◌∷◌, ◌++◌, Option, Some, None, Result, Ok, Err, refl, sym, ◌∙◌, ap, subst, arith}
 use Rattle.context_model.specs.Framing.{form_of, least_budget}
 use Rattle.context_model.specs.ContextFault.{IsFirstContextFault}
 use Rattle.context_model.proofs.FirstFaults.{reads_one_way}

@@ -1,4 +1,4 @@
-use Rattle.std.proofs.Common.{inl, inr, List, ℕ, subst, sym}
+use Rattle.std.proofs.Common.{inl, inr, subst, sym}
 use Rattle.std.proofs.lemmas.Option.{slice_get_within}
 use Rattle.bag_model.specs.Slots.{slots_of}
 use Rattle.trace_model.specs.Runs.{Lists, IsRun}

@@ -1,4 +1,4 @@
-use Rattle.std.proofs.Common.{◌≡◌, ◌⊎◌, inl, inr, ℕ, List, Option, Some, None, Err, refl, ap, subst, ◌∙◌}
+use Rattle.std.proofs.Common.{inr, ℕ, Option, Some, None, Err, refl, ap, subst, ◌∙◌}
 use Rattle.std.specs.Global.{Vec}
 use Rattle.std.specs.Option.{option_map}
 use Rattle.outside.specs.Told.{Fetches}
