@@ -1,7 +1,7 @@
 -- What holds of every call.
 use Rattle.std.proofs.Common.{◌≡◌, ◌≢◌, ◌⊎◌, inl, inr, ℕ, List, Option, Some, None, Ok, Err, refl, ◌∙◌, arith}
 use Rattle.std.specs.Io.KnownBytes.{Appends}
-use Rattle.baggage_cli.specs.Commands.{Task, alone, load, build, under, compare}
+use Rattle.baggage_cli.specs.Commands.{Task, alone, load, build, under, compare, checking}
 use Rattle.baggage_cli.specs.declared.refusals.Notice.TheVariants.{WordsRefused}
 use Rattle.baggage_cli.specs.Delivery.{Tells, Delivers}
 use Rattle.baggage_cli.specs.Outcomes.{Outcome}
@@ -36,6 +36,11 @@ came_kept (compare old new) scene outcome (unread, inr (half, before, (same, cou
     (kept ∙ same, omega (arith, counts, more), same_never_fell scene.source unread)
 came_kept (compare old new) scene outcome (unread, inr (half, before, (same, counts, why), inr (after, (kept, more, how), compared))) =
     (kept ∙ same, omega (arith, counts, more), same_never_fell scene.source unread)
+came_kept (checking origin file) scene outcome (inl (refusal, (same, counts, why), unread, is)) = (same, counts, same_never_fell scene.source unread)
+came_kept (checking origin file) scene outcome (inr (half, table, (same, counts, why), inl (refusal, (kept, more, how), unread, is))) =
+    (kept ∙ same, omega (arith, counts, more), same_never_fell scene.source unread)
+came_kept (checking origin file) scene outcome (inr (half, table, (same, counts, why), inr (certificate, (kept, more, how), (stays, read)))) =
+    (kept ∙ same, omega (arith, counts, more), stays)
 
 delivered_kept : (outcome : Outcome) (out errs : Change (List ℕ)) (answer : ℕ) → Delivers outcome out errs answer → NeverFell out × NeverFell errs
 delivered_kept (Ok output) out errs answer (inl done) = (takes_never_fell out output done.1, same_never_fell errs done.2)

@@ -1,5 +1,5 @@
 -- Lines and inputs come to one thing.
-use Rattle.std.proofs.Common.{◌≡◌, inl, inr, ℕ, ◌≤◌, List, [], ◌∷◌, ◌++◌, Option, Some, Result, Ok, Err, refl, sym, ◌∙◌, ap, subst, arith}
+use Rattle.std.proofs.Common.{◌≡◌, inl, inr, ℕ, ◌≤◌, List, [], ◌∷◌, ◌++◌, Option, Some, None, Result, Ok, Err, refl, sym, ◌∙◌, ap, subst, arith}
 use Rattle.context_model.specs.Framing.{form_of, least_budget}
 use Rattle.context_model.specs.ContextFault.{IsFirstContextFault}
 use Rattle.context_model.proofs.FirstFaults.{reads_one_way}
@@ -9,16 +9,19 @@ use Rattle.wire_bytes.specs.declared.contexts.ByteCode.{ByteCode}
 use Rattle.wire_bytes.specs.Codes.{byte_code_of}
 use Rattle.bag_model.specs.Readings.{PathsOf}
 use Rattle.bag_model.specs.Shapes.{Nodes}
+use Rattle.bag_model.specs.Slots.{FindsSlot}
 use Rattle.bag_model.specs.Tables.{IsTable}
+use Rattle.bag_model.proofs.NamePathLaws.{name_paths_differ}
+use Rattle.write_proof.specs.Certificates.{IsEndedAt}
 use Rattle.bag_model.specs.Typed.{AreTyped, IsFirstIllTyped}
 use Rattle.bag_model.proofs.IllTyped.{first_ill_typed}
 use Rattle.bag_walks.proofs.OnePlace.{one_place}
 use Rattle.wire_bytes.proofs.OneCode.{one_code}
 use Rattle.bdl_load.specs.Loading.{Holding}
 use Rattle.report_text.specs.Blocks.{IsBlock}
-use Rattle.graph_text.specs.Additions.{graph_of}
+use Rattle.graph_text.specs.Additions.{Addition, graph_of}
 use Rattle.graph_text.specs.GraphLines.{LinesAreDefinite}
-use Rattle.trace_model.specs.Graphs.{Graph}
+use Rattle.trace_model.specs.Graphs.{Graph, IsRecorded}
 use Rattle.trace_model.specs.Runs.{Lists}
 use Rattle.text_carrier.specs.Carried.{carried_text}
 use Rattle.text_carrier.specs.Collected.{Collects}
@@ -28,7 +31,7 @@ use Rattle.text_lines.specs.Lines.{Line, lines_of}
 use Rattle.text_lines.specs.Readings.{Reading, IsDefinite, AllSay, IsFirstBad}
 use Rattle.text_lines.proofs.HexLaws.{hex_lines_definite}
 use Rattle.text_lines.proofs.ReadingLaws.{all_say_one, first_bad_one, good_not_bad, none_bad, at_most_definite}
-use Rattle.baggage_cli.specs.Commands.{Origin, Form, as_lines, as_json, Purpose, decoding, running, Filter, trimming, merging, carrying, collecting, Task, alone, load, build, under, compare}
+use Rattle.baggage_cli.specs.Commands.{Origin, Form, as_lines, as_json, Purpose, decoding, running, explaining, Filter, trimming, merging, carrying, collecting, Task, alone, load, build, under, compare, checking}
 use Rattle.baggage_cli.specs.declared.merging.TheConstants.{LINES_MAX}
 use Rattle.baggage_cli.specs.declared.refusals.InputCode.TheVariants.{Form as Excess, TooManyLines}
 use Rattle.baggage_cli.specs.declared.refusals.InputFault.{InputFault}
@@ -36,13 +39,15 @@ use Rattle.baggage_cli.specs.declared.refusals.InputFault.TheVariants.{Code, Hex
 use Rattle.baggage_cli.specs.declared.refusals.Refusal.{Refusal}
 use Rattle.baggage_cli.specs.Carrying.{AreOfContext, own_bytes, byte_lines}
 use Rattle.baggage_cli.specs.Collecting.{CollectsLines}
+use Rattle.baggage_cli.specs.Checking.{verified_line, IsVerified, ChecksLines, VerdictUnder}
 use Rattle.baggage_cli.specs.Decoding.{DecodesLines}
+use Rattle.baggage_cli.specs.Explaining.{IsPlace, IsNoPlace, IsUnexplained, IsExplained, ExplainsLines}
 use Rattle.baggage_cli.specs.Filters.{FiltersLines}
 use Rattle.baggage_cli.specs.Laws.{TableLaws, GraphLaws, Laws}
 use Rattle.baggage_cli.specs.Merging.{lists_of, merged_lines, IsMergeOf}
 use Rattle.baggage_cli.specs.Outcomes.{Outcome, GivesOne}
 use Rattle.baggage_cli.specs.Reading.{Framed, Within, RefusesLines, ReadsLines, only_one, ReadsOne, list_bytes, context_bytes, typed_bytes, cut_bytes, cut_lines, context_lines, typed_lines}
-use Rattle.baggage_cli.specs.Running.{input_fault, IsReportAs, IsRunReport, graph_inputs, RunsLines}
+use Rattle.baggage_cli.specs.Running.{input_fault, IsReportAs, IsRunReport, graph_inputs, GraphGives, RunsLines}
 use Rattle.baggage_cli.specs.Tables.{TableGives}
 use Rattle.baggage_cli.specs.Top.{InputGives}
 use Rattle.baggage_cli.specs.Trimming.{trimmed_line}
@@ -282,40 +287,134 @@ graph_inputs_definite definite table is_table = record {
   not_both = λ earlier text said fault says (x, bad, is). (definite table is_table).not_both earlier text said x says bad;
 }
 
+-- An input comes to one outcome where its lines do.
+within_text_one : (gives : List Line → Outcome → Type 0) → ((text : List ℕ) (a b : Outcome) → gives (lines_of text) a → gives (lines_of text) b → a ≡ b) → GivesOne (Within gives)
+within_text_one gives one input a b (inl f) (inl g) = f.1 ∙ sym g.1
+within_text_one gives one input a b (inl f) (inr g) = absurd (let long = f.0 in let short = g.0 in omega arith)
+within_text_one gives one input a b (inr f) (inl g) = absurd (let long = g.0 in let short = f.0 in omega arith)
+within_text_one gives one input a b (inr f) (inr g) = one input a b f.1 g.1
+
 module _ (laws : GraphLaws) (table : Nodes) (is_table : IsTable table) where
   -- A run has one report of each form.
   reports_one : (form : Form) (graph : Graph) (lists : Lists) (x y : List ℕ) → IsReportAs form table graph lists x → IsReportAs form table graph lists y → x ≡ y
   reports_one as_lines graph lists x y report other = laws.one_report table graph lists x y report other
   reports_one as_json graph lists x y (a, report, x_is) (b, other, y_is) = x_is ∙ ap (λ text. text ++ 10 ∷ []) (laws.one_json_report table graph lists a b report other) ∙ sym y_is
 
-  -- The lines of a text come to one outcome.
-  runs_one : (form : Form) (text : List ℕ) (a b : Outcome) → RunsLines form table (lines_of text) a → RunsLines form table (lines_of text) b → a ≡ b
-  runs_one form text (Ok x) (Ok y) (every, all, (lists, ran, report)) (others, say, reported) =
-      let same = all_say_one (graph_inputs table) (graph_inputs_definite laws.definite table is_table) (lines_of text) others every say all in
-      let there : IsRunReport form table (graph_of every) y = subst (λ said. IsRunReport form table (graph_of said) y) same reported in
-      let recorded = laws.recorded table text (graph_of every) is_table (every, lines_say table [] (lines_of text) every all, refl) in
-      let one = laws.one_run table (graph_of every) there.0 lists recorded there.1 ran in
-      ap Ok (reports_one form (graph_of every) lists x y report (subst (λ ls. IsReportAs form table (graph_of every) ls y) one there.2))
-  runs_one form text (Ok x) (Err s) (every, all, report) refused =
-      absurd (said_not_refused (graph_inputs table) (graph_inputs_definite laws.definite table is_table) (lines_of text) every s all refused)
-  runs_one form text (Err r) (Ok y) refused (every, all, report) =
-      absurd (said_not_refused (graph_inputs table) (graph_inputs_definite laws.definite table is_table) (lines_of text) every r all refused)
-  runs_one form text (Err r) (Err s) f g = ap Err (refuses_lines_one (graph_inputs table) (graph_inputs_definite laws.definite table is_table) (lines_of text) r s f g)
+  -- A graph that is run gives one report.
+  runs_one : (form : Form) (graph : Graph) → IsRecorded table graph → (x y : List ℕ) → IsRunReport form table graph x → IsRunReport form table graph y → x ≡ y
+  runs_one form graph recorded x y (lists, ran, report) (others, run, reported) =
+      let one = laws.one_run table graph others lists recorded run ran in
+      reports_one form graph lists x y report (subst (λ ls. IsReportAs form table graph ls y) one reported)
+
+  -- Lines that say a graph aren't refused for a line.
+  graph_not_bad : (text : List ℕ) (every : List Addition) (refusal : Refusal) → AllSay (graph_inputs table) [] (lines_of text) every → RefusesLines (graph_inputs table) (lines_of text) refusal → ⊥
+  graph_not_bad text every refusal all refused = said_not_refused (graph_inputs table) (graph_inputs_definite laws.definite table is_table) (lines_of text) every refusal all refused
+
+  -- They say one.
+  same_graph : (text : List ℕ) (every others : List Addition) → AllSay (graph_inputs table) [] (lines_of text) every → AllSay (graph_inputs table) [] (lines_of text) others → others ≡ every
+  same_graph text every others all say = all_say_one (graph_inputs table) (graph_inputs_definite laws.definite table is_table) (lines_of text) others every say all
+
+  graph_recorded : (text : List ℕ) (every : List Addition) → AllSay (graph_inputs table) [] (lines_of text) every → IsRecorded table (graph_of every)
+  graph_recorded text every all = laws.recorded table text (graph_of every) is_table (every, lines_say table [] (lines_of text) every all, refl)
+
+  -- The lines of a text come to one outcome, where each graph gives one output.
+  graph_gives_one : (gives : Graph → List ℕ → Type 0) → ((graph : Graph) → IsRecorded table graph → (x y : List ℕ) → gives graph x → gives graph y → x ≡ y)
+      → (text : List ℕ) (a b : Outcome) → GraphGives table gives (lines_of text) a → GraphGives table gives (lines_of text) b → a ≡ b
+  graph_gives_one gives one text (Ok x) (Ok y) (every, all, gave) (others, say, given) =
+      ap Ok (one (graph_of every) (graph_recorded text every all) x y gave (subst (λ said. gives (graph_of said) y) (same_graph text every others all say) given))
+  graph_gives_one gives one text (Ok x) (Err s) (every, all, gave) refused = absurd (graph_not_bad text every s all refused)
+  graph_gives_one gives one text (Err r) (Ok y) refused (every, all, gave) = absurd (graph_not_bad text every r all refused)
+  graph_gives_one gives one text (Err r) (Err s) f g = ap Err (refuses_lines_one (graph_inputs table) (graph_inputs_definite laws.definite table is_table) (lines_of text) r s f g)
 
   run_gives_one : (form : Form) → GivesOne (InputUnder (running form) table)
-  run_gives_one form input a b (inl f) (inl g) = f.1 ∙ sym g.1
-  run_gives_one form input a b (inl f) (inr g) = absurd (let long = f.0 in let short = g.0 in omega arith)
-  run_gives_one form input a b (inr f) (inl g) = absurd (let long = g.0 in let short = f.0 in omega arith)
-  run_gives_one form input a b (inr f) (inr g) = runs_one form input a b f.1 g.1
+  run_gives_one form = within_text_one (RunsLines form table) (graph_gives_one (IsRunReport form table) (runs_one form))
+
+-- ---- certificates
+
+-- Of two outcomes one is a refusal.
+abbrev pub OneRefused : Outcome → Outcome → Type 0
+OneRefused (Ok x) (Ok y) = ⊥
+OneRefused (Ok x) (Err s) = Unit {0}
+OneRefused (Err r) b = Unit {0}
+
+-- A path is that of one slot, or of none.
+one_slot : (table : Nodes) (path : List ℕ) (a b : ℕ) → IsTable table → FindsSlot table path (Some a) → FindsSlot table path (Some b) → a ≡ b
+one_slot table path a b is_table (at, there, is) (other, also, same) = name_paths_differ table a b at other is_table there also (is ∙ sym same)
+
+no_slot : (table : Nodes) (path : List ℕ) (a : ℕ) → FindsSlot table path (Some a) → FindsSlot table path None → ⊥
+no_slot table path a (at, there, is) none = none a at there is
+
+-- What isn't there isn't there for one reason.
+no_place_one : (table : Nodes) (graph : Graph) (step : ℕ) (path : List ℕ) (a b : Refusal) → IsNoPlace table graph step path a → IsNoPlace table graph step path b → a ≡ b
+no_place_one table graph step path a b (inl (big, a_is)) (inl (also, b_is)) = a_is ∙ sym b_is
+no_place_one table graph step path a b (inl (big, a_is)) (inr (small, none, b_is)) = absurd (omega arith)
+no_place_one table graph step path a b (inr (small, none, a_is)) (inl (big, b_is)) = absurd (omega arith)
+no_place_one table graph step path a b (inr (small, none, a_is)) (inr (less, also, b_is)) = a_is ∙ sym b_is
+
+place_or_not : (table : Nodes) (graph : Graph) (step : ℕ) (path : List ℕ) (slot : ℕ) (refusal : Refusal) → IsPlace table graph step path slot → IsNoPlace table graph step path refusal → ⊥
+place_or_not table graph step path slot refusal (small, finds) (inl (big, is)) = omega arith
+place_or_not table graph step path slot refusal (small, finds) (inr (less, none, is)) = no_slot table path slot finds none
+
+-- What is left without a certificate is so for one reason.
+unexplained_one : (table : Nodes) (graph : Graph) (step : ℕ) (path : List ℕ) (a b : Refusal) → IsUnexplained table graph step path a → IsUnexplained table graph step path b → a ≡ b
+unexplained_one table graph step path a b (inl none) (inl also) = no_place_one table graph step path a b none also
+unexplained_one table graph step path a b (inl none) (inr (lists, slot, ran, place, unended, is)) = absurd (place_or_not table graph step path slot a place none)
+unexplained_one table graph step path a b (inr (lists, slot, ran, place, unended, is)) (inl none) = absurd (place_or_not table graph step path slot b place none)
+unexplained_one table graph step path a b (inr (lists, slot, ran, place, unended, a_is)) (inr (others, other, run, there, also, b_is)) = a_is ∙ sym b_is
+
+-- What has a certificate isn't left without one.
+explained_not_left : Laws → (table : Nodes) (graph : Graph) (step : ℕ) (path output : List ℕ) (refusal : Refusal) → IsRecorded table graph
+    → IsExplained step path table graph output → IsUnexplained table graph step path refusal → ⊥
+explained_not_left laws table graph step path output refusal recorded (lists, slot, explained) (inl none) = place_or_not table graph step path slot refusal explained.place none
+explained_not_left laws table graph step path output refusal recorded (lists, slot, explained) (inr (others, other, ran, place, unended, is)) =
+    let same : others ≡ lists = laws.graphs.one_run table graph others lists recorded ran explained.run in
+    let slots : other ≡ slot = one_slot table path other slot recorded.table place.1 explained.place.1 in
+    unended (subst (λ ls. IsEndedAt table ls step other) (sym same) (subst (λ s. IsEndedAt table lists step s) (sym slots) explained.ended))
+
+module _ (laws : Laws) (table : Nodes) (is_table : IsTable table) where
+  -- A certificate has one verdict.
+  verdicts_one : (certificate : List ℕ) (graph : Graph) → IsRecorded table graph → (x y : List ℕ) → IsVerified table certificate graph x → IsVerified table certificate graph y → x ≡ y
+  verdicts_one certificate graph recorded x y (verdict, right, x_is) (other, also, y_is) =
+      x_is ∙ ap verified_line (laws.certificates.one_verdict table graph certificate verdict other is_table right also) ∙ sym y_is
+
+  checks_one : (certificate : List ℕ) → GivesOne (VerdictUnder table certificate)
+  checks_one certificate = within_text_one (ChecksLines table certificate) (graph_gives_one laws.graphs table is_table (IsVerified table certificate) (verdicts_one certificate))
+
+  -- Lines that have a certificate aren't refused.
+  explained_not_refused : (step : ℕ) (path text x : List ℕ) (s : Refusal) → ExplainsLines step path table (lines_of text) (Ok x) → ExplainsLines step path table (lines_of text) (Err s) → ⊥
+  explained_not_refused step path text x s (inl (every, all, gave)) (inl bad) = graph_not_bad laws.graphs table is_table text every s all bad
+  explained_not_refused step path text x s (inl (every, all, gave)) (inr (others, left, say, reason, is)) =
+      let same = same_graph laws.graphs table is_table text every others all say in
+      explained_not_left laws table (graph_of every) step path x left (graph_recorded laws.graphs table is_table text every all) gave
+      (subst (λ said. IsUnexplained table (graph_of said) step path left) same reason)
+  explained_not_refused step path text x s (inr (every, left, all, reason, is)) g = ok_no_err x left is
+
+  -- Lines that are refused come to that alone.
+  explains_one : (step : ℕ) (path text : List ℕ) (a b : Outcome) → OneRefused a b → ExplainsLines step path table (lines_of text) a → ExplainsLines step path table (lines_of text) b → a ≡ b
+  explains_one step path text (Ok x) (Ok y) refused f g = absurd refused
+  explains_one step path text (Ok x) (Err s) refused f g = absurd (explained_not_refused step path text x s f g)
+  explains_one step path text (Err r) (Ok y) refused f g = absurd (explained_not_refused step path text y r g f)
+  explains_one step path text (Err r) (Err s) refused (inl f) (inl g) =
+      ap Err (refuses_lines_one (graph_inputs table) (graph_inputs_definite laws.graphs.definite table is_table) (lines_of text) r s f g)
+  explains_one step path text (Err r) (Err s) refused (inl bad) (inr (every, left, all, reason, is)) = absurd (graph_not_bad laws.graphs table is_table text every r all bad)
+  explains_one step path text (Err r) (Err s) refused (inr (every, left, all, reason, is)) (inl bad) = absurd (graph_not_bad laws.graphs table is_table text every s all bad)
+  explains_one step path text (Err r) (Err s) refused (inr (every, left, all, reason, r_is)) (inr (others, other, say, because, s_is)) =
+      let same = same_graph laws.graphs table is_table text every others all say in
+      let one = unexplained_one table (graph_of every) step path left other reason (subst (λ said. IsUnexplained table (graph_of said) step path other) same because) in
+      r_is ∙ ap Err one ∙ sym s_is
 
 -- ---- inputs under a table
 
 module _ (laws : Laws) (table : Nodes) (is_table : IsTable table) where
-  -- An input gives one outcome under a table.
-  input_under_one : (purpose : Purpose) → GivesOne (InputUnder purpose table)
-  input_under_one decoding =
-      within_one (DecodesLines table) (reads_one_one (typed_lines table) (typed_lines_definite table) (λ said. IsBlock table said.0 said.1) (λ said. laws.one_block table said.0 said.1))
-  input_under_one (running form) = run_gives_one laws.graphs table is_table form
+  -- An input that is refused under a table comes to that alone.
+  under_refused_one : (purpose : Purpose) (input : List ℕ) (a b : Outcome) → OneRefused a b → InputUnder purpose table input a → InputUnder purpose table input b → a ≡ b
+  under_refused_one decoding input a b refused f g =
+      within_one (DecodesLines table) (reads_one_one (typed_lines table) (typed_lines_definite table) (λ said. IsBlock table said.0 said.1) (λ said. laws.one_block table said.0 said.1)) input a b f g
+  under_refused_one (running form) input a b refused f g = run_gives_one laws.graphs table is_table form input a b f g
+  under_refused_one (explaining step path) input a b refused (inl f) (inl g) = f.1 ∙ sym g.1
+  under_refused_one (explaining step path) input a b refused (inl f) (inr g) = absurd (let long = f.0 in let short = g.0 in omega arith)
+  under_refused_one (explaining step path) input a b refused (inr f) (inl g) = absurd (let long = g.0 in let short = f.0 in omega arith)
+  under_refused_one (explaining step path) input a b refused (inr f) (inr g) = explains_one laws table is_table step path input a b refused f.1 g.1
 
 -- ---- tasks
 
@@ -337,12 +436,30 @@ filters_lines_one laws merging = reads_lines_one merged_lines merged_lines_defin
 filters_lines_one laws (carrying width) = reads_one_one byte_lines byte_lines_definite (λ bytes output. output ≡ carried_text width bytes) (carries_one width)
 filters_lines_one laws collecting = collects_lines_one laws
 
--- An input gives one outcome.
-pub input_gives_one : Laws → (task : Task) (files : Option Holding) → GivesOne (InputGives task files)
-input_gives_one laws (alone filter) files = within_one (FiltersLines filter) (filters_lines_one laws filter)
-input_gives_one laws (load rounds) files = λ input a b f g. absurd f
-input_gives_one laws (build product origin) files = λ input a b f g. absurd f
-input_gives_one laws (compare old new) files = λ input a b f g. absurd f
-input_gives_one laws (under purpose origin) files = λ input a b (held, told, table, is, gave) (other, same, found, known, given).
-    input_under_one laws table (laws.tables.is_table origin held table is) purpose input a b gave
+pub refused_right : (a : Outcome) (r : Refusal) → OneRefused a (Err r)
+refused_right (Ok x) r = tt
+refused_right (Err s) r = tt
+
+some_file : (a b : List ℕ) → ◌≡◌ {A = Option (List ℕ)} (Some a) (Some b) → a ≡ b
+some_file a b e = cc e
+
+-- The files that were told hold one certificate.
+same_file : (file : List ℕ) (files : Option Holding) (held other : Holding) (text found : List ℕ) → files ≡ Some held → held file ≡ Some text → files ≡ Some other → other file ≡ Some found → found ≡ text
+same_file file files held other text found told is same known =
+    let whole : ◌≡◌ {A = Option Holding} (Some other) (Some held) = sym same ∙ told in
+    let one : other ≡ held = cc whole in
+    some_file found text (sym known ∙ ap (λ h. h file) one ∙ is)
+
+-- An input that is refused comes to that alone.
+pub input_refused_one : Laws → (task : Task) (files : Option Holding) (input : List ℕ) (a b : Outcome) → OneRefused a b → InputGives task files input a → InputGives task files input b → a ≡ b
+input_refused_one laws (alone filter) files input a b refused f g = within_one (FiltersLines filter) (filters_lines_one laws filter) input a b f g
+input_refused_one laws (load rounds) files input a b refused f g = absurd f
+input_refused_one laws (build product origin) files input a b refused f g = absurd f
+input_refused_one laws (compare old new) files input a b refused f g = absurd f
+input_refused_one laws (under purpose origin) files input a b refused (held, told, table, is, gave) (other, same, found, known, given) =
+    under_refused_one laws table (laws.tables.is_table origin held table is) purpose input a b refused gave
     (subst (λ t. InputUnder purpose t input b) (same_table laws.tables origin files held other table found told is same known) given)
+input_refused_one laws (checking origin file) files input a b refused (held, told, table, text, is, holds, gave) (other, same, found, another, known, also, given) =
+    checks_one laws table (laws.tables.is_table origin held table is) text input a b gave
+    (subst (λ c. VerdictUnder table c input b) (same_file file files held other text another told holds.0 same also.0)
+    (subst (λ t. VerdictUnder t another input b) (same_table laws.tables origin files held other table found told is same known) given))

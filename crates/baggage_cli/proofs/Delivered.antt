@@ -1,14 +1,14 @@
 -- How a refusal is delivered.
 use Rattle.std.proofs.Common.{inl, inr, ℕ, List, Some, Err, refl}
 use Rattle.bdl_load.specs.Loading.{Holding}
-use Rattle.baggage_cli.specs.Commands.{Task, alone, load, build, under, compare}
+use Rattle.baggage_cli.specs.Commands.{Task, alone, load, build, under, compare, checking}
 use Rattle.baggage_cli.specs.declared.refusals.Notice.TheVariants.{Memory}
 use Rattle.baggage_cli.specs.declared.refusals.Refusal.{Refusal}
 use Rattle.baggage_cli.specs.declared.refusals.Refusal.TheVariants.{Input, Definition, Table, Plain}
 use Rattle.baggage_cli.specs.Delivery.{Refuses}
 use Rattle.baggage_cli.specs.Scene.{Change, since, Scene, IsSame}
 use Rattle.baggage_cli.specs.Top.{Comes, Answers}
-use Rattle.baggage_cli.proofs.Obtained.{obtains_memory}
+use Rattle.baggage_cli.proofs.Obtained.{obtains_memory, brings_memory}
 
 -- Where a task may come to a refusal it may come to want of memory.
 pub memory_instead : (task : Task) (library : Change Holding) (requests : Change (List (List ℕ))) (source : Change (List ℕ)) (refusal : Refusal)
@@ -27,6 +27,12 @@ memory_instead (compare old new) library requests source refusal (same, inr (hal
     (same, inr (half, before, taken, inl (Plain Memory, obtains_memory new (since half.files half.faults library) (since half.asked half.faults requests) other obtains, tt, refl)))
 memory_instead (compare old new) library requests source refusal (same, inr (half, before, taken, inr (after, obtains, compared))) =
     (same, inr (half, before, taken, inr (after, obtains, inl refl)))
+memory_instead (checking origin file) library requests source refusal (inl (other, obtains, same, is)) =
+    inl (Plain Memory, obtains_memory origin library requests other obtains, same, refl)
+memory_instead (checking origin file) library requests source refusal (inr (half, table, taken, inl (other, brings, same, is))) =
+    inr (half, table, taken, inl (Plain Memory, brings_memory file (since half.files half.faults library) (since half.asked half.faults requests) other brings, same, refl))
+memory_instead (checking origin file) library requests source refusal (inr (half, table, taken, inr (certificate, brings, (counts, why)))) =
+    inr (half, table, taken, inr (certificate, brings, (counts, inl refl)))
 
 -- A refusal that is said answers the call.
 pub refused : (task : Task) (scene : Scene) (refusal : Refusal) (answer : ℕ) → Comes task scene.library scene.requests scene.source (Err refusal)

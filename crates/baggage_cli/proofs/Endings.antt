@@ -1,31 +1,35 @@
 -- How a call that asks for a task ends.
-use Rattle.std.proofs.Common.{◌≡◌, ◌⊎◌, inl, inr, ℕ, List, Option, Some, None, Result, Ok, Err, refl, ◌∙◌, ap, subst}
+use Rattle.std.proofs.Common.{◌≡◌, ◌⊎◌, inl, inr, ℕ, List, [], ◌∷◌, Option, Some, None, Result, Ok, Err, refl, ◌∙◌, ap, subst}
 use Rattle.bag_model.specs.Shapes.{Nodes}
-use Rattle.bdl_load.specs.Loading.{Holding}
+use Rattle.bdl_load.specs.Loading.{Holding, OfLibrary}
+use Rattle.graph_text.specs.Additions.{graph_of}
+use Rattle.trace_model.specs.Graphs.{Graph}
 use Rattle.text_carrier.specs.declared.faults.CarryFault.{CarryFault}
 use Rattle.text_carrier.specs.declared.faults.CarryFault.TheVariants as pieces
 use Rattle.text_lines.specs.Lines.{Line, lines_of}
-use Rattle.baggage_cli.specs.declared.refusals.InputCode.TheVariants.{TooLong, NoLine, TooManyBytes}
+use Rattle.baggage_cli.specs.declared.refusals.InputCode.TheVariants.{TooLong, NoLine, TooManyBytes, StepRange, NoSuchPath, Partial}
 use Rattle.baggage_cli.specs.declared.refusals.InputFault.{InputFault}
 use Rattle.baggage_cli.specs.declared.refusals.InputFault.TheVariants.{Code, Piece, Missing, Bytes}
 use Rattle.baggage_cli.specs.declared.refusals.Notice.TheVariants.{LibraryFailed, SourceFailed, Memory}
 use Rattle.baggage_cli.specs.declared.refusals.Refusal.{Refusal}
 use Rattle.baggage_cli.specs.declared.refusals.Refusal.TheVariants.{Input, Plain}
 use Rattle.baggage_cli.specs.Building.{product_text}
+use Rattle.baggage_cli.specs.Checking.{VerdictUnder, BringsAndChecks}
 use Rattle.baggage_cli.specs.Comparing.{ComparesTables}
-use Rattle.baggage_cli.specs.Commands.{Origin, compiled, printed, Product, decoding, running, Filter, trimming, merging, carrying, collecting, Task, alone, load, build, under, compare, ReadsSource, FetchesFiles}
+use Rattle.baggage_cli.specs.Commands.{Origin, compiled, printed, Product, decoding, running, explaining, Filter, trimming, merging, carrying, collecting, Task, alone, load, build, under, compare, checking, ReadsSource, FetchesFiles}
 use Rattle.baggage_cli.specs.Delivery.{Delivers}
+use Rattle.baggage_cli.specs.Explaining.{IsUnexplained}
 use Rattle.baggage_cli.specs.Filters.{FiltersLines, FilterGives}
 use Rattle.baggage_cli.specs.Loading.{IsLoadOutput, LoadGives}
 use Rattle.baggage_cli.specs.Outcomes.{Outcome, Then}
 use Rattle.baggage_cli.specs.Reading.{IsRead, Reads}
 use Rattle.baggage_cli.specs.Refusals.{status_of, line_of, input_status, input_line, notice_line, piece_refusal}
 use Rattle.baggage_cli.specs.Scene.{Change, Halfway, until, since, Scene, IsSame, HasFailed, Takes}
-use Rattle.baggage_cli.specs.Tables.{IsUnprinted, TableGives, CameFrom, Obtains}
+use Rattle.baggage_cli.specs.Tables.{IsUntaken, FileGives, IsUnprinted, TableGives, AsksForTable, AsksFront, CameFrom, TakesFrom, Obtains}
 use Rattle.baggage_cli.specs.Top.{RefusesFiles, Answers}
 use Rattle.baggage_cli.specs.Under.{InputUnder}
-use Rattle.baggage_cli.proofs.Obtained.{obtained_table}
-use Rattle.baggage_cli.proofs.ToldFiles.{OfFiles, FilesGive, came_told, rose_behind, first_refused, second_refused, both_compared}
+use Rattle.baggage_cli.proofs.Obtained.{obtained_table, brought_file}
+use Rattle.baggage_cli.proofs.ToldFiles.{OfFiles, FilesGive, came_told, rose_behind, first_refused, second_refused, both_compared, table_refused, file_refused, file_given}
 
 -- What an input gives for a task, with a table that came of the files of the library where the task reads under one.
 abbrev pub Gives : Task → Scene → List ℕ → Outcome → Type 0
@@ -35,6 +39,9 @@ Gives (build product origin) scene = λ input outcome. ⊥
 Gives (under purpose origin) scene = λ input outcome.
     (table : Nodes) × OfFiles scene (under purpose origin) (λ held. TableGives origin held (Ok table)) × InputUnder purpose table input outcome
 Gives (compare old new) scene = λ input outcome. ⊥
+Gives (checking origin file) scene = λ input outcome.
+    (table : Nodes) × (certificate : List ℕ) × OfFiles scene (checking origin file) (λ held. TableGives origin held (Ok table) × FileGives file (held file) (Ok certificate))
+    × VerdictUnder table certificate input outcome
 
 -- The line was said, and nothing was written.
 abbrev pub Said : Scene → List ℕ → Type 0
@@ -96,6 +103,12 @@ refuses_lines (carrying width) lines refusal (inr (number, fault, bad, is)) = (n
 refuses_lines collecting lines refusal (inl (fault, found, collects, is)) = let (number, its, same) = of_pieces fault found in (number, its, is ∙ same)
 refuses_lines collecting lines refusal (inr (bytes, offset, code, collects, first, is)) = (0, Bytes offset code, is)
 
+-- A graph without a certificate is refused as a whole.
+left_for : (table : Nodes) (graph : Graph) (step : ℕ) (path : List ℕ) (refusal : Refusal) → IsUnexplained table graph step path refusal → (fault : InputFault) × (refusal ≡ Input 0 fault)
+left_for table graph step path refusal (inl (inl (big, is))) = (Code StepRange, is)
+left_for table graph step path refusal (inl (inr (small, none, is))) = (Code NoSuchPath, is)
+left_for table graph step path refusal (inr (lists, slot, ran, place, unended, is)) = (Code Partial, is)
+
 refuses_input : (task : Task) (scene : Scene) (input : List ℕ) (refusal : Refusal) → Gives task scene input (Err refusal) → (number : ℕ) × (fault : InputFault) × (refusal ≡ Input number fault)
 refuses_input (alone filter) scene input refusal (inl long) = (0, Code TooLong, cc (long.1))
 refuses_input (alone filter) scene input refusal (inr (short, refused)) = refuses_lines filter (lines_of input) refusal refused
@@ -107,6 +120,14 @@ refuses_input (under decoding origin) scene input refusal (table, came, inr (sho
 refuses_input (under decoding origin) scene input refusal (table, came, inr (short, inr (number, fault, bad, is))) = (number, fault, is)
 refuses_input (under (running form) origin) scene input refusal (table, came, inl long) = (0, Code TooLong, cc (long.1))
 refuses_input (under (running form) origin) scene input refusal (table, came, inr (short, (number, fault, bad, is))) = (number, fault, is)
+refuses_input (under (explaining step path) origin) scene input refusal (table, came, inl long) = (0, Code TooLong, cc (long.1))
+refuses_input (under (explaining step path) origin) scene input refusal (table, came, inr (short, inl (number, fault, bad, is))) = (number, fault, is)
+refuses_input (under (explaining step path) origin) scene input refusal (table, came, inr (short, inr (every, left, all, reason, is))) =
+    let (fault, left_is) = left_for table (graph_of every) step path left reason in
+    let same : refusal ≡ left = cc is in
+    (0, fault, same ∙ left_is)
+refuses_input (checking origin file) scene input refusal (table, certificate, came, inl long) = (0, Code TooLong, cc (long.1))
+refuses_input (checking origin file) scene input refusal (table, certificate, came, inr (short, (number, fault, bad, is))) = (number, fault, is)
 
 input_ending : (task : Task) (scene : Scene) (answer : ℕ) (input : List ℕ) (outcome : Outcome) → ReadsSource task → IsRead scene.source input → Gives task scene input outcome
     → Delivers outcome scene.out scene.errs answer → Ending task scene answer
@@ -137,8 +158,12 @@ reading_ending task scene answer outcome gives reads turns (counts, inr (inr (in
 
 -- ---- tasks that take a table
 
-err_same : (r s : Refusal) → ◌≡◌ {A = Result Nodes Refusal} (Err r) (Err s) → r ≡ s
-err_same r s e = cc e
+err_same : (A : Type 0) (r s : Refusal) → ◌≡◌ {A = Result A Refusal} (Err r) (Err s) → r ≡ s
+err_same A r s e = cc e
+
+untaken_status : (file : List ℕ) (content : Option (List ℕ)) (refusal : Refusal) → IsUntaken file content refusal → status_of refusal ≡ 1
+untaken_status file None refusal is = ap status_of is
+untaken_status file (Some text) refusal is = ap status_of is.1
 
 unprinted_status : (file : List ℕ) (content : Option (List ℕ)) (refusal : Refusal) → IsUnprinted file content refusal → status_of refusal ≡ 1
 unprinted_status file None refusal is = ap status_of is
@@ -150,25 +175,36 @@ table_status : (origin : Origin) (held : Holding) (refusal : Refusal) → TableG
 table_status (compiled file bag) held refusal (fault, first, is) = ap status_of is
 table_status (printed file) held refusal bad = unprinted_status file (held file) refusal bad
 
--- A task without a table that it takes with this part of the changes of the library.
+-- A task without something that it takes from files with this part of the changes of the library.
+untaken_ending : (A : Type 0) (Front All : Holding → List (List ℕ) → Type 0) (gives : Holding → Result A Refusal → Type 0) (task : Task) (scene : Scene) (library : Change Holding) (requests : Change (List (List ℕ)))
+    → (answer : ℕ) (refusal : Refusal) (outcome : Outcome) → FetchesFiles task → (HasFailed library → HasFailed scene.library)
+    → ((held : Holding) → gives held (Err refusal) → status_of refusal ≡ 1)
+    → (OfLibrary library.before requests.before requests.after (λ held names. gives held (Err refusal) × All held names) → OfFiles scene task (λ held. RefusesFiles task held refusal))
+    → TakesFrom Front All gives library requests (Err refusal) → IsSame scene.source
+    → outcome ≡ Err refusal → Delivers outcome scene.out scene.errs answer → Ending task scene answer
+untaken_ending A Front All gives task scene library requests answer refusal outcome fetches rises status turns (same, counts, inl wanting) unread is delivers = elim (refusal_delivered scene answer outcome (Plain Memory) (is ∙ ap Err (err_same A refusal (Plain Memory) wanting.0)) delivers) [
+  | inl said ↦ memory_wanting said.0 said.1
+  | inr failed ↦ sink_failed failed.0 (inr failed.1)
+]
+untaken_ending A Front All gives task scene library requests answer refusal outcome fetches rises status turns (same, counts, inr (inl lost)) unread is delivers = elim (refusal_delivered scene answer outcome (Plain LibraryFailed) (is ∙ ap Err (err_same A refusal (Plain LibraryFailed) lost.0)) delivers) [
+  | inl said ↦ library_failed said.0 fetches (rises lost.1) said.1
+  | inr failed ↦ sink_failed failed.0 (inr failed.1)
+]
+untaken_ending A Front All gives task scene library requests answer refusal outcome fetches rises status turns (same, counts, inr (inr (held, names, told, asked, (gave, all)))) unread is delivers =
+    elim (refusal_delivered scene answer outcome refusal is delivers) [
+      | inl said ↦ bad_files refusal (said.0 ∙ status held gave) fetches (turns (held, names, told, asked, (gave, all))) unread said.1
+      | inr failed ↦ sink_failed failed.0 (inr failed.1)
+    ]
+
+-- A task without a table.
 untabled_ending : (task : Task) (origin : Origin) (scene : Scene) (library : Change Holding) (requests : Change (List (List ℕ))) (answer : ℕ) (refusal : Refusal) (outcome : Outcome)
     → FetchesFiles task → (HasFailed library → HasFailed scene.library)
     → (CameFrom origin library requests (λ held. TableGives origin held (Err refusal)) → OfFiles scene task (λ held. RefusesFiles task held refusal))
     → Obtains origin library requests (Err refusal) → IsSame scene.source
     → outcome ≡ Err refusal → Delivers outcome scene.out scene.errs answer → Ending task scene answer
-untabled_ending task origin scene library requests answer refusal outcome fetches rises turns (same, counts, inl wanting) unread is delivers = elim (refusal_delivered scene answer outcome (Plain Memory) (is ∙ ap Err (err_same refusal (Plain Memory) wanting.0)) delivers) [
-  | inl said ↦ memory_wanting said.0 said.1
-  | inr failed ↦ sink_failed failed.0 (inr failed.1)
-]
-untabled_ending task origin scene library requests answer refusal outcome fetches rises turns (same, counts, inr (inl lost)) unread is delivers = elim (refusal_delivered scene answer outcome (Plain LibraryFailed) (is ∙ ap Err (err_same refusal (Plain LibraryFailed) lost.0)) delivers) [
-  | inl said ↦ library_failed said.0 fetches (rises lost.1) said.1
-  | inr failed ↦ sink_failed failed.0 (inr failed.1)
-]
-untabled_ending task origin scene library requests answer refusal outcome fetches rises turns (same, counts, inr (inr (held, names, told, asked, (gave, all)))) unread is delivers =
-    elim (refusal_delivered scene answer outcome refusal is delivers) [
-      | inl said ↦ bad_files refusal (said.0 ∙ table_status origin held refusal gave) fetches (turns (held, names, told, asked, (gave, all))) unread said.1
-      | inr failed ↦ sink_failed failed.0 (inr failed.1)
-    ]
+untabled_ending task origin scene library requests answer refusal outcome fetches rises turns obtains unread is delivers =
+    untaken_ending Nodes (λ held names. AsksFront held origin names) (λ held names. AsksForTable held origin names) (λ held outcome. TableGives origin held outcome) task scene library requests answer refusal outcome fetches rises
+    (λ held bad. table_status origin held refusal bad) turns obtains unread is delivers
 
 -- A task that makes something of its files alone.
 files_ending : (task : Task) (scene : Scene) (answer : ℕ) (output : List ℕ) (outcome : Outcome) → FetchesFiles task → (ReadsSource task → ⊥) → OfFiles scene task (λ held. FilesGive task held output)
@@ -211,6 +247,23 @@ second_ending old new scene answer half before outcome taken unread (inr (after,
     files_ending (compare old new) scene answer line outcome tt (λ reads. reads)
     (both_compared old new scene half before taken after line (obtained_table new (since half.files half.faults scene.library) (since half.asked half.faults scene.requests) after obtains) right) is unread delivers
 
+-- The certificate was taken behind the table, or why there is none, and the source was read.
+file_ending : (origin : Origin) (file : List ℕ) (scene : Scene) (answer : ℕ) (half : Halfway) (table : Nodes) (outcome : Outcome)
+    → Obtains origin (until half.files half.faults scene.library) (until half.asked half.faults scene.requests) (Ok table)
+    → BringsAndChecks file scene.source table (since half.files half.faults scene.library) (since half.asked half.faults scene.requests) outcome
+    → Delivers outcome scene.out scene.errs answer → Ending (checking origin file) scene answer
+file_ending origin file scene answer half table outcome taken (inl (refusal, brings, unread, is)) delivers =
+    untaken_ending (List ℕ) (λ held names. names ≡ file ∷ []) (λ held names. names ≡ file ∷ []) (λ held outcome. FileGives file (held file) outcome) (checking origin file) scene
+    (since half.files half.faults scene.library) (since half.asked half.faults scene.requests) answer refusal outcome
+    tt (rose_behind scene.library.faults_before half.faults scene.library.faults_after taken.1) (λ held bad. untaken_status file (held file) refusal bad)
+    (file_refused origin file scene half table taken refusal) brings unread is delivers
+file_ending origin file scene answer half table outcome taken (inr (certificate, brings, reads)) delivers =
+    reading_ending (checking origin file) scene answer outcome (VerdictUnder table certificate) tt (λ input gave. (table, certificate, given, gave)) reads delivers
+  where
+    given : OfFiles scene (checking origin file) (λ held. TableGives origin held (Ok table) × FileGives file (held file) (Ok certificate))
+    given = file_given origin file scene half table taken certificate
+        (brought_file file (since half.files half.faults scene.library) (since half.asked half.faults scene.requests) certificate brings)
+
 -- ---- loads
 
 load_ending : (rounds : ℕ) (scene : Scene) (answer : ℕ) (outcome : Outcome) → IsSame scene.source → LoadGives rounds outcome → Delivers outcome scene.out scene.errs answer
@@ -245,3 +298,6 @@ ending (compare old new) scene answer (outcome, (unread, inl (refusal, obtains, 
     untabled_ending (compare old new) old scene scene.library scene.requests answer refusal outcome tt (λ failed. failed) (first_refused old new scene refusal) obtains unread is delivers
 ending (compare old new) scene answer (outcome, (unread, inr (half, before, taken, rest)), delivers) =
     second_ending old new scene answer half before outcome taken unread rest delivers
+ending (checking origin file) scene answer (outcome, inl (refusal, obtains, unread, is), delivers) =
+    untabled_ending (checking origin file) origin scene scene.library scene.requests answer refusal outcome tt (λ failed. failed) (table_refused origin file scene refusal) obtains unread is delivers
+ending (checking origin file) scene answer (outcome, inr (half, table, taken, rest), delivers) = file_ending origin file scene answer half table outcome taken rest delivers

@@ -27,10 +27,14 @@ use Rattle.text_lines.specs.Lines.{Line, lines_of}
 use Rattle.text_lines.specs.Readings.{Reading, AllSay}
 use Rattle.text_lines.proofs.ReadingLaws.{at_most-all_say, at_most-few}
 use Rattle.text_carrier.specs.Carried.{carried_text}
+use Rattle.write_proof.specs.Verdicts.{IsVerdictOf}
+use Rattle.write_proof.specs.declared.verdicts.Verified.{Verified}
 use Rattle.baggage_cli.specs.Building.{product_text}
 use Rattle.baggage_cli.specs.Carrying.{byte_lines}
 use Rattle.baggage_cli.specs.Collecting.{CollectsLines}
-use Rattle.baggage_cli.specs.Commands.{Origin, compiled, Product, Form, as_json, Purpose, decoding, running, trimming, carrying, Task, alone, trim, merge, carry, collect, load, build, under, compare, decode, run_json, evolve, ReadsSource, FetchesFiles}
+use Rattle.baggage_cli.specs.Commands.{Origin, compiled, Product, Form, as_json, Purpose, decoding, running, explaining, trimming, carrying, Task, alone, trim, merge, carry, collect, load, build, under, compare, checking, decode, run_json, evolve, why, verify, ReadsSource, FetchesFiles}
+use Rattle.baggage_cli.specs.Checking.{verified_line, IsVerified, ChecksLines, VerdictUnder, TruthWhereYes}
+use Rattle.baggage_cli.specs.Explaining.{IsExplainedAt, IsExplained, ExplainsLines}
 use Rattle.baggage_cli.specs.Comparing.{verdict_line, SafeWhereItFits}
 use Rattle.baggage_cli.specs.declared.merging.TheConstants.{LINES_MAX}
 use Rattle.baggage_cli.specs.declared.refusals.InputCode.TheVariants.{TooLong, Form as Excess, TooManyLines}
@@ -46,15 +50,15 @@ use Rattle.baggage_cli.specs.Outcomes.{Outcome}
 use Rattle.baggage_cli.specs.Reading.{Framed, IsRead, Within, ReadsOne, cut_lines, context_lines, typed_lines}
 use Rattle.baggage_cli.specs.Refusals.{status_of, input_status, input_line, line_of, notice_line}
 use Rattle.baggage_cli.specs.Loading.{load_heading, IsLoadOutput}
-use Rattle.baggage_cli.specs.Running.{IsReportAs, ShowsTruth}
+use Rattle.baggage_cli.specs.Running.{IsReportAs, IsRunReport, ShowsTruth}
 use Rattle.baggage_cli.specs.Scene.{Change, Scene, scene_of, IsSame, IsSteady, HasFailed, Takes, HasNoFault}
 use Rattle.baggage_cli.specs.Tables.{TableGives}
 use Rattle.baggage_cli.specs.Top.{TellsFiles, TellsAll, InputGives, RefusesFiles, Comes, Answers, SaysList, SaysContexts, SaysBytes, SaysPieces, IsRefusedFor, FailsSink, IsFailure}
 use Rattle.baggage_cli.specs.Top.IsRefusedFor.{by_files, by_input}
 use Rattle.baggage_cli.specs.Trimming.{trimmed_line}
 use Rattle.baggage_cli.specs.Under.{LinesGive, InputUnder, SaysTyped}
-use Rattle.baggage_cli.proofs.GraphInputs.{ran_graph}
-use Rattle.baggage_cli.proofs.Definite.{ok_no_err, input_gives_one}
+use Rattle.baggage_cli.proofs.GraphInputs.{said_graph, given_graph}
+use Rattle.baggage_cli.proofs.Definite.{ok_no_err, refused_right, input_refused_one}
 use Rattle.baggage_cli.proofs.Endings.{Ending, Gives, ending}
 use Rattle.baggage_cli.proofs.Endings.Ending.{read_out, files_out, load_out, bad_input, bad_files, library_failed, source_failed, memory_wanting, sink_failed}
 use Rattle.baggage_cli.proofs.ToldFiles.{AskedAll, FilesGive, refused_once, given_not_refused, no_table_given}
@@ -105,6 +109,10 @@ told_gives (under purpose origin) scene input outcome tells (table, came, gave) 
     let held = tells tt in
     (held.0, held.1, table, (came held.0 held.1).0, gave)
 told_gives (compare old new) scene input outcome tells gave = absurd gave
+told_gives (checking origin file) scene input outcome tells (table, certificate, came, gave) =
+    let held = tells tt in
+    let given = (came held.0 held.1).0 in
+    (held.0, held.1, table, certificate, given.0, given.1, gave)
 
 given_tells : (task : Task) (files : Option Holding) (input : List ℕ) (outcome : Outcome) → InputGives task files input outcome → TellsFiles task files
 given_tells (alone filter) files input outcome gave = λ fetches. absurd fetches
@@ -112,6 +120,7 @@ given_tells (load rounds) files input outcome gave = absurd gave
 given_tells (build product origin) files input outcome gave = absurd gave
 given_tells (under purpose origin) files input outcome gave = λ fetches. (gave.0, gave.1)
 given_tells (compare old new) files input outcome gave = absurd gave
+given_tells (checking origin file) files input outcome gave = λ fetches. (gave.0, gave.1)
 
 -- A task of which an input gives something reads the source.
 given_reads : (task : Task) (files : Option Holding) (input : List ℕ) (outcome : Outcome) → InputGives task files input outcome → ReadsSource task
@@ -120,6 +129,7 @@ given_reads (load rounds) files input outcome gave = gave
 given_reads (build product origin) files input outcome gave = gave
 given_reads (under purpose origin) files input outcome gave = tt
 given_reads (compare old new) files input outcome gave = gave
+given_reads (checking origin file) files input outcome gave = tt
 
 -- ---- status 0
 
@@ -249,7 +259,7 @@ pub run_appends : Laws → (form : Form) (origin : Origin) (held : Holding) (inp
 run_appends laws form origin held input scene answer answers told content zero =
     let done = gave_under (running form) origin held input scene answer answers told content zero in
     let table = done.table in
-    let ran = ran_graph form table input done.output done.gave in
+    let ran = given_graph (IsRunReport form table) table input done.output done.gave in
     let lists = ran.2.0 in
     let recorded = laws.graphs.recorded table input ran.0 (laws.tables.is_table origin held table done.is) ran.1 in
     (table, ran.0, lists, done.output, done.is, ran.1, ran.2.1, ran.2.2, shows_truth laws.graphs table ran.0 lists recorded ran.2.1, done.written)
@@ -262,6 +272,38 @@ pub run_json_appends : Laws → (file bag : List ℕ) (held : Holding) (input : 
 run_json_appends laws file bag held input scene answer answers told content zero =
     let (table, graph, lists, output, is, says, ran, (text, report, output_is), truth, written) = run_appends laws as_json (compiled file bag) held input scene answer answers told content zero in
     (table, graph, lists, text, is, says, ran, report, truth, subst (Appends scene.out.before scene.out.after) output_is written)
+
+-- What lines that have a certificate say.
+explained_graph : (step : ℕ) (path : List ℕ) (table : Nodes) (input output : List ℕ) → Within (ExplainsLines step path table) input (Ok output)
+    → (graph : model.Graph) × IsGraphOf table input graph × IsExplained step path table graph output
+explained_graph step path table input output (inl long) = absurd (ok_no_err output _ long.1)
+explained_graph step path table input output (inr (short, inl gave)) = said_graph (IsExplained step path table) table input output gave
+explained_graph step path table input output (inr (short, inr (every, left, all, reason, is))) = absurd (ok_no_err output _ is)
+
+-- Where the answer is 0, the certificate of the slot at the step was written.
+pub why_appends : (file bag path : List ℕ) (step : ℕ) (held : Holding) (input : List ℕ) (scene : Scene) (answer : ℕ) → Answers (Some (why file bag step path)) scene answer
+    → scene.library.before ≡ Some held → scene.source.before ≡ Some input → answer ≡ 0
+    → (table : Nodes) × (graph : model.Graph) × (lists : Lists) × (slot : ℕ) × (text : List ℕ) × IsTableOf held file bag table × IsGraphOf table input graph
+    × IsExplainedAt table graph lists step path slot text × Appends scene.out.before scene.out.after text
+why_appends file bag path step held input scene answer answers told content zero =
+    let done = gave_under (explaining step path) (compiled file bag) held input scene answer answers told content zero in
+    let (graph, says, (lists, slot, explained)) = explained_graph step path done.table input done.output done.gave in
+    (done.table, graph, lists, slot, done.output, done.is, says, explained, done.written)
+
+-- Where the answer is 0, the verdict on the certificate was written.
+pub verify_appends : Laws → (file bag name : List ℕ) (held : Holding) (input : List ℕ) (scene : Scene) (answer : ℕ) → Answers (Some (verify file bag name)) scene answer
+    → scene.library.before ≡ Some held → scene.source.before ≡ Some input → answer ≡ 0
+    → (table : Nodes) × (graph : model.Graph) × (certificate : List ℕ) × (verdict : Verified) × IsTableOf held file bag table × (held name ≡ Some certificate) × IsGraphOf table input graph
+    × IsVerdictOf table graph certificate verdict × TruthWhereYes table graph certificate verdict × Appends scene.out.before scene.out.after (verified_line verdict)
+verify_appends laws file bag name held input scene answer answers told content zero =
+    let done = read_done (verify file bag name) scene answer (ending (verify file bag name) scene answer answers) tt zero in
+    let (table, certificate, came, gave) = done.gave in
+    let (is, text) = (came held told).0 in
+    let here = subst (λ i. VerdictUnder table certificate i (Ok done.output)) (sym (told_input scene.source input done.input content done.read)) gave in
+    let (graph, says, (verdict, right, line)) = given_graph (IsVerified table certificate) table input done.output here in
+    let recorded = laws.graphs.recorded table input graph (laws.tables.is_table (compiled file bag) held table is) says in
+    let truth : TruthWhereYes table graph certificate verdict = (λ yes. laws.certificates.truth table graph certificate recorded (subst (IsVerdictOf table graph certificate) yes right)) in
+    (table, graph, certificate, verdict, is, text.0, says, right, truth, subst (Appends scene.out.before scene.out.after) line done.out.0)
 
 -- ---- loads
 
@@ -336,6 +378,7 @@ has_asked task held scene answer answers fetching told few = by (ending task sce
     asked_given (build product origin) input outcome own gave = absurd gave
     asked_given (under purpose origin) input outcome own (table, came, gave) = (came held told).1
     asked_given (compare old new) input outcome own gave = absurd gave
+    asked_given (checking origin file) input outcome own (table, certificate, came, gave) = (came held told).1
 
     by : Ending task scene answer → AskedAll held task scene
     by (read_out input output zero reads read gave written) = asked_given task input (Ok output) fetching gave
@@ -434,7 +477,7 @@ bad_told laws task input number fault scene answer answers told bad = by (ending
     gave_same bytes outcome read gave =
         let given = told_gives task scene bytes outcome (given_tells task scene.library.before input (Err (Input number fault)) bad) gave in
         let same = told_input scene.source input bytes told read in
-        input_gives_one laws task scene.library.before bytes outcome (Err (Input number fault)) given (subst (λ i. InputGives task scene.library.before i (Err (Input number fault))) same bad)
+        input_refused_one laws task scene.library.before bytes outcome (Err (Input number fault)) (refused_right outcome (Input number fault)) given (subst (λ i. InputGives task scene.library.before i (Err (Input number fault))) same bad)
 
     by : Ending task scene answer → ((answer ≡ input_status fault) × Appends scene.errs.before scene.errs.after (input_line number fault)) ⊎ IsFailure answer
     by (read_out bytes output zero reads read gave written) = absurd (ok_no_err output (Input number fault) (gave_same bytes (Ok output) read gave))
@@ -480,6 +523,7 @@ short_given (load rounds) scene input output gave = absurd gave
 short_given (build product origin) scene input output gave = absurd gave
 short_given (compare old new) scene input output gave = absurd gave
 short_given (under purpose origin) scene input output (table, came, gave) = within_short (LinesGive purpose table) input output gave
+short_given (checking origin file) scene input output (table, certificate, came, gave) = within_short (ChecksLines table certificate) input output gave
 
 -- After an output nothing is left of a source that was read.
 pub ended_source : (task : Task) (scene : Scene) (answer : ℕ) → Answers (Some task) scene answer → ReadsSource task → answer ≡ 0 → IsAtEnd scene.source.after
@@ -652,6 +696,7 @@ unfetched_files (load rounds) scene answer (outcome, (same, unasked, unread, giv
 unfetched_files (build product origin) scene answer answers none = absurd (none tt)
 unfetched_files (under purpose origin) scene answer answers none = absurd (none tt)
 unfetched_files (compare old new) scene answer answers none = absurd (none tt)
+unfetched_files (checking origin file) scene answer answers none = absurd (none tt)
 
 pub unread_input : (task : Task) (scene : Scene) (answer : ℕ) → Answers (Some task) scene answer → (ReadsSource task → ⊥) → IsSame scene.source
 unread_input (alone filter) scene answer answers none = absurd (none tt)
@@ -659,3 +704,4 @@ unread_input (load rounds) scene answer (outcome, (same, unasked, unread, gives)
 unread_input (build product origin) scene answer (outcome, (unread, builds), delivers) none = unread
 unread_input (under purpose origin) scene answer answers none = absurd (none tt)
 unread_input (compare old new) scene answer (outcome, (unread, compares), delivers) none = unread
+unread_input (checking origin file) scene answer answers none = absurd (none tt)

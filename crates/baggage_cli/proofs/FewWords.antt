@@ -1,4 +1,4 @@
--- Lists of two words, of three and of four.
+-- Lists of two words, of three, of four and of five.
 use Rattle.std.proofs.Common.{◌≡◌, ℕ, List, [], ◌∷◌, length, Some, arith}
 use Rattle.std.specs.List.{slice_get}
 
@@ -27,3 +27,14 @@ four_words (x ∷ y ∷ []) name old new bag four first second third fourth = ab
 four_words (x ∷ y ∷ z ∷ []) name old new bag four first second third fourth = absurd (omega arith)
 four_words (x ∷ y ∷ z ∷ w ∷ []) name old new bag four first second third fourth = cc (first, second, third, fourth)
 four_words (x ∷ y ∷ z ∷ w ∷ v ∷ more) name old new bag four first second third fourth = absurd (omega arith)
+
+-- Five words, by each of them.
+pub five_words : (words : List (List ℕ)) (name file bag step path : List ℕ) → length words ≡ 5 → slice_get words 0 ≡ Some name → slice_get words 1 ≡ Some file → slice_get words 2 ≡ Some bag
+    → slice_get words 3 ≡ Some step → slice_get words 4 ≡ Some path → words ≡ name ∷ file ∷ bag ∷ step ∷ path ∷ []
+five_words [] name file bag step path five first second third fourth fifth = absurd (omega arith)
+five_words (x ∷ []) name file bag step path five first second third fourth fifth = absurd (omega arith)
+five_words (x ∷ y ∷ []) name file bag step path five first second third fourth fifth = absurd (omega arith)
+five_words (x ∷ y ∷ z ∷ []) name file bag step path five first second third fourth fifth = absurd (omega arith)
+five_words (x ∷ y ∷ z ∷ w ∷ []) name file bag step path five first second third fourth fifth = absurd (omega arith)
+five_words (x ∷ y ∷ z ∷ w ∷ v ∷ []) name file bag step path five first second third fourth fifth = cc (first, second, third, fourth, fifth)
+five_words (x ∷ y ∷ z ∷ w ∷ v ∷ u ∷ more) name file bag step path five first second third fourth fifth = absurd (omega arith)

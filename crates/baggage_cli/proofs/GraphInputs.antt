@@ -6,7 +6,6 @@ use Rattle.bag_model.specs.Shapes.{Nodes}
 use Rattle.text_lines.specs.Lines.{Line, lines_of}
 use Rattle.text_lines.specs.Readings.{AllSay, IsFirstBad}
 use Rattle.trace_model.specs.Graphs.{Graph}
-use Rattle.trace_model.specs.Runs.{Lists, IsRun}
 use Rattle.graph_text.specs.Additions.{Addition, graph_of}
 use Rattle.graph_text.specs.GraphLines.{graph_lines, IsGraphOf, IsRefusalOf}
 use Rattle.graph_text.specs.declared.faults.GraphFault.{GraphFault}
@@ -14,11 +13,10 @@ use Rattle.graph_text.specs.declared.faults.GraphFault.TheVariants as graphs
 use Rattle.graph_text.specs.declared.faults.LineFault.{LineFault}
 use Rattle.graph_text.specs.declared.faults.LineFault.TheVariants as lines
 use Rattle.baggage_cli.specs.declared.refusals.Refusal.{Refusal}
-use Rattle.baggage_cli.specs.Commands.{Form}
 use Rattle.baggage_cli.specs.Outcomes.{Outcome, outcome_of, OrMemory}
 use Rattle.baggage_cli.specs.Reading.{Within}
 use Rattle.baggage_cli.specs.Refusals.{graph_refusal}
-use Rattle.baggage_cli.specs.Running.{input_fault, IsReportAs, IsRunReport, graph_inputs, RunsLines}
+use Rattle.baggage_cli.specs.Running.{input_fault, graph_inputs, GraphGives}
 
 -- What lines add to a graph they say as an input.
 pub inputs_say : (table : Nodes) (earlier : List Addition) (lines : List Line) (said : List Addition) → AllSay (graph_lines table) earlier lines said → AllSay (graph_inputs table) earlier lines said
@@ -47,30 +45,32 @@ input_bad table lines number fault bad = record {
   number_is = bad.number_is;
 }
 
-refused_graph : (form : Form) (table : Nodes) (text : List ℕ) (fault : GraphFault) → IsRefusalOf table text fault → OrMemory (RunsLines form table (lines_of text)) (Err (graph_refusal fault))
-refused_graph form table text (graphs.At number code) bad = inr (number, input_fault (lines.Code code), input_bad table (lines_of text) number (lines.Code code) bad, refl)
-refused_graph form table text (graphs.Bytes number offset code) bad =
+refused_graph : (gives : Graph → List ℕ → Type 0) (table : Nodes) (text : List ℕ) (fault : GraphFault) → IsRefusalOf table text fault → OrMemory (GraphGives table gives (lines_of text)) (Err (graph_refusal fault))
+refused_graph gives table text (graphs.At number code) bad = inr (number, input_fault (lines.Code code), input_bad table (lines_of text) number (lines.Code code) bad, refl)
+refused_graph gives table text (graphs.Bytes number offset code) bad =
     inr (number, input_fault (lines.Bytes offset code), input_bad table (lines_of text) number (lines.Bytes offset code) bad, refl)
-refused_graph form table text (graphs.IllTyped number offset) bad =
+refused_graph gives table text (graphs.IllTyped number offset) bad =
     inr (number, input_fault (lines.IllTyped offset), input_bad table (lines_of text) number (lines.IllTyped offset) bad, refl)
-refused_graph form table text graphs.Memory bad = inl refl
+refused_graph gives table text graphs.Memory bad = inl refl
 
--- Why a text says no graph is the refusal of its run.
-pub refused_run : (form : Form) (table : Nodes) (text : List ℕ) (result : Result (Vec ℕ) Refusal) (fault : GraphFault) → IsErrAnd result (λ other. other ≡ graph_refusal fault) → IsRefusalOf table text fault
-    → OrMemory (RunsLines form table (lines_of text)) (outcome_of result)
-refused_run form table text (Ok output) fault is bad = absurd is
-refused_run form table text (Err other) fault is bad = subst (λ r. OrMemory (RunsLines form table (lines_of text)) (Err r)) (sym is) (refused_graph form table text fault bad)
+-- Why a text says no graph is the refusal of each command that reads one.
+pub refused_text : (gives : Graph → List ℕ → Type 0) (table : Nodes) (text : List ℕ) (result : Result (Vec ℕ) Refusal) (fault : GraphFault) → IsErrAnd result (λ other. other ≡ graph_refusal fault)
+    → IsRefusalOf table text fault → OrMemory (GraphGives table gives (lines_of text)) (outcome_of result)
+refused_text gives table text (Ok output) fault is bad = absurd is
+refused_text gives table text (Err other) fault is bad = subst (λ r. OrMemory (GraphGives table gives (lines_of text)) (Err r)) (sym is) (refused_graph gives table text fault bad)
 
--- A graph that a text says is run, and its report is what the lines come to.
-pub graph_ran : (form : Form) (table : Nodes) (text : List ℕ) (graph : Graph) (lists : Lists) (output : List ℕ) → IsGraphOf table text graph → IsRun table graph lists → IsReportAs form table graph lists output
-    → RunsLines form table (lines_of text) (Ok output)
-graph_ran form table text graph lists output (every, all, is) run report =
-    (every, inputs_say table [] (lines_of text) every all, subst (λ g. IsRunReport form table g output) is (lists, run, report))
+-- What a graph gives that a text says, is what the lines come to.
+pub graph_gave : (gives : Graph → List ℕ → Type 0) (table : Nodes) (text : List ℕ) (graph : Graph) (output : List ℕ) → IsGraphOf table text graph → gives graph output
+    → GraphGives table gives (lines_of text) (Ok output)
+graph_gave gives table text graph output (every, all, is) gave = (every, inputs_say table [] (lines_of text) every all, subst (λ g. gives g output) is gave)
 
 no_output : (output : List ℕ) (refusal : Refusal) → ◌≡◌ {A = Outcome} (Ok output) (Err refusal) → ⊥
 no_output output refusal e = cc e
 
--- An output that an input gives is the report of a graph that it says.
-pub ran_graph : (form : Form) (table : Nodes) (input output : List ℕ) → Within (RunsLines form table) input (Ok output) → (graph : Graph) × IsGraphOf table input graph × IsRunReport form table graph output
-ran_graph form table input output (inl long) = absurd (no_output output _ long.1)
-ran_graph form table input output (inr (short, (every, all, report))) = (graph_of every, (every, lines_say table [] (lines_of input) every all, refl), report)
+-- An output that lines give is one for a graph that they say.
+pub said_graph : (gives : Graph → List ℕ → Type 0) (table : Nodes) (input output : List ℕ) → GraphGives table gives (lines_of input) (Ok output) → (graph : Graph) × IsGraphOf table input graph × gives graph output
+said_graph gives table input output (every, all, gave) = (graph_of every, (every, lines_say table [] (lines_of input) every all, refl), gave)
+
+pub given_graph : (gives : Graph → List ℕ → Type 0) (table : Nodes) (input output : List ℕ) → Within (GraphGives table gives) input (Ok output) → (graph : Graph) × IsGraphOf table input graph × gives graph output
+given_graph gives table input output (inl long) = absurd (no_output output _ long.1)
+given_graph gives table input output (inr (short, gave)) = said_graph gives table input output gave

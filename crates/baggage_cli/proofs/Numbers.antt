@@ -1,12 +1,17 @@
 -- What `parse` reads of a number without sign or leading zero.
-use Rattle.std.proofs.Common.{◌≡◌, ◌≢◌, inl, inr, ℕ, ◌^◌, ◌<◌, Bool, true, false, ◌==◌, ◌&&◌, not, List, [], ◌∷◌, length, get_or, nat_lt, if◌then◌else◌, Some, None, Result, Ok, Err, IfSome, refl, arith}
+use Rattle.std.proofs.Common.{◌≡◌, ◌≢◌, inl, inr, ℕ, ◌^◌, ◌<◌, Bool, true, false, true≢false, ◌==◌, ◌&&◌, not, List, [], ◌∷◌, length, get_or, nat_lt, if◌then◌else◌, Option, Some, None, Result, Ok, Err, IfSome, bytes_eq, refl, sym, ◌∙◌, ap, subst, arith}
+use Rattle.std.specs.Fmt.{decimal}
 use Rattle.std.specs.Result.{OkIff, result_ok}
 use Rattle.std.specs.Str.{all_ascii_digits}
 use Rattle.std.specs.Str.Parse.{digits_value, ParsesUnsigned}
 use Rattle.std.proofs.lemmas.Str.Parse.{parse_plain, numerals_by_value, tells_all_ascii_digits, digits_value-take-le}
 use Rattle.std.proofs.lemmas.Bool.{cases_Bool, cases_lt}
 use Rattle.std.proofs.lemmas.Bool.Decides.{nat_tests}
-use Rattle.baggage_cli.specs.Commands.{number_of}
+use Rattle.std.proofs.lemmas.Fmt.{decimal_is_IsNumeral}
+use Rattle.std.proofs.lemmas.Slice.Eq.{bytes_eq-Decides}
+use Rattle.graph_lines.specs.Taken.{IsNumberText}
+use Rattle.decimal_text.specs.Answers.{Answers}
+use Rattle.baggage_cli.specs.Commands.{number_of, step_of}
 
 -- The number that a text says, by what `parse` answers.
 by_parse : {E : Type 0} (word : List ℕ) (r : Result ℕ E) → OkIff r ((all_ascii_digits word ≡ true) × (0 < length word) × (digits_value 10 word < 2 ^ 32)) (digits_value 10 word)
@@ -46,3 +51,37 @@ positive (c ∷ cs) = by (nat_lt 0 (length (c ∷ cs)) && not (c == 48) && all_a
 
 pub positive_at : (word : List ℕ) (n : ℕ) → Some n ≡ number_of word → 0 < n
 positive_at word n e = rw (← e) at (positive word)
+
+-- ---- numbers of steps
+
+small_step : (n : ℕ) → n < 10 ^ 10 → n < 2 ^ 64
+small_step n few = omega (arith, few)
+
+-- The number whose digits a word is.
+step_value : (word : List ℕ) (n : ℕ) → IsNumberText word n → n ≡ digits_value 10 word
+step_value word n (few, is) = sym ((decimal_is_IsNumeral n (small_step n few)).1) ∙ ap (digits_value 10) (sym is)
+
+-- The test of a word tells whether it is the digits of a number.
+test_tells : (word : List ℕ) → (bytes_eq word (decimal (digits_value 10 word)) && nat_lt (digits_value 10 word) (10 ^ 10)) ≡ true → IsNumberText word (digits_value 10 word)
+test_tells word e = elim (cases_Bool (bytes_eq word (decimal (digits_value 10 word)))) [
+  | inl same ↦ (grind (arith, nat_tests), (bytes_eq-Decides word (decimal (digits_value 10 word))).0 same)
+  | inr other ↦ absurd (true≢false (sym e ∙ ap (λ b. b && nat_lt (digits_value 10 word) (10 ^ 10)) other))
+]
+
+test_passes : (word : List ℕ) → IsNumberText word (digits_value 10 word) → (bytes_eq word (decimal (digits_value 10 word)) && nat_lt (digits_value 10 word) (10 ^ 10)) ≡ true
+test_passes word (few, is) =
+    let same = (bytes_eq-Decides word (decimal (digits_value 10 word))).1 is in
+    grind (arith, nat_tests, same, few)
+
+step_by : (word : List ℕ) (b : Bool) (result : Option ℕ) → (b ≡ true → IsNumberText word (digits_value 10 word)) → (IsNumberText word (digits_value 10 word) → b ≡ true)
+    → Answers (IsNumberText word) result → result ≡ (if b then Some (digits_value 10 word) else None)
+step_by word true (Some n) tells passes says = ap Some (step_value word n says)
+step_by word true None tells passes none = absurd (none (digits_value 10 word) (tells refl))
+step_by word false (Some n) tells passes says = absurd (true≢false (sym (passes (subst (IsNumberText word) (step_value word n says) says))))
+step_by word false None tells passes none = refl
+
+-- The number that a word says, by what is read of it.
+pub step_read : (word : List ℕ) (result : Option ℕ) → Answers (IsNumberText word) result → result ≡ step_of word
+unfolding step_of
+step_read word result says =
+    step_by word (bytes_eq word (decimal (digits_value 10 word)) && nat_lt (digits_value 10 word) (10 ^ 10)) result (test_tells word) (test_passes word) says

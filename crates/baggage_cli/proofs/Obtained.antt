@@ -6,7 +6,7 @@ use Rattle.std.specs.Result.{IsErrAnd}
 use Rattle.bdl_load.specs.declared.faults.DefFault.{DefFault}
 use Rattle.bdl_load.specs.declared.faults.DefFault.TheVariants as defs
 use Rattle.bdl_load.specs.Faults.{Blames}
-use Rattle.bdl_load.specs.Loading.{Holding, AgreeButLast}
+use Rattle.bdl_load.specs.Loading.{Holding, OfLibrary, AgreeButLast}
 use Rattle.bag_model.specs.Shapes.{Nodes}
 use Rattle.bdl_check.specs.Definitions.{IsFirstFaultOf}
 use Rattle.baggage_cli.specs.declared.refusals.Notice.TheVariants.{LibraryFailed, Memory}
@@ -16,7 +16,7 @@ use Rattle.baggage_cli.specs.Commands.{Origin, compiled, printed}
 use Rattle.baggage_cli.specs.Outcomes.{Outcome, outcome_of, Then}
 use Rattle.baggage_cli.specs.Refusals.{refusal_of}
 use Rattle.baggage_cli.specs.Scene.{Change, NeverFell, HasFailed}
-use Rattle.baggage_cli.specs.Tables.{TableGives, AsksForTable, AsksFront, CameFrom, AsksSome, Obtains}
+use Rattle.baggage_cli.specs.Tables.{FileGives, TableGives, AsksForTable, AsksFront, CameFrom, AsksSome, Obtains, Brings}
 
 -- ---- definitions
 
@@ -76,3 +76,22 @@ obtains_memory origin library requests refusal (same, counts, inl wanting) = (sa
 obtains_memory origin library requests refusal (same, counts, inr (inl failed)) = (same, counts, inl (refl, failed.2))
 obtains_memory origin library requests refusal (same, counts, inr (inr (held, names, told, asks, (gave, all)))) =
     (same, counts, inl (refl, (held, names, told, asks, names_front origin held names all)))
+
+-- ---- a file
+
+no_text : (text : List ℕ) (refusal : Refusal) → ◌≡◌ {A = Outcome} (Ok text) (Err refusal) → ⊥
+no_text text refusal e = cc e
+
+-- A file that was taken came of the files of the library.
+pub brought_file : (file : List ℕ) (library : Change Holding) (requests : Change (List (List ℕ))) (text : List ℕ) → Brings file library requests (Ok text)
+    → OfLibrary library.before requests.before requests.after (λ held names. FileGives file (held file) (Ok text) × (names ≡ file ∷ []))
+brought_file file library requests text (same, counts, inl wanting) = absurd (no_text text (Plain Memory) wanting.0)
+brought_file file library requests text (same, counts, inr (inl failed)) = absurd (no_text text (Plain LibraryFailed) failed.0)
+brought_file file library requests text (same, counts, inr (inr came)) = came
+
+-- Where a file comes to a refusal, memory may be wanting for it.
+pub brings_memory : (file : List ℕ) (library : Change Holding) (requests : Change (List (List ℕ))) (refusal : Refusal)
+    → Brings file library requests (Err refusal) → Brings file library requests (Err (Plain Memory))
+brings_memory file library requests refusal (same, counts, inl wanting) = (same, counts, inl (refl, wanting.1))
+brings_memory file library requests refusal (same, counts, inr (inl failed)) = (same, counts, inl (refl, failed.2))
+brings_memory file library requests refusal (same, counts, inr (inr (held, names, told, asks, (gave, all)))) = (same, counts, inl (refl, (held, names, told, asks, all)))

@@ -1,5 +1,6 @@
 -- What the words of a command line ask for.
 use Rattle.std.specs.Prelude.{ℕ, ◌^◌, ◌==◌, ◌&&◌, ◌||◌, not, List, [], ◌∷◌, length, nat_lt, slice_index, if◌then◌else◌, codes, bytes_eq, Option, Some, None, option_and_then, ◌≤◌}
+use Rattle.std.specs.Fmt.{decimal}
 use Rattle.std.specs.Option.{option_map}
 use Rattle.std.specs.Int.NonZero.{non_zero_u32_get}
 use Rattle.std.specs.Str.{all_ascii_digits}
@@ -15,8 +16,8 @@ use Rattle.baggage_cli.specs.declared.commands.Product.{Product as CodeProduct}
 use Rattle.baggage_cli.specs.declared.commands.Product.TheVariants.{SlotLine, WholeText}
 use Rattle.baggage_cli.specs.declared.commands.Form.{Form as CodeForm}
 use Rattle.baggage_cli.specs.declared.commands.Form.TheVariants.{Text, Json}
-use Rattle.baggage_cli.specs.declared.commands.Purpose.{Purpose as CodePurpose}
-use Rattle.baggage_cli.specs.declared.commands.Purpose.TheVariants.{Decode, Run}
+use Rattle.baggage_cli.specs.declared.commands.Purpose as code_purposes
+use Rattle.baggage_cli.specs.declared.commands.Purpose.TheVariants.{Decode, Run, Explain}
 use Rattle.load_maker.specs.declared.TheConstants.{ROUNDS_MAX}
 
 -- Where a table comes from: it is that of the bag of this name, in the definition whose root is this file, or the one whose
@@ -35,10 +36,12 @@ pub data Form : Type 0 where
   as_lines : Form
   as_json : Form
 
--- What is made of an input under a table: the block of a context, or the report of a graph.
+-- What is made of an input under a table: the block of a context, the report of a graph, or the certificate for the value that the
+-- slot of this name path has at the step of this number of a graph.
 pub data Purpose : Type 0 where
   decoding : Purpose
   running : Form → Purpose
+  explaining : ℕ → List ℕ → Purpose
 
 -- What is made of an input by itself: a list is cut to a budget, contexts are merged, or the bytes of a context become lines of
 -- pieces of so many bytes, or are put together from such lines.
@@ -49,13 +52,15 @@ pub data Filter : Type 0 where
   collecting : Filter
 
 -- What is to be done: something is made of an input by itself, the load of so many rounds is run, something is made of a table, or
--- of an input under one, and a table is compared with the one that may take its place.
+-- of an input under one, a table is compared with the one that may take its place, and the certificate that a file holds is
+-- verified for the graph that an input says under a table.
 pub data Task : Type 0 where
   alone : Filter → Task
   load : ℕ → Task
   build : Product → Origin → Task
   under : Purpose → Origin → Task
   compare : Origin → Origin → Task
+  checking : Origin → List ℕ → Task
 
 -- A list is cut to a budget, contexts are merged, and a context goes into lines of text and comes back from them.
 abbrev pub trim : ℕ → Task
@@ -94,6 +99,13 @@ run_table file = under (running as_lines) (printed file)
 abbrev pub evolve : List ℕ → List ℕ → List ℕ → Task
 evolve old new bag = compare (compiled old bag) (compiled new bag)
 
+-- The value of a slot at a step is explained by a certificate, and a certificate is verified.
+abbrev pub why : List ℕ → List ℕ → ℕ → List ℕ → Task
+why file bag step path = under (explaining step path) (compiled file bag)
+
+abbrev pub verify : List ℕ → List ℕ → List ℕ → Task
+verify file bag certificate = checking (compiled file bag) certificate
+
 -- ---- the commands of the code
 
 abbrev pub filter_of : CodeFilter → Filter
@@ -114,9 +126,10 @@ abbrev pub form_of : CodeForm → Form
 form_of Text = as_lines
 form_of Json = as_json
 
-abbrev pub purpose_of : CodePurpose → Purpose
+abbrev pub purpose_of : code_purposes.Purpose → Purpose
 purpose_of Decode = decoding
 purpose_of (Run form) = running (form_of form)
+purpose_of (Explain step path) = explaining step path.now
 
 -- What the code's command asks for.
 abbrev pub task_of : code_commands.Command → Task
@@ -125,6 +138,7 @@ task_of (code.Load rounds) = load rounds
 task_of (code.Build product origin) = build (product_of product) (origin_of origin)
 task_of (code.Read purpose origin) = under (purpose_of purpose) (origin_of origin)
 task_of (code.Compare old new) = compare (origin_of old) (origin_of new)
+task_of (code.Verify origin certificate) = checking (origin_of origin) certificate.now
 
 -- ---- words
 
@@ -144,9 +158,21 @@ rounds_of word = option_and_then (λ rounds. if nat_lt ROUNDS_MAX rounds then No
 abbrev pub width_of : List ℕ → Option ℕ
 width_of word = option_and_then (λ width. if nat_lt width WIDTH_MIN || nat_lt WIDTH_MAX width then None else Some width) (number_of word)
 
+-- The number of a step, whose decimal digits the word is, at most ten of them.
+unfoldable pub step_of : List ℕ → Option ℕ
+step_of word =
+    if bytes_eq word (decimal (digits_value 10 word)) && nat_lt (digits_value 10 word) (10 ^ 10)
+    then Some (digits_value 10 word)
+    else None
+
 -- What the words ask for, by their first one and their number; `None` where they have no form.
 unfoldable pub command_of : List (List ℕ) → Option Task
-command_of (name ∷ old ∷ new ∷ bag ∷ []) = if bytes_eq name (codes "evolve") then Some (evolve old new bag) else None
+command_of (name ∷ file ∷ bag ∷ step ∷ path ∷ []) =
+    if bytes_eq name (codes "why") then option_map (λ number. why file bag number path) (step_of step) else None
+command_of (name ∷ file ∷ second ∷ third ∷ []) =
+    if bytes_eq name (codes "evolve") then Some (evolve file second third)
+    else if bytes_eq name (codes "verify") then Some (verify file second third)
+    else None
 command_of (name ∷ file ∷ bag ∷ []) =
     if bytes_eq name (codes "check") then Some (check file bag)
     else if bytes_eq name (codes "table") then Some (print file bag)
@@ -175,6 +201,7 @@ ReadsSource (load rounds) = ⊥
 ReadsSource (build product origin) = ⊥
 ReadsSource (under purpose origin) = Unit {0}
 ReadsSource (compare old new) = ⊥
+ReadsSource (checking origin certificate) = Unit {0}
 
 -- The task fetches files of the library.
 abbrev pub FetchesFiles : Task → Type 0
@@ -183,6 +210,7 @@ FetchesFiles (load rounds) = ⊥
 FetchesFiles (build product origin) = Unit {0}
 FetchesFiles (under purpose origin) = Unit {0}
 FetchesFiles (compare old new) = Unit {0}
+FetchesFiles (checking origin certificate) = Unit {0}
 
 -- A piece has at least so many bytes, and not too many.
 abbrev pub HasWidth : Filter → Type 0
@@ -198,3 +226,4 @@ IsInRange (load rounds) = (1 ≤ rounds) × (rounds ≤ ROUNDS_MAX)
 IsInRange (build product origin) = Unit {0}
 IsInRange (under purpose origin) = Unit {0}
 IsInRange (compare old new) = Unit {0}
+IsInRange (checking origin certificate) = Unit {0}

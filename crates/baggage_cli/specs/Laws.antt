@@ -13,6 +13,8 @@ use Rattle.report_json.specs.JsonReports.{HasOneJsonReport}
 use Rattle.graph_text.specs.GraphLines.{IsGraphOf, LinesAreDefinite}
 use Rattle.def_evolve.specs.Breaks.{IsFitting}
 use Rattle.def_evolve.specs.Safety.{IsSafe}
+use Rattle.write_proof.specs.Verdicts.{IsVerdictOf, TellsTruth, VerdictsAreOne}
+use Rattle.write_proof.specs.declared.verdicts.Verified.TheVariants.{Yes}
 use Rattle.baggage_cli.specs.declared.refusals.Refusal.{Refusal}
 use Rattle.baggage_cli.specs.Commands.{Origin}
 use Rattle.baggage_cli.specs.Tables.{TableGives}
@@ -35,10 +37,17 @@ pub record GraphLaws : Type 0 where
   pub one_json_report : HasOneJsonReport
   pub honest : ShownIsHonest
 
+-- A certificate has one verdict, and one that is accepted tells the truth.
+pub record CertificateLaws : Type 0 where
+  pub one_verdict : VerdictsAreOne
+  pub truth : (table : Nodes) (graph : Graph) (certificate : List ℕ) → IsRecorded table graph
+      → IsVerdictOf table graph certificate Yes → TellsTruth table graph certificate
+
 -- All of them. A list has one block, lines of pieces have one answer, and contexts are safe under a table that fits.
 pub record Laws : Type 0 where
   pub one_collected : CollectOneWay
   pub tables : TableLaws
   pub one_block : HasOneBlock
   pub graphs : GraphLaws
+  pub certificates : CertificateLaws
   pub fitting_is_safe : (old new : Nodes) → IsTable old → IsTable new → IsFitting old new → IsSafe old new

@@ -13,6 +13,8 @@ pub mod Building
 pub mod Comparing
 pub mod Decoding
 pub mod Running
+pub mod Explaining
+pub mod Checking
 pub mod Under
 pub mod Loading
 pub mod Delivery

@@ -18,7 +18,7 @@ use Rattle.text_carrier.specs.Views.{code_name as carry_code_name}
 use Rattle.text_carrier.specs.declared.faults.CarryFault.{CarryFault}
 use Rattle.text_carrier.specs.declared.faults.CarryFault.TheVariants as pieces
 use Rattle.baggage_cli.specs.declared.refusals.InputCode.{InputCode}
-use Rattle.baggage_cli.specs.declared.refusals.InputCode.TheVariants.{TooLong, NoLine, Form, TooManyLines, TooManyBytes, BudgetRange}
+use Rattle.baggage_cli.specs.declared.refusals.InputCode.TheVariants.{TooLong, NoLine, Form, TooManyLines, TooManyBytes, BudgetRange, StepRange, NoSuchPath, Partial}
 use Rattle.baggage_cli.specs.declared.refusals.InputFault.{InputFault}
 use Rattle.baggage_cli.specs.declared.refusals.InputFault.TheVariants.{Code, Hex, Graph, Piece, Missing, Bytes, IllTyped}
 use Rattle.baggage_cli.specs.declared.refusals.Notice.{Notice}
@@ -34,6 +34,9 @@ input_name Form = codes "Form"
 input_name TooManyLines = codes "TooManyLines"
 input_name TooManyBytes = codes "TooManyBytes"
 input_name BudgetRange = codes "BudgetRange"
+input_name StepRange = codes "StepRange"
+input_name NoSuchPath = codes "NoSuchPath"
+input_name Partial = codes "Partial"
 
 -- The status of what is wrong with an input or a line of it.
 abbrev pub input_status : InputFault → ℕ

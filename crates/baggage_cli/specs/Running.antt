@@ -52,6 +52,10 @@ graph_inputs table = record {
       (found : LineFault) × (graph_lines table).faults earlier text found × (fault ≡ input_fault found);
 }
 
+-- What lines come to, read as a graph of a table: an output for the graph that they say.
+abbrev pub GraphGives : Nodes → (Graph → List ℕ → Type 0) → List Line → Outcome → Type 0
+GraphGives table gives = ReadsLines (graph_inputs table) (λ every output. gives (graph_of every) output)
+
 -- What lines come to, run under a table: the report of the graph that they say.
 abbrev pub RunsLines : Form → Nodes → List Line → Outcome → Type 0
-RunsLines form table = ReadsLines (graph_inputs table) (λ every output. IsRunReport form table (graph_of every) output)
+RunsLines form table = GraphGives table (IsRunReport form table)

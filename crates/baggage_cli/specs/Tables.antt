@@ -14,19 +14,30 @@ use Rattle.baggage_cli.specs.declared.refusals.Notice.TheVariants.{LibraryFailed
 use Rattle.baggage_cli.specs.declared.refusals.Refusal.{Refusal}
 use Rattle.baggage_cli.specs.declared.refusals.Refusal.TheVariants.{Definition, Table, Plain}
 use Rattle.baggage_cli.specs.Commands.{Origin, compiled, printed}
+use Rattle.baggage_cli.specs.Outcomes.{Use}
 use Rattle.baggage_cli.specs.Refusals.{blamed}
 use Rattle.baggage_cli.specs.Scene.{Change, NeverFell, HasFailed}
+
+-- Why what a file of this name holds isn't taken: there is no such file, or it is too long.
+abbrev pub IsUntaken : List ℕ → Option (List ℕ) → Refusal → Type 0
+IsUntaken file None refusal = refusal ≡ Definition file 1 1 NoFile
+IsUntaken file (Some text) refusal = (MAX_SOURCE < length text) × (refusal ≡ Definition file 1 1 DefTooLong)
+
+-- What a file gives: all that it holds, or why that isn't taken.
+abbrev pub FileGives : List ℕ → Option (List ℕ) → Result (List ℕ) Refusal → Type 0
+FileGives file content (Ok text) = (content ≡ Some text) × (length text ≤ MAX_SOURCE)
+FileGives file content (Err refusal) = IsUntaken file content refusal
 
 -- What a file holds is the text of this table, and not too long.
 abbrev pub IsPrinted : Option (List ℕ) → Nodes → Type 0
 IsPrinted None table = ⊥
 IsPrinted (Some text) table = (length text ≤ MAX_SOURCE) × IsTable table × (text ≡ table_text table)
 
--- Why the file of this name, which holds this, has no table: there is none, it is too long, or a line of it is the first bad one.
+-- Why the file of this name, which holds this, has no table: it isn't taken, or a line of it is the first bad one.
 abbrev pub IsUnprinted : List ℕ → Option (List ℕ) → Refusal → Type 0
-IsUnprinted file None refusal = refusal ≡ Definition file 1 1 NoFile
+IsUnprinted file None refusal = IsUntaken file None refusal
 IsUnprinted file (Some text) refusal =
-    ((MAX_SOURCE < length text) × (refusal ≡ Definition file 1 1 DefTooLong))
+    IsUntaken file (Some text) refusal
     ⊎ ((length text ≤ MAX_SOURCE)
     × ((line : ℕ) × (code : TableCode) × IsTableFault text line code × (refusal ≡ Table file line code)))
 
@@ -63,14 +74,23 @@ abbrev pub AsksSome : Origin → Change Holding → Change (List (List ℕ)) →
 AsksSome origin library requests =
     OfLibrary library.before requests.before requests.after (λ held names. AsksFront held origin names)
 
--- A table is taken from there, and the files stay. Memory may be wanting, and a library that failed has its cause; then the
--- library was asked for the first names that the table needs. Otherwise it is what is given for the files of the library,
--- which was asked for all of them and for no others. A library that doesn't tell held some files, and was asked for some
+-- Something is taken from the files of a library, which stay. Memory may be wanting, and a library that failed has its cause; then the
+-- library was asked for the first names that are needed. Otherwise it is what is given for the files of the library,
+-- which was asked for all names that are needed and for no others. A library that doesn't tell held some files, and was asked for some
 -- names, for which it is so.
-abbrev pub Obtains : Origin → Change Holding → Change (List (List ℕ)) → Result Nodes Refusal → Type 0
-Obtains origin library requests outcome =
+abbrev pub TakesFrom : {A : Type 0} → (Holding → List (List ℕ) → Type 0) → (Holding → List (List ℕ) → Type 0) → (Holding → Result A Refusal → Type 0) → Use A
+TakesFrom Front All gives library requests outcome =
     (library.after ≡ library.before)
     × NeverFell library
-    × (((outcome ≡ Err (Plain Memory)) × AsksSome origin library requests)
-    ⊎ ((outcome ≡ Err (Plain LibraryFailed)) × HasFailed library × AsksSome origin library requests)
-    ⊎ CameFrom origin library requests (λ held. TableGives origin held outcome))
+    × (((outcome ≡ Err (Plain Memory)) × OfLibrary library.before requests.before requests.after Front)
+    ⊎ ((outcome ≡ Err (Plain LibraryFailed)) × HasFailed library × OfLibrary library.before requests.before requests.after Front)
+    ⊎ OfLibrary library.before requests.before requests.after (λ held names. gives held outcome × All held names))
+
+-- A table is taken from where it comes.
+abbrev pub Obtains : Origin → Use Nodes
+Obtains origin =
+    TakesFrom (λ held names. AsksFront held origin names) (λ held names. AsksForTable held origin names) (λ held outcome. TableGives origin held outcome)
+
+-- All that a file holds is taken. The library is asked for it alone.
+abbrev pub Brings : List ℕ → Use (List ℕ)
+Brings file = TakesFrom (λ held names. names ≡ file ∷ []) (λ held names. names ≡ file ∷ []) (λ held outcome. FileGives file (held file) outcome)

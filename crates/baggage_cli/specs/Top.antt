@@ -11,8 +11,9 @@ use Rattle.baggage_cli.specs.declared.refusals.Refusal.{Refusal}
 use Rattle.baggage_cli.specs.Building.{BuildsProduct}
 use Rattle.text_carrier.specs.Collected.{Collects}
 use Rattle.baggage_cli.specs.Carrying.{AreOfContext, byte_lines}
+use Rattle.baggage_cli.specs.Checking.{VerdictUnder, Checks}
 use Rattle.baggage_cli.specs.Comparing.{Compares}
-use Rattle.baggage_cli.specs.Commands.{Task, Origin, ReadsSource, FetchesFiles, alone, load, build, under, compare}
+use Rattle.baggage_cli.specs.Commands.{Task, Origin, ReadsSource, FetchesFiles, alone, load, build, under, compare, checking}
 use Rattle.baggage_cli.specs.Delivery.{Notifies, Delivers}
 use Rattle.baggage_cli.specs.Filters.{FilterGives}
 use Rattle.baggage_cli.specs.Loading.{LoadGives}
@@ -20,7 +21,7 @@ use Rattle.baggage_cli.specs.Outcomes.{Outcome}
 use Rattle.baggage_cli.specs.Reading.{Framed, Reads, cut_lines, context_lines}
 use Rattle.baggage_cli.specs.Refusals.{line_of, notice_line}
 use Rattle.baggage_cli.specs.Scene.{Change, Scene, IsSame, Takes, TakesPart}
-use Rattle.baggage_cli.specs.Tables.{TableGives, AsksForTable}
+use Rattle.baggage_cli.specs.Tables.{FileGives, TableGives, AsksForTable}
 use Rattle.baggage_cli.specs.Under.{InputUnder, ReadsUnder}
 
 -- The library tells which files it holds, where the task fetches any.
@@ -37,8 +38,12 @@ InputGives (under purpose origin) files = λ input outcome.
     (held : Holding) × (files ≡ Some held) × (table : Nodes) × TableGives origin held (Ok table)
     × InputUnder purpose table input outcome
 InputGives (compare old new) files = λ input outcome. ⊥
+InputGives (checking origin file) files = λ input outcome.
+    (held : Holding) × (files ≡ Some held) × (table : Nodes) × (certificate : List ℕ)
+    × TableGives origin held (Ok table) × FileGives file (held file) (Ok certificate) × VerdictUnder table certificate input outcome
 
--- What is first wrong with the files that a task takes its tables from. The second of two tables is wanted where the first is given.
+-- What is first wrong with the files that a task takes its tables from, or a certificate. The second of two things is wanted where the
+-- first is given.
 abbrev pub RefusesFiles : Task → Holding → Refusal → Type 0
 RefusesFiles (alone filter) held refusal = ⊥
 RefusesFiles (load rounds) held refusal = ⊥
@@ -47,6 +52,9 @@ RefusesFiles (under purpose origin) held refusal = TableGives origin held (Err r
 RefusesFiles (compare old new) held refusal =
     TableGives old held (Err refusal)
     ⊎ ((table : Nodes) × TableGives old held (Ok table) × TableGives new held (Err refusal))
+RefusesFiles (checking origin file) held refusal =
+    TableGives origin held (Err refusal)
+    ⊎ ((table : Nodes) × TableGives origin held (Ok table) × FileGives file (held file) (Err refusal))
 
 -- All names that are asked for two tables, in order: those of the first, and behind them those of the second where the first is given.
 abbrev pub AsksForBoth : Holding → Origin → Origin → List (List ℕ) → Type 0
@@ -55,6 +63,13 @@ AsksForBoth held old new names =
     ⊎ ((table : Nodes) × (front : List (List ℕ)) × (rest : List (List ℕ)) × TableGives old held (Ok table)
     × AsksForTable held old front × AsksForTable held new rest × (names ≡ front ++ rest))
 
+-- All names that are asked for a table and one more file, in order: those of the table, and behind them the file where the table is given.
+abbrev pub AsksForFile : Holding → Origin → List ℕ → List (List ℕ) → Type 0
+AsksForFile held origin file names =
+    ((refusal : Refusal) × TableGives origin held (Err refusal) × AsksForTable held origin names)
+    ⊎ ((table : Nodes) × (front : List (List ℕ)) × TableGives origin held (Ok table) × AsksForTable held origin front
+    × (names ≡ front ++ file ∷ []))
+
 -- All names that a task asks for, in order.
 abbrev pub AsksNames : Holding → Task → List (List ℕ) → Type 0
 AsksNames held (alone filter) names = names ≡ []
@@ -62,6 +77,7 @@ AsksNames held (load rounds) names = names ≡ []
 AsksNames held (build product origin) names = AsksForTable held origin names
 AsksNames held (under purpose origin) names = AsksForTable held origin names
 AsksNames held (compare old new) names = AsksForBoth held old new names
+AsksNames held (checking origin file) names = AsksForFile held origin file names
 
 -- What a task may come to, with the library and the source before and after it.
 abbrev pub Comes : Task → Change Holding → Change (List (List ℕ)) → Change (List ℕ) → Outcome → Type 0
@@ -73,6 +89,7 @@ Comes (build product origin) library requests source outcome =
     IsSame source × BuildsProduct product origin library requests outcome
 Comes (under purpose origin) library requests source outcome = ReadsUnder purpose origin library requests source outcome
 Comes (compare old new) library requests source outcome = IsSame source × Compares old new library requests outcome
+Comes (checking origin file) library requests source outcome = Checks origin file library requests source outcome
 
 -- The call answers: words that ask for nothing are refused and nothing else is touched; otherwise what the
 -- task comes to is delivered.

@@ -5,8 +5,9 @@ use Rattle.bdl_load.specs.Loading.{Holding}
 use Rattle.text_lines.specs.declared.TheConstants.{INPUT_MAX}
 use Rattle.text_lines.specs.Lines.{Line, lines_of}
 use Rattle.text_lines.specs.Readings.{AllSay}
-use Rattle.baggage_cli.specs.Commands.{Origin, Purpose, decoding, running}
+use Rattle.baggage_cli.specs.Commands.{Origin, Purpose, decoding, running, explaining}
 use Rattle.baggage_cli.specs.Decoding.{DecodesLines}
+use Rattle.baggage_cli.specs.Explaining.{ExplainsLines}
 use Rattle.baggage_cli.specs.Outcomes.{Outcome, Then}
 use Rattle.baggage_cli.specs.Reading.{Framed, Reads, Within, typed_lines}
 use Rattle.baggage_cli.specs.Running.{RunsLines}
@@ -17,6 +18,7 @@ use Rattle.baggage_cli.specs.Tables.{Obtains}
 abbrev pub LinesGive : Purpose → Nodes → List Line → Outcome → Type 0
 LinesGive decoding = DecodesLines
 LinesGive (running form) = RunsLines form
+LinesGive (explaining step path) = ExplainsLines step path
 
 -- What an input gives under a table.
 abbrev pub InputUnder : Purpose → Nodes → List ℕ → Outcome → Type 0

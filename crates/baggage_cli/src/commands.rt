@@ -38,11 +38,13 @@ pub enum Form {
 
 /// What is made of an input under a table.
 #[derive(Clone, Copy, Debug)]
-pub enum Purpose {
+pub enum Purpose<'a> {
     /// The block of the one line's context.
     Decode,
     /// The report of the graph that the lines say.
     Run(Form),
+    /// The certificate for the slot with this name path at the step of this number, in the graph that the lines say.
+    Explain { step: u64, path: &'a str },
 }
 
 /// What is made of an input by itself.
@@ -74,13 +76,18 @@ pub enum Command<'a> {
     },
     /// Make something of the input under a table.
     Read {
-        purpose: Purpose,
+        purpose: Purpose<'a>,
         origin: Origin<'a>,
     },
     /// Compare a table with the one that may take its place.
     Compare {
         old: Origin<'a>,
         new: Origin<'a>,
+    },
+    /// Verify the certificate that a file holds, for the graph that the input says under a table.
+    Verify {
+        origin: Origin<'a>,
+        certificate: &'a str,
     },
 }
 
@@ -94,6 +101,13 @@ fn read_number(word: &str) -> Option<u32>
         return None;
     }
     word.parse::<u32>().ok()
+}
+
+/// The number of a step: 1 to 10 decimal digits, without a leading zero unless it is `0`.
+fn read_step(word: &str) -> Option<u64>
+    ensures { result ≡ spec.step_of word.now }
+{
+    graph_lines::read_number(word)
 }
 
 /// The command that one word asks for.
@@ -194,22 +208,59 @@ fn definition_command<'a>(name: &str, file: &'a str, bag: &'a str) -> Option<Com
     }
 }
 
-/// The command that a word asks for with two files and a bag.
+/// The command that a word asks for with a file and two words behind it: another file and a bag of both, or a bag and another file.
 #[tactic(auto, unfolding(crate::specs::Commands::command_of))]
-fn comparing_command<'a>(
+fn two_file_command<'a>(
     name: &str,
-    old: &'a str,
-    new: &'a str,
-    bag: &'a str,
+    file: &'a str,
+    second: &'a str,
+    third: &'a str,
 ) -> Option<Command<'a>>
-    ensures task { option_map spec.task_of result ≡ spec.command_of (name.now ∷ old.now ∷ new.now ∷ bag.now ∷ []) }
+    ensures task { option_map spec.task_of result ≡ spec.command_of (name.now ∷ file.now ∷ second.now ∷ third.now ∷ []) }
     ensures range { IfSome result (λ command. spec.IsInRange (spec.task_of command)) }
 {
     match name {
         "evolve" => Some(Command::Compare {
-            old: Origin::Bag { file: old, bag },
-            new: Origin::Bag { file: new, bag },
+            old: Origin::Bag { file, bag: third },
+            new: Origin::Bag {
+                file: second,
+                bag: third,
+            },
         }),
+        "verify" => Some(Command::Verify {
+            origin: Origin::Bag { file, bag: second },
+            certificate: third,
+        }),
+        _ => None,
+    }
+}
+
+/// The command that asks for the certificate of a slot at the step whose number this word says.
+fn why_command<'a>(file: &'a str, bag: &'a str, word: &str, path: &'a str) -> Option<Command<'a>>
+    ensures task { option_map spec.task_of result ≡ option_map (λ step. spec.why file.now bag.now step path.now) (spec.step_of word.now) }
+    ensures range { IfSome result (λ command. spec.IsInRange (spec.task_of command)) }
+{
+    let step = read_step(word)?;
+    Some(Command::Read {
+        purpose: Purpose::Explain { step, path },
+        origin: Origin::Bag { file, bag },
+    })
+}
+
+/// The command that a word asks for with a file, a bag, a step and a path.
+#[tactic(auto, unfolding(crate::specs::Commands::command_of))]
+fn place_command<'a>(
+    name: &str,
+    file: &'a str,
+    bag: &'a str,
+    word: &str,
+    path: &'a str,
+) -> Option<Command<'a>>
+    ensures task { option_map spec.task_of result ≡ spec.command_of (name.now ∷ file.now ∷ bag.now ∷ word.now ∷ path.now ∷ []) }
+    ensures range { IfSome result (λ command. spec.IsInRange (spec.task_of command)) }
+{
+    match name {
+        "why" => why_command(file, bag, word, path),
         _ => None,
     }
 }
@@ -226,8 +277,23 @@ pub fn command_of(words: &Words) -> Option<Command<'_>>
         2 => numbered_command(name, words.get(1)?.as_str()),
         3 => definition_command(name, words.get(1)?.as_str(), words.get(2)?.as_str()),
         4 => {
-            let (old, new, bag) = (words.get(1)?, words.get(2)?, words.get(3)?);
-            comparing_command(name, old.as_str(), new.as_str(), bag.as_str())
+            let (file, second, third) = (words.get(1)?, words.get(2)?, words.get(3)?);
+            two_file_command(name, file.as_str(), second.as_str(), third.as_str())
+        }
+        5 => {
+            let (file, bag, step, path) = (
+                words.get(1)?,
+                words.get(2)?,
+                words.get(3)?,
+                words.get(4)?,
+            );
+            place_command(
+                name,
+                file.as_str(),
+                bag.as_str(),
+                step.as_str(),
+                path.as_str(),
+            )
         }
         _ => None,
     }

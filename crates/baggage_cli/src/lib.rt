@@ -3,11 +3,13 @@
 
 mod building;
 mod carrying;
+mod checking;
 mod collecting;
 mod commands;
 mod comparing;
 mod decoding;
 mod delivery;
+mod explaining;
 mod filters;
 mod loading;
 mod merging;

@@ -28,6 +28,12 @@ pub enum InputCode {
     TooManyBytes,
     /// The budget is below the least that a list in the form of the line's bytes can be cut to.
     BudgetRange,
+    /// The graph that the lines say has no step of the number that was asked for.
+    StepRange,
+    /// The table has no slot of the name path that was asked for.
+    NoSuchPath,
+    /// Something may have been cut off from the slot that was asked for, on the way to the step.
+    Partial,
 }
 
 /// What is wrong with an input or a line of it.
@@ -103,6 +109,9 @@ impl fmt::Display for InputCode {
             InputCode::TooManyLines => write!(f, "TooManyLines"),
             InputCode::TooManyBytes => write!(f, "TooManyBytes"),
             InputCode::BudgetRange => write!(f, "BudgetRange"),
+            InputCode::StepRange => write!(f, "StepRange"),
+            InputCode::NoSuchPath => write!(f, "NoSuchPath"),
+            InputCode::Partial => write!(f, "Partial"),
         }
     }
 }

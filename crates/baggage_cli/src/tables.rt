@@ -1,9 +1,11 @@
 //! Tables, taken from where they come.
 
-ghost use Rattle.std.specs.Prelude.{◌≡◌, ◌⊎◌, ℕ, Some, Err, IfOk};
+ghost use Rattle.std.specs.Prelude.{◌≡◌, ◌⊎◌, ◌≤◌, ℕ, Some, Err, length, IfOk};
+ghost use Rattle.bdl_lexer.specs.declared.TheConstants.{MAX_SOURCE};
 ghost use Rattle.baggage_cli.specs.Commands.{origin_of, printed};
 ghost use Rattle.baggage_cli.specs.Scene.{change};
-ghost use Rattle.baggage_cli.specs.Tables.{PrintedGives, Obtains};
+ghost use Rattle.baggage_cli.specs.Outcomes.{outcome_of, OrMemory};
+ghost use Rattle.baggage_cli.specs.Tables.{Brings, FileGives, PrintedGives, Obtains};
 
 use crate::commands::Origin;
 use crate::refusals::{Notice, Refusal};
@@ -27,13 +29,34 @@ fn refused_file(alloc: Global, file: &str, code: DefCode) -> Result<Refusal, Mem
     })
 }
 
-/// The table whose text the file of this name holds.
-fn table_in(alloc: Global, file: &str, text: &[u8]) -> Result<Table, Refusal>
-    ensures { (result ≡ Err (Refusal.Plain Notice.Memory)) ⊎ PrintedGives file.now (Some text.now) result }
+/// All that was fetched of a file, unless that is too long.
+fn whole_file(alloc: Global, file: &str, text: Vec<u8>) -> Result<Vec<u8>, Refusal>
+    ensures { OrMemory (FileGives file.now (Some text.items)) (outcome_of result) }
 {
     if MAX_SOURCE < text.len() {
         return Err(refused_file(alloc, file, DefCode::DefTooLong)?);
     }
+    Ok(text)
+}
+
+/// All that the file of this name holds. A file that isn't there or is too long is refused as a definition of that name is.
+pub fn bring<L: Library>(alloc: Global, library: &mut L, file: &str) -> Result<Vec<u8>, Refusal>
+    ensures { Brings file.now (change L.files L.faults library.old library.new)
+        (change L.asked L.faults library.old library.new) (outcome_of result) }
+{
+    match library.fetch(alloc, file) {
+        Ok(Some(text)) => whole_file(alloc, file, text),
+        Ok(None) => Err(refused_file(alloc, file, DefCode::NoFile)?),
+        Err(LibraryFault::Failed) => Err(Refusal::Plain(Notice::LibraryFailed)),
+        Err(LibraryFault::Memory) => Err(Refusal::Plain(Notice::Memory)),
+    }
+}
+
+/// The table whose text the file of this name holds.
+fn table_in(alloc: Global, file: &str, text: &[u8]) -> Result<Table, Refusal>
+    requires { length text.now ≤ MAX_SOURCE }
+    ensures { (result ≡ Err (Refusal.Plain Notice.Memory)) ⊎ PrintedGives file.now (Some text.now) result }
+{
     match read_table(alloc, text) {
         Ok(table) => {
             // The proof learns here that it is a table.
@@ -53,12 +76,8 @@ fn read_printed<L: Library>(alloc: Global, library: &mut L, file: &str) -> Resul
     ensures { Obtains (printed file.now) (change L.files L.faults library.old library.new)
         (change L.asked L.faults library.old library.new) result }
 {
-    match library.fetch(alloc, file) {
-        Ok(Some(text)) => table_in(alloc, file, text.as_slice()),
-        Ok(None) => Err(refused_file(alloc, file, DefCode::NoFile)?),
-        Err(LibraryFault::Failed) => Err(Refusal::Plain(Notice::LibraryFailed)),
-        Err(LibraryFault::Memory) => Err(Refusal::Plain(Notice::Memory)),
-    }
+    let text = bring(alloc, library, file)?;
+    table_in(alloc, file, text.as_slice())
 }
 
 /// The table that comes from there, with files of the library.

@@ -23,7 +23,9 @@ ghost use Rattle.graph_text.specs.GraphLines.{IsGraphOf};
 ghost use Rattle.text_carrier.specs.Carried.{carried_text};
 ghost use Rattle.text_lines.specs.declared.TheConstants.{INPUT_MAX};
 ghost use Rattle.text_lines.specs.HexLines.{hex_line};
-ghost use Rattle.baggage_cli.specs.Commands.{Task, task_of, command_of, trim, merge, carry, collect, load, check, print, decode, run, run_json, run_table, evolve, ReadsSource, FetchesFiles, IsInRange};
+ghost use Rattle.write_proof.specs.Verdicts.{IsVerdictOf};
+ghost use Rattle.write_proof.specs.declared.verdicts.Verified.{Verified};
+ghost use Rattle.baggage_cli.specs.Commands.{Task, task_of, command_of, trim, merge, carry, collect, load, check, print, decode, run, run_json, run_table, evolve, why, verify, ReadsSource, FetchesFiles, IsInRange};
 ghost use Rattle.baggage_cli.specs.Refusals.{input_status, input_line, notice_line, line_of};
 ghost use Rattle.baggage_cli.specs.Scene.{change, scene_of, HasNoFault};
 ghost use Rattle.baggage_cli.specs.Laws.{Laws};
@@ -32,7 +34,9 @@ ghost use Rattle.baggage_cli.specs.Trimming.{trimmed_line};
 ghost use Rattle.baggage_cli.specs.Merging.{lists_of, widest};
 ghost use Rattle.baggage_cli.specs.Reading.{Framed};
 ghost use Rattle.baggage_cli.specs.Building.{ok_line};
+ghost use Rattle.baggage_cli.specs.Checking.{TruthWhereYes, verified_line};
 ghost use Rattle.baggage_cli.specs.Comparing.{verdict_line, SafeWhereItFits};
+ghost use Rattle.baggage_cli.specs.Explaining.{IsExplainedAt};
 ghost use Rattle.baggage_cli.specs.Loading.{load_heading};
 ghost use Rattle.baggage_cli.specs.Running.{ShowsTruth};
 ghost use Rattle.baggage_cli.specs.Tables.{IsPrinted};
@@ -40,6 +44,7 @@ ghost use Rattle.baggage_cli.specs.Top.{TellsFiles, TellsAll, InputGives, Comes,
 ghost use Rattle.baggage_cli.specs.Under.{SaysTyped};
 
 use crate::building::build;
+use crate::checking::check_certificate;
 use crate::commands::{Command, command_of};
 use crate::comparing::compare;
 use crate::delivery::{deliver, notify, refuse};
@@ -59,10 +64,11 @@ use std::thread::Threads;
 use table_text::laws::{printed_texts_have_no_fault, texts_have_one_fault, texts_have_one_table};
 use text_carrier::laws::lines_collect_one_way;
 use trace_model::laws::{graphs_have_one_run, shown_values_are_honest};
+use write_proof::{certificates_have_one_verdict, certificates_that_verify_tell_the_truth};
 
 /// Tells that a definition has one table or one first fault, a list one block, and a text one graph or one first fault;
-/// that a graph has one run and one report, which shows the truth; and that contexts are safe under a table that fits. It does
-/// nothing.
+/// that a graph has one run and one report, which shows the truth; that contexts are safe under a table that fits; and that a
+/// certificate has one verdict, and tells the truth where that is yes. It does nothing.
 fn tell_laws()
     ensures { Laws }
 {
@@ -82,6 +88,8 @@ fn tell_laws()
     lists_have_one_json_report();
     shown_values_are_honest();
     fitting_tables_are_safe();
+    certificates_have_one_verdict();
+    certificates_that_verify_tell_the_truth();
 }
 
 /// Carries a command out: its output, or why there is none.
@@ -106,6 +114,10 @@ fn carry_out<R: Threads + Sync, G: Gate, L: Library, S: Source>(
             read_under(rt, alloc, gate, library, source, purpose, origin)
         }
         Command::Compare { old, new } => compare(alloc, library, old, new),
+        Command::Verify {
+            origin,
+            certificate,
+        } => check_certificate(alloc, library, source, origin, certificate),
     }
 }
 
@@ -152,10 +164,12 @@ fn answer_words<R: Threads + Sync, G: Gate, L: Library, S: Source, K: Sink, E: S
 /// | `runjson FILE BAG` | the same | these as JSON |
 /// | `runtable FILE` | the text of a table, then a graph | as `run` |
 /// | `evolve OLD NEW BAG` | the definitions of both files, OLD's first | `ok C`, with the number of slots that are in both of the bag's tables, or `breaks PATH CODE`, with the first field that NEW's table breaks |
+/// | `why FILE BAG STEP PATH` | the definition, then a graph | the certificate for the slot `PATH` at step `STEP` |
+/// | `verify FILE BAG CERT` | the definition, then the file of a certificate, then a graph | `yes`, or `no LINE CODE` with the line of the certificate that breaks a rule |
 /// | `load N` | nothing | the report of a graph of `42 N + 1` steps, which is made here |
 ///
 /// Files come from the library, and lines from the source; lines that are empty or begin with `#` are skipped. Where a
-/// definition or a table is refused, the source isn't read. A rank of steps and a join of many contexts may be cut into
+/// definition, a table or the file of a certificate is refused, the source isn't read. A rank of steps and a join of many contexts may be cut into
 /// pieces that run in threads; each piece passes the gate.
 pub fn baggage_top<R: Threads + Sync, G: Gate, L: Library, S: Source, K: Sink, E: Sink>(
     rt: &R,
@@ -243,6 +257,20 @@ pub fn baggage_top<R: Threads + Sync, G: Gate, L: Library, S: Source, K: Sink, E
         × IsTableOf held old bag before × IsTableOf held new bag after
         × IsVerdict before after verdict × SafeWhereItFits before after verdict
         × Appends (K.written out.old) (K.written out.new) (verdict_line verdict) }
+    ensures why { (file bag path : List ℕ) (step : ℕ) (held : Holding) (input : List ℕ)
+        → command_of words.now ≡ Some (why file bag step path) → L.files library.old ≡ Some held
+        → S.left source.old ≡ Some input → result ≡ 0
+        → (table : Nodes) × (graph : Graph) × (lists : Lists) × (slot : ℕ) × (text : List ℕ)
+        × IsTableOf held file bag table × IsGraphOf table input graph
+        × IsExplainedAt table graph lists step path slot text
+        × Appends (K.written out.old) (K.written out.new) text }
+    ensures verify { (file bag name : List ℕ) (held : Holding) (input : List ℕ)
+        → command_of words.now ≡ Some (verify file bag name) → L.files library.old ≡ Some held
+        → S.left source.old ≡ Some input → result ≡ 0
+        → (table : Nodes) × (graph : Graph) × (certificate : List ℕ) × (verdict : Verified)
+        × IsTableOf held file bag table × (held name ≡ Some certificate) × IsGraphOf table input graph
+        × IsVerdictOf table graph certificate verdict × TruthWhereYes table graph certificate verdict
+        × Appends (K.written out.old) (K.written out.new) (verified_line verdict) }
     ensures fetched { (task : Task) (held : Holding)
         → command_of words.now ≡ Some task → FetchesFiles task
         → L.files library.old ≡ Some held → result ≤ 3

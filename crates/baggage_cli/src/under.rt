@@ -9,6 +9,7 @@ ghost use Rattle.baggage_cli.specs.Under.{LinesGive, InputUnder, ReadsUnder};
 
 use crate::commands::{Origin, Purpose};
 use crate::decoding::decoded_block;
+use crate::explaining::explained;
 use crate::reading::read_input;
 use crate::refusals::Refusal;
 use crate::running::run_report;
@@ -23,15 +24,16 @@ fn made_of<R: Threads + Sync, G: Gate>(
     rt: &R,
     alloc: Global,
     gate: &G,
-    purpose: Purpose,
+    purpose: Purpose<'_>,
     table: &Table,
     input: &[u8],
 ) -> Result<Vec<u8>, Refusal>
-    ensures { OrMemory (LinesGive (purpose_of purpose) table.now (lines_of input.now)) (outcome_of result) }
+    ensures { OrMemory (LinesGive (purpose_of purpose.entry) table.now (lines_of input.now)) (outcome_of result) }
 {
     match purpose {
         Purpose::Decode => decoded_block(alloc, table, input),
         Purpose::Run(form) => run_report(rt, alloc, gate, form, table, input),
+        Purpose::Explain { step, path } => explained(rt, alloc, gate, table, input, step, path),
     }
 }
 
@@ -41,10 +43,10 @@ fn read_source<R: Threads + Sync, G: Gate, S: Source>(
     alloc: Global,
     gate: &G,
     source: &mut S,
-    purpose: Purpose,
+    purpose: Purpose<'_>,
     table: &Table,
 ) -> Result<Vec<u8>, Refusal>
-    ensures { Reads (InputUnder (purpose_of purpose) table.now)
+    ensures { Reads (InputUnder (purpose_of purpose.entry) table.now)
         (change S.left S.faults source.old source.new) (outcome_of result) }
 {
     let input = read_input(alloc, source)?;
@@ -59,10 +61,10 @@ pub fn read_under<R: Threads + Sync, G: Gate, L: Library, S: Source>(
     gate: &G,
     library: &mut L,
     source: &mut S,
-    purpose: Purpose,
+    purpose: Purpose<'_>,
     origin: Origin<'_>,
 ) -> Result<Vec<u8>, Refusal>
-    ensures { ReadsUnder (purpose_of purpose) (origin_of origin.entry)
+    ensures { ReadsUnder (purpose_of purpose.entry) (origin_of origin.entry)
         (change L.files L.faults library.old library.new)
         (change L.asked L.faults library.old library.new)
         (change S.left S.faults source.old source.new) (outcome_of result) }

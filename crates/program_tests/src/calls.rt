@@ -76,6 +76,19 @@ impl Objects {
     }
 }
 
+/// The names that a library was asked for, in order.
+pub fn asked(alloc: Global, library: &MemoryLibrary) -> Result<String, Fail> {
+    let names = library.asked().ok_or("names")?;
+    let mut text = String::new(alloc);
+    for at in 0..names.len() {
+        if 0 < at {
+            text.push(' ')?;
+        }
+        text.push_str(names.get(at).ok_or("a name")?.as_str())?;
+    }
+    Ok(text)
+}
+
 /// Calls the program with the words of this line, which are cut at blanks. Its steps pass the gate.
 pub fn call<R: Threads + Sync, G: Gate>(
     rt: &R,

@@ -1,7 +1,7 @@
 //! A definition in place of an older one.
 
-use crate::calls::{Objects, call};
-use outside::{MemoryLibrary, Open};
+use crate::calls::{Objects, asked, call};
+use outside::Open;
 use std::alloc::Global;
 use std::process::Abort;
 use std::test::Fail;
@@ -137,19 +137,6 @@ static ROWS: [Row; 28] = [
     ),
     ("evolve q q M", 1, "definition q 1:1 NoSuchBag\n", "q"),
 ];
-
-/// The names that a library was asked for, in order.
-fn asked(alloc: Global, library: &MemoryLibrary) -> Result<String, Fail> {
-    let names = library.asked().ok_or("names")?;
-    let mut text = String::new(alloc);
-    for at in 0..names.len() {
-        if 0 < at {
-            text.push(' ')?;
-        }
-        text.push_str(names.get(at).ok_or("a name")?.as_str())?;
-    }
-    Ok(text)
-}
 
 /// Calls the program, and compares what it answers, writes and fetches. The input stays.
 fn evolves<R: Abort + Threads + Sync>(rt: &R, alloc: Global, row: &Row) -> Result<(), Fail> {

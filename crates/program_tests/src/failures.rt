@@ -20,6 +20,8 @@ m2.bdl|import "in.bdl"; bag M { bool a = 0; bool b = 0; }
 
 n.bdl|bag Req { uint32 id = 0; }
 
+c|why 0 id
+
 t|baggage table 1
 0 0 id scalar fixed32
 "#;
@@ -50,7 +52,7 @@ enum Object {
 /// a call of its own.
 type Taking = (&'static str, &'static str, Object, u64);
 
-static TAKINGS: [Taking; 26] = [
+static TAKINGS: [Taking; 33] = [
     ("trim 10", LINE, Object::Source, 32),
     ("trim 9", LINE, Object::Source, 32),
     ("merge", LINE, Object::Source, 32),
@@ -77,6 +79,13 @@ static TAKINGS: [Taking; 26] = [
     ("evolve q.bdl m2.bdl Req", "-\n", Object::Library, 3),
     ("evolve q.bdl z.bdl Req", "-\n", Object::Library, 2),
     ("evolve z.bdl q.bdl Req", "-\n", Object::Library, 1),
+    ("why q.bdl Req 0 id", GRAPH, Object::Source, 32),
+    ("why q.bdl Req 1 ids", GRAPH, Object::Source, 32),
+    ("why q.bdl Req 0 id", GRAPH, Object::Library, 1),
+    ("verify q.bdl Req c", GRAPH, Object::Source, 32),
+    ("verify q.bdl Req c", GRAPH, Object::Library, 2),
+    ("verify q.bdl Req z", GRAPH, Object::Library, 2),
+    ("verify m.bdl M c", GRAPH, Object::Library, 2),
 ];
 
 /// A call whose writes fail, each in a call of its own: its words, its input, the sink that fails, and a front of what the

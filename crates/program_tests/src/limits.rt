@@ -274,7 +274,7 @@ fn long_inputs(rt: HostRuntime) -> Result<(), Fail> {
 /// A call with long files: its words, the files, an input, the status, and what it writes.
 type FileRow = (&'static str, Long, &'static str, u8, Long);
 
-static LONG_FILES: [FileRow; 11] = [
+static LONG_FILES: [FileRow; 13] = [
     // The deepest bags.
     (
         "check chain.bdl B0",
@@ -378,6 +378,30 @@ static LONG_FILES: [FileRow; 11] = [
         "",
         1,
         ("definition t 1:1 DefTooLong\n", "", 0, ""),
+    ),
+    (
+        "verify q.bdl Req c",
+        (
+            "q.bdl|bag Req { fixed32 id = 0; }\n\nc|",
+            "x",
+            1_048_576,
+            "",
+        ),
+        "service a all\nstart 0 a\n",
+        0,
+        ("no 1 Form\n", "", 0, ""),
+    ),
+    (
+        "verify q.bdl Req c",
+        (
+            "q.bdl|bag Req { fixed32 id = 0; }\n\nc|",
+            "x",
+            1_048_577,
+            "",
+        ),
+        "service a all\nstart 0 a\n",
+        1,
+        ("definition c 1:1 DefTooLong\n", "", 0, ""),
     ),
     // The most slots.
     (

@@ -4,7 +4,7 @@ use crate::calls::{FILES, Objects, call};
 use outside::Open;
 use std::test::Fail;
 
-static REFUSED: [&str; 54] = [
+static REFUSED: [&str; 68] = [
     "",
     "trim",
     "trim 0",
@@ -59,6 +59,20 @@ static REFUSED: [&str; 54] = [
     "evolve q.bdl q.bdl Req Req",
     "Evolve q.bdl q.bdl Req",
     "check q.bdl q.bdl Req",
+    "why",
+    "why q.bdl Req 5",
+    "why q.bdl Req id",
+    "why q.bdl Req 05 id",
+    "why q.bdl Req 00 id",
+    "why q.bdl Req +5 id",
+    "why q.bdl Req five id",
+    "why q.bdl Req 10000000000 id",
+    "why q.bdl Req 5 id id",
+    "Why q.bdl Req 5 id",
+    "verify q.bdl Req",
+    "verify q.bdl Req c c",
+    "Verify q.bdl Req c",
+    "run q.bdl Req 5 id",
 ];
 
 /// The library and the source stay as they were.

@@ -1,48 +1,28 @@
-use Rattle.std.proofs.Common.{◌≡◌, ◌⊎◌, inr, ℕ, List, Option, Some, None, Err, refl, ap, subst, ◌∙◌}
-use Rattle.std.specs.Global.{Vec}
-use Rattle.std.specs.Option.{option_map}
-use Rattle.outside.specs.Told.{Fetches}
+use Rattle.std.proofs.Common.{◌≡◌, ◌⊎◌, ℕ, ◌≤◌, List, Some, Err, length, sym, subst}
+use Rattle.bdl_lexer.specs.declared.TheConstants.{MAX_SOURCE}
 use Rattle.baggage_cli.specs.declared.refusals.Notice.TheVariants.{Memory}
 use Rattle.baggage_cli.specs.declared.refusals.Refusal.TheVariants.{Plain}
 use Rattle.baggage_cli.specs.Scene.{change}
 use Rattle.baggage_cli.specs.Tables.{PrintedGives}
-use Rattle.baggage_cli.proofs.Printed.{memory_answered, obtains_printed, obtains_nothing, obtains_failed}
+use Rattle.baggage_cli.proofs.Printed.{unbrought_table, obtains_printed, brought_short}
 use Rattle.baggage_cli.proofs.tables.read_printed.Goals as goal
 
-pub returns-in-Ok-Some : goal.returns-in-Ok-Some
-returns-in-Ok-Some g c =
-    let library = change g.L.Library.files g.L.Library.faults c.args.library.now c.fetch.new.self in
-    let requests = change g.L.Library.asked g.L.Library.faults c.args.library.now c.fetch.new.self in
-    let file = c.args.file.now in
-    let some = c.in-Ok-Some in
-    let fetches = subst (λ (found : Option (Vec ℕ)). Fetches library.before file (option_map (λ text. text.items) found)) some.field-0-is some.ensures.held in
-    let gives = subst (λ (text : List ℕ). (c.table_in.result ≡ Err (Plain Memory)) ⊎ PrintedGives file (Some text) c.table_in.result) c.as_slice.ensures.value c.table_in.ensures in
-    obtains_printed file library requests c.fetch.ensures.same c.fetch.ensures.cause.later c.fetch.ensures.asked (Some some.text.items) c.table_in.result fetches gives
+pub returns-in_err-text : goal.returns-in_err-text
+returns-in_err-text g c =
+    let library = change g.L.Library.files g.L.Library.faults c.args.library.now c.bring.new.library in
+    let requests = change g.L.Library.asked g.L.Library.faults c.args.library.now c.bring.new.library in
+    unbrought_table c.args.file.now library requests c.in_err-text.field-0.0 c.from_residual.result c.from_residual.ensures.1 c.in_err-text.ensures
 
-pub returns-in_err-refused_file-in-Ok-None : goal.returns-in_err-refused_file-in-Ok-None
-returns-in_err-refused_file-in-Ok-None g c =
-    let library = change g.L.Library.files g.L.Library.faults c.args.library.now c.fetch.new.self in
-    let requests = change g.L.Library.asked g.L.Library.faults c.args.library.now c.fetch.new.self in
-    obtains_nothing c.args.file.now library requests c.fetch.ensures.same c.fetch.ensures.cause.later c.fetch.ensures.asked c.from_residual.result
-    (memory_answered c.from_residual.result c.from_residual.ensures.1)
+pub table_in-requires : goal.table_in-requires
+table_in-requires g c =
+    let library = change g.L.Library.files g.L.Library.faults c.args.library.now c.bring.new.library in
+    let requests = change g.L.Library.asked g.L.Library.faults c.args.library.now c.bring.new.library in
+    let short = brought_short c.args.file.now library requests c.in_ok-text.text.items c.in_ok-text.ensures in
+    subst (λ (text : List ℕ). length text ≤ MAX_SOURCE) (sym c.as_slice.ensures.value) short
 
-pub returns-in_ok-refused_file-in-Ok-None : goal.returns-in_ok-refused_file-in-Ok-None
-returns-in_ok-refused_file-in-Ok-None g c =
-    let library = change g.L.Library.files g.L.Library.faults c.args.library.now c.fetch.new.self in
-    let requests = change g.L.Library.asked g.L.Library.faults c.args.library.now c.fetch.new.self in
-    let file = c.args.file.now in
-    let none = c.in-Ok-None in
-    let fetches = subst (λ (found : Option (Vec ℕ)). Fetches library.before file (option_map (λ text. text.items) found)) none.field-0-is none.ensures.held in
-    obtains_printed file library requests c.fetch.ensures.same c.fetch.ensures.cause.later c.fetch.ensures.asked None (Err c.in_ok-refused_file-in-Ok-None.field-0) fetches (inr c.in_ok-refused_file-in-Ok-None.ensures)
-
-pub returns-in-Err-Failed : goal.returns-in-Err-Failed
-returns-in-Err-Failed g c =
-    let library = change g.L.Library.files g.L.Library.faults c.args.library.now c.fetch.new.self in
-    let requests = change g.L.Library.asked g.L.Library.faults c.args.library.now c.fetch.new.self in
-    obtains_failed c.args.file.now library requests c.fetch.ensures.same c.fetch.ensures.cause.later c.fetch.ensures.asked _ refl (c.fetch.ensures.cause.failed (c.in-Err-Failed.is ∙ ap Err c.in-Err-Failed.field-0-is))
-
-pub returns-in-Err-Memory : goal.returns-in-Err-Memory
-returns-in-Err-Memory g c =
-    let library = change g.L.Library.files g.L.Library.faults c.args.library.now c.fetch.new.self in
-    let requests = change g.L.Library.asked g.L.Library.faults c.args.library.now c.fetch.new.self in
-    obtains_nothing c.args.file.now library requests c.fetch.ensures.same c.fetch.ensures.cause.later c.fetch.ensures.asked _ refl
+pub returns : goal.returns
+returns g c =
+    let library = change g.L.Library.files g.L.Library.faults c.args.library.now c.bring.new.library in
+    let requests = change g.L.Library.asked g.L.Library.faults c.args.library.now c.bring.new.library in
+    let gives = subst (λ (text : List ℕ). (c.table_in.result ≡ Err (Plain Memory)) ⊎ PrintedGives c.args.file.now (Some text) c.table_in.result) c.as_slice.ensures.value c.table_in.ensures in
+    obtains_printed c.args.file.now library requests c.in_ok-text.text.items c.table_in.result c.in_ok-text.ensures gives

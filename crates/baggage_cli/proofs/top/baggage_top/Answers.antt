@@ -1,7 +1,7 @@
 use Rattle.baggage_cli.specs.Commands.{compiled, printed, slot_line, whole_text, as_lines}
 use Rattle.baggage_cli.specs.Scene.{change, scene_of}
 use Rattle.baggage_cli.proofs.Calls.{files_kept, counts_kept, steady_call, unread_call, quiet_call, sink_call, words_call, unasked_call, untouched_call}
-use Rattle.baggage_cli.proofs.Facts.{trim_appends, merge_appends, carry_appends, collect_appends, decode_appends, run_appends, run_json_appends, load_appends, build_appends, evolve_appends, has_asked, ended_source, left_told, fault_told, refusal_told, input_told, bad_told, failed_told, memory_told, completes, part_told, unfetched_files, unread_input}
+use Rattle.baggage_cli.proofs.Facts.{trim_appends, merge_appends, carry_appends, collect_appends, decode_appends, run_appends, run_json_appends, load_appends, build_appends, evolve_appends, why_appends, verify_appends, has_asked, ended_source, left_told, fault_told, refusal_told, input_told, bad_told, failed_told, memory_told, completes, part_told, unfetched_files, unread_input}
 use Rattle.baggage_cli.proofs.top.baggage_top.Goals as goal
 
 pub returns-clause-trim : goal.returns-clause-trim
@@ -95,6 +95,26 @@ returns-clause-evolve g c =
     (change g.K.Sink.written g.K.Sink.faults c.args.out.now c.answer_words.new.out)
     (change g.E.Sink.written g.E.Sink.faults c.args.errs.now c.answer_words.new.errs) in
     λ old new bag held is told done. evolve_appends c.tell_laws.ensures old new bag held scene c.answer_words.result (rw is at c.answer_words.ensures) told done
+
+pub returns-clause-why : goal.returns-clause-why
+returns-clause-why g c =
+    let scene = scene_of
+    (change g.L.Library.files g.L.Library.faults c.args.library.now c.answer_words.new.library)
+    (change g.L.Library.asked g.L.Library.faults c.args.library.now c.answer_words.new.library)
+    (change g.S.Source.left g.S.Source.faults c.args.source.now c.answer_words.new.source)
+    (change g.K.Sink.written g.K.Sink.faults c.args.out.now c.answer_words.new.out)
+    (change g.E.Sink.written g.E.Sink.faults c.args.errs.now c.answer_words.new.errs) in
+    λ file bag path step held input is told content done. why_appends file bag path step held input scene c.answer_words.result (rw is at c.answer_words.ensures) told content done
+
+pub returns-clause-verify : goal.returns-clause-verify
+returns-clause-verify g c =
+    let scene = scene_of
+    (change g.L.Library.files g.L.Library.faults c.args.library.now c.answer_words.new.library)
+    (change g.L.Library.asked g.L.Library.faults c.args.library.now c.answer_words.new.library)
+    (change g.S.Source.left g.S.Source.faults c.args.source.now c.answer_words.new.source)
+    (change g.K.Sink.written g.K.Sink.faults c.args.out.now c.answer_words.new.out)
+    (change g.E.Sink.written g.E.Sink.faults c.args.errs.now c.answer_words.new.errs) in
+    λ file bag name held input is told content done. verify_appends c.tell_laws.ensures file bag name held input scene c.answer_words.result (rw is at c.answer_words.ensures) told content done
 
 pub returns-clause-fetched : goal.returns-clause-fetched
 returns-clause-fetched g c =

@@ -25,3 +25,10 @@ returns-in-Compare g c =
     let requests = change g.L.Library.asked g.L.Library.faults c.args.library.now c.compare.new.library in
     let source = change g.S.Source.left g.S.Source.faults c.args.source.now c.args.source.now in
     subst (λ command. Comes (task_of command) library requests source (outcome_of c.compare.result)) (sym c.in-Compare.is) ((refl, refl), c.compare.ensures)
+
+pub returns-in-Verify : goal.returns-in-Verify
+returns-in-Verify g c =
+    let library = change g.L.Library.files g.L.Library.faults c.args.library.now c.check_certificate.new.library in
+    let requests = change g.L.Library.asked g.L.Library.faults c.args.library.now c.check_certificate.new.library in
+    let source = change g.S.Source.left g.S.Source.faults c.args.source.now c.check_certificate.new.source in
+    subst (λ command. Comes (task_of command) library requests source (outcome_of c.check_certificate.result)) (sym c.in-Verify.is) c.check_certificate.ensures

@@ -10,6 +10,10 @@ returns c = record {
   one_collected = c.lines_collect_one_way.ensures;
   one_block = c.lists_have_one_block.ensures;
   fitting_is_safe = c.fitting_tables_are_safe.ensures;
+  certificates = record {
+    one_verdict = c.certificates_have_one_verdict.ensures;
+    truth = c.certificates_that_verify_tell_the_truth.ensures;
+  };
   graphs = record {
     definite = c.lines_are_definite.ensures;
     recorded = c.texts_give_recorded_graphs.ensures;
