@@ -197,10 +197,13 @@ pub shape_at : (es : Entries) (others : List Value) (key : ScalarValue) (v : Val
 shape_at es others key v one at found all = by one.0 one.1
   where
     by : (shape : Shape) → ((w : Value) → IsIn w (Map es ∷ others) → IsOfShape shape w) → AreOfOneShape (v ∷ found)
-    by (Shape.Map kind inner) of = (inner, λ w i. elim i [
-      | inl e ↦ subst (IsOfShape inner) (sym e) (EachPair-at (λ k x. IsScalarOf kind k × IsOfShape inner x) (pairs es) key v (of (Map es) (inl refl)).1 at).1
-      | inr k ↦ (let t = (all w).0 k in EachPair-at (λ k x. IsScalarOf kind k × IsOfShape inner x) (pairs (t.2).0) key w (subst (IsOfShape (Shape.Map kind inner)) (t.2).1 (of t.0 (inr t.1))).1 (t.2).2).1
-    ])
+    by (Shape.Map kind inner) of = (
+      inner,
+      λ w i. elim i [
+        | inl e ↦ subst (IsOfShape inner) (sym e) (EachPair-at (λ k x. IsScalarOf kind k × IsOfShape inner x) (pairs es) key v (of (Map es) (inl refl)).1 at).1
+        | inr k ↦ (let t = (all w).0 k in EachPair-at (λ k x. IsScalarOf kind k × IsOfShape inner x) (pairs (t.2).0) key w (subst (IsOfShape (Shape.Map kind inner)) (t.2).1 (of t.0 (inr t.1))).1 (t.2).2).1
+      ],
+    )
     by shape of = absurd (of (Map es) (inl refl))
 
 field_shape : (nodes : Nodes) (vs : Values) → AreOfShapes nodes vs → (at : ℕ) (v : Value) → slice_get (values_list vs) at ≡ Some v → (shape : Shape) × ((ws : Values) (w : Value) → AreOfShapes nodes ws → slice_get (values_list ws) at ≡ Some w → IsOfShape shape w)
@@ -226,11 +229,13 @@ shape_in vs others at v one there found all = by one.0 one.1
   where
     by : (shape : Shape) → ((w : Value) → IsIn w (Bag vs ∷ others) → IsOfShape shape w) → AreOfOneShape (v ∷ found)
     by (Shape.Bag nodes) of =
-        let f = field_shape nodes vs (of (Bag vs) (inl refl)) at v there in
-        (f.0, λ w i. elim i [
-          | inl e ↦ subst (IsOfShape f.0) (sym e) (f.1 vs v (of (Bag vs) (inl refl)) there)
-          | inr k ↦ (let t = (all w).0 k in f.1 (t.2).0 w (subst (IsOfShape (Shape.Bag nodes)) (t.2).1 (of t.0 (inr t.1))) (t.2).2)
-        ])
+        let f = field_shape nodes vs (of (Bag vs) (inl refl)) at v there in (
+          f.0,
+          λ w i. elim i [
+            | inl e ↦ subst (IsOfShape f.0) (sym e) (f.1 vs v (of (Bag vs) (inl refl)) there)
+            | inr k ↦ (let t = (all w).0 k in f.1 (t.2).0 w (subst (IsOfShape (Shape.Bag nodes)) (t.2).1 (of t.0 (inr t.1))) (t.2).2)
+          ],
+        )
     by shape of = absurd (of (Bag vs) (inl refl))
 
 -- ---- what is said

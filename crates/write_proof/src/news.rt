@@ -19,8 +19,8 @@ use outside::Memory;
 use recorded_graph::Graph;
 use std::alloc::Global;
 
-/// The steps that are used so far, and what they contribute, in parts: the join of 2^k steps for each bit k of how many
-/// steps there are. So what a step says is copied as often as there are bits.
+/// The steps that are used so far, and what they contribute, in parts: a join of 2^k steps for each bit k that is set in
+/// the number of steps. So there are no more parts than bits, and what a step says is copied at most once for each.
 #[derive(Drop)]
 pub(crate) struct Used {
     pub steps: Vec<usize>,
@@ -54,7 +54,7 @@ fn join_last(parts: &mut Vec<Val>) -> Result<(), Memory>
     Ok(())
 }
 
-/// Adds the part of a step alone, which makes them `steps` used ones, and joins those of as many steps.
+/// Adds the part of one more step, the last of so many, and joins parts of equally many steps, as a binary counter carries.
 fn add_part(parts: &mut Vec<Val>, part: Val, steps: usize) -> Result<(), Memory>
     requires { AreOfOneShape (plain part ∷ map plain parts.old.items) }
     ensures { OnOk result (HaveOneJoin (plain part ∷ map plain parts.old.items) (map plain parts.new.items)) }
@@ -66,10 +66,12 @@ fn add_part(parts: &mut Vec<Val>, part: Val, steps: usize) -> Result<(), Memory>
     Ok(())
 }
 
-/// Uses a step that contributes this value, where the value says more than the parts.
+/// Uses a step that contributes this value, where the parts don't say all that the value says.
 fn use_value(alloc: Global, step: usize, value: &Val, used: &mut Used) -> Result<(), Memory>
     requires { AreOfOneShape (plain value.now ∷ map plain used.old.parts.items) }
-    ensures { OnOk result (UsesValue step (plain value.now) used.old.steps.items (map plain used.old.parts.items) used.new.steps.items (map plain used.new.parts.items)) }
+    ensures { OnOk result (UsesValue step (plain value.now)
+        used.old.steps.items (map plain used.old.parts.items)
+        used.new.steps.items (map plain used.new.parts.items)) }
 {
     if is_said_by_parts(alloc, value, &used.parts)? {
         return Ok(());

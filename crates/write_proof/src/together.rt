@@ -1,4 +1,4 @@
-//! Whether some values say together what another says, which nobody has to join for it.
+//! Whether some values say together what another says. It is found thing by thing, with no join of them.
 
 ghost use Rattle.std.specs.Prelude.{◌≡◌, ◌⊎◌, ◌↔◌, ◌∷◌, List, Some, IsTrue, IfOk};
 ghost use Rattle.std.specs.Option.{option_map};
@@ -20,7 +20,8 @@ use std::alloc::Global;
 
 /// Whether the value is a set that has the element.
 fn has_element(value: &Val, element: &Scalar) -> bool
-    requires { (kind : ScalarKind) (vs : List ScalarValue) → plain value.now ≡ model.Value.Set kind vs → IsScalarOf kind (value_of element.now) }
+    requires { (kind : ScalarKind) (vs : List ScalarValue)
+        → plain value.now ≡ model.Value.Set kind vs → IsScalarOf kind (value_of element.now) }
     ensures { IsTrue result ↔ Says (plain value.now) (says.HasElement (value_of element.now)) }
 {
     match value {
@@ -31,7 +32,8 @@ fn has_element(value: &Val, element: &Scalar) -> bool
 
 /// Whether some set has the element.
 fn is_element_said(element: &Scalar, others: &[&Val]) -> bool
-    requires { (kind : ScalarKind) (vs : List ScalarValue) → IsIn (model.Value.Set kind vs) (values_of others.now) → IsScalarOf kind (value_of element.now) }
+    requires { (kind : ScalarKind) (vs : List ScalarValue)
+        → IsIn (model.Value.Set kind vs) (values_of others.now) → IsScalarOf kind (value_of element.now) }
     ensures { IsTrue result ↔ IsSaid (says.HasElement (value_of element.now)) (values_of others.now) }
 {
     for other in others {
@@ -72,7 +74,8 @@ fn is_count_said(writer: &[u8], count: u64, others: &[&Val]) -> bool
 /// Whether one of the others alone says what a value says.
 fn is_below_one(value: &Val, others: &[&Val]) -> bool
     requires { AreOfOneShape (plain value.now ∷ values_of others.now) }
-    ensures { IsTrue result ↔ ((v : model.Value) × IsIn v (values_of others.now) × IsValueBelow (plain value.now) v) }
+    ensures { IsTrue result
+        ↔ ((v : model.Value) × IsIn v (values_of others.now) × IsValueBelow (plain value.now) v) }
 {
     for other in others {
         if is_below(value, *other) {
@@ -112,7 +115,8 @@ fn are_counts_said(counts: &Counts, others: &[&Val]) -> bool
 /// The value at a key of a map.
 fn value_at<'a>(map: &'a Val, key: &Scalar) -> Option<&'a Val>
     requires { Proper (plain map.now) }
-    ensures { (v : model.Value) → (option_map (λ found. plain found.now) result ≡ Some v) ↔ IsAtKey (value_of key.now) (plain map.now) v }
+    ensures { (v : model.Value) → (option_map (λ found. plain found.now) result ≡ Some v)
+        ↔ IsAtKey (value_of key.now) (plain map.now) v }
 {
     match map {
         Val::Map(entries) => entries.find(key),
@@ -121,11 +125,7 @@ fn value_at<'a>(map: &'a Val, key: &Scalar) -> Option<&'a Val>
 }
 
 /// The values at a key, of the maps that have it.
-fn values_at<'a>(
-    alloc: Global,
-    maps: &[&'a Val],
-    key: &Scalar,
-) -> Result<Vec<&'a Val>, Memory>
+fn values_at<'a>(alloc: Global, maps: &[&'a Val], key: &Scalar) -> Result<Vec<&'a Val>, Memory>
     requires { (v : model.Value) → IsIn v (values_of maps.now) → Proper v }
     ensures { IfOk result (λ found. (v : model.Value) → IsIn v (values_of found.items)
         ↔ ((map : model.Value) × IsIn map (values_of maps.now) × IsAtKey (value_of key.now) map v)) }
@@ -141,7 +141,8 @@ fn values_at<'a>(
 
 /// The value of the field at a place of a bag.
 fn field_of<'a>(bag: &'a Val, at: usize) -> Option<&'a Val>
-    ensures { (v : model.Value) → (option_map (λ found. plain found.now) result ≡ Some v) ↔ IsOfField at (plain bag.now) v }
+    ensures { (v : model.Value) → (option_map (λ found. plain found.now) result ≡ Some v)
+        ↔ IsOfField at (plain bag.now) v }
 {
     match bag {
         Val::Bag(values) => values.get(at),
@@ -166,12 +167,13 @@ fn fields_of<'a>(alloc: Global, bags: &[&'a Val], at: usize) -> Result<Vec<&'a V
 /// Whether a value says nothing, or one of the others alone says what it says.
 fn is_said_alone(value: &Val, others: &[&Val]) -> bool
     requires { AreOfOneShape (plain value.now ∷ values_of others.now) }
-    ensures { IsTrue result ↔ (IsBottom (plain value.now) ⊎ ((v : model.Value) × IsIn v (values_of others.now) × IsValueBelow (plain value.now) v)) }
+    ensures { IsTrue result ↔ (IsBottom (plain value.now)
+        ⊎ ((v : model.Value) × IsIn v (values_of others.now) × IsValueBelow (plain value.now) v)) }
 {
     value.is_bottom() || is_below_one(value, others)
 }
 
-/// Whether all that a value says others say together. A taint or a scalar that says something is said by one of them alone.
+/// Whether all that a value says others say together. What a taint or a scalar says, one of them says alone.
 #[cycle(together)]
 pub(crate) fn is_said_by(alloc: Global, value: &Val, others: &[&Val]) -> Result<bool, Memory>
     requires { AreOfOneShape (plain value.now ∷ values_of others.now) }
@@ -190,7 +192,8 @@ pub(crate) fn is_said_by(alloc: Global, value: &Val, others: &[&Val]) -> Result<
 #[cycle(together)]
 fn are_entries_said(alloc: Global, entries: &Entries, others: &[&Val]) -> Result<bool, Memory>
     requires { AreOfOneShape (model.Value.Map entries.now ∷ values_of others.now) }
-    ensures { IfOk result (λ said. IsTrue said ↔ IsSaidBy (model.Value.Map entries.now) (values_of others.now)) }
+    ensures { IfOk result (λ said. IsTrue said
+        ↔ IsSaidBy (model.Value.Map entries.now) (values_of others.now)) }
 {
     for entry in entries.as_slice() {
         let found = values_at(alloc, others, &entry.key)?;
@@ -205,7 +208,8 @@ fn are_entries_said(alloc: Global, entries: &Entries, others: &[&Val]) -> Result
 #[cycle(together)]
 fn are_values_said(alloc: Global, values: &Vals, others: &[&Val]) -> Result<bool, Memory>
     requires { AreOfOneShape (model.Value.Bag values.now ∷ values_of others.now) }
-    ensures { IfOk result (λ said. IsTrue said ↔ IsSaidBy (model.Value.Bag values.now) (values_of others.now)) }
+    ensures { IfOk result (λ said. IsTrue said
+        ↔ IsSaidBy (model.Value.Bag values.now) (values_of others.now)) }
 {
     for at in 0..values.len() {
         let found = fields_of(alloc, others, at)?;

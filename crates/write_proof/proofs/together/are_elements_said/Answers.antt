@@ -18,8 +18,8 @@ is_element_said-requires c =
     let there : slice_get items c.loop-at.at ≡ Some v = sym c.get.ensures ∙ ap option_copied c.unwrap.ensures in
     let own = in_values v items (place_in v items c.loop-at.at there) in
     λ other vs i.
-        subst (λ k. IsScalarOf k (value_of v)) (sym (set_fits kind (map value_of items) (values_of c.args.others.now) c.requires other vs i))
-        (All-at (IsScalarOf kind) (map value_of items) (value_of v) (set_proper kind (map value_of items) (values_of c.args.others.now) c.requires).1 own)
+    subst (λ k. IsScalarOf k (value_of v)) (sym (set_fits kind (map value_of items) (values_of c.args.others.now) c.requires other vs i))
+    (All-at (IsScalarOf kind) (map value_of items) (value_of v) (set_proper kind (map value_of items) (values_of c.args.others.now) c.requires).1 own)
 
 pub returns-then-not-is_element_said : goal.returns-then-not-is_element_said
 returns-then-not-is_element_said c =
