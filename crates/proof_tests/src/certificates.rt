@@ -5,7 +5,7 @@ use std::test::Fail;
 use write_proof::runs_have_certificates_that_verify;
 
 /// Graphs, each with a step, the path of a slot and the certificate for it.
-static CERTIFICATES: [(&str, usize, &str, &str); 9] = [
+static CERTIFICATES: [(&str, usize, &str, &str); 11] = [
     (
         "service a all\nservice n none\nstart 0 a\nset 1 0 id 7\nset 2 0 id 9\nforward 3 1 n\nforward 4 2 n\njoin 5 3 4\n",
         5,
@@ -54,6 +54,19 @@ static CERTIFICATES: [(&str, usize, &str, &str); 9] = [
         2,
         "id",
         "why 2 id\nvalue 7\nreach 0 1\nreach 1 2\nuses 1\n",
+    ),
+    // what step 4 says, earlier steps say together and none of them alone
+    (
+        "service a all\nstart 0 a\nset 1 0 tags \"a\"\nset 2 1 tags \"b\"\nset 3 2 tags \"c\"\nrecv 4 a 02f801020061020063\njoin 5 3 4\n",
+        5,
+        "tags",
+        "why 5 tags\nvalue {\"a\",\"b\",\"c\"}\nreach 0 1\nreach 1 2\nreach 2 3\nreach 3 5\nreach 4 5\nuses 1\nuses 2\nuses 3\n",
+    ),
+    (
+        "service a all\nstart 0 a\nset 1 0 load \"x\":3\nset 2 1 load \"y\":5\nset 3 2 load \"z\":1\nrecv 4 a 02f80402f17802000302f17a020001\njoin 5 3 4\n",
+        5,
+        "load",
+        "why 5 load\nvalue {\"x\":3,\"y\":5,\"z\":1}\nreach 0 1\nreach 1 2\nreach 2 3\nreach 3 5\nreach 4 5\nuses 1\nuses 2\nuses 3\n",
     ),
 ];
 

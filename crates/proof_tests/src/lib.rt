@@ -6,4 +6,6 @@ mod certificates;
 #[cfg(test)]
 mod fixtures;
 #[cfg(test)]
+mod growing;
+#[cfg(test)]
 mod verdicts;

@@ -16,6 +16,9 @@ use Rattle.bag_model.specs.Scalars.{ScalarKind, ScalarValue, IsScalarOf}
 use Rattle.bag_model.specs.Shapes.{Shape, Nodes, no_node, node}
 use Rattle.bag_model.specs.Values.{Value, Entries, Values, Set, Counter, Map, Bag, no_entry, entry, no_value, value, pairs, values_list, size_of, size_of_entries, size_of_values, IsOfShape, AreOfShapes}
 use Rattle.bag_model.proofs.OfShape.{Alike-shape, Proper-shape}
+use Rattle.scalar_types.specs.KindLaws.{scalar_of, scalar_back}
+use Rattle.scalar_types.specs.ScalarViews.{value_of}
+use Rattle.scalar_types.specs.declared.scalars.Scalar.{Scalar}
 use Rattle.write_proof.specs.Belows.{AreOfOne, AreOfOneBag}
 use Rattle.write_proof.proofs.BelowKinds.{set_below, set_within, counter_below, counter_within, map_below, map_within}
 
@@ -86,6 +89,17 @@ pub read_place : {A B : Type 0} (f : A → B) (items : List A) (x : A) (list : L
 read_place f [] x list k is l e = absurd (omega (arith, l))
 read_place f (y ∷ items) x list zero is l e = ap (λ l. slice_get l 0) (sym is) ∙ ap (λ z. Some (f z)) (sym e)
 read_place f (y ∷ items) x list (suc k) is l e = ap (λ l. slice_get l (suc k)) (sym is) ∙ read_place f items x (map f items) k refl (omega (arith, l)) e
+
+-- A scalar is in a list exactly where its value is among the list's values.
+pub in_values : (v : Scalar) (vs : List Scalar) → IsIn v vs → IsIn (value_of v) (map value_of vs)
+in_values v vs i = let s = in_place v vs i in place_in (value_of v) (map value_of vs) s.0 (map_place value_of vs s.0 v s.1)
+
+pub from_values : (v : Scalar) (vs : List Scalar) → IsIn (value_of v) (map value_of vs) → IsIn v vs
+from_values v vs i =
+    let s = in_place (value_of v) (map value_of vs) i in
+    let t = place_map value_of vs s.0 (value_of v) s.1 in
+    let same : t.0 ≡ v = sym (scalar_back t.0) ∙ ap scalar_of t.2 ∙ scalar_back v in
+    place_in v vs s.0 (subst (λ x. slice_get vs s.0 ≡ Some x) same t.1)
 
 -- ---- sizes
 

@@ -58,7 +58,7 @@ counter_one : (a b : List (List ℕ × ℕ)) → Counter a ≡ Counter b → a �
 counter_one a b e = cc e
 
 -- a writer's name has a code
-abbrev name_code : Coded (List ℕ)
+abbrev pub name_code : Coded (List ℕ)
 name_code = coded_list coded_ℕ
 
 module _ (es ds : List (List ℕ × ℕ)) (p : Proper (Counter es)) (q : Proper (Counter ds)) where

@@ -1,5 +1,5 @@
 -- What one value says no more than another.
-use Rattle.std.proofs.Common.{◌≡◌, ◌⊎◌, inl, inr, List, [], ◌∷◌, refl, subst}
+use Rattle.std.proofs.Common.{◌≡◌, ◌⊎◌, inl, inr, List, [], ◌∷◌, refl, sym, subst}
 use Rattle.std.specs.Cmp.{IsTotalOrder}
 use Rattle.std.specs.FinMap.{IsAntisymmetric}
 use Rattle.std.specs.Coded.{Coded}
@@ -61,3 +61,25 @@ module _ {K X : Type 0} (coded : Coded K) (R : K → K → Ordering) (total : Is
       by : ((w : X) × IsAt k w ds) ⊎ (IsIn k (keys_of ds) → ⊥) → AddsNothing k v
       by (inl b) = (b.0, b.1, IsAt-unique R total ds k (f v b.0) b.0 q (subst (IsAt k (f v b.0)) same (u.both k v b.0 at b.1)) b.1)
       by (inr none) = absurd (none (IsIn-keys_of ds k v (subst (IsAt k v) same (u.first k v at none))))
+
+module _ {K X : Type 0} (coded : Coded K) (R : K → K → Ordering) (total : IsTotalOrder R) (f : X → X → X) (es ds union : List (K × X)) (r : Rises R (keys_of union)) (u : IsUnion f es ds union) where
+  -- What a union has at a key is made of two values there, or stands in one of both lists.
+  pub union_at : (k : K) (x : X) → IsAt k x union → ((v w : X) × IsAt k v es × IsAt k w ds × (x ≡ f v w)) ⊎ (IsAt k x es ⊎ IsAt k x ds)
+  union_at k x at = by (at_or_not coded k es) (at_or_not coded k ds)
+    where
+      one : (y : X) → IsAt k y union → x ≡ y
+      one y also = IsAt-unique R total union k x y r at also
+
+      by : ((v : X) × IsAt k v es) ⊎ (IsIn k (keys_of es) → ⊥) → ((w : X) × IsAt k w ds) ⊎ (IsIn k (keys_of ds) → ⊥) → ((v w : X) × IsAt k v es × IsAt k w ds × (x ≡ f v w)) ⊎ (IsAt k x es ⊎ IsAt k x ds)
+      by (inl a) (inl b) = inl (a.0, b.0, a.1, b.1, one (f a.0 b.0) (u.both k a.0 b.0 a.1 b.1))
+      by (inl a) (inr none) = inr (inl (subst (λ y. IsAt k y es) (sym (one a.0 (u.first k a.0 a.1 none))) a.1))
+      by (inr out) (inl b) = inr (inr (subst (λ y. IsAt k y ds) (sym (one b.0 (u.second k b.0 out b.1))) b.1))
+      by (inr out) (inr none) = absurd (elim ((u.keys k).0 (IsIn-keys_of union k x at)) [ inl i ↦ out i | inr i ↦ none i ])
+
+module _ {K X : Type 0} (coded : Coded K) (f : X → X → X) (es ds union : List (K × X)) (u : IsUnion f es ds union) where
+  -- A value of the first list stands in the union, or what is made of it and of one of the second.
+  pub first_at : (k : K) (v : X) → IsAt k v es → IsAt k v union ⊎ ((w : X) × IsAt k w ds × IsAt k (f v w) union)
+  first_at k v at = elim (at_or_not coded k ds) [ inl b ↦ inr (b.0, b.1, u.both k v b.0 at b.1) | inr none ↦ inl (u.first k v at none) ]
+
+  pub second_at : (k : K) (w : X) → IsAt k w ds → IsAt k w union ⊎ ((v : X) × IsAt k v es × IsAt k (f v w) union)
+  second_at k w at = elim (at_or_not coded k es) [ inl a ↦ inr (a.0, a.1, u.both k a.0 w a.1 at) | inr out ↦ inl (u.second k w out at) ]

@@ -18,6 +18,7 @@ mod Complete
 mod Reached
 mod Newly
 mod Written
+mod TogetherCalls
 mod MarkCalls
 mod FirstCalls
 mod ContributionCalls

@@ -1,28 +1,32 @@
 -- The steps that say something new, one after another.
-use Rattle.std.proofs.Common.{◌≡◌, ◌⊎◌, inl, inr, ℕ, zero, suc, ◌+◌, ◌<◌, ◌≤◌, List, [], ◌∷◌, ◌++◌, length, take, get_or, refl, sym, subst, arith}
+use Rattle.std.proofs.Common.{◌≡◌, ◌⊎◌, inl, inr, ◌↔◌, ℕ, zero, suc, ◌+◌, ◌<◌, ◌≤◌, List, [], ◌∷◌, ◌++◌, length, take, get_or, refl, sym, subst, arith}
 use Rattle.std.specs.Ordering.{nat_cmp}
 use Rattle.std.specs.declared.cmp.Ordering.TheVariants.{Less}
 use Rattle.std.proofs.lemmas.Bool.Decides.{nat_tests}
 use Rattle.std.proofs.lemmas.List.{take_more}
 use Rattle.context_model.specs.KeyedMerge.{keys_of}
 use Rattle.context_model.specs.Orders.{IsIn, Rises}
-use Rattle.bag_model.specs.Joins.{IsValueBelow}
+use Rattle.bag_model.specs.Joins.{join, IsValueBelow}
 use Rattle.bag_model.specs.Shapes.{Nodes}
-use Rattle.bag_model.specs.Slots.{SlotAt}
+use Rattle.bag_model.specs.Slots.{SlotAt, slots_of}
 use Rattle.bag_model.specs.SlotValues.{HasSlot}
-use Rattle.bag_model.specs.Values.{Value, bottom}
+use Rattle.bag_model.specs.Values.{Value, bottom, IsOfShape}
 use Rattle.bag_model.proofs.BelowLaws.{below-bottom}
 use Rattle.trace_model.specs.Contributions.{IsLeastAbove}
 use Rattle.trace_model.specs.Graphs.{Graph, IsRecorded}
 use Rattle.trace_model.specs.Truth.{Reaches, itself}
 use Rattle.trace_model.proofs.ContributedLaws.{least_alike, least_one}
 use Rattle.write_proof.specs.Certificates.{AreReachPairs, IsOfEarlier, IsNews, AreUsed}
+use Rattle.write_proof.specs.Contributions.{ContributesAt}
 use Rattle.write_proof.specs.LineRules.{BringsValues, IsWrite}
-use Rattle.write_proof.specs.News.{UsesValue, IsNext, AreNewsOf}
+use Rattle.write_proof.specs.News.{UsesValue, ArePartsAt, IsNext, AreNewsOf}
+use Rattle.write_proof.specs.Together.{IsSaidBy, AreOfOneShape, IsJoinOfAll}
 use Rattle.write_proof.specs.WholeRules.{StepContributes, IsOfSteps}
+use Rattle.write_proof.proofs.BelowCalls.{place_some}
 use Rattle.write_proof.proofs.Complete.{brings_or_bottom}
-use Rattle.write_proof.proofs.Contributing.{step_one, join_single, join_both}
+use Rattle.write_proof.proofs.Contributing.{step_one, step_shape, join_none, join_single, join_both}
 use Rattle.write_proof.proofs.Decided.{same_number}
+use Rattle.write_proof.proofs.SaidTogether.{said_together, none_together, one_more}
 use Rattle.write_proof.proofs.Reached.{in_push, push_before, push_last, rises_push}
 
 -- ---- steps that rise
@@ -52,18 +56,34 @@ module _ (table : Nodes) (graph : Graph) (recorded : IsRecorded table graph) (sl
 
   -- ---- one step
 
-  pub next_used : (w : ℕ) (own joined next : Value) (before steps : List ℕ) → StepContributes graph slot at w own → Joined before joined → UsesValue w own before joined steps next → IsNext graph slot at w before steps
-  next_used w own joined next before steps c j (inl u) = record { own = own; contributes = c; joined = joined; join = j; is = inl (u.0, u.1) }
-  next_used w own joined next before steps c j (inr u) = record { own = own; contributes = c; joined = joined; join = j; is = inr (u.0, u.1) }
+  -- Parts whose join is that of what the steps contribute.
+  abbrev Parts : List ℕ → List Value → Type 0
+  Parts steps parts = (joined : Value) × IsJoinOfAll at.shape parts joined × Joined steps joined
 
-  pub next_joined : (w : ℕ) (own joined next : Value) (before steps : List ℕ) → StepContributes graph slot at w own → Joined before joined → UsesValue w own before joined steps next → Joined steps next
-  next_joined w own joined next before steps c j (inl u) =
-      subst (λ l. Joined l next) (sym u.1)
-      (subst (Joined (before ++ w ∷ [])) (sym u.2) (join_both table slot at there graph recorded before (w ∷ []) joined own j (join_single table slot at there graph recorded w own c)))
-  next_joined w own joined next before steps c j (inr u) = subst (λ l. Joined l next) (sym u.1) (subst (Joined before) (sym u.2) j)
+  pub next_used : (w : ℕ) (own : Value) (parts next : List Value) (before steps : List ℕ) → StepContributes graph slot at w own → Parts before parts → UsesValue w own before parts steps next
+      → IsNext graph slot at w before steps
+  next_used w own parts next before steps c j uses = record { own = own; contributes = c; joined = j.0; join = j.2; is = by uses }
+    where
+      together : IsSaidBy own parts ↔ IsValueBelow own j.0
+      together = said_together at.shape own parts j.0 (step_shape table slot at there graph recorded w own c) j.1
 
-  pub next_nothing : (w : ℕ) (joined : Value) (steps : List ℕ) → StepContributes graph slot at w (bottom at.shape) → Joined steps joined → IsNext graph slot at w steps steps
-  next_nothing w joined steps c j = record { own = bottom at.shape; contributes = c; joined = joined; join = j; is = inr (below-bottom at.shape joined j.of_shape, refl) }
+      by : UsesValue w own before parts steps next → ((IsValueBelow own j.0 → ⊥) × (steps ≡ before ++ w ∷ [])) ⊎ (IsValueBelow own j.0 × (steps ≡ before))
+      by (inl u) = inl ((λ below. u.0 (together.1 below)), u.1)
+      by (inr u) = inr (together.0 u.0, u.1)
+
+  pub next_parts : (w : ℕ) (own : Value) (parts next : List Value) (before steps : List ℕ) → StepContributes graph slot at w own → Parts before parts → UsesValue w own before parts steps next → Parts steps next
+  next_parts w own parts next before steps c j (inl u) = (
+    join j.0 own,
+    u.2 at.shape (join j.0 own) (one_more at.shape own parts j.0 (step_shape table slot at there graph recorded w own c) j.1),
+    subst (λ l. Joined l (join j.0 own)) (sym u.1) (join_both table slot at there graph recorded before (w ∷ []) j.0 own j.2 (join_single table slot at there graph recorded w own c)),
+  )
+  next_parts w own parts next before steps c j (inr u) = subst (λ l. Parts l next) (sym u.1) (subst (Parts before) (sym u.2) j)
+
+  pub none_parts : Parts [] []
+  none_parts = (bottom at.shape, none_together at.shape, join_none table slot at there graph recorded)
+
+  pub next_nothing : (w : ℕ) (parts : List Value) (steps : List ℕ) → StepContributes graph slot at w (bottom at.shape) → Parts steps parts → IsNext graph slot at w steps steps
+  next_nothing w parts steps c j = record { own = bottom at.shape; contributes = c; joined = j.0; join = j.2; is = inr (below-bottom at.shape j.0 (j.2).of_shape, refl) }
 
   -- ---- news
 
@@ -177,3 +197,12 @@ module _ (table : Nodes) (graph : Graph) (recorded : IsRecorded table graph) (sl
 
       back : (w : ℕ) → Reaches graph w n × IsWrite graph w × IsNews graph slot at steps w → IsIn w steps
       back w m = (news.all w).1 (elim (same_number w n) [ inl e ↦ push_last w n (keys_of pairs) e | inr other ↦ push_before w n (keys_of pairs) ((reach.all w).1 (other, m.0)) ], m.1, m.2)
+
+-- What a step contributes is of the shape of the parts.
+pub shape_with : (table : Nodes) (graph : Graph) → IsRecorded table graph → (slot : ℕ) → slot < length (slots_of table) → (w : ℕ) (own : Value) (steps : List ℕ) (parts : List Value)
+    → ContributesAt table graph slot w (λ _. own) → ArePartsAt table graph slot steps parts → AreOfOneShape (own ∷ parts)
+shape_with table graph recorded slot within w own steps parts c are =
+    let s = place_some (slots_of table) slot within in (
+      (s.0).shape,
+      λ v i. elim i [ inl e ↦ subst (IsOfShape (s.0).shape) (sym e) (step_shape table slot s.0 s.1 graph recorded w own (c s.0 s.1)) | inr k ↦ ((are s.0 s.1).1).of_shape v k ],
+    )

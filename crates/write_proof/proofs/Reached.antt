@@ -17,18 +17,18 @@ use Rattle.write_proof.proofs.Decided.{in_or_not, same_number}
 
 -- ---- numbers that are pushed
 
-pub in_push : (w k : ℕ) (ks : List ℕ) → IsIn w (ks ++ k ∷ []) → IsIn w ks ⊎ (w ≡ k)
+pub in_push : {A : Type 0} (w k : A) (ks : List A) → IsIn w (ks ++ k ∷ []) → IsIn w ks ⊎ (w ≡ k)
 in_push w k [] (inl e) = inr e
 in_push w k [] (inr i) = absurd i
 in_push w k (u ∷ ks) (inl e) = inl (inl e)
 in_push w k (u ∷ ks) (inr i) = elim (in_push w k ks i) [ inl j ↦ inl (inr j) | inr e ↦ inr e ]
 
-pub push_before : (w k : ℕ) (ks : List ℕ) → IsIn w ks → IsIn w (ks ++ k ∷ [])
+pub push_before : {A : Type 0} (w k : A) (ks : List A) → IsIn w ks → IsIn w (ks ++ k ∷ [])
 push_before w k [] i = absurd i
 push_before w k (u ∷ ks) (inl e) = inl e
 push_before w k (u ∷ ks) (inr i) = inr (push_before w k ks i)
 
-pub push_last : (w k : ℕ) (ks : List ℕ) → w ≡ k → IsIn w (ks ++ k ∷ [])
+pub push_last : {A : Type 0} (w k : A) (ks : List A) → w ≡ k → IsIn w (ks ++ k ∷ [])
 push_last w k [] e = inl e
 push_last w k (u ∷ ks) e = inr (push_last w k ks e)
 

@@ -1,194 +1,275 @@
 -- What some values say together is what their join says.
-use Rattle.std.proofs.Common.{◌≡◌, ◌≢◌, inl, inr, true, false, Option, Some, None, refl, sym, ap, ◌∙◌, subst, arith}
-use Rattle.std.specs.Cmp.{tied_itself}
-use Rattle.std.specs.declared.cmp.Ordering.TheVariants.{Less, Equal}
-use Rattle.context_model.specs.KeyedMerge.{IsAt}
+use Rattle.std.proofs.Common.{◌≡◌, ◌⊎◌, inl, inr, ◌↔◌, ℕ, zero, suc, ◌≤◌, max, true, false, List, [], ◌∷◌, Option, Some, None, refl, sym, ap, ◌∙◌, subst, arith}
+use Rattle.std.specs.List.{slice_get}
+use Rattle.std.proofs.lemmas.Bool.{cases_lt}
+use Rattle.context_model.specs.KeyedMerge.{keys_of, IsAt}
 use Rattle.context_model.specs.Merge.{first_of}
-use Rattle.context_model.specs.Orders.{by_order}
-use Rattle.context_model.proofs.MergeLaws.{EachPair-at, IsAt-unique}
+use Rattle.context_model.specs.Orders.{IsIn, atom_cmp}
+use Rattle.context_model.proofs.MergeLaws.{EachPair-at, IsIn-keys_of, IsAt-unique}
+use Rattle.context_model.proofs.OrderLaws.{atoms_total}
 use Rattle.bag_model.specs.declared.Pick.{Pick}
+use Rattle.bag_model.specs.JoinUnions.{IsFirstOfTwo}
 use Rattle.bag_model.specs.Joins.{join, join_values, IsValueBelow}
-use Rattle.bag_model.specs.Scalars.{ScalarValue, scalar_cmp, pick_cmp, IsScalarOf}
+use Rattle.bag_model.specs.Scalars.{ScalarKind, ScalarValue, scalar_cmp, pick_cmp, IsScalarOf}
 use Rattle.bag_model.specs.Shapes.{Shape, Nodes, no_node, node}
-use Rattle.bag_model.specs.Values.{Value, Entries, Values, Taint, Scalar, Set, Counter, Map, Bag, no_entry, entry, no_value, value, pairs, IsOfShape, AreOfShapes}
-use Rattle.bag_model.proofs.BelowLaws.{below-onwards, below-bottom}
-use Rattle.bag_model.proofs.OfShape.{Proper-shape}
-use Rattle.bag_model.proofs.ScalarOrder.{scalar_total, pick_total}
-use Rattle.write_proof.specs.Together.{HasAtKey, IsFirst, IsBehind, IsSaidBy, AreSaidAt, AreSaidBy}
-use Rattle.write_proof.proofs.BelowKinds.{scalar_below, set_below, set_within, counter_below, counter_within, map_below, map_within, bag_below, bag_within, values_first, values_behind}
+use Rattle.bag_model.specs.ValueCode.{scalar_code}
+use Rattle.bag_model.specs.Values.{Value, Entries, Values, Taint, Scalar, Set, Counter, Map, Bag, no_value, value, pairs, values_list, bottom, bottoms, IsOfShape, AreOfShapes}
+use Rattle.bag_model.proofs.BelowLaws.{below-itself, below-onwards, below-first, below-second, below-least, below-bottom}
+use Rattle.bag_model.proofs.FirstLaws.{first-assoc, first-comm, first-idem}
+use Rattle.bag_model.proofs.JoinUnionLaws.{joins_are_unions}
+use Rattle.bag_model.proofs.OfShape.{Proper-shape, IsOfShape-join, IsOfShape-bottom}
+use Rattle.bag_model.proofs.ScalarOrder.{scalar_total, pick_total, pick_exact}
+use Rattle.trace_model.specs.Contributions.{IsLeastAbove}
+use Rattle.trace_model.proofs.ContributedLaws.{least_one}
+use Rattle.write_proof.specs.Together.{Saying, TaintOn, StaysBeside, HasElement, CountsTo, HasKey, OfKey, OfField, Says, IsSaid, IsSaidBy, IsJoinOfAll}
+use Rattle.write_proof.proofs.BelowKinds.{name_code, set_below, counter_below, map_below, bag_below}
+use Rattle.write_proof.proofs.Keyed.{key_value, union_at, first_at, second_at}
 
--- a key's entry, of those that are said
-said_at_key : (es : Entries) (P : Value → Type 0) → AreSaidAt es P → (key : ScalarValue) (v : Value) → IsAt key v (pairs es) → ((w : Value) × HasAtKey P key w) × IsSaidBy v (HasAtKey P key)
-said_at_key no_entry P said key v at = absurd at
-said_at_key (entry k x es) P said key v (inl at) =
-    subst (λ j. ((w : Value) × HasAtKey P j w) × IsSaidBy v (HasAtKey P j)) (sym at.0) (said.0, subst (λ y. IsSaidBy y (HasAtKey P k)) (sym at.1) said.1)
-said_at_key (entry k x es) P said key v (inr at) = said_at_key es P said.2 key v at
+-- ---- a join says what both values say
 
-said_from : (es : Entries) (P : Value → Type 0) → ((key : ScalarValue) (v : Value) → IsAt key v (pairs es) → ((w : Value) × HasAtKey P key w) × IsSaidBy v (HasAtKey P key)) → AreSaidAt es P
-said_from no_entry P f = tt
-said_from (entry k x es) P f = let s = f k x (inl (refl, refl)) in (s.0, s.1, said_from es P (λ key v at. f key v (inr at)))
+either_iff : {A C D : Type 0} → (A → C ⊎ D) → (C → A) → (D → A) → A ↔ (C ⊎ D)
+either_iff f g h = (f, λ e. elim e [ inl c ↦ g c | inr d ↦ h d ])
 
--- ---- what is said by values below another is below it
+neither : ⊥ ↔ (⊥ ⊎ ⊥)
+neither = either_iff (λ i. absurd i) (λ i. i) (λ i. i)
+
+some_same : (v w : Value) → Some v ≡ Some w → v ≡ w
+some_same v w e = cc e
+
+module _ (pick : Pick) where
+  stays_beside : (v : ScalarValue) (a b both : Option ScalarValue) → IsFirstOfTwo (pick_cmp pick) a b both → first_of (pick_cmp pick) (Some v) both ≡ both
+      → (first_of (pick_cmp pick) (Some v) a ≡ a) ⊎ (first_of (pick_cmp pick) (Some v) b ≡ b)
+  stays_beside v a b None first e = absurd (cc e)
+  stays_beside v a b (Some w) first e = elim first.0 [
+    | inl is ↦ inl (subst (λ o. first_of (pick_cmp pick) (Some v) o ≡ o) (sym is) e)
+    | inr is ↦ inr (subst (λ o. first_of (pick_cmp pick) (Some v) o ≡ o) (sym is) e)
+  ]
+
+  beside_first : (v : ScalarValue) (a b : Option ScalarValue) → first_of (pick_cmp pick) (Some v) a ≡ a → first_of (pick_cmp pick) (Some v) (first_of (pick_cmp pick) a b) ≡ first_of (pick_cmp pick) a b
+  beside_first v a b e = sym (first-assoc (pick_cmp pick) (pick_total pick) (Some v) a b) ∙ ap (λ o. first_of (pick_cmp pick) o b) e
+
+  beside_second : (v : ScalarValue) (a b : Option ScalarValue) → first_of (pick_cmp pick) (Some v) b ≡ b → first_of (pick_cmp pick) (Some v) (first_of (pick_cmp pick) a b) ≡ first_of (pick_cmp pick) a b
+  beside_second v a b e =
+      subst (λ o. first_of (pick_cmp pick) (Some v) o ≡ o) (first-comm (pick_cmp pick) (pick_total pick) (pick_exact pick) b a) (beside_first v b a e)
+
+  scalars_either : (a b : Option ScalarValue) (v : ScalarValue) → Says (join (Scalar pick a) (Scalar pick b)) (StaysBeside v) ↔ (Says (Scalar pick a) (StaysBeside v) ⊎ Says (Scalar pick b) (StaysBeside v))
+  scalars_either a b v =
+      let u = (joins_are_unions).scalars pick a b in
+      either_iff (λ t. stays_beside v a b u.0 u.2 (subst (λ j. Says j (StaysBeside v)) u.1 t)) (beside_first v a b) (beside_second v a b)
+
+-- the scalar of a shape says which stays
+own_pick : (pick : Pick) (kind : ScalarKind) (own : Pick) (a : Option ScalarValue) → IsOfShape (Shape.Scalar pick kind) (Scalar own a) → own ≡ pick
+own_pick pick kind own None p = p
+own_pick pick kind own (Some v) p = p.0
+
+scalar_either : (pick : Pick) (kind : ScalarKind) (own other : Pick) (a b : Option ScalarValue) → IsOfShape (Shape.Scalar pick kind) (Scalar own a) → IsOfShape (Shape.Scalar pick kind) (Scalar other b)
+    → (v : ScalarValue) → Says (join (Scalar own a) (Scalar other b)) (StaysBeside v) ↔ (Says (Scalar own a) (StaysBeside v) ⊎ Says (Scalar other b) (StaysBeside v))
+scalar_either pick kind own other a b p q v =
+    let same : own ≡ other = own_pick pick kind own a p ∙ sym (own_pick pick kind other b q) in
+    subst (λ o. Says (join (Scalar own a) (Scalar o b)) (StaysBeside v) ↔ (Says (Scalar own a) (StaysBeside v) ⊎ Says (Scalar o b) (StaysBeside v))) same (scalars_either own a b v)
+
+-- A scalar that stays beside itself stays beside the other, where that says no less.
+scalar_said : (pick : Pick) (kind : ScalarKind) (own other : Pick) (v : ScalarValue) (b : Option ScalarValue) → IsOfShape (Shape.Scalar pick kind) (Scalar own (Some v)) → IsOfShape (Shape.Scalar pick kind) (Scalar other b)
+    → (Says (Scalar own (Some v)) (StaysBeside v) → Says (Scalar other b) (StaysBeside v)) → IsValueBelow (Scalar own (Some v)) (Scalar other b)
+scalar_said pick kind own other v b p q f =
+    let same : own ≡ other = p.0 ∙ sym (own_pick pick kind other b q) in
+    subst (λ o. Scalar o (first_of (pick_cmp o) (Some v) b) ≡ Scalar other b) (sym same) (ap (Scalar other) (f (first-idem (pick_cmp own) (pick_total own) (Some v))))
+
+module _ (es ds : List (List ℕ × ℕ)) (p : IsOfShape Shape.Counter (Counter es)) (q : IsOfShape Shape.Counter (Counter ds)) where
+  counts_either : (writer : List ℕ) (n : ℕ) → Says (join (Counter es) (Counter ds)) (CountsTo writer n) ↔ (Says (Counter es) (CountsTo writer n) ⊎ Says (Counter ds) (CountsTo writer n))
+  counts_either writer n =
+      let u = (joins_are_unions).counters es ds p q in
+      subst (λ j. Says j (CountsTo writer n) ↔ (Says (Counter es) (CountsTo writer n) ⊎ Says (Counter ds) (CountsTo writer n))) (sym u.1)
+      (either_iff
+      (λ s.
+      let enough = s.2 in
+      elim (union_at name_code atom_cmp atoms_total max es ds u.0 u.2.0 u.2.1 writer s.0 s.1) [
+        | inl t ↦ (let most = t.4 in elim (cases_lt t.0 t.1) [ inl less ↦ inr (t.1, t.3, omega (arith, enough, most, less)) | inr more ↦ inl (t.0, t.2, omega (arith, enough, most, more)) ])
+        | inr t ↦ elim t [ inl a ↦ inl (s.0, a, enough) | inr b ↦ inr (s.0, b, enough) ]
+      ])
+      (λ s. let enough = s.2 in elim (first_at name_code max es ds u.0 u.2.1 writer s.0 s.1) [ inl at ↦ (s.0, at, enough) | inr t ↦ (max s.0 t.0, t.2, omega (arith, enough)) ])
+      (λ s. let enough = s.2 in elim (second_at name_code max es ds u.0 u.2.1 writer s.0 s.1) [ inl at ↦ (s.0, at, enough) | inr t ↦ (max t.0 s.0, t.2, omega (arith, enough)) ]))
 
 mutual
-  pub said_below : (shape : Shape) (v j : Value) (P : Value → Type 0) → IsOfShape shape v → IsOfShape shape j → ((x : Value) → P x → IsOfShape shape x) → ((x : Value) → P x → IsValueBelow x j)
-      → IsSaidBy v P → IsValueBelow v j
-  said_below Shape.Taint (Taint false) (Taint b) P p q of below said = refl
-  said_below Shape.Taint (Taint true) (Taint b) P p q of below said = below (Taint true) (said refl)
-  said_below Shape.Taint (Taint on) j P p q of below said = absurd q
-  said_below Shape.Taint v j P p q of below said = absurd p
-  said_below (Shape.Scalar pick kind) (Scalar own None) j P p q of below said =
-      subst (λ o. IsValueBelow (Scalar o None) j) (sym p) (below-bottom (Shape.Scalar pick kind) j q)
-  said_below (Shape.Scalar pick kind) (Scalar own (Some s)) j P p q of below said =
-      below-onwards (Shape.Scalar pick kind) (Scalar own (Some s)) (Scalar own (Some said.0)) j p (of (Scalar own (Some said.0)) said.1) q
-      (scalar_below own s said.0 said.2) (below (Scalar own (Some said.0)) said.1)
-  said_below (Shape.Scalar pick kind) v j P p q of below said = absurd p
-  said_below (Shape.Set kind) (Set own vs) (Set other ws) P p q of below said =
+  pub says_join : (shape : Shape) (v w : Value) → IsOfShape shape v → IsOfShape shape w → (s : Saying) → Says (join v w) s ↔ (Says v s ⊎ Says w s)
+  says_join Shape.Taint (Taint a) (Taint b) p q TaintOn = let u = (joins_are_unions).taints a b in subst (λ j. Says j TaintOn ↔ ((a ≡ true) ⊎ (b ≡ true))) (sym u.1) u.2
+  says_join Shape.Taint (Taint a) (Taint b) p q s = neither
+  says_join Shape.Taint (Taint a) w p q s = absurd q
+  says_join Shape.Taint v w p q s = absurd p
+  says_join (Shape.Scalar pick kind) (Scalar own a) (Scalar other b) p q (StaysBeside v) = scalar_either pick kind own other a b p q v
+  says_join (Shape.Scalar pick kind) (Scalar own a) (Scalar other b) p q s = neither
+  says_join (Shape.Scalar pick kind) (Scalar own a) w p q s = absurd q
+  says_join (Shape.Scalar pick kind) v w p q s = absurd p
+  says_join (Shape.Set kind) (Set own vs) (Set other ws) p q (HasElement v) =
+      let same : other ≡ own = q.0 ∙ sym p.0 in
+      let second = subst (λ k. IsOfShape (Shape.Set kind) (Set k ws)) same q in
+      let u = (joins_are_unions).sets own vs ws (Proper-shape (Shape.Set kind) (Set own vs) p) (Proper-shape (Shape.Set kind) (Set own ws) second) in
+      subst (λ k. Says (join (Set own vs) (Set k ws)) (HasElement v) ↔ (IsIn v vs ⊎ IsIn v ws)) (sym same)
+      (subst (λ j. Says j (HasElement v) ↔ (IsIn v vs ⊎ IsIn v ws)) (sym u.1) (u.2.1 v))
+  says_join (Shape.Set kind) (Set own vs) (Set other ws) p q s = neither
+  says_join (Shape.Set kind) (Set own vs) w p q s = absurd q
+  says_join (Shape.Set kind) v w p q s = absurd p
+  says_join Shape.Counter (Counter es) (Counter ds) p q (CountsTo writer n) = counts_either es ds p q writer n
+  says_join Shape.Counter (Counter es) (Counter ds) p q s = neither
+  says_join Shape.Counter (Counter es) w p q s = absurd q
+  says_join Shape.Counter v w p q s = absurd p
+  says_join (Shape.Map kind inner) (Map es) (Map fs) p q (HasKey key) =
+      let u = (joins_are_unions).maps es fs (Proper-shape (Shape.Map kind inner) (Map es) p) (Proper-shape (Shape.Map kind inner) (Map fs) q) in
+      subst (λ j. Says j (HasKey key) ↔ (IsIn key (keys_of (pairs es)) ⊎ IsIn key (keys_of (pairs fs)))) (sym u.1) ((u.2.1).keys key)
+  says_join (Shape.Map kind inner) (Map es) (Map fs) p q (OfKey key s) =
+      let u = (joins_are_unions).maps es fs (Proper-shape (Shape.Map kind inner) (Map es) p) (Proper-shape (Shape.Map kind inner) (Map fs) q) in
+      let own : (x : Value) → IsAt key x (pairs es) → IsOfShape inner x = λ x at. (EachPair-at (λ k y. IsScalarOf kind k × IsOfShape inner y) (pairs es) key x p.1 at).1 in
+      let other : (x : Value) → IsAt key x (pairs fs) → IsOfShape inner x = λ x at. (EachPair-at (λ k y. IsScalarOf kind k × IsOfShape inner y) (pairs fs) key x q.1 at).1 in
+      subst (λ j. Says j (OfKey key s) ↔ (Says (Map es) (OfKey key s) ⊎ Says (Map fs) (OfKey key s))) (sym u.1)
+      (either_iff
+      (λ t. elim (union_at scalar_code scalar_cmp scalar_total join (pairs es) (pairs fs) (pairs u.0) u.2.0 u.2.1 key t.0 t.1) [
+        | inl m ↦ elim ((says_join inner m.0 m.1 (own m.0 m.2) (other m.1 m.3) s).0 (subst (λ x. Says x s) m.4 t.2)) [ inl a ↦ inl (m.0, m.2, a) | inr b ↦ inr (m.1, m.3, b) ]
+        | inr m ↦ elim m [ inl a ↦ inl (t.0, a, t.2) | inr b ↦ inr (t.0, b, t.2) ]
+      ])
+      (λ t. elim (first_at scalar_code join (pairs es) (pairs fs) (pairs u.0) u.2.1 key t.0 t.1) [
+        | inl at ↦ (t.0, at, t.2)
+        | inr m ↦ (join t.0 m.0, m.2, (says_join inner t.0 m.0 (own t.0 t.1) (other m.0 m.1) s).1 (inl t.2))
+      ])
+      (λ t. elim (second_at scalar_code join (pairs es) (pairs fs) (pairs u.0) u.2.1 key t.0 t.1) [
+        | inl at ↦ (t.0, at, t.2)
+        | inr m ↦ (join m.0 t.0, m.2, (says_join inner m.0 t.0 (own m.0 m.1) (other t.0 t.1) s).1 (inr t.2))
+      ]))
+  says_join (Shape.Map kind inner) (Map es) (Map fs) p q s = neither
+  says_join (Shape.Map kind inner) (Map es) w p q s = absurd q
+  says_join (Shape.Map kind inner) v w p q s = absurd p
+  says_join (Shape.Bag nodes) (Bag vs) (Bag ws) p q (OfField at s) = says_joins nodes vs ws p q at s
+  says_join (Shape.Bag nodes) (Bag vs) (Bag ws) p q s = neither
+  says_join (Shape.Bag nodes) (Bag vs) w p q s = absurd q
+  says_join (Shape.Bag nodes) v w p q s = absurd p
+
+  says_joins : (nodes : Nodes) (vs ws : Values) → AreOfShapes nodes vs → AreOfShapes nodes ws → (at : ℕ) (s : Saying)
+      → Says (Bag (join_values vs ws)) (OfField at s) ↔ (Says (Bag vs) (OfField at s) ⊎ Says (Bag ws) (OfField at s))
+  says_joins no_node no_value no_value p q at s = either_iff (λ t. absurd (cc t.1)) (λ t. t) (λ t. t)
+  says_joins no_node no_value (value w ws) p q at s = absurd q
+  says_joins no_node (value v vs) ws p q at s = absurd p
+  says_joins (node name number shape nodes) no_value ws p q at s = absurd p
+  says_joins (node name number shape nodes) (value v vs) no_value p q at s = absurd q
+  says_joins (node name number shape nodes) (value v vs) (value w ws) p q zero s =
+      let both = says_join shape v w p.0 q.0 s in
+      either_iff
+      (λ t. elim (both.0 (subst (λ x. Says x s) (sym (some_same (join v w) t.0 t.1)) t.2)) [ inl a ↦ inl (v, refl, a) | inr b ↦ inr (w, refl, b) ])
+      (λ t. (join v w, refl, both.1 (inl (subst (λ x. Says x s) (sym (some_same v t.0 t.1)) t.2))))
+      (λ t. (join v w, refl, both.1 (inr (subst (λ x. Says x s) (sym (some_same w t.0 t.1)) t.2))))
+  says_joins (node name number shape nodes) (value v vs) (value w ws) p q (suc at) s = says_joins nodes vs ws p.1 q.1 at s
+
+-- Bottom says nothing.
+mutual
+  says_nothing : (shape : Shape) (s : Saying) → Says (bottom shape) s → ⊥
+  says_nothing Shape.Taint TaintOn t = cc t
+  says_nothing Shape.Taint s t = t
+  says_nothing (Shape.Scalar pick kind) (StaysBeside v) t = cc t
+  says_nothing (Shape.Scalar pick kind) s t = t
+  says_nothing (Shape.Set kind) (HasElement v) t = t
+  says_nothing (Shape.Set kind) s t = t
+  says_nothing Shape.Counter (CountsTo writer n) t = t.1
+  says_nothing Shape.Counter s t = t
+  says_nothing (Shape.Map kind inner) (HasKey key) t = t
+  says_nothing (Shape.Map kind inner) (OfKey key s) t = t.1
+  says_nothing (Shape.Map kind inner) s t = t
+  says_nothing (Shape.Bag nodes) (OfField at s) t = say_nothing nodes at s t
+  says_nothing (Shape.Bag nodes) s t = t
+
+  say_nothing : (nodes : Nodes) (at : ℕ) (s : Saying) → Says (Bag (bottoms nodes)) (OfField at s) → ⊥
+  say_nothing no_node at s t = cc t.1
+  say_nothing (node name number shape nodes) zero s t = says_nothing shape s (subst (λ x. Says x s) (sym (some_same (bottom shape) t.0 t.1)) t.2)
+  say_nothing (node name number shape nodes) (suc at) s t = say_nothing nodes at s t
+
+-- ---- the values below a value are those that say no more
+
+mutual
+  pub below_said : (shape : Shape) (v w : Value) → IsOfShape shape v → IsOfShape shape w → ((s : Saying) → Says v s → Says w s) → IsValueBelow v w
+  below_said Shape.Taint (Taint false) (Taint b) p q f = refl
+  below_said Shape.Taint (Taint true) (Taint b) p q f = ap Taint (sym (f TaintOn refl))
+  below_said Shape.Taint (Taint on) w p q f = absurd q
+  below_said Shape.Taint v w p q f = absurd p
+  below_said (Shape.Scalar pick kind) (Scalar own None) w p q f = subst (λ o. IsValueBelow (Scalar o None) w) (sym p) (below-bottom (Shape.Scalar pick kind) w q)
+  below_said (Shape.Scalar pick kind) (Scalar own (Some v)) (Scalar other b) p q f = scalar_said pick kind own other v b p q (f (StaysBeside v))
+  below_said (Shape.Scalar pick kind) (Scalar own (Some v)) w p q f = absurd q
+  below_said (Shape.Scalar pick kind) v w p q f = absurd p
+  below_said (Shape.Set kind) (Set own vs) (Set other ws) p q f =
       let same : other ≡ own = q.0 ∙ sym p.0 in
       subst (λ k. IsValueBelow (Set own vs) (Set k ws)) (sym same)
-      (set_below own vs ws (Proper-shape (Shape.Set kind) (Set own vs) p) (Proper-shape (Shape.Set kind) (Set own ws) (subst (λ k. IsOfShape (Shape.Set kind) (Set k ws)) same q))
-      (λ v i.
-      let s = said v i in
-      set_within own s.0 ws (Proper-shape (Shape.Set kind) (Set own s.0) (of (Set own s.0) s.1)) (Proper-shape (Shape.Set kind) (Set own ws) (subst (λ k. IsOfShape (Shape.Set kind) (Set k ws)) same q))
-      (subst (λ k. IsValueBelow (Set own s.0) (Set k ws)) same (below (Set own s.0) s.1)) v s.2))
-  said_below (Shape.Set kind) (Set own vs) j P p q of below said = absurd q
-  said_below (Shape.Set kind) v j P p q of below said = absurd p
-  said_below Shape.Counter (Counter es) (Counter ds) P p q of below said =
-      counter_below es ds p q (λ writer n at.
-      let s = said writer n at in
-      let w = counter_within s.0 ds (of (Counter s.0) s.2) q (below (Counter s.0) s.2) writer s.1 s.3 in
-      let first = s.4 in
-      let second = w.2 in
-      (w.0, w.1, omega arith))
-  said_below Shape.Counter (Counter es) j P p q of below said = absurd q
-  said_below Shape.Counter v j P p q of below said = absurd p
-  said_below (Shape.Map kind inner) (Map es) (Map fs) P p q of below said =
+      (set_below own vs ws (Proper-shape (Shape.Set kind) (Set own vs) p) (Proper-shape (Shape.Set kind) (Set own ws) (subst (λ k. IsOfShape (Shape.Set kind) (Set k ws)) same q)) (λ v i. f (HasElement v) i))
+  below_said (Shape.Set kind) (Set own vs) w p q f = absurd q
+  below_said (Shape.Set kind) v w p q f = absurd p
+  below_said Shape.Counter (Counter es) (Counter ds) p q f = counter_below es ds p q (λ writer n at. f (CountsTo writer n) (n, at, omega arith))
+  below_said Shape.Counter (Counter es) w p q f = absurd q
+  below_said Shape.Counter v w p q f = absurd p
+  below_said (Shape.Map kind inner) (Map es) (Map fs) p q f =
       map_below es fs (Proper-shape (Shape.Map kind inner) (Map es) p) (Proper-shape (Shape.Map kind inner) (Map fs) q) (λ key v at.
-      let s = said_at_key es P said key v at in
-      let found = (s.0).1 in
-      let w = map_within found.0 fs (Proper-shape (Shape.Map kind inner) (Map found.0) (of (Map found.0) found.1)) (Proper-shape (Shape.Map kind inner) (Map fs) q) (below (Map found.0) found.1) key (s.0).0 found.2 in (
+      let w = key_value (pairs fs) key (f (HasKey key) (IsIn-keys_of (pairs es) key v at)) in (
         w.0,
         w.1,
-        said_below inner v w.0 (HasAtKey P key) (EachPair-at (λ k x. IsScalarOf kind k × IsOfShape inner x) (pairs es) key v p.1 at).1
+        below_said inner v w.0 (EachPair-at (λ k x. IsScalarOf kind k × IsOfShape inner x) (pairs es) key v p.1 at).1
             (EachPair-at (λ k x. IsScalarOf kind k × IsOfShape inner x) (pairs fs) key w.0 q.1 w.1).1
-            (λ x h. (EachPair-at (λ k y. IsScalarOf kind k × IsOfShape inner y) (pairs h.0) key x (of (Map h.0) h.1).1 h.2).1)
-            (λ x h.
-            let u = map_within h.0 fs (Proper-shape (Shape.Map kind inner) (Map h.0) (of (Map h.0) h.1)) (Proper-shape (Shape.Map kind inner) (Map fs) q) (below (Map h.0) h.1) key x h.2 in
-            subst (IsValueBelow x) (IsAt-unique scalar_cmp scalar_total (pairs fs) key u.0 w.0 q.0 u.1 w.1) u.2)
-            s.1,
+            (λ s said. let t = f (OfKey key s) (v, at, said) in subst (λ x. Says x s) (IsAt-unique scalar_cmp scalar_total (pairs fs) key t.0 w.0 q.0 t.1 w.1) t.2),
       ))
-  said_below (Shape.Map kind inner) (Map es) j P p q of below said = absurd q
-  said_below (Shape.Map kind inner) v j P p q of below said = absurd p
-  said_below (Shape.Bag nodes) (Bag vs) (Bag ws) P p q of below said =
-      bag_below vs ws (each_below nodes vs ws (λ us. P (Bag us)) p q (λ us h. of (Bag us) h) (λ us h. bag_within us ws (below (Bag us) h)) said)
-  said_below (Shape.Bag nodes) (Bag vs) j P p q of below said = absurd q
-  said_below (Shape.Bag nodes) v j P p q of below said = absurd p
+  below_said (Shape.Map kind inner) (Map es) w p q f = absurd q
+  below_said (Shape.Map kind inner) v w p q f = absurd p
+  below_said (Shape.Bag nodes) (Bag vs) (Bag ws) p q f = bag_below vs ws (each_said nodes vs ws p q (λ at s said. f (OfField at s) said))
+  below_said (Shape.Bag nodes) (Bag vs) w p q f = absurd q
+  below_said (Shape.Bag nodes) v w p q f = absurd p
 
-  each_below : (nodes : Nodes) (vs ws : Values) (P : Values → Type 0) → AreOfShapes nodes vs → AreOfShapes nodes ws → ((us : Values) → P us → AreOfShapes nodes us)
-      → ((us : Values) → P us → join_values us ws ≡ ws) → AreSaidBy vs P → join_values vs ws ≡ ws
-  each_below no_node no_value no_value P p q of below said = refl
-  each_below no_node no_value (value w ws) P p q of below said = absurd q
-  each_below no_node (value v vs) ws P p q of below said = absurd p
-  each_below (node name number shape nodes) no_value ws P p q of below said = absurd p
-  each_below (node name number shape nodes) (value v vs) no_value P p q of below said = absurd q
-  each_below (node name number shape nodes) (value v vs) (value w ws) P p q of below said =
-      let own : join v w ≡ w = said_below shape v w (IsFirst P) p.0 q.0 (λ x h. (of (value x h.0) h.1).0) (λ x h. values_first x w h.0 ws (below (value x h.0) h.1)) said.0 in
-      let rest : join_values vs ws ≡ ws = each_below nodes vs ws (IsBehind P) p.1 q.1 (λ us h. (of (value h.0 us) h.1).1) (λ us h. values_behind h.0 w us ws (below (value h.0 us) h.1)) said.1 in
+  each_said : (nodes : Nodes) (vs ws : Values) → AreOfShapes nodes vs → AreOfShapes nodes ws → ((at : ℕ) (s : Saying) → Says (Bag vs) (OfField at s) → Says (Bag ws) (OfField at s)) → join_values vs ws ≡ ws
+  each_said no_node no_value no_value p q f = refl
+  each_said no_node no_value (value w ws) p q f = absurd q
+  each_said no_node (value v vs) ws p q f = absurd p
+  each_said (node name number shape nodes) no_value ws p q f = absurd p
+  each_said (node name number shape nodes) (value v vs) no_value p q f = absurd q
+  each_said (node name number shape nodes) (value v vs) (value w ws) p q f =
+      let own : join v w ≡ w = below_said shape v w p.0 q.0 (λ s said. let t = f 0 s (v, refl, said) in subst (λ x. Says x s) (sym (some_same w t.0 t.1)) t.2) in
+      let rest : join_values vs ws ≡ ws = each_said nodes vs ws p.1 q.1 (λ at s said. f (suc at) s said) in
       λ i. value (own i) (rest i)
 
--- ---- what more values say
+pub said_below : (shape : Shape) (v w : Value) → IsOfShape shape v → IsOfShape shape w → IsValueBelow v w → (s : Saying) → Says v s → Says w s
+said_below shape v w p q below s said = subst (λ x. Says x s) below ((says_join shape v w p q s).1 (inl said))
 
-mutual
-  pub said_more : (v : Value) (P Q : Value → Type 0) → ((x : Value) → P x → Q x) → IsSaidBy v P → IsSaidBy v Q
-  said_more (Taint on) P Q f said = λ e. f (Taint true) (said e)
-  said_more (Scalar pick None) P Q f said = tt
-  said_more (Scalar pick (Some s)) P Q f said = (said.0, f (Scalar pick (Some said.0)) said.1, said.2)
-  said_more (Set kind vs) P Q f said = λ v i. let s = said v i in (s.0, f (Set kind s.0) s.1, s.2)
-  said_more (Counter counts) P Q f said = λ writer n at. let s = said writer n at in (s.0, s.1, f (Counter s.0) s.2, s.3, s.4)
-  said_more (Map es) P Q f said = entries_more es P Q f said
-  said_more (Bag vs) P Q f said = each_more vs (λ ws. P (Bag ws)) (λ ws. Q (Bag ws)) (λ ws h. f (Bag ws) h) said
+-- ---- values together
 
-  entries_more : (es : Entries) (P Q : Value → Type 0) → ((x : Value) → P x → Q x) → AreSaidAt es P → AreSaidAt es Q
-  entries_more no_entry P Q f said = tt
-  entries_more (entry key v es) P Q f said = (
-    ((said.0).0, ((said.0).1.0, f (Map (said.0).1.0) (said.0).1.1, (said.0).1.2)),
-    said_more v (HasAtKey P key) (HasAtKey Q key) (λ x h. (h.0, f (Map h.0) h.1, h.2)) said.1,
-    entries_more es P Q f said.2,
-  )
+pub none_together : (shape : Shape) → IsJoinOfAll shape [] (bottom shape)
+none_together shape = record {
+  of_shape = λ v i. absurd i;
+  join = record { of_shape = IsOfShape-bottom shape; all = λ v i. absurd i; lowest = λ w p f. below-bottom shape w p };
+}
 
-  each_more : (vs : Values) (P Q : Values → Type 0) → ((ws : Values) → P ws → Q ws) → AreSaidBy vs P → AreSaidBy vs Q
-  each_more no_value P Q f said = tt
-  each_more (value v vs) P Q f said = (
-    said_more v (IsFirst P) (IsFirst Q) (λ x h. (h.0, f (value x h.0) h.1)) said.0,
-    each_more vs (IsBehind P) (IsBehind Q) (λ ws h. (h.0, f (value h.0 ws) h.1)) said.1,
-  )
-
--- ---- what is below a value is said by it
-
-scalar_stays : (pick own : Pick) (v : ScalarValue) (b : Option ScalarValue) → Scalar pick (first_of (pick_cmp pick) (Some v) b) ≡ Scalar own b
-    → (w : ScalarValue) × (b ≡ Some w) × (pick_cmp pick v w ≢ Less)
-scalar_stays pick own v None e = absurd (let bad : Some v ≡ None = cc e in cc bad)
-scalar_stays pick own v (Some w) e = (w, refl, λ less. by less)
+pub one_more : (shape : Shape) (x : Value) (values : List Value) (joined : Value) → IsOfShape shape x → IsJoinOfAll shape values joined → IsJoinOfAll shape (x ∷ values) (join joined x)
+one_more shape x values joined own j = record {
+  of_shape = λ v i. elim i [ inl e ↦ subst (IsOfShape shape) (sym e) own | inr k ↦ j.of_shape v k ];
+  join = record {
+    of_shape = both;
+    all = λ v i. elim i [
+      | inl e ↦ subst (λ y. IsValueBelow y (join joined x)) (sym e) (below-second shape joined x (j.join).of_shape own)
+      | inr k ↦ below-onwards shape v joined (join joined x) (j.of_shape v k) (j.join).of_shape both ((j.join).all v k) (below-first shape joined x (j.join).of_shape own)
+    ];
+    lowest = λ w p f. below-least shape joined x w (j.join).of_shape own p ((j.join).lowest w p (λ v i. f v (inr i))) (f x (inl refl));
+  };
+}
   where
-    kept : first_of (pick_cmp pick) (Some v) (Some w) ≡ Some w
-    kept = cc e
+    both : IsOfShape shape (join joined x)
+    both = IsOfShape-join shape joined x (j.join).of_shape own
 
-    by : pick_cmp pick v w ≡ Less → ⊥
-    by less =
-        let mine : first_of (pick_cmp pick) (Some v) (Some w) ≡ Some v = ap (λ r. by_order r (Some v) (Some v) (Some w)) less in
-        let same : v ≡ w = cc (mine, kept) in
-        let tie : pick_cmp pick v v ≡ Equal = tied_itself (pick_total pick) v in
-        let clash : pick_cmp pick v v ≡ Less = ap (pick_cmp pick v) same ∙ less in
-        cc (tie, clash)
+-- Values of a shape have a join, which says nothing that none of them says.
+pub join_of_all : (shape : Shape) (values : List Value) → ((v : Value) → IsIn v values → IsOfShape shape v)
+    → (joined : Value) × IsJoinOfAll shape values joined × ((s : Saying) → Says joined s → IsSaid s values)
+join_of_all shape [] of = (bottom shape, none_together shape, λ s said. absurd (says_nothing shape s said))
+join_of_all shape (x ∷ values) of =
+    let more = join_of_all shape values (λ v i. of v (inr i)) in
+    let own = of x (inl refl) in (
+      join more.0 x,
+      one_more shape x values more.0 own more.1,
+      λ s said. elim ((says_join shape more.0 x ((more.1).join).of_shape own s).0 said) [ inl a ↦ (let t = more.2 s a in (t.0, inr t.1, t.2)) | inr b ↦ (x, inl refl, b) ],
+    )
 
-mutual
-  pub below_said : (shape : Shape) (v j : Value) → IsOfShape shape v → IsOfShape shape j → IsValueBelow v j → IsSaidBy v (λ x. x ≡ j)
-  below_said Shape.Taint (Taint false) (Taint b) p q below = λ e. absurd (cc e)
-  below_said Shape.Taint (Taint true) (Taint b) p q below = λ e. below
-  below_said Shape.Taint (Taint on) j p q below = absurd q
-  below_said Shape.Taint v j p q below = absurd p
-  below_said (Shape.Scalar pick kind) (Scalar own None) j p q below = tt
-  below_said (Shape.Scalar pick kind) (Scalar own (Some s)) (Scalar other None) p q below = absurd (let t = scalar_stays own other s None below in let bad = t.1 in cc bad)
-  below_said (Shape.Scalar pick kind) (Scalar own (Some s)) (Scalar other (Some b)) p q below =
-      let t = scalar_stays own other s (Some b) below in
-      (t.0, (λ i. Scalar ((p.0 ∙ sym q.0) i) (sym t.1 i)), t.2)
-  below_said (Shape.Scalar pick kind) (Scalar own (Some s)) j p q below = absurd q
-  below_said (Shape.Scalar pick kind) v j p q below = absurd p
-  below_said (Shape.Set kind) (Set own vs) (Set other ws) p q below =
-      let same : other ≡ own = q.0 ∙ sym p.0 in
-      λ v i. (
-        ws,
-        ap (λ k. Set k ws) (sym same),
-        set_within own vs ws (Proper-shape (Shape.Set kind) (Set own vs) p) (Proper-shape (Shape.Set kind) (Set own ws) (subst (λ k. IsOfShape (Shape.Set kind) (Set k ws)) same q))
-            (subst (λ k. IsValueBelow (Set own vs) (Set k ws)) same below) v i,
-      )
-  below_said (Shape.Set kind) (Set own vs) j p q below = absurd q
-  below_said (Shape.Set kind) v j p q below = absurd p
-  below_said Shape.Counter (Counter es) (Counter ds) p q below = λ writer n at. let w = counter_within es ds p q below writer n at in (ds, w.0, refl, w.1, w.2)
-  below_said Shape.Counter (Counter es) j p q below = absurd q
-  below_said Shape.Counter v j p q below = absurd p
-  below_said (Shape.Map kind inner) (Map es) (Map fs) p q below =
-      said_from es (λ x. x ≡ Map fs) (λ key v at.
-      let w = map_within es fs (Proper-shape (Shape.Map kind inner) (Map es) p) (Proper-shape (Shape.Map kind inner) (Map fs) q) below key v at in (
-        (w.0, (fs, refl, w.1)),
-        said_more v (λ x. x ≡ w.0) (HasAtKey (λ x. x ≡ Map fs) key) (λ x e. (fs, refl, subst (λ y. IsAt key y (pairs fs)) (sym e) w.1))
-            (below_said inner v w.0 (EachPair-at (λ k x. IsScalarOf kind k × IsOfShape inner x) (pairs es) key v p.1 at).1
-            (EachPair-at (λ k x. IsScalarOf kind k × IsOfShape inner x) (pairs fs) key w.0 q.1 w.1).1 w.2),
-      ))
-  below_said (Shape.Map kind inner) (Map es) j p q below = absurd q
-  below_said (Shape.Map kind inner) v j p q below = absurd p
-  below_said (Shape.Bag nodes) (Bag vs) (Bag ws) p q below =
-      each_more vs (λ us. us ≡ ws) (λ us. Bag us ≡ Bag ws) (λ us e. ap Bag e) (each_said nodes vs ws p q (bag_within vs ws below))
-  below_said (Shape.Bag nodes) (Bag vs) j p q below = absurd q
-  below_said (Shape.Bag nodes) v j p q below = absurd p
-
-  each_said : (nodes : Nodes) (vs ws : Values) → AreOfShapes nodes vs → AreOfShapes nodes ws → join_values vs ws ≡ ws → AreSaidBy vs (λ us. us ≡ ws)
-  each_said no_node no_value no_value p q below = tt
-  each_said no_node no_value (value w ws) p q below = absurd q
-  each_said no_node (value v vs) ws p q below = absurd p
-  each_said (node name number shape nodes) no_value ws p q below = absurd p
-  each_said (node name number shape nodes) (value v vs) no_value p q below = absurd q
-  each_said (node name number shape nodes) (value v vs) (value w ws) p q below = (
-    said_more v (λ x. x ≡ w) (IsFirst (λ us. us ≡ value w ws)) (λ x e. (ws, ap (λ y. value y ws) e)) (below_said shape v w p.0 q.0 (values_first v w vs ws below)),
-    each_more vs (λ us. us ≡ ws) (IsBehind (λ us. us ≡ value w ws)) (λ us e. (w, ap (value w) e)) (each_said nodes vs ws p.1 q.1 (values_behind v w vs ws below)),
-  )
+-- All that a value says is said by others together exactly where it is below their join.
+pub said_together : (shape : Shape) (v : Value) (others : List Value) (joined : Value) → IsOfShape shape v → IsJoinOfAll shape others joined → IsSaidBy v others ↔ IsValueBelow v joined
+said_together shape v others joined p j = (
+  (λ said. below_said shape v joined p (j.join).of_shape (λ s t. let found = said s t in said_below shape found.0 joined (j.of_shape found.0 found.1) (j.join).of_shape ((j.join).all found.0 found.1) s found.2)),
+  λ below s t.
+      let all = join_of_all shape others j.of_shape in
+      all.2 s (subst (λ x. Says x s) (least_one shape (λ x. IsIn x others) joined all.0 j.join (all.1).join) (said_below shape v joined p (j.join).of_shape below s t)),
+)

@@ -2,7 +2,7 @@
 use Rattle.std.specs.Prelude.{◌≡◌, ◌⊎◌, ◌↔◌, ℕ, List, [], ◌∷◌, ◌++◌}
 use Rattle.std.specs.Ordering.{nat_cmp}
 use Rattle.context_model.specs.Orders.{IsIn, Rises}
-use Rattle.bag_model.specs.Joins.{join, IsValueBelow}
+use Rattle.bag_model.specs.Joins.{IsValueBelow}
 use Rattle.bag_model.specs.Shapes.{Nodes}
 use Rattle.bag_model.specs.Slots.{SlotAt}
 use Rattle.bag_model.specs.SlotValues.{HasSlot}
@@ -11,13 +11,19 @@ use Rattle.trace_model.specs.Contributions.{IsLeastAbove}
 use Rattle.trace_model.specs.Graphs.{Graph}
 use Rattle.write_proof.specs.Certificates.{IsNews}
 use Rattle.write_proof.specs.LineRules.{IsWrite}
+use Rattle.write_proof.specs.Together.{IsSaidBy, HaveOneJoin, IsJoinOfAll}
 use Rattle.write_proof.specs.WholeRules.{StepContributes, IsOfSteps}
 
--- A step that contributes this value is used exactly where the join of the used ones doesn't say it, and then the value is joined.
-abbrev pub UsesValue : ℕ → Value → List ℕ → Value → List ℕ → Value → Type 0
-UsesValue w own before joined steps next =
-    ((IsValueBelow own joined → ⊥) × (steps ≡ before ++ w ∷ []) × (next ≡ join joined own))
-    ⊎ (IsValueBelow own joined × (steps ≡ before) × (next ≡ joined))
+-- A step that contributes this value is used exactly where the parts don't say it together, and then it is one of those that they are joined of.
+abbrev pub UsesValue : ℕ → Value → List ℕ → List Value → List ℕ → List Value → Type 0
+UsesValue w own before parts steps next =
+    ((IsSaidBy own parts → ⊥) × (steps ≡ before ++ w ∷ []) × HaveOneJoin (own ∷ parts) next)
+    ⊎ (IsSaidBy own parts × (steps ≡ before) × (next ≡ parts))
+
+-- The join of the parts is that of what the steps contribute to the slot with this place of the table.
+abbrev pub ArePartsAt : Nodes → Graph → ℕ → List ℕ → List Value → Type 0
+ArePartsAt table graph slot steps parts = (at : SlotAt) → HasSlot table slot at
+    → (joined : Value) × IsJoinOfAll at.shape parts joined × IsLeastAbove at.shape (IsOfSteps graph slot at steps) joined
 
 -- Step w is used next, exactly where it contributes more than the join of what the steps before it contribute.
 pub record IsNext (graph : Graph) (slot : ℕ) (at : SlotAt) (w : ℕ) (before steps : List ℕ) : Type 0 where

@@ -1,55 +1,68 @@
--- What some values say together of what another says.
+-- What some values say together.
 use Rattle.std.specs.Borrow.{Bor}
-use Rattle.std.specs.Prelude.{◌≡◌, ◌≢◌, ℕ, ◌≤◌, true, List, map, Some, None}
-use Rattle.std.specs.declared.cmp.Ordering.TheVariants.{Less}
-use Rattle.context_model.specs.KeyedMerge.{IsAt}
+use Rattle.std.specs.Prelude.{◌≡◌, ℕ, ◌≤◌, true, List, [], ◌∷◌, map, Some}
+use Rattle.std.specs.List.{slice_get}
+use Rattle.context_model.specs.KeyedMerge.{keys_of, IsAt}
+use Rattle.context_model.specs.Merge.{first_of}
 use Rattle.context_model.specs.Orders.{IsIn}
 use Rattle.bag_model.specs.Scalars.{ScalarValue, pick_cmp}
 use Rattle.bag_model.specs.Shapes.{Shape}
+use Rattle.bag_model.specs.Values.{Value, Entries, Values, Taint, Scalar, Set, Counter, Map, Bag, pairs, values_list, IsOfShape}
 use Rattle.bag_value.specs.declared.vals.Val.{Val}
 use Rattle.bag_value.specs.Plain.{plain}
-use Rattle.bag_model.specs.Values.{Value, Entries, Values, Taint, Scalar, Set, Counter, Map, Bag, no_entry, entry, no_value, value, pairs, IsOfShape}
+use Rattle.trace_model.specs.Contributions.{IsLeastAbove}
 
--- Some map of these values has the value at the key.
-abbrev pub HasAtKey : (Value → Type 0) → ScalarValue → Value → Type 0
-HasAtKey P key w = (es : Entries) × P (Map es) × IsAt key w (pairs es)
+-- One thing that a value can say: that a taint is on, that a scalar stays beside this one, that a set has an element, that a writer's count is at least this, that
+-- a map has a key, what is said of the value at a key, and what is said of the field at a place.
+pub data Saying : Type 0 where
+  TaintOn : Saying
+  StaysBeside : ScalarValue → Saying
+  HasElement : ScalarValue → Saying
+  CountsTo : List ℕ → ℕ → Saying
+  HasKey : ScalarValue → Saying
+  OfKey : ScalarValue → Saying → Saying
+  OfField : ℕ → Saying → Saying
 
--- Some value has the first value, and another list of values behind it.
-abbrev pub IsFirst : (Values → Type 0) → Value → Type 0
-IsFirst P w = (ws : Values) × P (value w ws)
+-- The value says it.
+abbrev pub Says : Value → Saying → Type 0
+Says (Taint on) TaintOn = on ≡ true
+Says (Scalar pick held) (StaysBeside v) = first_of (pick_cmp pick) (Some v) held ≡ held
+Says (Set kind vs) (HasElement v) = IsIn v vs
+Says (Counter counts) (CountsTo writer n) = (m : ℕ) × IsAt writer m counts × (n ≤ m)
+Says (Map es) (HasKey key) = IsIn key (keys_of (pairs es))
+Says (Map es) (OfKey key s) = (v : Value) × IsAt key v (pairs es) × Says v s
+Says (Bag vs) (OfField at s) = (v : Value) × (slice_get (values_list vs) at ≡ Some v) × Says v s
+Says v s = ⊥
 
-abbrev pub IsBehind : (Values → Type 0) → Values → Type 0
-IsBehind P ws = (w : Value) × P (value w ws)
+-- One of the values says it.
+abbrev pub IsSaid : Saying → List Value → Type 0
+IsSaid s values = (v : Value) × IsIn v values × Says v s
 
--- All that the value says is said by some of the values of which P holds: a taint that is on by one that is on, a scalar by one over which it doesn't stay, an
--- element by a set that has it, a count by one of its writer that isn't less; a key by a map that has it, with what its values say together of the key's value; and
--- a bag field by field.
-abbrev mutual
-  pub IsSaidBy : Value → (Value → Type 0) → Type 0
-  IsSaidBy (Taint on) P = on ≡ true → P (Taint true)
-  IsSaidBy (Scalar pick None) P = Unit {0}
-  IsSaidBy (Scalar pick (Some v)) P = (w : ScalarValue) × P (Scalar pick (Some w)) × (pick_cmp pick v w ≢ Less)
-  IsSaidBy (Set kind vs) P = (v : ScalarValue) → IsIn v vs → (ws : List ScalarValue) × P (Set kind ws) × IsIn v ws
-  IsSaidBy (Counter counts) P =
-      (writer : List ℕ) (n : ℕ) → IsAt writer n counts
-      → (others : List (List ℕ × ℕ)) × (m : ℕ) × P (Counter others) × IsAt writer m others × (n ≤ m)
-  IsSaidBy (Map es) P = AreSaidAt es P
-  IsSaidBy (Bag vs) P = AreSaidBy vs (λ ws. P (Bag ws))
+-- All that the value says is said by others, each thing by one of them.
+abbrev pub IsSaidBy : Value → List Value → Type 0
+IsSaidBy v others = (s : Saying) → Says v s → IsSaid s others
 
-  -- The same for each key of a map.
-  pub AreSaidAt : Entries → (Value → Type 0) → Type 0
-  AreSaidAt no_entry P = Unit {0}
-  AreSaidAt (entry key v es) P = ((w : Value) × HasAtKey P key w) × IsSaidBy v (HasAtKey P key) × AreSaidAt es P
+-- The value stands at the key of a map.
+abbrev pub IsAtKey : ScalarValue → Value → Value → Type 0
+IsAtKey key map v = (es : Entries) × (map ≡ Map es) × IsAt key v (pairs es)
 
-  -- The same for each field of a bag.
-  pub AreSaidBy : Values → (Values → Type 0) → Type 0
-  AreSaidBy no_value P = Unit {0}
-  AreSaidBy (value v vs) P = IsSaidBy v (IsFirst P) × AreSaidBy vs (IsBehind P)
+-- The value is that of the field at this place of a bag.
+abbrev pub IsOfField : ℕ → Value → Value → Type 0
+IsOfField at bag v = (vs : Values) × (bag ≡ Bag vs) × (slice_get (values_list vs) at ≡ Some v)
 
 -- The values are of one shape.
-abbrev pub AreOfOne : Value → List Value → Type 0
-AreOfOne v parts = (shape : Shape) × IsOfShape shape v × ((x : Value) → IsIn x parts → IsOfShape shape x)
+abbrev pub AreOfOneShape : List Value → Type 0
+AreOfOneShape values = (shape : Shape) × ((v : Value) → IsIn v values → IsOfShape shape v)
+
+-- The values are of the shape, and this is their join.
+pub record IsJoinOfAll (shape : Shape) (values : List Value) (joined : Value) : Type 0 where
+  pub of_shape : (v : Value) → IsIn v values → IsOfShape shape v
+  pub join : IsLeastAbove shape (λ v. IsIn v values) joined
+
+-- The join of the first values is that of the second, too.
+abbrev pub HaveOneJoin : List Value → List Value → Type 0
+HaveOneJoin values others = (shape : Shape) (joined : Value) → IsJoinOfAll shape values joined → IsJoinOfAll shape others joined
 
 -- The plain values behind some references.
 abbrev pub values_of : List (Bor Val) → List Value
-values_of parts = map (λ part. plain part.now) parts
+values_of values = map (λ value. plain value.now) values

@@ -14,6 +14,7 @@ mod marks;
 mod news;
 mod reaching;
 mod reading;
+mod together;
 mod verdicts;
 
 pub use certificates::why;

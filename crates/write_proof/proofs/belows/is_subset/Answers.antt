@@ -1,26 +1,13 @@
-use Rattle.std.proofs.Common.{◌≡◌, List, map, Some, sym, ap, ◌∙◌, subst, refl, arith}
+use Rattle.std.proofs.Common.{◌≡◌, map, Some, sym, ap, ◌∙◌, subst, refl, arith}
 use Rattle.std.specs.List.{slice_get}
 use Rattle.std.specs.Option.{option_copied}
 use Rattle.context_model.specs.Orders.{IsIn}
 use Rattle.context_model.proofs.GreedyElements.{All-at}
 use Rattle.bag_model.specs.Scalars.{IsScalarOf}
-use Rattle.scalar_types.specs.KindLaws.{scalar_of, scalar_back}
 use Rattle.scalar_types.specs.KindViews.{kind_of}
 use Rattle.scalar_types.specs.ScalarViews.{value_of}
-use Rattle.scalar_types.specs.declared.scalars.Scalar.{Scalar}
-use Rattle.write_proof.proofs.BelowCalls.{in_place, place_in, map_place, place_map, place_within, yes_answer, no_answer, each_more}
+use Rattle.write_proof.proofs.BelowCalls.{in_place, place_in, place_map, place_within, in_values, from_values, yes_answer, no_answer, each_more}
 use Rattle.write_proof.proofs.belows.is_subset.Goals as goal
-
--- a scalar is in a list exactly where its value is among the list's values
-in_values : (v : Scalar) (vs : List Scalar) → IsIn v vs → IsIn (value_of v) (map value_of vs)
-in_values v vs i = let s = in_place v vs i in place_in (value_of v) (map value_of vs) s.0 (map_place value_of vs s.0 v s.1)
-
-from_values : (v : Scalar) (vs : List Scalar) → IsIn (value_of v) (map value_of vs) → IsIn v vs
-from_values v vs i =
-    let s = in_place (value_of v) (map value_of vs) i in
-    let t = place_map value_of vs s.0 (value_of v) s.1 in
-    let same : t.0 ≡ v = sym (scalar_back t.0) ∙ ap scalar_of t.2 ∙ scalar_back v in
-    place_in v vs s.0 (subst (λ x. slice_get vs s.0 ≡ Some x) same t.1)
 
 pub contains-requires : goal.contains-requires
 contains-requires c =

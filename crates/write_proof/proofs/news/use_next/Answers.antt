@@ -1,4 +1,4 @@
-use Rattle.std.proofs.Common.{◌≡◌, ℕ, subst}
+use Rattle.std.proofs.Common.{◌≡◌, ℕ, map, subst}
 use Rattle.std.proofs.lemmas.Result.{on_ok_weaker}
 use Rattle.bag_value.specs.Plain.{plain}
 use Rattle.bag_model.specs.Shapes.{Shape, Nodes}
@@ -6,8 +6,7 @@ use Rattle.bag_model.specs.Values.{Value}
 use Rattle.trace_model.specs.Graphs.{Graph, IsRecorded}
 use Rattle.write_proof.specs.Contributions.{ContributesAt, contributed}
 use Rattle.write_proof.specs.WholeRules.{StepContributes}
-use Rattle.write_proof.proofs.ContributionCalls.{one_shape}
-use Rattle.write_proof.proofs.Newly.{next_used, next_joined, next_nothing}
+use Rattle.write_proof.proofs.Newly.{shape_with, next_used, next_parts, next_nothing}
 use Rattle.write_proof.proofs.news.use_next.Goals as goal
 
 -- A contribution is the value that it is.
@@ -16,9 +15,11 @@ same_at table graph slot n x y same own = λ at there. subst (StepContributes gr
 
 pub use_value-requires : goal.use_value-requires
 use_value-requires c =
-    one_shape c.args.table.now c.args.graph.now c.args.slot c.known.ensures.table c.known.ensures.graph c.requires.table c.requires.slot c.args.step (plain c.in-Some.value.now) (plain c.args.used.now.joined)
-    (λ at there. (c.requires.joined at there).of_shape)
-    (same_at c.args.table.now c.args.graph.now c.args.slot c.args.step (λ shape. contributed shape c.in_ok-own.own) (λ shape. plain c.in-Some.value.now) c.in-Some.ensures c.in_ok-own.ensures)
+    let table = c.args.table.now in
+    let graph = c.args.graph.now in
+    let recorded : IsRecorded table graph = record { table = c.known.ensures.table; sound = c.known.ensures.graph; fits = c.requires.table } in
+    let own = same_at table graph c.args.slot c.args.step (λ shape. contributed shape c.in_ok-own.own) (λ shape. plain c.in-Some.value.now) c.in-Some.ensures c.in_ok-own.ensures in
+    shape_with table graph recorded c.args.slot c.requires.slot c.args.step (plain c.in-Some.value.now) c.args.used.now.steps.items (map plain c.args.used.now.parts.items) own c.requires.parts
 
 pub returns-in-Some-clause-next : goal.returns-in-Some-clause-next
 returns-in-Some-clause-next c =
@@ -27,17 +28,17 @@ returns-in-Some-clause-next c =
     let recorded : IsRecorded table graph = record { table = c.known.ensures.table; sound = c.known.ensures.graph; fits = c.requires.table } in
     let own = same_at table graph c.args.slot c.args.step (λ shape. contributed shape c.in_ok-own.own) (λ shape. plain c.in-Some.value.now) c.in-Some.ensures c.in_ok-own.ensures in
     on_ok_weaker c.use_value.result
-    (λ uses at there. next_used table graph recorded c.args.slot at there c.args.step (plain c.in-Some.value.now) (plain c.args.used.now.joined) (plain c.use_value.new.used.joined) c.args.used.now.steps.items c.use_value.new.used.steps.items (own at there) (c.requires.joined at there) uses)
+    (λ uses at there. next_used table graph recorded c.args.slot at there c.args.step (plain c.in-Some.value.now) (map plain c.args.used.now.parts.items) (map plain c.use_value.new.used.parts.items) c.args.used.now.steps.items c.use_value.new.used.steps.items (own at there) (c.requires.parts at there) uses)
     c.use_value.ensures
 
-pub returns-in-Some-clause-joined : goal.returns-in-Some-clause-joined
-returns-in-Some-clause-joined c =
+pub returns-in-Some-clause-parts : goal.returns-in-Some-clause-parts
+returns-in-Some-clause-parts c =
     let table = c.args.table.now in
     let graph = c.args.graph.now in
     let recorded : IsRecorded table graph = record { table = c.known.ensures.table; sound = c.known.ensures.graph; fits = c.requires.table } in
     let own = same_at table graph c.args.slot c.args.step (λ shape. contributed shape c.in_ok-own.own) (λ shape. plain c.in-Some.value.now) c.in-Some.ensures c.in_ok-own.ensures in
     on_ok_weaker c.use_value.result
-    (λ uses at there. next_joined table graph recorded c.args.slot at there c.args.step (plain c.in-Some.value.now) (plain c.args.used.now.joined) (plain c.use_value.new.used.joined) c.args.used.now.steps.items c.use_value.new.used.steps.items (own at there) (c.requires.joined at there) uses)
+    (λ uses at there. next_parts table graph recorded c.args.slot at there c.args.step (plain c.in-Some.value.now) (map plain c.args.used.now.parts.items) (map plain c.use_value.new.used.parts.items) c.args.used.now.steps.items c.use_value.new.used.steps.items (own at there) (c.requires.parts at there) uses)
     c.use_value.ensures
 
 pub returns-clause-next : goal.returns-clause-next
@@ -45,5 +46,5 @@ returns-clause-next c =
     let table = c.args.table.now in
     let graph = c.args.graph.now in
     let recorded : IsRecorded table graph = record { table = c.known.ensures.table; sound = c.known.ensures.graph; fits = c.requires.table } in
-    λ at there. next_nothing table graph recorded c.args.slot at there c.args.step (plain c.args.used.now.joined) c.args.used.now.steps.items
-    (subst (StepContributes graph c.args.slot at c.args.step) (c.in-None.ensures at.shape) (c.in_ok-own.ensures at there)) (c.requires.joined at there)
+    λ at there. next_nothing table graph recorded c.args.slot at there c.args.step (map plain c.args.used.now.parts.items) c.args.used.now.steps.items
+    (subst (StepContributes graph c.args.slot at c.args.step) (c.in-None.ensures at.shape) (c.in_ok-own.ensures at there)) (c.requires.parts at there)

@@ -1,17 +1,17 @@
-use Rattle.std.proofs.Common.{◌≡◌, inl, true, false, sym, ap, ◌∙◌}
-use Rattle.bag_model.specs.Joins.{join, IsValueBelow}
-use Rattle.bag_model.proofs.OfShape.{Alike-shape}
+use Rattle.std.proofs.Common.{inl, inr, ◌∷◌, map, refl, sym, subst}
 use Rattle.bag_value.specs.Plain.{plain}
-use Rattle.bag_value.specs.PlainLaws.{plain_back}
+use Rattle.write_proof.specs.Together.{AreOfOneShape, HaveOneJoin, IsSaidBy}
 use Rattle.write_proof.proofs.news.use_value.Goals as goal
 
-pub is_below-requires-clause-alike : goal.is_below-requires-clause-alike
-is_below-requires-clause-alike c = Alike-shape c.requires.0 (plain c.args.value.now) (plain c.args.used.now.joined) c.requires.1 c.requires.2
-
-pub join-requires : goal.join-requires
-join-requires c = Alike-shape c.requires.0 (plain c.args.used.now.joined) (plain c.args.value.now) c.requires.2 c.requires.1
+pub add_part-requires : goal.add_part-requires
+add_part-requires c = subst (λ v. AreOfOneShape (plain v ∷ map plain c.args.used.now.parts.items)) (sym c.in_ok-own.ensures) c.requires
 
 pub returns : goal.returns
 returns c =
-    let more : IsValueBelow (plain c.args.value.now) (plain c.args.used.now.joined) → ⊥ = λ below. (let clash : false ≡ true = sym c.if-is_below.false ∙ c.is_below.ensures.1 below in cc clash) in
-    inl (more, c.in_ok-push.ensures.items, ap plain c.in_ok-join.ensures.ok ∙ plain_back (join (plain c.args.used.now.joined) (plain c.args.value.now)))
+    let own = plain c.args.value.now in
+    let parts = c.args.used.now.parts.items in
+    let more : IsSaidBy (plain c.args.value.now) (map plain c.args.used.now.parts.items) → ⊥ = λ said. (let bad = c.in_ok-is_said_by_parts.ensures.1 (subst (λ l. IsSaidBy own (map plain l)) (sym c.deref.ensures.value) said) in cc (bad, c.if-branch.false)) in
+    inl (more, c.in_ok-push.ensures.items, subst (λ v. HaveOneJoin (plain v ∷ map plain parts) (map plain c.add_part.new.parts.items)) c.in_ok-own.ensures c.in_ok-add_part.ensures)
+
+pub returns-then-branch : goal.returns-then-branch
+returns-then-branch c = inr (subst (λ l. IsSaidBy (plain c.args.value.now) (map plain l)) c.deref.ensures.value (c.in_ok-is_said_by_parts.ensures.0 c.if-branch.true), refl, refl)

@@ -5,7 +5,7 @@ use Rattle.field_table.specs.Plain.{shape_of}
 use Rattle.trace_model.specs.Contributions.{IsLeastAbove}
 use Rattle.write_proof.specs.WholeRules.{IsOfSteps}
 use Rattle.write_proof.specs.News.{AreNewsAt, AreNewsOf}
-use Rattle.write_proof.proofs.Newly.{news_none, news_taken}
+use Rattle.write_proof.proofs.Newly.{none_parts, news_none, news_taken}
 use Rattle.write_proof.proofs.Reached.{place_in, whole_taken}
 use Rattle.write_proof.proofs.ContributionCalls.{none_joined}
 use Rattle.write_proof.proofs.news.used_steps.Goals as goal
@@ -17,9 +17,7 @@ loop-step-init c =
     let slot = c.args.slot in
     let recorded : IsRecorded table graph = record { table = c.known.ensures.table; sound = c.known.ensures.graph; fits = c.requires.table } in
     record {
-      joined = λ at there.
-          subst (λ (l : List ℕ). IsLeastAbove at.shape (IsOfSteps graph slot at l) (plain c.in_ok-joined.joined)) (sym c.new.ensures.items)
-          (none_joined table graph slot c.known.ensures.table c.known.ensures.graph c.requires.table (shape_of c.shape.result.now) (plain c.in_ok-joined.joined) c.shape.ensures c.in_ok-joined.ensures at there);
+      parts = λ at there. rw (c.new.ensures.items, c.new-2.ensures.items) (none_parts table graph recorded slot at there);
       news = λ at there. subst (AreNewsOf graph slot at []) (sym c.new.ensures.items) (news_none table graph recorded slot at there);
     }
 
@@ -37,7 +35,7 @@ loop-step-preserved c =
     let i = c.loop-step.step-index in
     let recorded : IsRecorded table graph = record { table = c.known.ensures.table; sound = c.known.ensures.graph; fits = c.requires.table } in
     record {
-      joined = c.in_ok-use_next.ensures.joined;
+      parts = c.in_ok-use_next.ensures.parts;
       news = λ at there. news_taken table graph recorded c.args.slot at there ks i c.loop-step.used.steps.items c.use_next.new.used.steps.items c.requires.rises (omega arith) (c.loop-step.invariant.news at there) (c.in_ok-use_next.ensures.next at there);
     }
 

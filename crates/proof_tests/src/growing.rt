@@ -1,0 +1,45 @@
+//! A certificate that uses many steps.
+
+use crate::fixtures::{certificate_of, graph_of, table_of, verdict_on};
+use std::alloc::Global;
+use std::test::Fail;
+
+/// How many steps write, each an element of its own.
+const WRITES: usize = 2000;
+
+/// The graph of these steps, one behind the other, with the elements in order.
+fn growing(alloc: Global) -> Result<String, Fail> {
+    let mut text = String::from_str(alloc, "service a all\nstart 0 a\n")?;
+    for before in 0..WRITES {
+        let step = before + 1;
+        text.push_str(format!(in alloc; "set {step} {before} tags \"{step:04}\"\n")?.as_str())?;
+    }
+    Ok(text)
+}
+
+/// The certificate for all elements: it uses each of the steps.
+fn certificate(alloc: Global) -> Result<String, Fail> {
+    let mut value = String::from_str(alloc, "\"0001\"")?;
+    let mut reaching = String::from_str(alloc, "reach 0 1\n")?;
+    let mut using = String::from_str(alloc, "uses 1\n")?;
+    for before in 1..WRITES {
+        let step = before + 1;
+        value.push_str(format!(in alloc; ",\"{step:04}\"")?.as_str())?;
+        reaching.push_str(format!(in alloc; "reach {before} {step}\n")?.as_str())?;
+        using.push_str(format!(in alloc; "uses {step}\n")?.as_str())?;
+    }
+    Ok(format!(in alloc; "why {WRITES} tags\nvalue {{{value}}}\n{reaching}{using}")?)
+}
+
+#[test]
+fn certificates_of_growing_values(rt: HostRuntime) -> Result<(), Fail> {
+    let alloc = rt.alloc();
+    let table = table_of(&rt, alloc)?;
+    let graph = graph_of(&rt, alloc, &table, growing(alloc)?.as_str());
+    let expected = certificate(alloc)?;
+    let own = certificate_of(&rt, alloc, &table, &graph, WRITES, "tags")?;
+    assert_eq!(rt; own.as_slice(), expected.as_str().as_bytes());
+    let verdict = verdict_on(alloc, &table, &graph, expected.as_str())?;
+    assert_eq!(rt; verdict.as_str(), "yes");
+    Ok(())
+}
