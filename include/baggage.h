@@ -26,8 +26,8 @@
 extern "C" {
 #endif
 
-/* What a call came to. Form and budget are looked at before all else, and the room last; want of memory may come at any time between.
- * Of the others the first counts, in the order of the arguments that they speak of as each call names it. */
+/* What a call came to. Form and budget are looked at before all else, and the room last; want of memory may come at any time between. Of the
+ * other causes the first counts: of several contexts that of the first wrong one, and on a field in the order that the call names. */
 enum baggage_status {
     BAGGAGE_OK = 0,     /* done */
     BAGGAGE_FAULT = 1,  /* an input isn't the bytes of a context: the first such input, and its first fault */
@@ -115,19 +115,19 @@ baggage_answer baggage_trim(uint32_t form, const uint8_t *context, size_t contex
 baggage_answer baggage_forward(uint32_t form, const uint8_t *first, size_t first_len, const uint8_t *second, size_t second_len,
                                uint64_t budget, uint8_t *room, size_t room_len);
 
-/* The calls below know the types of one bag. `table` is the text that `baggage table FILE BAG` prints of a definition, without a byte more
- * or less; a program can hold it as a constant. `name` is the name path of one of its slots: names with dots between them, as
- * `baggage check FILE BAG` counts them and `baggage decode` prints them. Neither ends in a null byte. */
+/* The calls below know the types of one bag. `table` is the text that `baggage table FILE BAG` prints of a definition, to the byte; a program
+ * can hold it as a constant. `name` is the name path of one of its slots, as `baggage decode` prints them: names with dots between them. No
+ * text ends in a null byte, or its length doesn't count it. */
 
-/* What a context says of a field: the text of its value as in a report, with `code` for whether that is all that was said. Of a field
- * of which nothing is said the text is that of its bottom, as `-`, `off` or `{}`. First the table is looked at, then the name, the bytes
- * and the spelling of each atom of a field that the table has. */
+/* What a context says of a field: the text of its value as in a report, with `code` for whether that is all that was said. Of a field of
+ * which nothing is said the text is that of its bottom, as `-`, `off` or `{}`. The table is looked at first, then the name, then the bytes
+ * of the context, and then whether each of its atoms is spelled as the table says, those of other fields too. */
 baggage_answer baggage_read_field(const uint8_t *table, size_t table_len, const uint8_t *context, size_t context_len, const uint8_t *name,
                                   size_t name_len, uint8_t *room, size_t room_len);
 
-/* The context that says what `text` writes to the field, and nothing else; a merge with another context adds the write to that. The text
- * is as in a `set` line of a graph: `7`, `"spring"`, `on`, `"writer":3` and so on. First the table is looked at, then the name and the
- * text. */
+/* The context that says what `text` writes to the field, and nothing else; a merge with another context adds the write to that one. The
+ * text is as in a `set` line of a graph: `7`, `"spring"`, `on`, `"writer":3` and so on. The table is looked at first, then the name, and then
+ * the text. */
 baggage_answer baggage_write_field(uint32_t form, const uint8_t *table, size_t table_len, const uint8_t *name, size_t name_len,
                                    const uint8_t *text, size_t text_len, uint8_t *room, size_t room_len);
 
