@@ -67,9 +67,9 @@ def check_names():
 
 
 def check_excerpts():
-    """Each block of code in the README and in HEADLINE stands in a source, line by line."""
+    """Each block of code in the README, in LIBRARY and in HEADLINE stands in a source, line by line."""
     stripped = ["\n".join(line.strip() for line in text_of(path).split("\n")) for path in sources(".rt")]
-    for document in ["README.md", "docs/HEADLINE.md"]:
+    for document in ["README.md", "docs/LIBRARY.md", "docs/HEADLINE.md"]:
         for kind, block in re.findall(r"(?ms)^```(rust|)\n(.*?)^```", text_of(document)):
             if kind == "rust" or block.startswith("ensures "):
                 lines = "\n".join(line.strip() for line in block.strip().split("\n"))
@@ -78,12 +78,12 @@ def check_excerpts():
 
 
 def check_crates():
-    """The README's map names each crate, and nothing else."""
+    """The map of crates names each crate, and nothing else."""
     listed = set(re.findall(r"(?m)^(\w+)[^:\n#]*:", text_of("crates.txt")))
-    layers = text_of("README.md").split("## The crates, by layer")[1]
+    layers = text_of("docs/CRATES.md")
     named = {name for row in re.findall(r"(?m)^\|[^|]*\|([^|]*)\|", layers) for name in re.findall(r"`(\w+)`", row)}
-    bad.extend(f"README.md: the map of crates lacks {name}" for name in sorted(listed - named))
-    bad.extend(f"README.md: the map of crates names {name}, which crates.txt doesn't" for name in sorted(named - listed))
+    bad.extend(f"docs/CRATES.md: the map of crates lacks {name}" for name in sorted(listed - named))
+    bad.extend(f"docs/CRATES.md: the map of crates names {name}, which crates.txt doesn't" for name in sorted(named - listed))
 
 
 def check_examples():
