@@ -4,7 +4,7 @@ use Rattle.std.proofs.lemmas.Bool.{cases_lt}
 use Rattle.std.specs.List.{slice_get}
 use Rattle.bag_model.specs.Shapes.{Nodes}
 use Rattle.bag_model.proofs.SlotLaws.{get_front, get_back}
-use Rattle.accessor_gen.specs.Accessors.{IsAccessorOf}
+use Rattle.accessor_gen.specs.Finding.{IsAccessorOf}
 use Rattle.accessor_gen.specs.declared.access.Accessor.{Accessor}
 
 -- Each has its place as the number of its slot.

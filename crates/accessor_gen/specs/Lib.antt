@@ -1,3 +1,3 @@
-pub mod Accessors
-pub mod Readings
-pub mod Writes
+pub mod Finding
+pub mod Access
+pub mod Laws

@@ -8,9 +8,9 @@ ghost use Rattle.bag_model.specs.SlotValues.{HasSlot, only};
 ghost use Rattle.bag_model.specs.Tables.{IsShape};
 ghost use Rattle.bag_model.specs.Typed.{AreTyped};
 ghost use Rattle.bag_model.specs.Values.{IsOfShape};
-ghost use Rattle.bag_value.specs.Plain.{plain};
+ghost use Rattle.bag_value.specs.Vals.{plain};
 ghost use Rattle.field_table.specs.Plain.{shape_of};
-ghost use Rattle.accessor_gen.specs.Readings.{IsReadingOf};
+ghost use Rattle.accessor_gen.specs.Access.{IsReadingOf};
 
 use atom_list::Context;
 use bag_decode::decode_slot;

@@ -2,7 +2,7 @@
 
 ghost use Rattle.std.specs.Prelude.{◌≡◌, ◌<◌, length, IfOk};
 ghost use Rattle.bag_model.specs.Slots.{slots_of};
-ghost use Rattle.accessor_gen.specs.Accessors.{IsAccessorOf, AreAccessors, FindsAccessor};
+ghost use Rattle.accessor_gen.specs.Finding.{IsAccessorOf, AreAccessors, FindsAccessor};
 
 use crate::access::Accessor;
 use field_table::Table;

@@ -8,7 +8,7 @@ use Rattle.context_model.proofs.KindLaws.{HasKind-unique}
 use Rattle.atom_kinds.specs.declared.Kind.{Kind}
 use Rattle.atom_kinds.specs.declared.KindFault.{KindFault}
 use Rattle.atom_kinds.specs.declared.KindFault.TheVariants.{BadPrefix, BadIndex}
-use Rattle.atom_kinds.specs.Told.{outer_kind, TellsKind}
+use Rattle.atom_kinds.specs.Kinds.{outer_kind, TellsKind}
 
 pub record Answers (atom : List ℕ) (result : Result Kind KindFault) : Type 0 where
   pub kind : (kind : Kind) → (result ≡ Ok kind) ↔ TellsKind atom kind

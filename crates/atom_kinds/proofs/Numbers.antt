@@ -2,7 +2,7 @@
 use Rattle.std.proofs.Common.{◌≡◌, ℕ, ◌^◌, ◌<◌, List, [], ◌∷◌, ◌++◌, length, Result, Ok, Err, Some, None, sym, ap, ◌∙◌, arith, append-nil, length-append}
 use Rattle.std.specs.Result.{result_ok}
 use Rattle.context_model.specs.Varints.{unsigned_varint}
-use Rattle.lex_varint.specs.Fronts.{IsUnsignedAt}
+use Rattle.lex_varint.specs.Readings.{IsUnsignedAt}
 use Rattle.lex_varint.specs.declared.VarintFault.{VarintFault}
 
 -- the code at the front is all there is where it has as many bytes

@@ -3,7 +3,7 @@
 ghost use Rattle.std.specs.Prelude.{◌≡◌, ℕ, List};
 ghost use Rattle.context_model.specs.Kinds.{atom_of, IsKind};
 ghost use Rattle.context_model.specs.Kinds.{Kind as PlainKind};
-ghost use Rattle.atom_kinds.specs.Told.{outer_kind, TellsKind};
+ghost use Rattle.atom_kinds.specs.Kinds.{outer_kind, TellsKind};
 ghost use Rattle.atom_kinds.specs.declared.Kind.{Kind as AnyKind};
 
 /// The atom of a kind is told to be of that kind.

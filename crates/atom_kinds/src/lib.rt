@@ -11,7 +11,7 @@ ghost use Rattle.context_model.specs.Kinds.Kind.{Datum as PlainDatum, Indexed as
 ghost use Rattle.context_model.specs.Varints.{unsigned_varint};
 ghost use Rattle.context_model.specs.Orders.{atom_cmp};
 ghost use Rattle.context_model.specs.Paths.{is_header};
-ghost use Rattle.atom_kinds.specs.Told.{TellsKind, IsHeaderOfLevel, IsNumber};
+ghost use Rattle.atom_kinds.specs.Kinds.{TellsKind, IsHeaderOfLevel, IsNumberCode};
 ghost use Rattle.atom_kinds.specs.declared.Kind.{Kind as AnyKind};
 
 use lex_varint::{put_u64, take_u64};
@@ -51,7 +51,7 @@ const LOWEST_HEADER: u8 = 0x80;
 
 /// The number whose code the bytes are, from the first to the last.
 fn whole_number(bytes: &[u8]) -> Option<u64>
-    ensures { MatchOption result ((number : ℕ) → ¬ (IsNumber bytes.now number)) (IsNumber bytes.now) }
+    ensures { MatchOption result ((number : ℕ) → ¬ (IsNumberCode bytes.now number)) (IsNumberCode bytes.now) }
 {
     let (number, count) = take_u64(bytes).ok()?;
     if count == bytes.len() {

@@ -16,7 +16,7 @@ use Rattle.context_model.proofs.Beyond.{beyond_none, beyond_all, beyond_less, be
 use Rattle.context_model.proofs.EndedLaws.{EndsByCases, IsEnded-markers}
 use Rattle.context_model.proofs.HeadersAfter.{headers_after-other, headers_after-header}
 use Rattle.context_model.proofs.Places.{last_path_after-more, front_of-take, IsEnded-at, marker_place}
-use Rattle.atom_list.specs.Open.{atom_at, path_before}
+use Rattle.atom_list.specs.OpenPlaces.{atom_at, path_before}
 use Rattle.atom_list.proofs.Walking.{path_next, fits_at}
 
 -- ---- a field, header by header

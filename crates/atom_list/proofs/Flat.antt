@@ -7,7 +7,7 @@ use Rattle.context_model.specs.Atoms.{Atom, AreAtoms}
 use Rattle.context_model.specs.declared.Form.TheVariants.{One}
 use Rattle.context_model.specs.Framing.{base_128, length_code, frame, frames}
 use Rattle.context_model.proofs.FramingLaws.{frames-append, frames-more, frames_len-append, frames_len-front, length_code-some}
-use Rattle.atom_list.specs.Starts.{first_atom, atom_at, atoms_at, IsStart, AreStarts, BeginsFrame, starts_from, BeginsWith, IsFlat, IsPieceOf}
+use Rattle.atom_list.specs.Starts.{first_atom, atom_at, atoms_at, IsStart, AreStarts, BeginsFrame, starts_from, BeginsWithFrames, IsFlat, IsPieceOf}
 use Rattle.atom_list.proofs.Frames.{first_atom-framed, short_atom}
 
 -- ---- the bytes of fronts
@@ -105,7 +105,7 @@ atoms_at-from before after at (x ∷ list) e short =
 -- ---- a list whose first atoms are frames one behind the other
 
 -- A buffer that begins with frames begins with fewer of them.
-pub begins_with_fewer : (n : ℕ) (bytes starts : List ℕ) (front : List Atom) → BeginsWith bytes starts front → BeginsWith bytes (take n starts) (take n front)
+pub begins_with_fewer : (n : ℕ) (bytes starts : List ℕ) (front : List Atom) → BeginsWithFrames bytes starts front → BeginsWithFrames bytes (take n starts) (take n front)
 begins_with_fewer n bytes starts front begins =
     let all : frames One front ≡ frames One (take n front) ++ frames One (drop n front) = ap (frames One) (sym (take-append-drop n front)) ∙ frames-append One (take n front) (drop n front) in
     let size = frames_len-append One (take n front) (drop n front) in
@@ -122,7 +122,7 @@ pub flat_front : (bytes starts starts' : List ℕ) (laid n : ℕ) → IsFlat byt
     → length (frames One (atoms_at bytes starts')) ≤ length (frames One (atoms_at bytes starts)) → IsFlat bytes starts' n
 flat_front bytes starts starts' laid n flat fewer within same fit lighter =
     let list = atoms_at bytes starts in
-    let front : BeginsWith bytes (take n (take laid starts)) (take n (take laid list)) = begins_with_fewer n bytes (take laid starts) (take laid list) flat.front in
+    let front : BeginsWithFrames bytes (take n (take laid starts)) (take n (take laid list)) = begins_with_fewer n bytes (take laid starts) (take laid list) flat.front in
     let these : take n (take laid starts) ≡ take n starts' = take-take n laid starts fewer ∙ sym same in
     let those : take n (take laid list) ≡ take n (atoms_at bytes starts') =
     take-take n laid list fewer ∙ take-map (atom_at bytes) n starts ∙ ap (map (atom_at bytes)) (sym same) ∙ sym (take-map (atom_at bytes) n starts') in
@@ -130,7 +130,7 @@ flat_front bytes starts starts' laid n flat fewer within same fit lighter =
       fit = fit;
       few = flat.few;
       within = within;
-      front = subst (λ v. BeginsWith bytes (take n starts') v) those (subst (λ v. BeginsWith bytes v (take n (take laid list))) these front);
+      front = subst (λ v. BeginsWithFrames bytes (take n starts') v) those (subst (λ v. BeginsWithFrames bytes v (take n (take laid list))) these front);
       light = omega (arith, flat.light);
     }
 

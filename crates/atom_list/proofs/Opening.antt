@@ -15,8 +15,8 @@ use Rattle.context_model.specs.ShapeFault.{IsWrong}
 use Rattle.context_model.proofs.Following.{Fits-marker, header_count-length, next_bound, marker_kind}
 use Rattle.context_model.proofs.PathPlaces.{place_below, place_at, length_at, later_end, later_place}
 use Rattle.atom_kinds.specs.declared.Kind.TheVariants.{Marker, Datum, Indexed, Keyed}
-use Rattle.atom_kinds.specs.Told.{outer_kind, TellsKind}
-use Rattle.atom_list.specs.Open.{atom_at, EndsWith, IsOpen, IsHeaderOf, MayFollow}
+use Rattle.atom_kinds.specs.Kinds.{outer_kind, TellsKind}
+use Rattle.atom_list.specs.OpenPlaces.{atom_at, EndsWith, IsOpenPath, IsHeaderOf, MayStandBehind}
 
 -- A header's path has as many headers before it as its level.
 header_path : (q : Path) (a : Atom) → is_header a ≡ true → path_after q a ≡ take (level a) q ++ a ∷ []
@@ -25,7 +25,7 @@ header_path q (b ∷ bytes) e = ap (λ v. take (cond v (level (b ∷ bytes)) (he
 
 -- ---- markers
 
-pub marker_follows : (q : Path) → MayFollow q []
+pub marker_follows : (q : Path) → MayStandBehind q []
 marker_follows q = let f = Fits-marker q in record {
   kind = marker_kind;
   level = f.level;
@@ -40,7 +40,7 @@ marker_ends list q count None number (inr marker) =
 marker_ends list q count None number (inl whole) =
     inr (subst (λ n. slice_get (path_after q []) n ≡ Some []) whole (place_at (length q) q [] (le_refl (length q))))
 
-pub marker_opens : (list : List Atom) (q : Path) (above : List ℕ) (datum : Option ℕ) → IsOpen list q above datum → IsOpen list (path_after q []) above datum
+pub marker_opens : (list : List Atom) (q : Path) (above : List ℕ) (datum : Option ℕ) → IsOpenPath list q above datum → IsOpenPath list (path_after q []) above datum
 marker_opens list q above datum opened = record {
   number = opened.number ∙ sym (next_bound q [] (λ e. cc));
   few = opened.few;
@@ -54,7 +54,7 @@ marker_opens list q above datum opened = record {
 -- ---- data
 
 -- A datum comes later than what stands in its place.
-pub datum_later : (list : List Atom) (q : Path) (above : List ℕ) (datum : Option ℕ) (payload : List ℕ) → IsOpen list q above datum
+pub datum_later : (list : List Atom) (q : Path) (above : List ℕ) (datum : Option ℕ) (payload : List ℕ) → IsOpenPath list q above datum
     → ((place : ℕ) → datum ≡ Some place → atom_cmp (atom_at list place) (0 ∷ payload) ≡ Less) → path_cmp q (path_after q (0 ∷ payload)) ≡ Less
 datum_later list q above datum payload opened less =
     subst (λ n. path_cmp q (take n q ++ (0 ∷ payload) ∷ []) ≡ Less) opened.number (by datum opened.behind less)
@@ -65,7 +65,7 @@ datum_later list q above datum payload opened less =
     by None (inl whole) less = later_end (length above) q (0 ∷ payload) whole
     by None (inr marker) less = (later_place (length above) q (0 ∷ payload) [] marker).1 refl
 
-pub datum_is_less : (list : List Atom) (q : Path) (above : List ℕ) (datum : Option ℕ) (payload : List ℕ) → IsOpen list q above datum
+pub datum_is_less : (list : List Atom) (q : Path) (above : List ℕ) (datum : Option ℕ) (payload : List ℕ) → IsOpenPath list q above datum
     → path_cmp q (path_after q (0 ∷ payload)) ≡ Less → (place : ℕ) → datum ≡ Some place → atom_cmp (atom_at list place) (0 ∷ payload) ≡ Less
 datum_is_less list q above datum payload opened later place is =
     let stands : EndsWith list q (length above) (Some place) = subst (EndsWith list q (length above)) is opened.behind in
@@ -74,19 +74,19 @@ datum_is_less list q above datum payload opened later place is =
     ((later_place (length above) q (0 ∷ payload) (0 ∷ stands.0) stands.1.1).0 (subst (λ n. path_cmp q (take n q ++ (0 ∷ payload) ∷ []) ≡ Less) (sym opened.number) later))
 
 -- The datum stands in the list.
-pub datum_within : (list : List Atom) (q : Path) (above : List ℕ) (datum : Option ℕ) → IsOpen list q above datum → (place : ℕ) → datum ≡ Some place → place < length list
+pub datum_within : (list : List Atom) (q : Path) (above : List ℕ) (datum : Option ℕ) → IsOpenPath list q above datum → (place : ℕ) → datum ≡ Some place → place < length list
 datum_within list q above datum opened place is =
     let stands : EndsWith list q (length above) (Some place) = subst (EndsWith list q (length above)) is opened.behind in
     slice_get_within list place (0 ∷ stands.0) stands.1.0
 
 -- A header that is open stands in the list.
-pub header_within : (list : List Atom) (q : Path) (above : List ℕ) (datum : Option ℕ) (k : ℕ) → IsOpen list q above datum → k < length above → get_or above k 0 < length list
+pub header_within : (list : List Atom) (q : Path) (above : List ℕ) (datum : Option ℕ) (k : ℕ) → IsOpenPath list q above datum → k < length above → get_or above k 0 < length list
 header_within list q above datum k opened below =
     let h = opened.stand k below in
     slice_get_within list (get_or above k 0) h.0 h.1.0
 
-pub datum_opens : (list : List Atom) (q : Path) (above : List ℕ) (datum : Option ℕ) (at : ℕ) (payload : List ℕ) → IsOpen list q above datum
-    → slice_get list at ≡ Some (0 ∷ payload) → IsOpen list (path_after q (0 ∷ payload)) above (Some at)
+pub datum_opens : (list : List Atom) (q : Path) (above : List ℕ) (datum : Option ℕ) (at : ℕ) (payload : List ℕ) → IsOpenPath list q above datum
+    → slice_get list at ≡ Some (0 ∷ payload) → IsOpenPath list (path_after q (0 ∷ payload)) above (Some at)
 datum_opens list q above datum at payload opened there =
     let few = header_count-length q in
     record {
@@ -111,7 +111,7 @@ marker_before [] e = cc
 marker_before (b ∷ bytes) e = refl
 
 -- A header of the next level comes later than what stands behind the headers.
-pub header_below : (list : List Atom) (q : Path) (above : List ℕ) (datum : Option ℕ) (a : Atom) → IsOpen list q above datum → is_header a ≡ true → level a ≡ length above
+pub header_below : (list : List Atom) (q : Path) (above : List ℕ) (datum : Option ℕ) (a : Atom) → IsOpenPath list q above datum → is_header a ≡ true → level a ≡ length above
     → path_cmp q (path_after q a) ≡ Less
 header_below list q above datum a opened header level_is =
     subst (λ p. path_cmp q p ≡ Less) (sym (header_path q a header)) (subst (λ n. path_cmp q (take n q ++ a ∷ []) ≡ Less) (sym level_is) (by datum opened.behind))
@@ -122,7 +122,7 @@ header_below list q above datum a opened header level_is =
     by None (inr marker) = (later_place (length above) q a [] marker).1 (marker_before a header)
 
 -- A header of an open level comes later exactly where it is greater than the one that is open.
-pub header_beside : (list : List Atom) (q : Path) (above : List ℕ) (datum : Option ℕ) (a : Atom) → IsOpen list q above datum → is_header a ≡ true → level a < length above
+pub header_beside : (list : List Atom) (q : Path) (above : List ℕ) (datum : Option ℕ) (a : Atom) → IsOpenPath list q above datum → is_header a ≡ true → level a < length above
     → (path_cmp q (path_after q a) ≡ Less) ↔ (atom_cmp (atom_at list (get_or above (level a) 0)) a ≡ Less)
 header_beside list q above datum a opened header below =
     let h = opened.stand (level a) below in
@@ -133,8 +133,8 @@ header_beside list q above datum a opened header below =
       λ less. subst (λ p. path_cmp q p ≡ Less) (sym path) (here.1 (subst (λ x. atom_cmp x a ≡ Less) same less)),
     )
 
-pub header_opens : (list : List Atom) (q : Path) (above : List ℕ) (datum : Option ℕ) (at : ℕ) (a : Atom) → IsOpen list q above datum → is_header a ≡ true → level a ≤ length above → level a < 16
-    → slice_get list at ≡ Some a → IsOpen list (path_after q a) (take (level a) above ++ at ∷ []) None
+pub header_opens : (list : List Atom) (q : Path) (above : List ℕ) (datum : Option ℕ) (at : ℕ) (a : Atom) → IsOpenPath list q above datum → is_header a ≡ true → level a ≤ length above → level a < 16
+    → slice_get list at ≡ Some a → IsOpenPath list (path_after q a) (take (level a) above ++ at ∷ []) None
 header_opens list q above datum at a opened header upto few there =
     let n = level a in
     let kept = take n above in
@@ -171,7 +171,7 @@ header_opens list q above datum at a opened header upto few there =
 
 -- ---- before the first atom
 
-pub none_open : (list : List Atom) → IsOpen list [] [] None
+pub none_open : (list : List Atom) → IsOpenPath list [] [] None
 none_open list = record {
   number = refl;
   few = omega arith;
@@ -228,16 +228,16 @@ told_keyed a n (f, is) = by f.kind f.spelled f.fits is
 -- ---- a datum, where it stands
 
 -- It may stand there where it is greater than the datum before it, and comes out of order otherwise.
-pub datum_follows : (list : List Atom) (q : Path) (above : List ℕ) (datum : Option ℕ) (a : Atom) → IsOpen list q above datum → (payload : List ℕ) × (a ≡ 0 ∷ payload)
-    → ((place : ℕ) → datum ≡ Some place → atom_cmp (atom_at list place) a ≡ Less) → MayFollow q a
+pub datum_follows : (list : List Atom) (q : Path) (above : List ℕ) (datum : Option ℕ) (a : Atom) → IsOpenPath list q above datum → (payload : List ℕ) × (a ≡ 0 ∷ payload)
+    → ((place : ℕ) → datum ≡ Some place → atom_cmp (atom_at list place) a ≡ Less) → MayStandBehind q a
 datum_follows list q above datum a opened (payload, is) less =
-    subst (MayFollow q) (sym is) (record {
+    subst (MayStandBehind q) (sym is) (record {
       kind = record { kind = PlainDatum payload; fits = tt; spelled = refl };
       level = λ e. cc;
       later = datum_later list q above datum payload opened (λ place at. subst (λ x. atom_cmp (atom_at list place) x ≡ Less) is (less place at));
     })
 
-pub datum_wrong : (list : List Atom) (q : Path) (above : List ℕ) (datum : Option ℕ) (a : Atom) → IsOpen list q above datum → (payload : List ℕ) × (a ≡ 0 ∷ payload)
+pub datum_wrong : (list : List Atom) (q : Path) (above : List ℕ) (datum : Option ℕ) (a : Atom) → IsOpenPath list q above datum → (payload : List ℕ) × (a ≡ 0 ∷ payload)
     → (((place : ℕ) → datum ≡ Some place → atom_cmp (atom_at list place) a ≡ Less) → ⊥) → IsWrong OutOfOrder q a
 datum_wrong list q above datum a opened (payload, is) not_less =
     subst (IsWrong OutOfOrder q) (sym is) (
@@ -246,14 +246,14 @@ datum_wrong list q above datum a opened (payload, is) not_less =
       λ later. not_less (λ place at. subst (λ x. atom_cmp (atom_at list place) x ≡ Less) (sym is) (datum_is_less list q above datum payload opened later place at)),
     )
 
-pub datum_taken : (list : List Atom) (q : Path) (above : List ℕ) (datum : Option ℕ) (at : ℕ) → IsOpen list q above datum → at < length list → (payload : List ℕ) × (atom_at list at ≡ 0 ∷ payload)
-    → IsOpen list (path_after q (atom_at list at)) above (Some at)
+pub datum_taken : (list : List Atom) (q : Path) (above : List ℕ) (datum : Option ℕ) (at : ℕ) → IsOpenPath list q above datum → at < length list → (payload : List ℕ) × (atom_at list at ≡ 0 ∷ payload)
+    → IsOpenPath list (path_after q (atom_at list at)) above (Some at)
 datum_taken list q above datum at opened within (payload, is) =
-    subst (λ a. IsOpen list (path_after q a) above (Some at)) (sym is) (datum_opens list q above datum at payload opened (slice_get-get_or list at [] within ∙ ap Some is))
+    subst (λ a. IsOpenPath list (path_after q a) above (Some at)) (sym is) (datum_opens list q above datum at payload opened (slice_get-get_or list at [] within ∙ ap Some is))
 
 -- ---- a header, where it stands
 
-pub header_wrong : (list : List Atom) (q : Path) (above : List ℕ) (datum : Option ℕ) (a : Atom) (n : ℕ) → IsOpen list q above datum → IsHeaderOf a n → n < length above
+pub header_wrong : (list : List Atom) (q : Path) (above : List ℕ) (datum : Option ℕ) (a : Atom) (n : ℕ) → IsOpenPath list q above datum → IsHeaderOf a n → n < length above
     → (atom_cmp (atom_at list (get_or above n 0)) a ≡ Less → ⊥) → IsWrong OutOfOrder q a
 header_wrong list q above datum a n opened header below not_less =
     let at_level : level a < length above = (let l = header.level in omega arith) in (
@@ -262,11 +262,11 @@ header_wrong list q above datum a n opened header below not_less =
       λ later. not_less (subst (λ k. atom_cmp (atom_at list (get_or above k 0)) a ≡ Less) header.level ((header_beside list q above datum a opened header.header at_level).0 later)),
     )
 
-pub header_jumps : (list : List Atom) (q : Path) (above : List ℕ) (datum : Option ℕ) (a : Atom) (n : ℕ) → IsOpen list q above datum → IsHeaderOf a n → (length above) < n → IsWrong LevelJump q a
+pub header_jumps : (list : List Atom) (q : Path) (above : List ℕ) (datum : Option ℕ) (a : Atom) (n : ℕ) → IsOpenPath list q above datum → IsHeaderOf a n → (length above) < n → IsWrong LevelJump q a
 header_jumps list q above datum a n opened header over = (header.kind, (header.header, (let l = header.level in let m = opened.number in omega arith)))
 
-pub header_follows : (list : List Atom) (q : Path) (above : List ℕ) (datum : Option ℕ) (a : Atom) (n : ℕ) → IsOpen list q above datum → IsHeaderOf a n → n ≤ length above
-    → (n < length above → atom_cmp (atom_at list (get_or above n 0)) a ≡ Less) → MayFollow q a
+pub header_follows : (list : List Atom) (q : Path) (above : List ℕ) (datum : Option ℕ) (a : Atom) (n : ℕ) → IsOpenPath list q above datum → IsHeaderOf a n → n ≤ length above
+    → (n < length above → atom_cmp (atom_at list (get_or above n 0)) a ≡ Less) → MayStandBehind q a
 header_follows list q above datum a n opened header upto less = record {
   kind = header.kind;
   level = λ e. (let l = header.level in let m = opened.number in omega arith);
@@ -279,8 +279,8 @@ header_follows list q above datum a n opened header upto less = record {
   ];
 }
 
-pub header_taken : (list : List Atom) (q : Path) (above : List ℕ) (datum : Option ℕ) (at n : ℕ) → IsOpen list q above datum → at < length list → IsHeaderOf (atom_at list at) n → n ≤ length above
-    → IsOpen list (path_after q (atom_at list at)) (take n above ++ at ∷ []) None
+pub header_taken : (list : List Atom) (q : Path) (above : List ℕ) (datum : Option ℕ) (at n : ℕ) → IsOpenPath list q above datum → at < length list → IsHeaderOf (atom_at list at) n → n ≤ length above
+    → IsOpenPath list (path_after q (atom_at list at)) (take n above ++ at ∷ []) None
 header_taken list q above datum at n opened within header upto =
-    subst (λ k. IsOpen list (path_after q (atom_at list at)) (take k above ++ at ∷ []) None) header.level
+    subst (λ k. IsOpenPath list (path_after q (atom_at list at)) (take k above ++ at ∷ []) None) header.level
     (header_opens list q above datum at (atom_at list at) opened header.header (let l = header.level in omega arith) (let l = header.level in let f = header.few in omega arith) (slice_get-get_or list at [] within))

@@ -10,7 +10,7 @@ use Rattle.context_model.specs.declared.Form.TheVariants.{One}
 use Rattle.context_model.specs.Framing.{frame, frames}
 use Rattle.context_model.proofs.FramingLaws.{frames-append}
 use Rattle.atom_list.specs.Builder.{room_of}
-use Rattle.atom_list.specs.Starts.{first_atom, atom_at, atoms_at, AreStarts, BeginsFrame, starts_from, IsPieceOf, IsRow}
+use Rattle.atom_list.specs.Starts.{first_atom, atom_at, atoms_at, AreStarts, BeginsFrame, starts_from, IsPieceOf, IsFrameRow}
 use Rattle.atom_list.proofs.Frames.{first_atom-framed}
 use Rattle.atom_list.proofs.Flat.{length-starts_from, starts_at, starts_from-append, take_split}
 use Rattle.atom_list.proofs.Building.{AreAtoms-append}
@@ -40,7 +40,7 @@ piece_more bytes first end starts list x rest order within piece short e =
 
 -- ---- rows
 
-pub row_none : (bytes starts : List ℕ) (end : ℕ) → end ≡ get_or starts 0 0 → IsRow bytes starts 0 end
+pub row_none : (bytes starts : List ℕ) (end : ℕ) → end ≡ get_or starts 0 0 → IsFrameRow bytes starts 0 end
 row_none bytes starts end e =
     let none : end - get_or starts 0 0 ≡ 0 = omega arith in
     record {
@@ -56,8 +56,8 @@ begins_before bytes starts k d fit below before = elim (starts_at bytes starts k
   | inr begins ↦ begins
 ]
 
-pub row_more : (bytes starts : List ℕ) (count end end' : ℕ) → AreStarts bytes starts → IsRow bytes starts count end → count < length starts → get_or starts count 0 ≡ end → end < length bytes
-    → end' ≡ end + length (frame One (atom_at bytes end)) → end' ≤ length bytes → IsRow bytes starts (count + 1) end'
+pub row_more : (bytes starts : List ℕ) (count end end' : ℕ) → AreStarts bytes starts → IsFrameRow bytes starts count end → count < length starts → get_or starts count 0 ≡ end → end < length bytes
+    → end' ≡ end + length (frame One (atom_at bytes end)) → end' ≤ length bytes → IsFrameRow bytes starts (count + 1) end'
 row_more bytes starts count end end' fit row below next before e within =
     let list = atoms_at bytes starts in
     let first = get_or starts 0 0 in

@@ -10,8 +10,8 @@ use Rattle.context_model.specs.WellFormed.{IsWellFormed}
 use Rattle.context_model.specs.Nearest.{IsNearestPlace}
 use Rattle.context_model.proofs.PathPlaces.{IsNearestPlace-here, IsNearestPlace-later}
 use Rattle.atom_list.specs.declared.places.Place.{Place}
-use Rattle.atom_list.specs.Open.{atom_at, path_before}
-use Rattle.atom_list.specs.Walk.{nearest_place, nearest_places, headers_around, padded, place_of, places_behind, depth_from, depth_behind, IsPlaceAt, WalksFindNearest}
+use Rattle.atom_list.specs.OpenPlaces.{atom_at, path_before}
+use Rattle.atom_list.specs.Places.{nearest_place, nearest_places, headers_around, padded, place_of, places_behind, depth_from, depth_behind, IsPlaceAt, WalksFindNearest}
 use Rattle.atom_list.proofs.Walking.{nearest_place-more, fits_at, header_count-next}
 
 -- ---- the open headers are the nearest ones

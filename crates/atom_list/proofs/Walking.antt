@@ -8,8 +8,8 @@ use Rattle.context_model.specs.Paths.{is_header, level, header_count, path_after
 use Rattle.context_model.specs.WellFormed.{IsWellFormed}
 use Rattle.context_model.proofs.Following.{Fits, Follows-back, IsWellFormed-follows, IsWellFormed-take, last_path_after-append, next_bound}
 use Rattle.atom_list.specs.declared.places.Place.{Place}
-use Rattle.atom_list.specs.Open.{atom_at, path_before}
-use Rattle.atom_list.specs.Walk.{nearest_place_from, nearest_place, nearest_places, headers_around, padded, place_of, places_behind, IsWalk}
+use Rattle.atom_list.specs.OpenPlaces.{atom_at, path_before}
+use Rattle.atom_list.specs.Places.{nearest_place_from, nearest_place, nearest_places, headers_around, padded, place_of, places_behind, IsAtomWalk}
 
 -- ---- one atom more
 
@@ -69,10 +69,10 @@ header_count-next list at w within = ap header_count (path_next list at within) 
 
 -- ---- steps of a walk
 
-pub walk_length : (list : List Atom) (at : ℕ) (headers : List ℕ) → IsWalk list at headers → length headers ≡ header_count (path_before list at)
+pub walk_length : (list : List Atom) (at : ℕ) (headers : List ℕ) → IsAtomWalk list at headers → length headers ≡ header_count (path_before list at)
 walk_length list at headers walk = ap length walk.open_places ∙ length-map-range_with_len (nearest_place (take at list)) 0 (header_count (path_before list at))
 
-pub walk_other : (list : List Atom) (at : ℕ) (headers : List ℕ) → IsWalk list at headers → at < length list → is_header (atom_at list at) ≡ false → IsWalk list (at + 1) headers
+pub walk_other : (list : List Atom) (at : ℕ) (headers : List ℕ) → IsAtomWalk list at headers → at < length list → is_header (atom_at list at) ≡ false → IsAtomWalk list (at + 1) headers
 walk_other list at headers walk within other = record {
   well_formed = walk.well_formed;
   within = omega arith;
@@ -82,19 +82,19 @@ walk_other list at headers walk within other = record {
       ∙ ap (λ n. nearest_places n (take (at + 1) list)) (sym (header_count-next list at walk.well_formed within ∙ ap (λ b. cond b (level (atom_at list at) + 1) (header_count (path_before list at))) other));
 }
 
-pub walk_level : (list : List Atom) (at : ℕ) (headers : List ℕ) → IsWalk list at headers → at < length list → is_header (atom_at list at) ≡ true → level (atom_at list at) ≤ length headers
+pub walk_level : (list : List Atom) (at : ℕ) (headers : List ℕ) → IsAtomWalk list at headers → at < length list → is_header (atom_at list at) ≡ true → level (atom_at list at) ≤ length headers
 walk_level list at headers walk within header =
     let few : level (atom_at list at) ≤ header_count (path_before list at) = (fits_at list at walk.well_formed within).level header in
     omega (arith, walk_length list at headers walk)
 
-walk_cut : (list : List Atom) (at : ℕ) (headers : List ℕ) → IsWalk list at headers → at < length list → is_header (atom_at list at) ≡ true
+walk_cut : (list : List Atom) (at : ℕ) (headers : List ℕ) → IsAtomWalk list at headers → at < length list → is_header (atom_at list at) ≡ true
     → take (level (atom_at list at)) headers ≡ nearest_places (level (atom_at list at)) (take at list)
 walk_cut list at headers walk within header =
     ap (take (level (atom_at list at))) walk.open_places
     ∙ take-map-range_with_len (nearest_place (take at list)) 0 (header_count (path_before list at)) (level (atom_at list at)) ((fits_at list at walk.well_formed within).level header)
 
-pub walk_header : (list : List Atom) (at : ℕ) (headers : List ℕ) → IsWalk list at headers → at < length list → is_header (atom_at list at) ≡ true
-    → IsWalk list (at + 1) (take (level (atom_at list at)) headers ++ at ∷ [])
+pub walk_header : (list : List Atom) (at : ℕ) (headers : List ℕ) → IsAtomWalk list at headers → at < length list → is_header (atom_at list at) ≡ true
+    → IsAtomWalk list (at + 1) (take (level (atom_at list at)) headers ++ at ∷ [])
 walk_header list at headers walk within header = record {
   well_formed = walk.well_formed;
   within = omega arith;
@@ -113,7 +113,7 @@ place_made at n above = record { at = at; level = n; above = above }
 same_place : (at at' n n' : ℕ) (above above' : List ℕ) (made : Place) → made ≡ record { at = at; level = n; above = above } → at ≡ at' → n ≡ n' → above ≡ above' → made ≡ record { at = at'; level = n'; above = above' }
 same_place at at' n n' above above' made e f g h = e ∙ (λ i. record { at = f i; level = g i; above = h i })
 
-pub place_other : (list : List Atom) (at : ℕ) (headers : List ℕ) (made : Place) → IsWalk list at headers → at < length list → is_header (atom_at list at) ≡ false
+pub place_other : (list : List Atom) (at : ℕ) (headers : List ℕ) (made : Place) → IsAtomWalk list at headers → at < length list → is_header (atom_at list at) ≡ false
     → made ≡ record { at = at; level = length headers; above = padded headers } → made ≡ place_of (take at list) (atom_at list at)
 place_other list at headers made walk within other e =
     let count : header_count (path_before list at) ≡ headers_around (path_before list at) (atom_at list at) = ap (λ b. cond b (level (atom_at list at)) (header_count (path_before list at))) (sym other) in
@@ -123,7 +123,7 @@ place_other list at headers made walk within other e =
     (walk_length list at headers walk ∙ count)
     (ap padded (walk.open_places ∙ ap (λ n. nearest_places n (take at list)) count))
 
-pub place_header : (list : List Atom) (at : ℕ) (headers : List ℕ) (made : Place) → IsWalk list at headers → at < length list → is_header (atom_at list at) ≡ true
+pub place_header : (list : List Atom) (at : ℕ) (headers : List ℕ) (made : Place) → IsAtomWalk list at headers → at < length list → is_header (atom_at list at) ≡ true
     → made ≡ record { at = at; level = length (take (level (atom_at list at)) headers); above = padded (take (level (atom_at list at)) headers) } → made ≡ place_of (take at list) (atom_at list at)
 place_header list at headers made walk within header e =
     let count : level (atom_at list at) ≡ headers_around (path_before list at) (atom_at list at) = ap (λ b. cond b (level (atom_at list at)) (header_count (path_before list at))) (sym header) in

@@ -1,9 +1,9 @@
 pub mod Builder
-pub mod Codes
-pub mod Open
+pub mod Contexts
+pub mod OpenPlaces
 pub mod Scan
 pub mod Starts
-pub mod Walk
+pub mod Places
 pub use Rattle.context_model.specs.Atoms
 pub use Rattle.context_model.specs.WellFormed
 pub use Rattle.context_model.specs.ShapeFault

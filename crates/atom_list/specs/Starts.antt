@@ -41,7 +41,7 @@ starts_from at [] = []
 starts_from at (atom ∷ list) = at ∷ starts_from (at + length (frame One atom)) list
 
 -- The buffer begins with the frames of these atoms, one behind the other.
-pub record BeginsWith (bytes : List ℕ) (starts : List ℕ) (front : List Atom) : Type 0 where
+pub record BeginsWithFrames (bytes : List ℕ) (starts : List ℕ) (front : List Atom) : Type 0 where
   pub there : starts ≡ starts_from 0 front
   pub framed : take (length (frames One front)) bytes ≡ frames One front
 
@@ -50,7 +50,7 @@ pub record IsFlat (bytes : List ℕ) (starts : List ℕ) (laid : ℕ) : Type 0 w
   pub fit : AreStarts bytes starts
   pub few : length bytes ≤ BUFFER_MAX
   pub within : laid ≤ length starts
-  pub front : BeginsWith bytes (take laid starts) (take laid (atoms_at bytes starts))
+  pub front : BeginsWithFrames bytes (take laid starts) (take laid (atoms_at bytes starts))
   -- all frames together, also where some begin at one place, are no more than a buffer may have
   pub light : length (frames One (atoms_at bytes starts)) ≤ BUFFER_MAX
 
@@ -62,7 +62,7 @@ pub record IsPieceOf (bytes : List ℕ) (at : ℕ) (starts : List ℕ) (list : L
   pub there : starts ≡ starts_from at list
 
 -- The first so many starts are those of frames that follow one another in the buffer. The last of them ends at this place.
-pub record IsRow (bytes : List ℕ) (starts : List ℕ) (count end : ℕ) : Type 0 where
+pub record IsFrameRow (bytes : List ℕ) (starts : List ℕ) (count end : ℕ) : Type 0 where
   pub piece : IsPieceOf (slice_range bytes (slice_index starts 0) end) (slice_index starts 0) (take count starts) (take count (atoms_at bytes starts))
   pub order : slice_index starts 0 ≤ end
   pub within : 0 < count → end ≤ length bytes

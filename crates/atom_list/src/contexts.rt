@@ -6,7 +6,7 @@ ghost use Rattle.context_model.specs.Orders.{Rises};
 ghost use Rattle.context_model.specs.WellFormed.{IsWellFormed};
 ghost use Rattle.context_model.specs.WithoutData.{AreDataPlaces, without};
 ghost use Rattle.context_model.specs.ShapeFault.{IsFirstShapeFault};
-ghost use Rattle.atom_list.specs.Codes.{code_of};
+ghost use Rattle.atom_list.specs.Contexts.{code_of};
 
 use crate::lists::AtomList;
 use crate::open_headers::OpenHeaders;

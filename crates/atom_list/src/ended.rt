@@ -2,7 +2,7 @@
 
 ghost use Rattle.std.specs.Prelude.{◌≡◌, ◌↔◌, ◌<◌, ◌≤◌, IsTrue, length};
 ghost use Rattle.context_model.specs.Ended.{field_path, IsBeyond, IsEnded};
-ghost use Rattle.atom_list.specs.Open.{ArePlaces, atoms_of};
+ghost use Rattle.atom_list.specs.OpenPlaces.{ArePlaces, atoms_of};
 
 use crate::contexts::Context;
 use crate::lists::AtomList;

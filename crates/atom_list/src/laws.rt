@@ -5,7 +5,7 @@ ghost use Rattle.context_model.specs.ShapeFault.{FaultsOnce};
 ghost use Rattle.context_model.specs.WellFormed.{TrimsWellFormed};
 ghost use Rattle.context_model.specs.Ended.{EndsAtMarkers};
 ghost use Rattle.context_model.specs.WithoutData.{DataMayGo};
-ghost use Rattle.atom_list.specs.Walk.{WalksFindNearest};
+ghost use Rattle.atom_list.specs.Places.{WalksFindNearest};
 
 /// In a path the header of each level is the nearest header of that level before.
 pub fn headers_are_nearest()

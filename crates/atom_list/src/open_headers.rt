@@ -3,8 +3,8 @@
 ghost use Rattle.std.specs.Prelude.{◌≡◌, ◌+◌, ◌<◌, ◌≤◌, ◌∷◌, ℕ, List, Some, length, IfErr, OnOk, OnErr, IsTrue, ◌↔◌};
 ghost use Rattle.std.specs.declared.cmp.Ordering.TheVariants.{Less};
 ghost use Rattle.context_model.specs.Orders.{atom_cmp};
-ghost use Rattle.atom_list.specs.Codes.{code_of};
-ghost use Rattle.atom_list.specs.Open.{IsOpenAt, IsHeaderOf, IsWrongAt, MayStand, RisesTo, atom_at};
+ghost use Rattle.atom_list.specs.Contexts.{code_of};
+ghost use Rattle.atom_list.specs.OpenPlaces.{IsOpenAt, IsHeaderOf, IsWrongAt, MayStand, RisesTo, atom_at};
 
 use crate::contexts::ShapeFault;
 use crate::lists::AtomList;

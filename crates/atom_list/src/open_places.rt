@@ -1,7 +1,7 @@
 //! The places of the headers that are open while a list is walked.
 
 ghost use Rattle.std.specs.Prelude.{◌≡◌, ◌<◌, ◌≤◌, [], ◌∷◌, ◌++◌, length, take, slice_index};
-ghost use Rattle.atom_list.specs.Walk.{padded};
+ghost use Rattle.atom_list.specs.Places.{padded};
 
 use std::marker::Model;
 
@@ -18,7 +18,7 @@ pub(crate) struct OpenPlaces {
 
 impl Model for OpenPlaces {
     ghost use Rattle.std.specs.Prelude.{List, ℕ, take, ◌≤◌};
-    ghost use Rattle.atom_list.specs.Open.{AreClosed};
+    ghost use Rattle.atom_list.specs.OpenPlaces.{AreClosed};
 
     ghost Value = { List ℕ };
 

@@ -2,7 +2,7 @@
 
 ghost use Rattle.std.specs.Prelude.{◌≡◌, length};
 ghost use Rattle.std.specs.Iterator.{YieldsFirst, item_count};
-ghost use Rattle.atom_list.specs.Walk.{places, padded};
+ghost use Rattle.atom_list.specs.Places.{places, padded};
 
 use crate::contexts::Context;
 use crate::lists::AtomList;
@@ -33,13 +33,13 @@ impl<'a> Model for Walk<'a> {
     ghost use Rattle.context_model.specs.Paths.{header_count, last_path_after};
     ghost use Rattle.context_model.specs.WellFormed.{IsWellFormed};
     ghost use Rattle.atom_list.specs.declared.places.Place.{Place};
-    ghost use Rattle.atom_list.specs.Walk.{places_behind, IsWalk};
+    ghost use Rattle.atom_list.specs.Places.{places_behind, IsAtomWalk};
 
     ghost Value = { List Place };
 
     ghost view = { λ walk. places_behind (take walk.at walk.list.now) (drop walk.at walk.list.now) };
 
-    ghost invariant = { λ walk. IsWalk walk.list.now walk.at walk.headers };
+    ghost invariant = { λ walk. IsAtomWalk walk.list.now walk.at walk.headers };
 }
 
 impl Context {

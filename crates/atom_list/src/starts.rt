@@ -6,7 +6,7 @@ ghost use Rattle.context_model.specs.declared.Form.TheVariants.{One};
 ghost use Rattle.context_model.specs.Framing.{frame};
 ghost use Rattle.context_model.specs.Orders.{Rises};
 ghost use Rattle.context_model.specs.WireFault.{length_front, length_said};
-ghost use Rattle.atom_list.specs.Starts.{atom_at, IsStart, BeginsFrame, AreStarts, AreMovable, IsRow, KeepsFront, LeavesOut, moved};
+ghost use Rattle.atom_list.specs.Starts.{atom_at, IsStart, BeginsFrame, AreStarts, AreMovable, IsFrameRow, KeepsFront, LeavesOut, moved};
 
 use outside::ATOM_MAX;
 
@@ -57,7 +57,7 @@ pub(crate) fn frame_end(bytes: &[u8], start: u32) -> usize
 pub(crate) fn row_of(bytes: &[u8], starts: &[u32]) -> (usize, usize)
     requires { AreStarts bytes.now starts.now }
     ensures few { result.0 ≤ length starts.now }
-    ensures row { IsRow bytes.now starts.now result.0 result.1 }
+    ensures row { IsFrameRow bytes.now starts.now result.0 result.1 }
 {
     let Some(first) = starts.first() else {
         return (0, 0);

@@ -8,7 +8,7 @@ use Rattle.bag_model.specs.Encodings.{IsUsed, AreUsed}
 use Rattle.bag_model.specs.Readings.{key_path, node_path, PathsOf}
 use Rattle.bag_model.specs.Shapes.{Shape, Nodes, Taint, Scalar, Set, Counter, Map, Bag, no_node, node}
 use Rattle.bag_model.proofs.ForeignLaws.{encoding_not_foreign, foreign_unread}
-use Rattle.bag_codec.specs.ForeignPaths.{HasNamed, ForeignIsUnread}
+use Rattle.bag_codec.specs.Laws.{HasNamed, ForeignIsUnread}
 use Rattle.bag_codec.proofs.Layouts.{last_is}
 
 -- A path that ends with an atom of a byte or more is no marker's.

@@ -3,7 +3,7 @@ use Rattle.std.proofs.Common.{◌≡◌, ◌↔◌, ℕ, zero, suc, ◌<◌, Lis
 use Rattle.std.specs.List.{slice_get}
 use Rattle.context_model.specs.Atoms.{Atom}
 use Rattle.context_model.specs.Merged.{IsMerged}
-use Rattle.bag_encode.specs.BagValues.{bag_values}
+use Rattle.bag_encode.specs.Encoding.{bag_values}
 use Rattle.bag_model.specs.Encodings.{EncodingsReadBack, IsEncoding, IsEncodingOf}
 use Rattle.bag_model.specs.Joins.{join}
 use Rattle.bag_model.specs.MergeReadings.{MergesReadAsJoins}

@@ -1,3 +1,3 @@
 pub mod Encodable
-pub mod ForeignPaths
-pub mod Room
+pub mod Laws
+pub mod Lengths

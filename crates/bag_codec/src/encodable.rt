@@ -3,15 +3,15 @@
 ghost use Rattle.std.specs.Prelude.{◌≡◌, ◌↔◌, length, map, IsTrue};
 ghost use Rattle.std.specs.List.{AllByRecursion};
 ghost use Rattle.context_model.specs.KeyedMerge.{EachPair};
-ghost use Rattle.bag_encode.specs.BagValues.{bag_values};
+ghost use Rattle.bag_encode.specs.Encoding.{bag_values};
 ghost use Rattle.bag_model.specs.Encodings.{FitsAtoms};
 ghost use Rattle.bag_model.specs.Shapes as shapes;
 ghost use Rattle.bag_model.specs.Values as values;
 ghost use Rattle.bag_model.specs.Values.{IsOfShape};
-ghost use Rattle.bag_value.specs.Plain.{plain};
+ghost use Rattle.bag_value.specs.Vals.{plain};
 ghost use Rattle.field_table.specs.Plain.{nodes_of, shape_of};
 ghost use Rattle.scalar_types.specs.KindViews.{kind_of};
-ghost use Rattle.scalar_types.specs.ScalarViews.{value_of};
+ghost use Rattle.scalar_types.specs.Scalars.{value_of};
 ghost use Rattle.bag_codec.specs.Encodable.{AreEncodable, FitsAtom, HasRoom, IsEncodable};
 
 use crate::lengths::is_short;

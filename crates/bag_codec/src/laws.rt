@@ -2,15 +2,15 @@
 
 ghost use Rattle.std.specs.Prelude.{ℕ, List, []};
 ghost use Rattle.context_model.specs.Atoms.{Atom, AreAtoms};
-ghost use Rattle.bag_decode.specs.SlotWalks.{SaysAt};
-ghost use Rattle.bag_encode.specs.BagValues.{bag_values};
+ghost use Rattle.bag_decode.specs.Slots.{SaysAt};
+ghost use Rattle.bag_encode.specs.Encoding.{bag_values};
 ghost use Rattle.bag_model.specs.Encodings.{FitsAtoms};
 ghost use Rattle.bag_model.specs.Readings.{PathsOf, Reads};
 ghost use Rattle.bag_model.specs.Shapes as shapes;
 ghost use Rattle.bag_model.specs.Shapes.{Nodes};
 ghost use Rattle.bag_model.specs.SlotValues.{only};
 ghost use Rattle.bag_model.specs.Values.{Value};
-ghost use Rattle.bag_codec.specs.ForeignPaths.{ForeignIsUnread};
+ghost use Rattle.bag_codec.specs.Laws.{ForeignIsUnread};
 
 /// What the table doesn't name is never read, and no encoding has anything of it.
 pub fn foreign_paths_are_unread()

@@ -4,9 +4,9 @@ ghost use Rattle.std.specs.Prelude.{◌≡◌, ◌↔◌, ◌<◌, length, map, 
 ghost use Rattle.outside.specs.declared.TheConstants.{ATOM_MAX as ATOM_LIMIT};
 ghost use Rattle.bag_model.specs.Scalars.{ArePlainsOf, IsPlainOf, IsScalarOf, ended, field_spelling, form_of, packed_spelling, plain_spelling, spelling};
 ghost use Rattle.bag_model.specs.Scalars as model;
-ghost use Rattle.scalar_types.specs.KindViews.{IsWord, kind_of, word_of};
-ghost use Rattle.scalar_types.specs.ScalarViews.{IsPlain, plain_of, value_of};
-ghost use Rattle.bag_codec.specs.Room.{Leaves};
+ghost use Rattle.scalar_types.specs.KindViews.{IsPlainWord, kind_of, word_of};
+ghost use Rattle.scalar_types.specs.Scalars.{IsPlain, plain_of, value_of};
+ghost use Rattle.bag_codec.specs.Lengths.{Leaves};
 
 use lex_varint::{put_i64, put_u64};
 use outside::ATOM_MAX;
@@ -65,7 +65,7 @@ fn behind_field(room: usize, kind: &ScalarKind, scalar: &Scalar) -> Option<usize
 
 /// The room that is left behind the fields of a struct.
 fn behind_fields(room: usize, kinds: &[ScalarKind], scalars: &[Scalar]) -> Option<usize>
-    requires words { All IsWord kinds.now }
+    requires words { All IsPlainWord kinds.now }
     requires plain { All IsPlain scalars.now }
     requires fit { ArePlainsOf (map word_of kinds.now) (map plain_of scalars.now) }
     ensures { Leaves room (length (packed_spelling (map word_of kinds.now) (map plain_of scalars.now))) result }

@@ -3,13 +3,13 @@
 ghost use Rattle.std.specs.Prelude.{◌≡◌, List, [], ◌∷◌, IfOk};
 ghost use Rattle.context_model.specs.Atoms.{Atom};
 ghost use Rattle.context_model.specs.Merged.{IsMerged};
-ghost use Rattle.bag_encode.specs.BagValues.{bag_values};
+ghost use Rattle.bag_encode.specs.Encoding.{bag_values};
 ghost use Rattle.bag_model.specs.Encodings.{FitsAtoms, IsEncoding};
 ghost use Rattle.bag_model.specs.Readings.{PathsOf, Reads};
 ghost use Rattle.bag_model.specs.Shapes as shapes;
 ghost use Rattle.bag_model.specs.Typed.{AreTyped};
 ghost use Rattle.bag_model.specs.Values.{IsOfShape};
-ghost use Rattle.bag_value.specs.Plain.{plain};
+ghost use Rattle.bag_value.specs.Vals.{plain};
 
 use atom_list::Context;
 use bag_decode::decode;

@@ -14,12 +14,12 @@ use Rattle.bag_model.specs.Scalars.{ScalarKind, ScalarValue, scalar_cmp, IsScala
 use Rattle.bag_model.specs.Shapes.{Shape}
 use Rattle.bag_model.specs.Values.{Value, Entries, pairs}
 use Rattle.bag_walks.specs.Parts.{IsBehind, IsSegment, StaysBelow}
-use Rattle.bag_walks.specs.Gathered.{GathersCounts, GathersEntries}
+use Rattle.bag_walks.specs.Gathering.{GathersCounts, GathersEntries}
 use Rattle.bag_walks.proofs.Inside.{inside_along, child_behind}
 use Rattle.bag_walks.proofs.Sets.{stands_on, key_header, counts_below, counts_more, counts_read, entries_other, entries_below, entries_more, map_reads}
 use Rattle.bag_walks.proofs.Turns.{stays_whole, stays_higher, segment_whole}
-use Rattle.bag_scan.specs.Found.{HasNoKey}
-use Rattle.bag_decode.specs.Walked.{IsNextKey}
+use Rattle.bag_scan.specs.Searches.{HasNoKey}
+use Rattle.bag_decode.specs.Leaves.{IsNextKey}
 
 -- Places without a header of a key behind q bring no counts.
 counts_further : (list : List Atom) (q : Path) (from to next : ℕ) (counts : List (List ℕ × ℕ)) → to ≤ next

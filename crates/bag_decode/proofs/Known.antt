@@ -12,14 +12,14 @@ use Rattle.bag_model.specs.Scalars.{ScalarValue, scalar_cmp, IsScalarOf, spellin
 use Rattle.bag_model.specs.Typed.{IsSpelling}
 use Rattle.bag_model.proofs.SpellingOrder.{spelling-order}
 use Rattle.bag_walks.specs.Parts.{IsBehind, HasNoHeader, IsDataPart}
-use Rattle.bag_walks.specs.Gathered.{IsDatumAt, IsFirstDatum}
+use Rattle.bag_walks.specs.Gathering.{IsDatumAt, IsFirstDatum}
 use Rattle.bag_walks.proofs.Bridge.{data_are}
-use Rattle.lex_varint.specs.Fronts.{IsUnsignedAt}
-use Rattle.set_map_types.specs.Held.{value_cmp}
-use Rattle.scalar_types.specs.KindLaws.{scalar_of, value_back}
+use Rattle.lex_varint.specs.Readings.{IsUnsignedAt}
+use Rattle.set_map_types.specs.SetsAndMaps.{value_cmp}
+use Rattle.scalar_types.specs.KindCodec.{scalar_of, value_back}
 use Rattle.scalar_types.specs.KindViews.{kind_of}
-use Rattle.scalar_types.specs.ScalarViews.{value_of}
-use Rattle.scalar_types.specs.Spelling.{IsSpelled}
+use Rattle.scalar_types.specs.Scalars.{value_of}
+use Rattle.scalar_types.specs.Codec.{IsSpelled}
 use Rattle.scalar_types.specs.declared.kinds.ScalarKind.{ScalarKind}
 use Rattle.scalar_types.specs.declared.scalars.Scalar.{Scalar}
 

@@ -17,7 +17,7 @@ use Rattle.bag_model.proofs.SlotNumbers.{numbers_few}
 use Rattle.bag_model.proofs.SlotsBelow.{get_in}
 use Rattle.bag_walks.specs.Parts.{IsBehind}
 use Rattle.bag_walks.proofs.Absent.{Reads-bare}
-use Rattle.bag_decode.specs.SlotWalks.{IsPlaceOf, IsPlaceBehind, SaysAt}
+use Rattle.bag_decode.specs.Slots.{IsSlotPlace, IsPlaceBehind, SaysAt}
 use Rattle.bag_decode.proofs.SlotFits.{FitsSlot, seen_numbers, seen_shape, slots_fit}
 use Rattle.bag_decode.proofs.SlotPlaces.{bare_path}
 
@@ -31,7 +31,7 @@ pub record FitsCall (nodes : Nodes) (context list : List Atom) (slot : ℕ) (sha
   pub typed : IsTyped shape (PathsOf list) (path_before list from)
   pub says : (v : Value) → Reads shape (PathsOf list) (path_before list from) v → SaysAt nodes context slot v
 
-module _ (nodes : Nodes) (context : List Atom) (slot : ℕ) (place : Option ℕ) (shape : Shape) (table : IsTable nodes) (typed : AreTyped nodes (PathsOf context) []) (there : IsPlaceOf nodes context slot place)
+module _ (nodes : Nodes) (context : List Atom) (slot : ℕ) (place : Option ℕ) (shape : Shape) (table : IsTable nodes) (typed : AreTyped nodes (PathsOf context) []) (there : IsSlotPlace nodes context slot place)
     (shape_is : Some shape ≡ option_map (λ (found : SlotAt). found.shape) (slice_get (slots_of nodes) slot)) where
   pub call_fits : (list : List Atom) (from : ℕ) (numbers : List ℕ) → list ≡ context → place ≡ Some from → Some numbers ≡ option_map (λ (found : SlotAt). found.numbers) (slice_get (slots_of nodes) slot)
       → FitsCall nodes context list slot shape numbers from

@@ -15,8 +15,8 @@ use Rattle.bag_walks.proofs.Absent.{IsBare}
 use Rattle.bag_walks.proofs.Bridge.{none_below}
 use Rattle.bag_walks.proofs.Sets.{index_header}
 use Rattle.bag_walks.proofs.Turns.{passed_none, found_behind, absent_bare}
-use Rattle.bag_scan.specs.Found.{IsFoundBehind, IsMissing}
-use Rattle.bag_decode.specs.SlotWalks.{IsPlaceBehind}
+use Rattle.bag_scan.specs.Searches.{IsFoundBehind, IsMissing}
+use Rattle.bag_decode.specs.Slots.{IsPlaceBehind}
 use Rattle.bag_decode.proofs.Fields.{take_next}
 
 field_path-push : (n : ℕ) (numbers : List ℕ) (number : ℕ) → field_path_from n (numbers ++ number ∷ []) ≡ field_path_from n numbers ++ atom_of (Indexed (n + length numbers) number) ∷ []

@@ -1,2 +1,2 @@
-pub mod Walked
-pub mod SlotWalks
+pub mod Leaves
+pub mod Slots

@@ -4,7 +4,7 @@ ghost use Rattle.std.specs.Prelude.{◌≡◌, IfOk};
 ghost use Rattle.bag_model.specs.Shapes as shapes;
 ghost use Rattle.bag_model.specs.Values as values;
 ghost use Rattle.bag_model.specs.Values.{bottoms};
-ghost use Rattle.bag_value.specs.Plain.{plain};
+ghost use Rattle.bag_value.specs.Vals.{plain};
 ghost use Rattle.field_table.specs.Plain.{shape_of, nodes_of};
 
 use bag_value::{Entries, Val, Vals};

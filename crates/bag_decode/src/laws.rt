@@ -8,7 +8,7 @@ ghost use Rattle.bag_model.specs.Shapes.{Nodes};
 ghost use Rattle.bag_model.specs.Slots.{SlotAt};
 ghost use Rattle.bag_model.specs.SlotValues.{HasSlot};
 ghost use Rattle.bag_model.specs.Values.{Value, IsOfShape};
-ghost use Rattle.bag_decode.specs.SlotWalks.{SaysAt};
+ghost use Rattle.bag_decode.specs.Slots.{SaysAt};
 
 /// What a list says of a table is a value of the table's bag, and what it says of a slot is a value of the slot's shape.
 pub fn what_is_read_is_of_its_shape()

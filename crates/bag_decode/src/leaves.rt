@@ -9,12 +9,12 @@ ghost use Rattle.bag_model.specs.Scalars.{IsScalarOf, spelling};
 ghost use Rattle.bag_model.specs.Shapes as shapes;
 ghost use Rattle.bag_model.specs.Typed.{IsCount, IsSpelling, IsTyped};
 ghost use Rattle.bag_model.specs.Values as values;
-ghost use Rattle.bag_walks.specs.Gathered.{IsDatumThatStays};
+ghost use Rattle.bag_walks.specs.Gathering.{IsDatumThatStays};
 ghost use Rattle.bag_walks.specs.Parts.{IsBehind, IsSegment};
-ghost use Rattle.bag_scan.specs.Found.{HasNoKey};
+ghost use Rattle.bag_scan.specs.Searches.{HasNoKey};
 ghost use Rattle.scalar_types.specs.KindViews.{kind_of};
-ghost use Rattle.scalar_types.specs.ScalarViews.{value_of};
-ghost use Rattle.bag_decode.specs.Walked.{AreCountsAt, IsNextKey};
+ghost use Rattle.scalar_types.specs.Scalars.{value_of};
+ghost use Rattle.bag_decode.specs.Leaves.{AreCountsAt, IsNextKey};
 
 use atom_kinds::rest;
 use atom_list::AtomList;

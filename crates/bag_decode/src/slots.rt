@@ -6,8 +6,8 @@ ghost use Rattle.bag_model.specs.Readings.{PathsOf};
 ghost use Rattle.bag_model.specs.Slots.{slots_of};
 ghost use Rattle.bag_model.specs.Tables.{IsTable};
 ghost use Rattle.bag_model.specs.Typed.{AreTyped};
-ghost use Rattle.bag_value.specs.Plain.{plain};
-ghost use Rattle.bag_decode.specs.SlotWalks.{IsPlaceBehind, IsPlaceOf, IsSpanOfSlot, SaysAt};
+ghost use Rattle.bag_value.specs.Vals.{plain};
+ghost use Rattle.bag_decode.specs.Slots.{IsPlaceBehind, IsSlotPlace, IsSpanOfSlot, SaysAt};
 
 use crate::bottoms::bottom_of;
 use crate::walks::decode_field;
@@ -36,7 +36,7 @@ fn value_at(
 ) -> Result<Val, Memory>
     requires typed { AreTyped table.now (PathsOf context.now) [] }
     requires slot { slot < length (slots_of table.now) }
-    requires place { IsPlaceOf table.now context.now slot from }
+    requires place { IsSlotPlace table.now context.now slot from }
     ensures { IfOk result (λ value. SaysAt table.now context.now slot (plain value)) }
 {
     known(table);

@@ -8,7 +8,7 @@ ghost use Rattle.bag_model.specs.Tables.{AreFields, IsKeyKind, IsShape, levels, 
 ghost use Rattle.bag_model.specs.Typed.{AreTyped, IsTyped};
 ghost use Rattle.bag_model.specs.Values as values;
 ghost use Rattle.bag_walks.specs.Parts.{IsBehind, IsSegment};
-ghost use Rattle.bag_value.specs.Plain.{plain};
+ghost use Rattle.bag_value.specs.Vals.{plain};
 ghost use Rattle.field_table.specs.Plain.{shape_of, nodes_of};
 ghost use Rattle.scalar_types.specs.KindViews.{kind_of};
 

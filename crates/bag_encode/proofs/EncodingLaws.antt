@@ -6,7 +6,7 @@ use Rattle.bag_model.specs.Encodings.{InLayouts, IsEncoding, FitsAtoms}
 use Rattle.bag_model.specs.Shapes.{Nodes}
 use Rattle.bag_model.specs.Tables.{IsTable}
 use Rattle.bag_model.specs.Values.{Values, AreOfShapes}
-use Rattle.bag_encode.specs.Trees.{field_trees, field_atoms}
+use Rattle.bag_encode.specs.Values.{field_trees, field_atoms}
 use Rattle.bag_encode.proofs.TreeLaws.{AreTrees, IsWellFormed-trees, paths-trees, AreAtoms-trees}
 use Rattle.bag_encode.proofs.LaidOut.{paths-laid_fields, AreTrees-laid_fields}
 

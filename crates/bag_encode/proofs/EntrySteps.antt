@@ -7,10 +7,10 @@ use Rattle.bag_model.specs.Scalars.{ScalarKind, ScalarValue, IsScalarOf}
 use Rattle.bag_model.specs.Shapes.{Shape}
 use Rattle.bag_model.specs.Values.{Value, IsOfShape}
 use Rattle.bag_model.proofs.OfShape.{IsEntryOf}
-use Rattle.scalar_types.specs.ScalarViews.{value_of}
+use Rattle.scalar_types.specs.Scalars.{value_of}
 use Rattle.bag_value.specs.declared.lists.Entry.{Entry}
-use Rattle.bag_value.specs.Plain.{plain, pair_of}
-use Rattle.bag_encode.specs.Trees.{atoms, trees_by, key_header, trees_of, atoms_of}
+use Rattle.bag_value.specs.Vals.{plain, pair_of}
+use Rattle.bag_encode.specs.Values.{atoms, trees_by, key_header, trees_of, atoms_of}
 
 -- The atoms of keys, each with its value.
 abbrev pub entries_atoms : ScalarKind → Shape → ℕ → List (ScalarValue × Value) → List Atom

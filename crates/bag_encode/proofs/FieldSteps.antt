@@ -8,7 +8,7 @@ use Rattle.context_model.specs.Kinds.Kind.{Indexed}
 use Rattle.bag_model.specs.Shapes.{Nodes, Field, fields, no_node, node}
 use Rattle.bag_model.specs.Values.{Value, Values, no_value, value, values_list, IsOfShape, AreOfShapes}
 use Rattle.bag_model.specs.Joins.{IsBottom}
-use Rattle.bag_encode.specs.Trees.{Trees, bare, tree, atoms, header_over, trees_of, atoms_of, field_trees, field_atoms, one_field_atoms}
+use Rattle.bag_encode.specs.Values.{Trees, bare, tree, atoms, header_over, trees_of, atoms_of, field_trees, field_atoms, one_field_atoms}
 use Rattle.bag_encode.proofs.LaidOut.{bottom_bare, bare_bottom}
 
 -- The fields from a place on, and the values.

@@ -23,7 +23,7 @@ use Rattle.bag_model.proofs.SpellingOrder.{spelling-less}
 use Rattle.bag_walks.proofs.Gathering.{same_first}
 use Rattle.bag_walks.proofs.Sets as sets
 use Rattle.bag_walks.proofs.Turns.{index_order}
-use Rattle.bag_encode.specs.Trees.{Trees, bare, leaf, trees_by, header_over, scalar_datum, key_header, writer_header, trees_of, field_trees}
+use Rattle.bag_encode.specs.Values.{Trees, bare, leaf, trees_by, header_over, scalar_datum, key_header, writer_header, trees_of, field_trees}
 use Rattle.bag_encode.proofs.TreeLaws.{tree_paths, in_trees_by, trees_by_in, over_paths, over_bare, IsBefore, IsBefore-over, AreTrees, AreTrees-by, AreTrees-over}
 
 -- ---- nothing stands there exactly for bottom

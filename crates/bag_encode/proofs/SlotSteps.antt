@@ -13,7 +13,7 @@ use Rattle.bag_model.specs.SlotValues.{HasSlot, only}
 use Rattle.bag_model.specs.Tables.{IsTable, levels_under}
 use Rattle.bag_model.specs.Values.{Value, IsOfShape, AreOfShapes}
 use Rattle.bag_model.proofs.EachSlot.{only_fits}
-use Rattle.bag_encode.specs.Trees.{atoms, atoms_of, field_atoms}
+use Rattle.bag_encode.specs.Values.{atoms, atoms_of, field_atoms}
 use Rattle.bag_encode.proofs.SlotTrees.{only_trees, slot_bare, said_slot, levels_of}
 use Rattle.bag_encode.proofs.Steps.{dropped}
 

@@ -14,7 +14,7 @@ use Rattle.bag_model.specs.Tables.{levels, levels_under}
 use Rattle.bag_model.specs.Values.{Value, IsOfShape, value, bottom, bottoms}
 use Rattle.bag_model.proofs.OfShape.{IsBottom-bottom, AreBottom-bottoms}
 use Rattle.bag_model.proofs.SlotNumbers.{IsInFirst, IsLater, first_or_later}
-use Rattle.bag_encode.specs.Trees.{Trees, bare, atoms, header_over, trees_of, atoms_of, field_trees}
+use Rattle.bag_encode.specs.Values.{Trees, bare, atoms, header_over, trees_of, atoms_of, field_trees}
 use Rattle.bag_encode.proofs.FieldSteps.{header_atoms}
 use Rattle.bag_encode.proofs.LaidOut.{bottom_bare, bare_bottom, bottoms_bare}
 use Rattle.bag_encode.proofs.TreeLaws.{over_bare}

@@ -17,7 +17,7 @@ use Rattle.context_model.proofs.Following.{Fits, Follows, Follows-append, IsWell
 use Rattle.context_model.proofs.OrderLaws.{atoms_total}
 use Rattle.context_model.proofs.PathPlaces.{header_path}
 use Rattle.bag_model.proofs.Finite.{in_append, in_append_first, in_append_second}
-use Rattle.bag_encode.specs.Trees.{Trees, bare, tree, atoms, trees_by, header_over}
+use Rattle.bag_encode.specs.Values.{Trees, bare, tree, atoms, trees_by, header_over}
 
 -- The paths of trees behind q.
 abbrev pub tree_paths : Path → Trees → List Path

@@ -1,2 +1,2 @@
-pub mod BagValues
-pub mod Trees
+pub mod Encoding
+pub mod Values

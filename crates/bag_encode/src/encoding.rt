@@ -4,8 +4,8 @@ ghost use Rattle.std.specs.Prelude.{IfOk};
 ghost use Rattle.bag_model.specs.Encodings.{IsEncoding, FitsAtoms};
 ghost use Rattle.bag_model.specs.Shapes as shapes;
 ghost use Rattle.bag_model.specs.Values.{IsOfShape};
-ghost use Rattle.bag_value.specs.Plain.{plain};
-ghost use Rattle.bag_encode.specs.BagValues.{bag_values};
+ghost use Rattle.bag_value.specs.Vals.{plain};
+ghost use Rattle.bag_encode.specs.Encoding.{bag_values};
 
 use crate::growing_list::GrowingList;
 use crate::values::put_fields;

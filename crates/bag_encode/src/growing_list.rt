@@ -5,7 +5,7 @@ ghost use Rattle.context_model.specs.Kinds.{atom_of};
 ghost use Rattle.context_model.specs.Kinds.Kind.{Datum, Indexed, Keyed};
 ghost use Rattle.bag_model.specs.Scalars.{IsScalarOf, spelling};
 ghost use Rattle.scalar_types.specs.KindViews.{kind_of};
-ghost use Rattle.scalar_types.specs.ScalarViews.{value_of};
+ghost use Rattle.scalar_types.specs.Scalars.{value_of};
 
 use atom_kinds::{indexed_prefix, keyed_prefix};
 use atom_list::{AtomList, Builder};

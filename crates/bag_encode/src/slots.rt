@@ -8,8 +8,8 @@ ghost use Rattle.bag_model.specs.Slots.{SlotAt, slots_of};
 ghost use Rattle.bag_model.specs.SlotValues.{HasSlot, only};
 ghost use Rattle.bag_model.specs.Tables.{IsTable};
 ghost use Rattle.bag_model.specs.Values.{IsOfShape};
-ghost use Rattle.bag_value.specs.Plain.{plain};
-ghost use Rattle.bag_encode.specs.Trees.{field_atoms};
+ghost use Rattle.bag_value.specs.Vals.{plain};
+ghost use Rattle.bag_encode.specs.Values.{field_atoms};
 
 use crate::growing_list::GrowingList;
 use crate::values::put_value;

@@ -8,9 +8,9 @@ ghost use Rattle.bag_model.specs.Values as values;
 ghost use Rattle.bag_model.specs.Values.{IsOfShape, AreOfShapes};
 ghost use Rattle.scalar_types.specs.KindViews.{kind_of};
 ghost use Rattle.field_table.specs.Plain.{field_of, nodes_of, shape_of};
-ghost use Rattle.bag_value.specs.Plain.{plain};
+ghost use Rattle.bag_value.specs.Vals.{plain};
 ghost use Rattle.bag_value.specs.declared.vals.Val.TheVariants.{Set as SetVal};
-ghost use Rattle.bag_encode.specs.Trees.{atoms_of, field_atoms, one_field_atoms};
+ghost use Rattle.bag_encode.specs.Values.{atoms_of, field_atoms, one_field_atoms};
 
 use crate::growing_list::GrowingList;
 use bag_model::MAX_LEVELS;

@@ -5,7 +5,7 @@ use Rattle.std.proofs.lemmas.Bool.Decides.{nat_tests}
 use Rattle.std.specs.Ordering.{ordering_then, bool_cmp}
 use Rattle.std.specs.Cmp.Lexicographic.{slice_cmp}
 use Rattle.context_model.proofs.Digits.{then-assoc}
-use Rattle.bag_model.specs.Scalars.{Word, Form, TruthByte, UnsignedVarint, SignedVarint, FixedBytes, SignedFixedBytes, TextBytes, RawBytes, form_of, ScalarKind, Plain, Truth, Signed, Unsigned, Text, Octets, ScalarValue, IsOfForm, ArePlainsOf, IsScalarOf, plain_cmp, scalar_cmp, plain_spelling, field_spelling, packed_spelling, spelling}
+use Rattle.bag_model.specs.Scalars.{Word, SpellingForm, TruthByte, UnsignedVarint, SignedVarint, FixedBytes, SignedFixedBytes, TextBytes, RawBytes, form_of, ScalarKind, Plain, Truth, Signed, Unsigned, Text, Octets, ScalarValue, IsOfForm, ArePlainsOf, IsScalarOf, plain_cmp, scalar_cmp, plain_spelling, field_spelling, packed_spelling, spelling}
 use Rattle.bag_model.specs.SpellingLaws.{SpellingsKeepOrder}
 use Rattle.bag_model.proofs.Codes.{KeepsOrder, then-equal, bytes_tied, code_order, code_apart}
 use Rattle.bag_model.proofs.NumberCodes.{truth_code, unsigned_code, signed_code, fixed_code, signed_fixed_code, ended_code}
@@ -34,7 +34,7 @@ behind o p s t e = ap (λ r. ordering_then r (slice_cmp nat_cmp s t)) (sym e)
 
 -- ---- a field of a struct
 
-field-order : (form : Form) (v w : Plain) (s t : List ℕ) → IsOfForm form v → IsOfForm form w
+field-order : (form : SpellingForm) (v w : Plain) (s t : List ℕ) → IsOfForm form v → IsOfForm form w
     → slice_cmp nat_cmp (field_spelling form v ++ s) (field_spelling form w ++ t) ≡ ordering_then (plain_cmp v w) (slice_cmp nat_cmp s t)
 field-order TruthByte (Truth a) (Truth b) s t p q = truth_code.order a b s t p q ∙ behind _ _ s t (truth_cmp a b)
 field-order (UnsignedVarint wide) (Unsigned m) (Unsigned n) s t p q = (unsigned_code wide).order m n s t p q ∙ behind _ _ s t (unsigned_cmp m n)
@@ -45,12 +45,12 @@ field-order TextBytes (Text a) (Text b) s t p q = ended_code.order a b s t tt tt
 field-order RawBytes (Octets a) (Octets b) s t p q = ended_code.order a b s t tt tt
 field-order form v w s t p q = absurd (search (p, q))
 
-pub field_code : (form : Form) → KeepsOrder (IsOfForm form) (field_spelling form) plain_cmp
+pub field_code : (form : SpellingForm) → KeepsOrder (IsOfForm form) (field_spelling form) plain_cmp
 field_code form = record { order = field-order form; exact = plain_exact }
 
 -- ---- a value by itself
 
-pub plain_spelling-order : (form : Form) (v w : Plain) → IsOfForm form v → IsOfForm form w
+pub plain_spelling-order : (form : SpellingForm) (v w : Plain) → IsOfForm form v → IsOfForm form w
     → slice_cmp nat_cmp (plain_spelling form v) (plain_spelling form w) ≡ plain_cmp v w
 plain_spelling-order TextBytes (Text a) (Text b) p q = refl
 plain_spelling-order RawBytes (Octets a) (Octets b) p q = refl
@@ -67,7 +67,7 @@ packed-order : (words : List Word) (vs ws : List Plain) (s t : List ℕ) → Are
     → slice_cmp nat_cmp (packed_spelling words vs ++ s) (packed_spelling words ws ++ t) ≡ ordering_then (slice_cmp plain_cmp vs ws) (slice_cmp nat_cmp s t)
 packed-order [] [] [] s t p q = refl
 packed-order (word ∷ words) (v ∷ vs) (w ∷ ws) s t p q =
-    let form : Form = form_of word in
+    let form : SpellingForm = form_of word in
     ap₂ (slice_cmp nat_cmp) (append_assoc (field_spelling form v) (packed_spelling words vs) s) (append_assoc (field_spelling form w) (packed_spelling words ws) t)
     ∙ field-order form v w (packed_spelling words vs ++ s) (packed_spelling words ws ++ t) p.0 q.0
     ∙ ap (λ o. ordering_then (plain_cmp v w) o) (packed-order words vs ws s t p.1 q.1)

@@ -3,7 +3,7 @@ use Rattle.std.proofs.Common.{◌≡◌, ◌⊎◌, inl, inr, ℕ, zero, suc, �
 use Rattle.std.specs.Str.{is_utf8}
 use Rattle.std.proofs.lemmas.Str.{IsUtf8-from_is_utf8, is_utf8-from_IsUtf8}
 use Rattle.context_model.specs.Varints.{unsigned_varint, signed_varint}
-use Rattle.bag_model.specs.Scalars.{Word, Form, TruthByte, UnsignedVarint, SignedVarint, FixedBytes, SignedFixedBytes, TextBytes, RawBytes, form_of, ScalarKind, Plain, Truth, Signed, Unsigned, Text, Octets, ScalarValue, IsUnsigned, IsSigned, IsOfForm, ArePlainsOf, IsScalarOf, fixed_bytes, signed_fixed_bytes, ended, plain_spelling, field_spelling, packed_spelling, spelling}
+use Rattle.bag_model.specs.Scalars.{Word, SpellingForm, TruthByte, UnsignedVarint, SignedVarint, FixedBytes, SignedFixedBytes, TextBytes, RawBytes, form_of, ScalarKind, Plain, Truth, Signed, Unsigned, Text, Octets, ScalarValue, IsUnsigned, IsSigned, IsOfForm, ArePlainsOf, IsScalarOf, fixed_bytes, signed_fixed_bytes, ended, plain_spelling, field_spelling, packed_spelling, spelling}
 use Rattle.bag_model.specs.Typed.{IsSpelling, IsCount}
 use Rattle.bag_model.proofs.Codes.{code_apart, code_rest}
 use Rattle.bag_model.proofs.NumberCodes.{ended_code}
@@ -168,7 +168,7 @@ truth_front bytes = by (begins (0 ∷ []) bytes) (begins (1 ∷ []) bytes)
     by (inr no_zero) (inr no_one) = inr (λ s. neither no_zero no_one s.0 s.1 s.2)
 
 -- What stands in front of the bytes is a field of this form, or nothing of it does.
-field_front : (form : Form) (bytes : List ℕ) → Decided (Fronted (IsOfForm form) (field_spelling form) bytes)
+field_front : (form : SpellingForm) (bytes : List ℕ) → Decided (Fronted (IsOfForm form) (field_spelling form) bytes)
 field_front TruthByte bytes = truth_front bytes
 field_front (UnsignedVarint wide) bytes = by (unsigned_front wide unsigned_varint bytes)
   where
@@ -236,7 +236,7 @@ empty_or_not [] = inl refl
 empty_or_not (b ∷ bytes) = inr (λ e. cc e)
 
 -- all of the bytes are one field
-field_whole : (form : Form) (bytes : List ℕ) → Decided ((v : Plain) × IsOfForm form v × (bytes ≡ field_spelling form v))
+field_whole : (form : SpellingForm) (bytes : List ℕ) → Decided ((v : Plain) × IsOfForm form v × (bytes ≡ field_spelling form v))
 field_whole form bytes = by (field_front form bytes)
   where
     rest : (s : Fronted (IsOfForm form) (field_spelling form) bytes) → Decided (s.2.0 ≡ []) → Decided ((v : Plain) × IsOfForm form v × (bytes ≡ field_spelling form v))
@@ -247,7 +247,7 @@ field_whole form bytes = by (field_front form bytes)
     by (inl s) = rest s (empty_or_not s.2.0)
     by (inr none) = inr (λ v. none (v.0, v.1, ([], v.2 ∙ sym (append-nil (field_spelling form v.0)))))
 
-plain_whole : (form : Form) (bytes : List ℕ) → Decided ((v : Plain) × IsOfForm form v × (bytes ≡ plain_spelling form v))
+plain_whole : (form : SpellingForm) (bytes : List ℕ) → Decided ((v : Plain) × IsOfForm form v × (bytes ≡ plain_spelling form v))
 plain_whole TruthByte bytes = field_whole TruthByte bytes
 plain_whole (UnsignedVarint wide) bytes = field_whole (UnsignedVarint wide) bytes
 plain_whole (SignedVarint wide) bytes = field_whole (SignedVarint wide) bytes
@@ -276,7 +276,7 @@ packed_whole [] bytes = by (empty_or_not bytes)
     by (inr more) = inr (λ s. more (none_of s.0 s.1 s.2))
 packed_whole (word ∷ words) bytes = by (field_front (form_of word) bytes) (λ more. packed_whole words more)
   where
-    form : Form
+    form : SpellingForm
     form = form_of word
 
     parts : (vs : List Plain) → ArePlainsOf (word ∷ words) vs → bytes ≡ packed_spelling (word ∷ words) vs

@@ -32,12 +32,12 @@ pub data ScalarValue : Type 0 where
   Packed : List Plain → ScalarValue
 
 -- How the values of a word are spelled; a number's form is of 64 bits where it says true, else of 32.
-pub data Form : Type 0 where
-  TruthByte : Form
-  UnsignedVarint SignedVarint FixedBytes SignedFixedBytes : Bool → Form
-  TextBytes RawBytes : Form
+pub data SpellingForm : Type 0 where
+  TruthByte : SpellingForm
+  UnsignedVarint SignedVarint FixedBytes SignedFixedBytes : Bool → SpellingForm
+  TextBytes RawBytes : SpellingForm
 
-abbrev pub form_of : Word → Form
+abbrev pub form_of : Word → SpellingForm
 form_of Boolean = TruthByte
 form_of Int32 = SignedVarint false
 form_of Int64 = SignedVarint true
@@ -63,7 +63,7 @@ IsSigned false z = FitsSigned w32 z
 IsSigned true z = FitsSigned w64 z
 
 -- The value has the form, and is in its range.
-abbrev pub IsOfForm : Form → Plain → Type 0
+abbrev pub IsOfForm : SpellingForm → Plain → Type 0
 IsOfForm TruthByte (Truth b) = Unit {0}
 IsOfForm (UnsignedVarint wide) (Unsigned n) = IsUnsigned wide n
 IsOfForm (SignedVarint wide) (Signed z) = IsSigned wide z
@@ -155,7 +155,7 @@ abbrev pub signed_fixed_bytes : Bool → ℤ → List ℕ
 signed_fixed_bytes wide z = fixed_bytes wide (sign_flipped wide z)
 
 -- A value by itself, in a form that it has.
-abbrev pub plain_spelling : Form → Plain → List ℕ
+abbrev pub plain_spelling : SpellingForm → Plain → List ℕ
 plain_spelling TruthByte (Truth b) = truth_bytes b
 plain_spelling (UnsignedVarint wide) (Unsigned n) = unsigned_varint n
 plain_spelling (SignedVarint wide) (Signed z) = signed_varint z
@@ -175,13 +175,13 @@ abbrev pub ended : List ℕ → List ℕ
 ended bs = flat_map escape bs ++ 0 ∷ 1 ∷ []
 
 -- The forms whose bytes don't tell by themselves where they end.
-abbrev pub is_open : Form → Bool
+abbrev pub is_open : SpellingForm → Bool
 is_open TextBytes = true
 is_open RawBytes = true
 is_open _ = false
 
 -- A value as a field of a struct.
-abbrev pub field_spelling : Form → Plain → List ℕ
+abbrev pub field_spelling : SpellingForm → Plain → List ℕ
 field_spelling form v = if is_open form then ended (plain_spelling form v) else plain_spelling form v
 
 -- The fields of a struct, one after another.

@@ -12,7 +12,7 @@ use Rattle.bag_model.specs.Readings.{PathsOf, key_path, node_path}
 use Rattle.bag_model.specs.Scalars.{ScalarKind}
 use Rattle.bag_model.specs.Shapes.{Shape, Nodes, Field, fields, Taint, Scalar, Set, Counter, Map, Bag, no_node, node}
 use Rattle.bag_model.proofs.DataPlaces.{HoldsData-below}
-use Rattle.bag_normal.specs.Superseded.{GivesWayAt, IsSupersededIn, HoldsAtKey}
+use Rattle.bag_normal.specs.Known.{GivesWayAt, IsSupersededIn, HoldsAtKey}
 use Rattle.bag_normal.proofs.FieldHeaders.{HoldsAtField}
 
 -- ---- where each datum is kept

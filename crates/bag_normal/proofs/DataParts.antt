@@ -8,13 +8,13 @@ use Rattle.context_model.specs.WellFormed.{IsWellFormed}
 use Rattle.context_model.proofs.PlacesOf.{path_there, paths_rise, last_is}
 use Rattle.bag_model.specs.Normal.{Keeping, LeastDatum, GreatestDatum}
 use Rattle.bag_walks.specs.Parts.{IsBehind, IsDataPart, Stands}
-use Rattle.bag_walks.specs.Gathered.{IsDatumAt, IsFirstDatum, IsLastDatum}
-use Rattle.bag_walks.specs.Going.{IsLater, IsEarlier}
+use Rattle.bag_walks.specs.Gathering.{IsDatumAt, IsFirstDatum, IsLastDatum}
+use Rattle.bag_walks.specs.SupersededPlaces.{IsLater, IsEarlier}
 use Rattle.bag_walks.proofs.Bridge.{data_are, no_less}
 use Rattle.bag_walks.proofs.Inside.{datum_there}
 use Rattle.bag_walks.proofs.Going.{least_goes, greatest_goes}
-use Rattle.bag_normal.specs.Superseded.{GivesWayAt}
-use Rattle.bag_normal.specs.Gone.{IsDatumBetween}
+use Rattle.bag_normal.specs.Known.{GivesWayAt}
+use Rattle.bag_normal.specs.Data.{IsDatumBetween}
 
 -- Two places with one path are one.
 one_place : (list : List Atom) (i j : ℕ) → IsWellFormed list → i < length list → j < length list → path_at list i ≡ path_at list j → i ≡ j

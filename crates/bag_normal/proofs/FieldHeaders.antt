@@ -18,10 +18,10 @@ use Rattle.bag_model.proofs.SlotsBelow.{get_in}
 use Rattle.bag_walks.specs.Parts.{IsBehind, StaysBelow, IsSegment}
 use Rattle.bag_walks.proofs.Sets.{index_header}
 use Rattle.bag_walks.proofs.Turns.{stays_none}
-use Rattle.field_table.specs.Kept.{FindsNumber}
+use Rattle.field_table.specs.Tables.{FindsNumber}
 use Rattle.field_table.proofs.Held.{levels_there}
 use Rattle.field_table.proofs.Numbers.{numbers_rise}
-use Rattle.bag_normal.specs.Gone.{Adds}
+use Rattle.bag_normal.specs.Data.{AddsPlaces}
 use Rattle.bag_normal.specs.Headers.{IsIndex, IsFieldHeader, PassesNoField, IsFieldFound, HasNoField}
 use Rattle.bag_normal.proofs.Turns.{PassesNone, HoldsAtWanted, AddsBehind, segment_at_end, path_is, header_behind, header_level, headers_more, headers_end, headers_all}
 use Rattle.bag_normal.proofs.Places.{adds_same}
@@ -155,7 +155,7 @@ module _ (nodes : Nodes) (R : ℕ → Field → Path → ℕ → Type 0) (list :
         ∙ path_is (HeadsField nodes depth) (AtField nodes depth R q) list q depth from at own at_level behind before gone come found.place (passes found.place found.before) found.within wanted
 
     -- What is added at this field is added to that at the earlier ones.
-    pub fields_more : (stop : ℕ) → StaysBelow list (depth + 1) next stop → (after : List ℕ) → Adds (R i f (path_before list next)) gone after → AddsFields nodes R list q depth from stop before after
+    pub fields_more : (stop : ℕ) → StaysBelow list (depth + 1) next stop → (after : List ℕ) → AddsPlaces (R i f (path_before list next)) gone after → AddsFields nodes R list q depth from stop before after
     fields_more stop deep after adds =
         headers_more (HeadsField nodes depth) (AtField nodes depth R q) list q depth from at own at_level behind before gone come found.place (passes found.place found.before) found.within wanted
         stop (subst (λ n. StaysBelow list (depth + 1) n stop) (sym at_next) deep) after
@@ -181,7 +181,7 @@ module _ (nodes : Nodes) (R : ℕ → Field → Path → ℕ → Type 0) (list :
     stop_on = missing.segment.part.rises
 
     -- Then what was added is all.
-    pub fields_all : ((i : ℕ) (f : Field) (p : ℕ) → R i f (node_path q f.number) p → PathsOf list (node_path q f.number)) → Adds (HoldsAtField nodes R q) before gone
+    pub fields_all : ((i : ℕ) (f : Field) (p : ℕ) → R i f (node_path q f.number) p → PathsOf list (node_path q f.number)) → AddsPlaces (HoldsAtField nodes R q) before gone
     fields_all below =
         adds_same (HoldsAtWanted (HeadsField nodes depth) (AtField nodes depth R q)) (HoldsAtField nodes R q) before gone (λ p. (
           λ s. record { at = s.holds.at; field = s.holds.field; there = s.holds.heads.there; holds = subst (λ h. R s.holds.at s.holds.field (q ++ h ∷ []) p) (its s.header s.holds.at s.holds.field s.holds.heads) s.holds.holds },

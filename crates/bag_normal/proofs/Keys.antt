@@ -9,9 +9,9 @@ use Rattle.bag_model.specs.Readings.{PathsOf, key_path}
 use Rattle.bag_walks.specs.Parts.{IsBehind, StaysBelow, IsSegment}
 use Rattle.bag_walks.proofs.Sets.{key_header}
 use Rattle.bag_walks.proofs.Turns.{stays_none}
-use Rattle.bag_scan.specs.Found.{PassesNoKey, IsKeyFound, HasNoKey}
-use Rattle.bag_normal.specs.Gone.{Adds}
-use Rattle.bag_normal.specs.Superseded.{HoldsAtKey}
+use Rattle.bag_scan.specs.Searches.{PassesNoKey, IsKeyFound, HasNoKey}
+use Rattle.bag_normal.specs.Data.{AddsPlaces}
+use Rattle.bag_normal.specs.Known.{HoldsAtKey}
 use Rattle.bag_normal.proofs.Turns.{PassesNone, HoldsAtWanted, AddsBehind, segment_at_end, path_is, header_behind, header_level, headers_more, headers_end, headers_all}
 use Rattle.bag_normal.proofs.Places.{adds_same}
 
@@ -63,11 +63,11 @@ module _ (P : Path → ℕ → Type 0) (list : List Atom) (q : Path) (depth from
     place_on = found.before.stays.rises
 
     -- What is added at this key is added to that at the earlier ones.
-    pub keys_more : (next : ℕ) → StaysBelow list (depth + 1) (place + 1) next → (after : List ℕ) → Adds (P (path_before list (place + 1))) gone after → AddsKeys P list q from next before after
+    pub keys_more : (next : ℕ) → StaysBelow list (depth + 1) (place + 1) next → (after : List ℕ) → AddsPlaces (P (path_before list (place + 1))) gone after → AddsKeys P list q from next before after
     keys_more next deeper after adds =
         headers_more (IsKeyHeader (length q)) (AtHeader P q) list q (length q) from at refl at_level behind before gone come place (passes place found.before) found.within wanted
         next (subst (λ d. StaysBelow list (d + 1) (place + 1) next) (sym own) deeper) after
-        (subst (λ p. Adds (P p) gone after)
+        (subst (λ p. AddsPlaces (P p) gone after)
         (path_is (IsKeyHeader (length q)) (AtHeader P q) list q (length q) from at refl at_level behind before gone come place (passes place found.before) found.within wanted) adds)
 
   -- ---- there is none
@@ -85,7 +85,7 @@ module _ (P : Path → ℕ → Type 0) (list : List Atom) (q : Path) (depth from
     stop_on = missing.segment.part.rises
 
     -- Then what was added is all.
-    pub keys_all : ((key : List ℕ) (p : ℕ) → P (key_path q key) p → PathsOf list (key_path q key)) → Adds (HoldsAtKey P q) before gone
+    pub keys_all : ((key : List ℕ) (p : ℕ) → P (key_path q key) p → PathsOf list (key_path q key)) → AddsPlaces (HoldsAtKey P q) before gone
     keys_all below =
         adds_same (HoldsAtWanted (IsKeyHeader (length q)) (AtHeader P q)) (HoldsAtKey P q) before gone (λ p. (
           λ s. record { key = s.wanted.key; holds = subst (λ h. P (q ++ h ∷ []) p) s.wanted.is s.holds },

@@ -6,21 +6,21 @@ use Rattle.context_model.specs.Atoms.{Atom}
 use Rattle.context_model.specs.Orders.{IsIn}
 use Rattle.context_model.proofs.Rising.{Rises-push}
 use Rattle.bag_walks.proofs.Gathering.{in_push, all_below}
-use Rattle.bag_walks.specs.Gathered.{IsDatumAt}
-use Rattle.bag_normal.specs.Gone.{RisesTo, Adds, IsDatumBetween}
+use Rattle.bag_walks.specs.Gathering.{IsDatumAt}
+use Rattle.bag_normal.specs.Data.{RisesUpTo, AddsPlaces, IsDatumBetween}
 
 less_is : (m n : ℕ) → m < n → nat_cmp m n ≡ Less
 less_is m n h = grind (arith, nat_tests, h)
 
 -- ---- places that rise
 
-pub rises_none : (to : ℕ) → RisesTo [] to
+pub rises_none : (to : ℕ) → RisesUpTo [] to
 rises_none to = record { rises = tt; before = λ place none. absurd none }
 
-pub rises_on : (gone : List ℕ) (to next : ℕ) → to ≤ next → RisesTo gone to → RisesTo gone next
+pub rises_on : (gone : List ℕ) (to next : ℕ) → to ≤ next → RisesUpTo gone to → RisesUpTo gone next
 rises_on gone to next l r = record { rises = r.rises; before = λ place i. let m = r.before place i in omega (arith, m) }
 
-pub rises_more : (gone : List ℕ) (to : ℕ) → RisesTo gone to → RisesTo (gone ++ to ∷ []) (to + 1)
+pub rises_more : (gone : List ℕ) (to : ℕ) → RisesUpTo gone to → RisesUpTo (gone ++ to ∷ []) (to + 1)
 rises_more gone to r = record {
   rises = Rises-push nat_cmp gone to r.rises (all_below nat_cmp gone to (λ x i. less_is x to (r.before x i)));
   before = λ place i. elim ((in_push gone place to).0 i) [
@@ -31,10 +31,10 @@ rises_more gone to r = record {
 
 -- ---- what is added
 
-pub adds_none : (P : ℕ → Type 0) (gone : List ℕ) → ((place : ℕ) → P place → ⊥) → Adds P gone gone
+pub adds_none : (P : ℕ → Type 0) (gone : List ℕ) → ((place : ℕ) → P place → ⊥) → AddsPlaces P gone gone
 adds_none P gone none = record { exact = λ place. (λ i. inl i, λ s. elim s [ inl i ↦ i | inr p ↦ absurd (none place p) ]) }
 
-pub adds_same : (P Q : ℕ → Type 0) (before after : List ℕ) → ((place : ℕ) → P place ↔ Q place) → Adds P before after → Adds Q before after
+pub adds_same : (P Q : ℕ → Type 0) (before after : List ℕ) → ((place : ℕ) → P place ↔ Q place) → AddsPlaces P before after → AddsPlaces Q before after
 adds_same P Q before after same adds = record {
   exact = λ place. (
     λ i. elim ((adds.exact place).0 i) [ inl j ↦ inl j | inr p ↦ inr ((same place).0 p) ],
@@ -42,7 +42,7 @@ adds_same P Q before after same adds = record {
   );
 }
 
-pub adds_both : (P Q : ℕ → Type 0) (before between after : List ℕ) → Adds P before between → Adds Q between after → Adds (λ place. P place ⊎ Q place) before after
+pub adds_both : (P Q : ℕ → Type 0) (before between after : List ℕ) → AddsPlaces P before between → AddsPlaces Q between after → AddsPlaces (λ place. P place ⊎ Q place) before after
 adds_both P Q before between after first second = record {
   exact = λ place. (
     λ i. elim ((second.exact place).0 i) [
@@ -76,13 +76,13 @@ between_more list from to place l is = (there, back)
     ]
 
 -- The next place is added where a datum stands there.
-pub data_more : (list : List Atom) (from to : ℕ) (before gone : List ℕ) → from ≤ to → IsDatumAt list to → Adds (IsDatumBetween list from to) before gone → Adds (IsDatumBetween list from (to + 1)) before (gone ++ to ∷ [])
+pub data_more : (list : List Atom) (from to : ℕ) (before gone : List ℕ) → from ≤ to → IsDatumAt list to → AddsPlaces (IsDatumBetween list from to) before gone → AddsPlaces (IsDatumBetween list from (to + 1)) before (gone ++ to ∷ [])
 data_more list from to before gone l is adds =
     adds_same (λ place. IsDatumBetween list from to place ⊎ (place ≡ to)) (IsDatumBetween list from (to + 1)) before (gone ++ to ∷ []) (λ place. between_more list from to place l is)
     (adds_both (IsDatumBetween list from to) (λ place. place ≡ to) before gone (gone ++ to ∷ []) adds (record { exact = λ place. in_push gone place to }))
 
 -- And else it isn't.
-pub data_other : (list : List Atom) (from to : ℕ) (before gone : List ℕ) → (IsDatumAt list to → ⊥) → Adds (IsDatumBetween list from to) before gone → Adds (IsDatumBetween list from (to + 1)) before gone
+pub data_other : (list : List Atom) (from to : ℕ) (before gone : List ℕ) → (IsDatumAt list to → ⊥) → AddsPlaces (IsDatumBetween list from to) before gone → AddsPlaces (IsDatumBetween list from (to + 1)) before gone
 data_other list from to before gone other = adds_same (IsDatumBetween list from to) (IsDatumBetween list from (to + 1)) before gone (λ place. (
   λ d. record { from_on = d.from_on; up_to = omega (arith, d.up_to); datum = d.datum },
   λ d. elim (cases_order place to) as (λ v. IsDatumBetween list from to place) [
@@ -98,7 +98,7 @@ on_ok (Ok v) f p = f p
 on_ok (Err e) f p = tt
 
 -- From nothing on, what was added is all.
-pub whole : (P : ℕ → Type 0) (gone : List ℕ) → Adds P [] gone → (place : ℕ) → IsIn place gone ↔ P place
+pub whole : (P : ℕ → Type 0) (gone : List ℕ) → AddsPlaces P [] gone → (place : ℕ) → IsIn place gone ↔ P place
 whole P gone adds place = (
   λ i. elim ((adds.exact place).0 i) [ inl none ↦ absurd none | inr p ↦ p ],
   λ p. (adds.exact place).1 (inr p),

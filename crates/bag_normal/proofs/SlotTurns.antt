@@ -21,7 +21,7 @@ use Rattle.bag_model.proofs.SlotsBelow.{slot_path, slot_path-within}
 use Rattle.bag_walks.proofs.Stops.{atom_there}
 use Rattle.field_table.proofs.Held.{own_slot}
 use Rattle.std.proofs.lemmas.Option.{slice_get_within}
-use Rattle.bag_normal.specs.Superseded.{GivesWayAt, IsSupersededIn, IsKnownSuperseded}
+use Rattle.bag_normal.specs.Known.{GivesWayAt, IsSupersededIn, IsKnownSuperseded}
 use Rattle.bag_normal.proofs.Below.{gives_way_below}
 use Rattle.bag_normal.proofs.FieldHeaders.{HoldsAtField}
 

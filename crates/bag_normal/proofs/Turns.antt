@@ -11,7 +11,7 @@ use Rattle.bag_walks.proofs.Inside.{inside_along, child_behind}
 use Rattle.bag_walks.proofs.Bridge.{headers_are}
 use Rattle.bag_walks.proofs.Sets.{stands_on}
 use Rattle.bag_walks.proofs.Turns.{stays_none, stays_whole, stays_higher, segment_whole}
-use Rattle.bag_normal.specs.Gone.{Adds}
+use Rattle.bag_normal.specs.Data.{AddsPlaces}
 use Rattle.bag_normal.proofs.Places.{adds_none, adds_both, adds_same}
 
 -- From the one place up to the other no wanted header stands, and no header of a lesser level.
@@ -35,7 +35,7 @@ pub record HoldsAtWanted (W : Atom → Type 0) (P : Atom → ℕ → Type 0) (pl
 -- What was added at the wanted headers up to a place.
 pub record AddsBehind (W : Atom → Type 0) (P : Atom → ℕ → Type 0) (list : List Atom) (depth from to : ℕ) (before after : List ℕ) : Type 0 where
   pub stays : StaysBelow list depth from to
-  pub adds : Adds (HoldsAtPassed W P list from to) before after
+  pub adds : AddsPlaces (HoldsAtPassed W P list from to) before after
 
 pub behind_none : (W : Atom → Type 0) (P : Atom → ℕ → Type 0) (list : List Atom) (depth from : ℕ) (gone : List ℕ) → from ≤ length list → AddsBehind W P list depth from from gone gone
 behind_none W P list depth from gone within = record {
@@ -124,7 +124,7 @@ module _ (W : Atom → Type 0) (P : Atom → ℕ → Type 0) (list : List Atom) 
           ]
 
       -- What is added at this header is added to that at the earlier ones.
-      pub headers_more : (after : List ℕ) → Adds (P (atom_at list place)) gone after → AddsBehind W P list depth from next before after
+      pub headers_more : (after : List ℕ) → AddsPlaces (P (atom_at list place)) gone after → AddsBehind W P list depth from next before after
       headers_more after adds = record {
         stays = stays_next;
         adds = adds_same (λ p. HoldsAtPassed W P list from at p ⊎ P (atom_at list place) p) (HoldsAtPassed W P list from next) before after split
@@ -138,7 +138,7 @@ module _ (W : Atom → Type 0) (P : Atom → ℕ → Type 0) (list : List Atom) 
     headers_end = segment_whole list depth from at stop come.stays segment
 
     -- Then what was added is all.
-    pub headers_all : ((h : Atom) (p : ℕ) → W h → P h p → PathsOf list (q ++ h ∷ [])) → Adds (HoldsAtWanted W P) before gone
+    pub headers_all : ((h : Atom) (p : ℕ) → W h → P h p → PathsOf list (q ++ h ∷ [])) → AddsPlaces (HoldsAtWanted W P) before gone
     headers_all below =
         adds_same (HoldsAtPassed W P list from at) (HoldsAtWanted W P) before gone
         (λ p. (λ s. record { header = s.header; wanted = s.wanted; holds = s.holds }, λ s. back p s)) come.adds

@@ -1,3 +1,3 @@
-pub mod Superseded
+pub mod Known
 pub mod Headers
-pub mod Gone
+pub mod Data

@@ -4,8 +4,8 @@ ghost use Rattle.std.specs.Prelude.{◌≤◌, length, OnOk, IfOk};
 ghost use Rattle.context_model.specs.Paths.{path_before};
 ghost use Rattle.bag_model.specs.Normal.{LeastDatum, GreatestDatum, kept_by};
 ghost use Rattle.bag_walks.specs.Parts.{IsBehind, IsDataPart};
-ghost use Rattle.bag_normal.specs.Superseded.{GivesWayAt};
-ghost use Rattle.bag_normal.specs.Gone.{RisesTo, Adds, IsDatumBetween};
+ghost use Rattle.bag_normal.specs.Known.{GivesWayAt};
+ghost use Rattle.bag_normal.specs.Data.{RisesUpTo, AddsPlaces, IsDatumBetween};
 
 use atom_list::AtomList;
 use bag_model::Pick;
@@ -16,9 +16,9 @@ use outside::Memory;
 fn add_data(list: &AtomList, from: usize, to: usize, gone: &mut Vec<usize>) -> Result<(), Memory>
     requires order { from ≤ to }
     requires within { to ≤ length list.now }
-    requires rises { RisesTo gone.old.items from }
-    ensures rises { OnOk result (RisesTo gone.new.items to) }
-    ensures adds { OnOk result (Adds (IsDatumBetween list.now from to) gone.old.items gone.new.items) }
+    requires rises { RisesUpTo gone.old.items from }
+    ensures rises { OnOk result (RisesUpTo gone.new.items to) }
+    ensures adds { OnOk result (AddsPlaces (IsDatumBetween list.now from to) gone.old.items gone.new.items) }
 {
     for at in from..to {
         if is_datum(list, at) {
@@ -37,10 +37,10 @@ pub(crate) fn add_other_data(
     gone: &mut Vec<usize>,
 ) -> Result<usize, Memory>
     requires behind { IsBehind list.now (path_before list.now from) from }
-    requires rises { RisesTo gone.old.items from }
+    requires rises { RisesUpTo gone.old.items from }
     ensures part { IfOk result (IsDataPart list.now from) }
-    ensures rises { IfOk result (RisesTo gone.new.items) }
-    ensures adds { OnOk result (Adds (GivesWayAt (kept_by pick) list.now (path_before list.now from))
+    ensures rises { IfOk result (RisesUpTo gone.new.items) }
+    ensures adds { OnOk result (AddsPlaces (GivesWayAt (kept_by pick) list.now (path_before list.now from))
         gone.old.items gone.new.items) }
 {
     match pick {
@@ -52,10 +52,10 @@ pub(crate) fn add_other_data(
 /// Adds the places of all data but the first, whatever markers stand between, and gives the end of the data.
 fn add_later_data(list: &AtomList, from: usize, gone: &mut Vec<usize>) -> Result<usize, Memory>
     requires behind { IsBehind list.now (path_before list.now from) from }
-    requires rises { RisesTo gone.old.items from }
+    requires rises { RisesUpTo gone.old.items from }
     ensures part { IfOk result (IsDataPart list.now from) }
-    ensures rises { IfOk result (RisesTo gone.new.items) }
-    ensures adds { OnOk result (Adds (GivesWayAt LeastDatum list.now (path_before list.now from))
+    ensures rises { IfOk result (RisesUpTo gone.new.items) }
+    ensures adds { OnOk result (AddsPlaces (GivesWayAt LeastDatum list.now (path_before list.now from))
         gone.old.items gone.new.items) }
 {
     let to = data_end(list, from);
@@ -72,10 +72,10 @@ pub(crate) fn add_earlier_data(
     gone: &mut Vec<usize>,
 ) -> Result<usize, Memory>
     requires behind { IsBehind list.now (path_before list.now from) from }
-    requires rises { RisesTo gone.old.items from }
+    requires rises { RisesUpTo gone.old.items from }
     ensures part { IfOk result (IsDataPart list.now from) }
-    ensures rises { IfOk result (RisesTo gone.new.items) }
-    ensures adds { OnOk result (Adds (GivesWayAt GreatestDatum list.now (path_before list.now from))
+    ensures rises { IfOk result (RisesUpTo gone.new.items) }
+    ensures adds { OnOk result (AddsPlaces (GivesWayAt GreatestDatum list.now (path_before list.now from))
         gone.old.items gone.new.items) }
 {
     let to = data_end(list, from);

@@ -7,8 +7,8 @@ ghost use Rattle.bag_model.specs.Shapes.{Bag};
 ghost use Rattle.bag_model.specs.Tables.{IsShape, AreFields, levels, levels_under};
 ghost use Rattle.bag_walks.specs.Parts.{IsBehind, IsSegment};
 ghost use Rattle.field_table.specs.Plain.{shape_of, nodes_of};
-ghost use Rattle.bag_normal.specs.Superseded.{GivesWayAt, IsSupersededIn, HoldsAtKey};
-ghost use Rattle.bag_normal.specs.Gone.{RisesTo, Adds};
+ghost use Rattle.bag_normal.specs.Known.{GivesWayAt, IsSupersededIn, HoldsAtKey};
+ghost use Rattle.bag_normal.specs.Data.{RisesUpTo, AddsPlaces};
 
 use crate::data::{add_earlier_data, add_other_data};
 use crate::headers::next_field;
@@ -28,10 +28,10 @@ fn add_counts(
     requires behind { IsBehind list.now (path_before list.now from) from }
     requires level { length (path_before list.now from) ≡ level }
     requires room { level < 16 }
-    requires rises { RisesTo gone.old.items from }
+    requires rises { RisesUpTo gone.old.items from }
     ensures segment { IfOk result (IsSegment list.now level from) }
-    ensures rises { IfOk result (RisesTo gone.new.items) }
-    ensures adds { OnOk result (Adds (HoldsAtKey (GivesWayAt GreatestDatum list.now) (path_before list.now from))
+    ensures rises { IfOk result (RisesUpTo gone.new.items) }
+    ensures adds { OnOk result (AddsPlaces (HoldsAtKey (GivesWayAt GreatestDatum list.now) (path_before list.now from))
         gone.old.items gone.new.items) }
 {
     let mut place = from;
@@ -58,10 +58,10 @@ pub(crate) fn add_field(
     requires level { length (path_before list.now from) ≡ level }
     requires shape { IsShape (shape_of shape.now) }
     requires room { level + levels_under (shape_of shape.now) ≤ 16 }
-    requires rises { RisesTo gone.old.items from }
+    requires rises { RisesUpTo gone.old.items from }
     ensures segment { IfOk result (IsSegment list.now level from) }
-    ensures rises { IfOk result (RisesTo gone.new.items) }
-    ensures adds { OnOk result (Adds (IsSupersededIn (shape_of shape.now) list.now (path_before list.now from))
+    ensures rises { IfOk result (RisesUpTo gone.new.items) }
+    ensures adds { OnOk result (AddsPlaces (IsSupersededIn (shape_of shape.now) list.now (path_before list.now from))
         gone.old.items gone.new.items) }
 {
     match shape {
@@ -94,10 +94,10 @@ fn add_values(
     requires level { length (path_before list.now from) ≡ level }
     requires shape { IsShape (shape_of shape.now) }
     requires room { level + 1 + levels_under (shape_of shape.now) ≤ 16 }
-    requires rises { RisesTo gone.old.items from }
+    requires rises { RisesUpTo gone.old.items from }
     ensures segment { IfOk result (IsSegment list.now level from) }
-    ensures rises { IfOk result (RisesTo gone.new.items) }
-    ensures adds { OnOk result (Adds (HoldsAtKey (IsSupersededIn (shape_of shape.now) list.now) (path_before list.now from))
+    ensures rises { IfOk result (RisesUpTo gone.new.items) }
+    ensures adds { OnOk result (AddsPlaces (HoldsAtKey (IsSupersededIn (shape_of shape.now) list.now) (path_before list.now from))
         gone.old.items gone.new.items) }
 {
     let mut place = from;
@@ -123,10 +123,10 @@ fn add_fields(
     requires level { length (path_before list.now from) ≡ level }
     requires fields { AreFields (nodes_of fields.now) }
     requires room { level + levels (nodes_of fields.now) ≤ 16 }
-    requires rises { RisesTo gone.old.items from }
+    requires rises { RisesUpTo gone.old.items from }
     ensures segment { IfOk result (IsSegment list.now level from) }
-    ensures rises { IfOk result (RisesTo gone.new.items) }
-    ensures adds { OnOk result (Adds (IsSupersededIn (Bag (nodes_of fields.now)) list.now (path_before list.now from))
+    ensures rises { IfOk result (RisesUpTo gone.new.items) }
+    ensures adds { OnOk result (AddsPlaces (IsSupersededIn (Bag (nodes_of fields.now)) list.now (path_before list.now from))
         gone.old.items gone.new.items) }
 {
     let mut place = from;

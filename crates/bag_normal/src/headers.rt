@@ -3,7 +3,7 @@
 ghost use Rattle.std.specs.Prelude.{◌≡◌, ℕ, ◌+◌, ◌≤◌, length, IfOk, IfErr, IfSome, MatchOption};
 ghost use Rattle.bag_model.specs.Shapes.{Field};
 ghost use Rattle.bag_model.specs.Tables.{AreFields, levels};
-ghost use Rattle.field_table.specs.Kept.{Bag, KeptBag, IsReady};
+ghost use Rattle.field_table.specs.Tables.{Bag, KeptBag, IsReady};
 ghost use Rattle.field_table.specs.Plain.{field_of, kept_bag, kept_shape, nodes_of};
 ghost use Rattle.bag_normal.specs.Headers.{IsIndex, IsFieldHeader, IsFieldFound, HasNoField};
 

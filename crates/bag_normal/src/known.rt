@@ -6,11 +6,11 @@ ghost use Rattle.bag_model.specs.Shapes.{Bag as PlainBag};
 ghost use Rattle.bag_model.specs.Slots.{slots_of, slot_count};
 ghost use Rattle.bag_model.specs.Tables.{IsShape, levels, levels_under};
 ghost use Rattle.bag_walks.specs.Parts.{IsBehind, IsSegment};
-ghost use Rattle.field_table.specs.Kept.{Bag, KeptBag, IsReady};
+ghost use Rattle.field_table.specs.Tables.{Bag, KeptBag, IsReady};
 ghost use Rattle.field_table.specs.Plain.{shape_of, nodes_of, kept_bag, kept_shape};
 ghost use Rattle.field_table.specs.Views.{view_of};
-ghost use Rattle.bag_normal.specs.Superseded.{IsKnownSuperseded};
-ghost use Rattle.bag_normal.specs.Gone.{RisesTo, Adds};
+ghost use Rattle.bag_normal.specs.Known.{IsKnownSuperseded};
+ghost use Rattle.bag_normal.specs.Data.{RisesUpTo, AddsPlaces};
 
 use crate::fields::add_field;
 use crate::headers::next_field;
@@ -38,10 +38,10 @@ fn add_known(
     requires ready { (inner : KeptBag) → kept_shape shape.now ≡ Bag inner → IsReady inner }
     requires room { level + levels_under (shape_of shape.now) ≤ 16 }
     requires slots { before + slot_count (shape_of shape.now) ≤ MAX_FIELDS }
-    requires rises { RisesTo gone.old.items from }
+    requires rises { RisesUpTo gone.old.items from }
     ensures segment { IfOk result (IsSegment list.now level from) }
-    ensures rises { IfOk result (RisesTo gone.new.items) }
-    ensures adds { OnOk result (Adds
+    ensures rises { IfOk result (RisesUpTo gone.new.items) }
+    ensures adds { OnOk result (AddsPlaces
         (IsKnownSuperseded (view_of view.now) before (shape_of shape.now) list.now (path_before list.now from))
         gone.old.items gone.new.items) }
 {
@@ -71,10 +71,10 @@ pub(crate) fn add_known_fields(
     requires ready { IsReady (kept_bag fields.now) }
     requires room { level + levels (nodes_of fields.now) ≤ 16 }
     requires slots { before + length (slots_of (nodes_of fields.now)) ≤ MAX_FIELDS }
-    requires rises { RisesTo gone.old.items from }
+    requires rises { RisesUpTo gone.old.items from }
     ensures segment { IfOk result (IsSegment list.now level from) }
-    ensures rises { IfOk result (RisesTo gone.new.items) }
-    ensures adds { OnOk result (Adds
+    ensures rises { IfOk result (RisesUpTo gone.new.items) }
+    ensures adds { OnOk result (AddsPlaces
         (IsKnownSuperseded (view_of view.now) before (PlainBag (nodes_of fields.now)) list.now (path_before list.now from))
         gone.old.items gone.new.items) }
 {

@@ -2,7 +2,7 @@
 use Rattle.std.proofs.Common.{ℕ, ◌+◌, ◌<◌, ◌≤◌, List, Option, Some, None, inl, inr, subst, arith}
 use Rattle.std.proofs.lemmas.Bool.{cases_order}
 use Rattle.context_model.specs.Atoms.{Atom}
-use Rattle.bag_walks.specs.Gathered.{IsDatumAt, IsFirstDatum, IsLastDatum}
+use Rattle.bag_walks.specs.Gathering.{IsDatumAt, IsFirstDatum, IsLastDatum}
 
 -- No datum stands up to a place.
 abbrev pub NoneUpTo : List Atom → ℕ → ℕ → Type 0

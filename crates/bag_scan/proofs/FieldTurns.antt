@@ -18,7 +18,7 @@ use Rattle.bag_walks.proofs.Absent.{IsBare}
 use Rattle.bag_walks.proofs.Sets.{index_header}
 use Rattle.bag_walks.proofs.Stops.{absent_is_first}
 use Rattle.bag_walks.proofs.Turns.{index_order, stays_none, passed_none, sought_whole, found_behind, found_next, found_stays, absent_next, absent_bare}
-use Rattle.bag_scan.specs.Found.{IsFoundBehind, IsMissing}
+use Rattle.bag_scan.specs.Searches.{IsFoundBehind, IsMissing}
 use Rattle.field_table.proofs.Held.{levels_there}
 
 -- Of two neighbouring fields the later has the greater number.

@@ -1,3 +1,3 @@
-pub mod Found
+pub mod Searches
 pub mod Spans
 pub mod States

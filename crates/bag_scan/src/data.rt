@@ -1,7 +1,7 @@
 //! Data among the atoms of a part.
 
 ghost use Rattle.std.specs.Prelude.{◌↔◌, ◌<◌, ◌≤◌, length, IsTrue};
-ghost use Rattle.bag_walks.specs.Gathered.{IsDatumAt, IsFirstDatum, IsLastDatum};
+ghost use Rattle.bag_walks.specs.Gathering.{IsDatumAt, IsFirstDatum, IsLastDatum};
 
 use crate::parts::atom;
 use atom_list::AtomList;

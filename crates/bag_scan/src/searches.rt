@@ -4,7 +4,7 @@ ghost use Rattle.std.specs.Prelude.{◌≡◌, ◌<◌, ◌≤◌, false, length
 ghost use Rattle.context_model.specs.Kinds.{atom_of};
 ghost use Rattle.context_model.specs.Kinds.Kind.{Indexed};
 ghost use Rattle.bag_walks.specs.Searches.{IsPassed, IsStop, IsSought};
-ghost use Rattle.bag_scan.specs.Found.{IsFoundBehind, IsMissing, IsKeyFound, HasNoKey};
+ghost use Rattle.bag_scan.specs.Searches.{IsFoundBehind, IsMissing, IsKeyFound, HasNoKey};
 
 use crate::parts::atom;
 use atom_kinds::{FieldHeader, header_level, is_key};

@@ -1,6 +1,6 @@
 //! Random values of random bags: what is read of a merge of their encodings, against their join.
 
-ghost use Rattle.scalar_types.specs.KindViews.{IsWord};
+ghost use Rattle.scalar_types.specs.KindViews.{IsPlainWord};
 
 use crate::dice::Dice;
 use crate::random_values::random_bag;
@@ -288,7 +288,7 @@ fn random_values_join_as_merged(rt: HostRuntime) -> Result<(), Fail> {
 
 /// A bag of two empty sets, one of texts and one of structs of a text and this kind.
 fn two_sets(alloc: Global, second: ScalarKind) -> Result<Val, Fail>
-    requires { IsWord second }
+    requires { IsPlainWord second }
 {
     let mut kinds = KindList::new(alloc);
     kinds.push(ScalarKind::Str)?;

@@ -1,7 +1,7 @@
 //! Random values of the shapes of a table.
 
 ghost use Rattle.std.specs.Prelude.{◌≡◌, IfOk};
-ghost use Rattle.scalar_types.specs.ScalarViews.{IsPlain};
+ghost use Rattle.scalar_types.specs.Scalars.{IsPlain};
 
 use crate::dice::Dice;
 use bag_codec::{Entries, Entry, ScalarSet, Val, Vals, bottom_of};

@@ -8,7 +8,7 @@ use Rattle.context_model.proofs.PlacesOf.{path_there, last_is}
 use Rattle.bag_walks.specs.Parts.{IsBehind, HasNoHeader, IsDataPart, Stands}
 use Rattle.bag_walks.proofs.Inside.{datum_there}
 use Rattle.bag_walks.proofs.Bridge.{data_are, not_before}
-use Rattle.bag_typed.specs.Faults.{HasNone, IsFirstOf, IsWrongDatum}
+use Rattle.bag_typed.specs.Walk.{HasNone, IsFirstOfPaths, IsWrongDatum}
 
 -- A datum's payload is what stands behind its first byte.
 pub payload_is : (bytes a b x : List ℕ) → bytes ≡ drop 1 a → a ≡ b → b ≡ 0 ∷ x → bytes ≡ x
@@ -46,7 +46,7 @@ module _ (Right : List ℕ → Type 0) (list : List Atom) (from : ℕ) where
 
     -- The first datum that isn't right is the first wrong one behind q.
     pub wrong_datum : (to at : ℕ) (x : List ℕ) → HasNoHeader list from to → from ≤ at → at < to → atom_at list at ≡ 0 ∷ x → (Right x → ⊥) → AreRight Right list from at
-        → IsFirstOf list (IsWrongDatum Right q) at
+        → IsFirstOfPaths list (IsWrongDatum Right q) at
     wrong_datum to at x part l m is wrong are = record {
       within = omega (arith, m, part.within);
       is = (x, datum_there list q from to at x behind part l m is, wrong);

@@ -22,12 +22,12 @@ use Rattle.bag_walks.specs.Searches.{HasPassed}
 use Rattle.bag_walks.proofs.Absent.{IsBare}
 use Rattle.bag_walks.proofs.Sets.{index_header}
 use Rattle.bag_walks.proofs.Turns.{index_order, passed_none, stays_none, stays_whole, found_behind, found_next, found_stays, absent_next, absent_bare}
-use Rattle.bag_scan.specs.Found.{IsFoundBehind, IsMissing}
+use Rattle.bag_scan.specs.Searches.{IsFoundBehind, IsMissing}
 use Rattle.field_table.specs.declared.shapes.Slot.{Slot}
 use Rattle.field_table.specs.declared.shapes.Slots.{Slots}
 use Rattle.field_table.specs.Plain.{field_of, nodes_of, shape_of}
 use Rattle.field_table.proofs.Held.{field_is, levels_there}
-use Rattle.bag_typed.specs.Faults.{HasNone, IsFirstOf}
+use Rattle.bag_typed.specs.Walk.{HasNone, IsFirstOfPaths}
 use Rattle.bag_typed.proofs.Orders.{StandsUnder, no_greater_before}
 
 -- ---- fields by their places
@@ -124,7 +124,7 @@ module _ (nodes : Nodes) (list : List Atom) (q : Path) (from : ℕ) where
     ]
 
     -- The first that misspells in this field is the first that does in any.
-    pub field_fault : (first : ℕ) → IsFirstOf list (Misspells f.shape (node_path q f.number)) first → IsFirstOf list (SomeMisspells nodes q) first
+    pub field_fault : (first : ℕ) → IsFirstOfPaths list (Misspells f.shape (node_path q f.number)) first → IsFirstOfPaths list (SomeMisspells nodes q) first
     field_fault first fault = record {
       within = fault.within;
       is = misspells_some nodes q (path_at list first) count f at fault.is;
@@ -185,7 +185,7 @@ pub record FieldTurn (nodes : Nodes) (list : List Atom) (q : Path) (from depth c
   pub starts : IsBehind list (path_before list start) start
   pub deeper : length (path_before list start) ≡ depth + 1
   pub more : (next : ℕ) → HasNone list (Misspells f.shape (path_before list start)) → IsSegment list (depth + 1) start next → ClearsFields nodes list q from (count + 1) next
-  pub fault : (first : ℕ) → IsFirstOf list (Misspells f.shape (path_before list start)) first → IsFirstOf list (SomeMisspells nodes q) first
+  pub fault : (first : ℕ) → IsFirstOfPaths list (Misspells f.shape (path_before list start)) first → IsFirstOfPaths list (SomeMisspells nodes q) first
 
 module _ (nodes : Nodes) (list : List Atom) (q : Path) (from depth : ℕ) (same : length q ≡ depth) (behind : IsBehind list q from) (are : AreFields nodes) (room : depth + levels nodes ≤ 16)
     (count place : ℕ) (f : Field) (at : slice_get (fields nodes) count ≡ Some f) (clears : ClearsFields nodes list q from count place) (n : ℕ) (number : n ≡ f.number) where
@@ -201,7 +201,7 @@ module _ (nodes : Nodes) (list : List Atom) (q : Path) (from depth : ℕ) (same 
         deeper = omega (arith, long);
         more = λ next none segment. fields_found nodes list q from behind are fits count place f at clears start own next (subst (λ p. HasNone list (Misspells f.shape p)) its.path none)
             (subst (λ d. IsSegment list (d + 1) start next) (sym same) segment);
-        fault = λ first its_first. field_fault nodes list q from behind are fits count place f at clears first (subst (λ p. IsFirstOf list (Misspells f.shape p) first) its.path its_first);
+        fault = λ first its_first. field_fault nodes list q from behind are fits count place f at clears first (subst (λ p. IsFirstOfPaths list (Misspells f.shape p) first) its.path its_first);
       }
 
   pub field_missing : (stop : ℕ) → IsMissing list depth (atom_of (Indexed depth n)) place stop → ClearsFields nodes list q from (count + 1) stop

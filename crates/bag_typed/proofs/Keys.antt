@@ -14,8 +14,8 @@ use Rattle.bag_walks.proofs.Inside.{inside_along, child_behind, header_there}
 use Rattle.bag_walks.proofs.Bridge.{headers_are, earlier_stands}
 use Rattle.bag_walks.proofs.Sets.{key_header, key_back}
 use Rattle.bag_walks.proofs.Turns.{stays_whole, stays_higher, segment_whole}
-use Rattle.bag_scan.specs.Found.{PassesNoKey, IsKeyFound, HasNoKey}
-use Rattle.bag_typed.specs.Faults.{HasNone, IsFirstOf}
+use Rattle.bag_scan.specs.Searches.{PassesNoKey, IsKeyFound, HasNoKey}
+use Rattle.bag_typed.specs.Walk.{HasNone, IsFirstOfPaths}
 use Rattle.bag_typed.proofs.Orders.{StandsUnder, no_greater_before, header_of_under}
 
 -- The header of a key behind q.
@@ -108,7 +108,7 @@ module _ (M : List ℕ → Path → Type 0) (list : List Atom) (q : Path) (from 
               absurd (omega (arith, deep, same))
 
       -- The first of this key's paths that the list has is the first of all keys'.
-      pub keys_fault : (place : ℕ) → IsFirstOf list (M key) place → IsFirstOf list (OfSomeKey M) place
+      pub keys_fault : (place : ℕ) → IsFirstOfPaths list (M key) place → IsFirstOfPaths list (OfSomeKey M) place
       keys_fault place fault = record {
         within = fault.within;
         is = (key, fault.is);
@@ -140,7 +140,7 @@ pub record KeyTurn (M : List ℕ → Path → Type 0) (list : List Atom) (q : Pa
   pub starts : IsBehind list (path_at list at) (at + 1)
   pub deeper : length (path_at list at) ≡ depth + 1
   pub more : (next : ℕ) → HasNone list (M key) → IsSegment list (depth + 1) (at + 1) next → ClearsKeys M list q from next
-  pub fault : (first : ℕ) → IsFirstOf list (M key) first → IsFirstOf list (OfSomeKey M) first
+  pub fault : (first : ℕ) → IsFirstOfPaths list (M key) first → IsFirstOfPaths list (OfSomeKey M) first
 
 module _ (M : List ℕ → Path → Type 0) (list : List Atom) (q : Path) (from depth : ℕ) (same : length q ≡ depth) (behind : IsBehind list q from) (few : depth + 1 ≤ 16)
     (under : (key : List ℕ) (p : Path) → M key p → StandsUnder q (key_at q key) p) (place : ℕ) (clears : ClearsKeys M list q from place) where

@@ -13,7 +13,7 @@ use Rattle.bag_model.specs.Typed.{IsSpelling, IsCount, Misspells}
 use Rattle.bag_model.proofs.IllTyped.{Misspells-below}
 use Rattle.bag_walks.specs.Parts.{IsBehind}
 use Rattle.bag_walks.proofs.Bridge.{no_less, not_before}
-use Rattle.bag_typed.specs.Faults.{HasNone, IsFirstOf, IsWrongDatum}
+use Rattle.bag_typed.specs.Walk.{HasNone, IsFirstOfPaths, IsWrongDatum}
 use Rattle.bag_typed.proofs.Keys.{key_at, OfSomeKey}
 use Rattle.bag_typed.proofs.Orders.{StandsUnder}
 
@@ -21,7 +21,7 @@ use Rattle.bag_typed.proofs.Orders.{StandsUnder}
 pub none_alike : (list : List Atom) (P Q : Path → Type 0) → ((p : Path) → Q p → P p) → HasNone list P → HasNone list Q
 none_alike list P Q back has = record { none = λ k within q. has.none k within (back (path_at list k) q) }
 
-pub first_alike : (list : List Atom) (P Q : Path → Type 0) (place : ℕ) → ((p : Path) → P p → Q p) → ((p : Path) → Q p → P p) → IsFirstOf list P place → IsFirstOf list Q place
+pub first_alike : (list : List Atom) (P Q : Path → Type 0) (place : ℕ) → ((p : Path) → P p → Q p) → ((p : Path) → Q p → P p) → IsFirstOfPaths list P place → IsFirstOfPaths list Q place
 first_alike list P Q place to back is = record {
   within = is.within;
   is = to (path_at list place) is.is;
@@ -61,7 +61,7 @@ module _ (kind : ScalarKind) (shape : Shape) (list : List Atom) (q : Path) (key 
   pub entry_none : IsSpelling kind key → HasNone list (Misspells shape (key_path q key)) → HasNone list (of_key kind shape q key)
   entry_none spelled has = record { none = λ k within m. elim m [ inl own ↦ own.1 spelled | inr below ↦ has.none k within below ] }
 
-  pub entry_fault : (first : ℕ) → IsSpelling kind key → IsFirstOf list (Misspells shape (key_path q key)) first → IsFirstOf list (of_key kind shape q key) first
+  pub entry_fault : (first : ℕ) → IsSpelling kind key → IsFirstOfPaths list (Misspells shape (key_path q key)) first → IsFirstOfPaths list (of_key kind shape q key) first
   entry_fault first spelled fault = record {
     within = fault.within;
     is = inr fault.is;
@@ -69,7 +69,7 @@ module _ (kind : ScalarKind) (shape : Shape) (list : List Atom) (q : Path) (key 
   }
 
   -- A misspelled key comes first: what stands below it follows.
-  pub key_fault : (at : ℕ) → IsBehind list (key_path q key) (at + 1) → (IsSpelling kind key → ⊥) → IsFirstOf list (of_key kind shape q key) at
+  pub key_fault : (at : ℕ) → IsBehind list (key_path q key) (at + 1) → (IsSpelling kind key → ⊥) → IsFirstOfPaths list (of_key kind shape q key) at
   key_fault at behind wrong = record {
     within = omega (arith, behind.within);
     is = inl (behind.path, wrong);

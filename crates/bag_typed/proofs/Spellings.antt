@@ -5,10 +5,10 @@ use Rattle.context_model.specs.Varints.{unsigned_varint}
 use Rattle.bag_model.specs.Scalars.{ScalarKind, IsScalarOf, spelling}
 use Rattle.bag_model.specs.Typed.{IsSpelling, IsCount}
 use Rattle.lex_varint.specs.declared.VarintFault.{VarintFault}
-use Rattle.lex_varint.specs.Fronts.{IsUnsignedAt}
-use Rattle.scalar_types.specs.KindLaws.{scalar_of, value_back}
-use Rattle.scalar_types.specs.ScalarViews.{value_of}
-use Rattle.scalar_types.specs.Spelling.{IsSpelled}
+use Rattle.lex_varint.specs.Readings.{IsUnsignedAt}
+use Rattle.scalar_types.specs.KindCodec.{scalar_of, value_back}
+use Rattle.scalar_types.specs.Scalars.{value_of}
+use Rattle.scalar_types.specs.Codec.{IsSpelled}
 
 -- What a kind's codec spells is what the kind spells.
 pub spelling_told : (kind : ScalarKind) (bytes : List ℕ) → IsSpelled (λ v. IsScalarOf kind (value_of v)) (λ v. spelling kind (value_of v)) bytes ↔ IsSpelling kind bytes

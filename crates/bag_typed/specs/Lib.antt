@@ -1,2 +1,2 @@
-pub mod Faults
+pub mod Walk
 pub mod Payloads

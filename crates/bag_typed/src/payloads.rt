@@ -4,7 +4,7 @@ ghost use Rattle.std.specs.Prelude.{◌↔◌, IsTrue, IfOk, IfErr};
 ghost use Rattle.context_model.specs.Paths.{path_before};
 ghost use Rattle.bag_model.specs.Typed.{IsCount};
 ghost use Rattle.bag_walks.specs.Parts.{IsBehind, IsSegment};
-ghost use Rattle.bag_typed.specs.Faults.{HasNone, IsFirstOf, IsWrongDatum};
+ghost use Rattle.bag_typed.specs.Walk.{HasNone, IsFirstOfPaths, IsWrongDatum};
 ghost use Rattle.bag_typed.specs.Payloads.{IsPayload};
 
 use atom_kinds::rest;
@@ -59,7 +59,7 @@ pub(crate) fn check_data(
     ensures end { IfOk result (IsSegment list.now level from) }
     ensures right { IfOk result (λ _. HasNone list.now
         (IsWrongDatum (IsPayload payload.now) (path_before list.now from))) }
-    ensures fault { IfErr result (IsFirstOf list.now
+    ensures fault { IfErr result (IsFirstOfPaths list.now
         (IsWrongDatum (IsPayload payload.now) (path_before list.now from))) }
 {
     let to = data_end(list, from);

@@ -7,7 +7,7 @@ ghost use Rattle.bag_model.specs.Shapes.{Counter as PlainCounter, Map as PlainMa
 ghost use Rattle.bag_model.specs.Tables.{IsShape, AreFields, levels, levels_under};
 ghost use Rattle.bag_model.specs.Typed.{AreTyped, Misspells, SomeMisspells, IsFirstIllTyped};
 ghost use Rattle.bag_walks.specs.Parts.{IsBehind, IsSegment};
-ghost use Rattle.bag_typed.specs.Faults.{HasNone, IsFirstOf};
+ghost use Rattle.bag_typed.specs.Walk.{HasNone, IsFirstOfPaths};
 ghost use Rattle.field_table.specs.Plain.{shape_of, nodes_of};
 ghost use Rattle.scalar_types.specs.KindViews.{kind_of};
 
@@ -26,7 +26,7 @@ fn check_counts(list: &AtomList, level: usize, from: usize) -> Result<usize, usi
     ensures end { IfOk result (IsSegment list.now level from) }
     ensures typed { IfOk result (λ _. HasNone list.now
         (Misspells PlainCounter (path_before list.now from))) }
-    ensures fault { IfErr result (IsFirstOf list.now
+    ensures fault { IfErr result (IsFirstOfPaths list.now
         (Misspells PlainCounter (path_before list.now from))) }
 {
     let mut place = from;
@@ -59,7 +59,7 @@ fn check_entries(
     ensures end { IfOk result (IsSegment list.now level from) }
     ensures typed { IfOk result (λ _. HasNone list.now
         (Misspells (PlainMap (kind_of kind.now) (shape_of value.now)) (path_before list.now from))) }
-    ensures fault { IfErr result (IsFirstOf list.now
+    ensures fault { IfErr result (IsFirstOfPaths list.now
         (Misspells (PlainMap (kind_of kind.now) (shape_of value.now)) (path_before list.now from))) }
 {
     let mut place = from;
@@ -89,7 +89,7 @@ fn check_fields(fields: &Slots, list: &AtomList, level: usize, from: usize) -> R
     ensures end { IfOk result (IsSegment list.now level from) }
     ensures typed { IfOk result (λ _. HasNone list.now
         (SomeMisspells (nodes_of fields.now) (path_before list.now from))) }
-    ensures fault { IfErr result (IsFirstOf list.now
+    ensures fault { IfErr result (IsFirstOfPaths list.now
         (SomeMisspells (nodes_of fields.now) (path_before list.now from))) }
 {
     let mut place = from;
@@ -113,7 +113,7 @@ fn check_field(shape: &Shape, list: &AtomList, level: usize, from: usize) -> Res
     ensures end { IfOk result (IsSegment list.now level from) }
     ensures typed { IfOk result (λ _. HasNone list.now
         (Misspells (shape_of shape.now) (path_before list.now from))) }
-    ensures fault { IfErr result (IsFirstOf list.now
+    ensures fault { IfErr result (IsFirstOfPaths list.now
         (Misspells (shape_of shape.now) (path_before list.now from))) }
 {
     match shape {

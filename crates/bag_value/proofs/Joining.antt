@@ -13,10 +13,10 @@ use Rattle.bag_model.specs.Joins.{join, join_entries, join_values, Alike, AlikeE
 use Rattle.bag_model.proofs.JoinLaws.{AlikeEntries-at, Proper-joined}
 use Rattle.bag_model.proofs.PairLaws.{pairs-injective, pairs-join}
 use Rattle.bag_model.proofs.ScalarOrder.{scalar_exact}
-use Rattle.scalar_types.specs.ScalarViews.{value_of}
+use Rattle.scalar_types.specs.Scalars.{value_of}
 use Rattle.bag_value.specs.declared.lists.Entry.{Entry}
 use Rattle.bag_value.specs.declared.vals.Val.{Val}
-use Rattle.bag_value.specs.Plain.{plain, plain_values, pair_of, plain_entries}
+use Rattle.bag_value.specs.Vals.{plain, plain_values, pair_of, plain_entries}
 use Rattle.bag_value.proofs.ListLaws.{list_values, pairs_plain, entry_at}
 
 -- ---- entries

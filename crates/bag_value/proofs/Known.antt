@@ -8,12 +8,12 @@ use Rattle.bag_model.specs.Scalars.{scalar_cmp, IsScalarOf, spelling}
 use Rattle.bag_model.specs.Scalars as scalars
 use Rattle.bag_model.specs.Joins.{Proper}
 use Rattle.bag_model.proofs.SpellingOrder.{spellings_keep_order}
-use Rattle.counter_type.specs.Counted.{IsCounted}
+use Rattle.counter_type.specs.Counts.{IsCounted}
 use Rattle.scalar_types.specs.KindViews.{kind_of}
-use Rattle.scalar_types.specs.ScalarViews.{value_of}
+use Rattle.scalar_types.specs.Scalars.{value_of}
 use Rattle.scalar_types.specs.declared.kinds.ScalarKind.{ScalarKind}
 use Rattle.scalar_types.specs.declared.scalars.Scalar.{Scalar}
-use Rattle.set_map_types.specs.Held.{Held, value_cmp, set_proper}
+use Rattle.set_map_types.specs.SetsAndMaps.{Held, value_cmp, set_proper}
 
 -- the scalars that a set of a kind holds, and how each is spelled
 abbrev pub kind_fits : ScalarKind → Scalar → Type 0

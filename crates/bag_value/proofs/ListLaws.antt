@@ -11,10 +11,10 @@ use Rattle.bag_model.specs.Scalars.{ScalarValue, scalar_cmp}
 use Rattle.bag_model.specs.Values as model
 use Rattle.bag_model.specs.Values.{pairs, values_list}
 use Rattle.bag_model.specs.Joins.{Proper, AreProper, AreProperEntries, IsBottom, AreBottom}
-use Rattle.scalar_types.specs.ScalarViews.{value_of}
+use Rattle.scalar_types.specs.Scalars.{value_of}
 use Rattle.bag_value.specs.declared.lists.Entry.{Entry}
 use Rattle.bag_value.specs.declared.vals.Val.{Val}
-use Rattle.bag_value.specs.Plain.{plain, plain_values, pair_of, plain_entries}
+use Rattle.bag_value.specs.Vals.{plain, plain_values, pair_of, plain_entries}
 
 -- ---- values of a bag
 

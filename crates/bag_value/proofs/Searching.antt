@@ -13,9 +13,9 @@ use Rattle.context_model.proofs.Rising.{Rises-before, Rises-tail}
 use Rattle.bag_model.specs.Scalars.{ScalarValue, scalar_cmp}
 use Rattle.bag_model.specs.Values.{pairs}
 use Rattle.bag_model.proofs.ScalarOrder.{scalar_total, scalar_exact}
-use Rattle.scalar_types.specs.ScalarViews.{value_of}
+use Rattle.scalar_types.specs.Scalars.{value_of}
 use Rattle.bag_value.specs.declared.lists.Entry.{Entry}
-use Rattle.bag_value.specs.Plain.{plain, plain_entries}
+use Rattle.bag_value.specs.Vals.{plain, plain_entries}
 use Rattle.bag_value.proofs.ListLaws.{entry_at}
 
 abbrev key_of : Entry → ScalarValue

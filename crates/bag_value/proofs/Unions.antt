@@ -7,14 +7,14 @@ use Rattle.bag_model.specs.Values as model
 use Rattle.bag_model.specs.Scalars.{scalar_cmp}
 use Rattle.bag_model.specs.Joins.{join}
 use Rattle.bag_model.proofs.SpellingOrder.{spellings_keep_order}
-use Rattle.scalar_types.specs.KindLaws.{kind_from, kind_back}
+use Rattle.scalar_types.specs.KindCodec.{kind_from, kind_back}
 use Rattle.scalar_types.specs.KindViews.{kind_of}
-use Rattle.scalar_types.specs.ScalarViews.{value_of}
+use Rattle.scalar_types.specs.Scalars.{value_of}
 use Rattle.scalar_types.specs.declared.kinds.ScalarKind.{ScalarKind}
 use Rattle.scalar_types.specs.declared.scalars.Scalar.{Scalar}
-use Rattle.set_map_types.specs.Held.{Held, IsSet, value_cmp, set_proper, set_joined}
+use Rattle.set_map_types.specs.SetsAndMaps.{Held, IsSet, value_cmp, set_proper, set_joined}
 use Rattle.bag_value.specs.declared.vals.Val.TheVariants.{Set}
-use Rattle.bag_value.specs.Plain.{plain}
+use Rattle.bag_value.specs.Vals.{plain}
 use Rattle.bag_value.proofs.Known.{kind_fits, kind_spelling}
 
 -- Two kinds with one plain kind are one.

@@ -1,3 +1,3 @@
-pub mod Plain
-pub mod Falls
-pub mod PlainLaws
+pub mod Vals
+pub mod Lists
+pub mod ValLaws

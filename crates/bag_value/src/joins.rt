@@ -6,8 +6,8 @@ ghost use Rattle.context_model.specs.Merge.{first_of};
 ghost use Rattle.bag_model.specs.Joins.{Alike, AlikeEntries, AreAlike, join, join_entries, join_values};
 ghost use Rattle.bag_model.specs.Scalars.{pick_cmp};
 ghost use Rattle.scalar_types.specs.KindViews.{kind_of};
-ghost use Rattle.scalar_types.specs.ScalarViews.{value_of};
-ghost use Rattle.bag_value.specs.Plain.{plain};
+ghost use Rattle.scalar_types.specs.Scalars.{value_of};
+ghost use Rattle.bag_value.specs.Vals.{plain};
 
 use crate::lists::{Entries, Entry, Vals};
 use crate::vals::{ScalarSet, Val};

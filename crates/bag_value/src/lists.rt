@@ -8,8 +8,8 @@ ghost use Rattle.bag_model.specs.Joins.{AreBottom, AreProper, Proper};
 ghost use Rattle.bag_model.specs.Scalars.{scalar_cmp};
 ghost use Rattle.bag_model.specs.Values.{values_list, pairs, no_entry, no_value};
 ghost use Rattle.bag_model.specs.Values as model;
-ghost use Rattle.scalar_types.specs.ScalarViews.{value_of};
-ghost use Rattle.bag_value.specs.Plain.{pair_of, plain};
+ghost use Rattle.scalar_types.specs.Scalars.{value_of};
+ghost use Rattle.bag_value.specs.Vals.{pair_of, plain};
 
 use crate::vals::Val;
 use outside::Memory;
@@ -33,7 +33,7 @@ impl Model for Vals {
     ghost coded = { values_code };
 
     ghost use Rattle.bag_model.specs.Joins.{AreProper};
-    ghost use Rattle.bag_value.specs.Plain.{plain_values};
+    ghost use Rattle.bag_value.specs.Vals.{plain_values};
 
     ghost view = { λ list. plain_values list.items.items };
 
@@ -41,7 +41,7 @@ impl Model for Vals {
 
     ghost size = { size_of_values };
 
-    ghost use Rattle.bag_value.specs.Falls.{values_fall};
+    ghost use Rattle.bag_value.specs.Lists.{values_fall};
     ghost use Rattle.std.proofs.Common.{arith};
 
     ghost size_decreases = { λ list proper. omega (arith, values_fall list.items.items) };
@@ -72,7 +72,7 @@ impl Model for Entries {
 
     ghost use Rattle.bag_model.specs.Joins.{Proper};
     ghost use Rattle.bag_model.specs.Values as model;
-    ghost use Rattle.bag_value.specs.Plain.{plain_entries};
+    ghost use Rattle.bag_value.specs.Vals.{plain_entries};
 
     ghost view = { λ list. plain_entries list.items.items };
 
@@ -80,7 +80,7 @@ impl Model for Entries {
 
     ghost size = { size_of_entries };
 
-    ghost use Rattle.bag_value.specs.Falls.{entries_fall};
+    ghost use Rattle.bag_value.specs.Lists.{entries_fall};
     ghost use Rattle.std.proofs.Common.{arith};
 
     ghost size_decreases = { λ list proper. omega (arith, entries_fall list.items.items) };

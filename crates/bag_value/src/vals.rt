@@ -2,7 +2,7 @@
 
 ghost use Rattle.std.specs.Prelude.{◌↔◌, IsTrue};
 ghost use Rattle.bag_model.specs.Joins.{IsBottom, Proper};
-ghost use Rattle.bag_value.specs.Plain.{plain};
+ghost use Rattle.bag_value.specs.Vals.{plain};
 
 use crate::lists::{Entries, Vals};
 use counter_type::{Counts, Lattice};
@@ -76,8 +76,8 @@ impl Val {
 /// two bags field by field. Want of memory leaves a value unchanged.
 impl Lattice for Val {
     ghost use Rattle.bag_model.specs.Joins.{Alike, IsBottom, Proper};
-    ghost use Rattle.bag_value.specs.Plain.{plain, val_joined};
-    ghost use Rattle.bag_value.specs.PlainLaws.{val_laws};
+    ghost use Rattle.bag_value.specs.Vals.{plain, val_joined};
+    ghost use Rattle.bag_value.specs.ValLaws.{val_laws};
 
     ghost proper = { λ v. Proper (plain v) };
 

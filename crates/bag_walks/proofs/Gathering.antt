@@ -23,7 +23,7 @@ use Rattle.bag_model.specs.Values.{Value}
 use Rattle.bag_model.proofs.ScalarOrder.{pick_total}
 use Rattle.bag_model.proofs.SpellingOrder.{spelling-order, spelling-one}
 use Rattle.bag_walks.specs.Parts.{IsBehind, HasNoHeader, IsDataPart, StaysBelow, Stands}
-use Rattle.bag_walks.specs.Gathered.{IsDatumAt, IsFirstDatum, IsLastDatum, IsDatumThatStays}
+use Rattle.bag_walks.specs.Gathering.{IsDatumAt, IsFirstDatum, IsLastDatum, IsDatumThatStays}
 use Rattle.bag_walks.proofs.Inside.{inside_along, datum_there, header_there}
 use Rattle.bag_walks.proofs.Bridge.{data_are}
 

@@ -10,8 +10,8 @@ use Rattle.context_model.proofs.OrderLaws.{atoms_total}
 use Rattle.context_model.proofs.PlacesOf.{last_is}
 use Rattle.bag_model.specs.Normal.{Keeping, LeastDatum, GreatestDatum, GivesWay}
 use Rattle.bag_walks.specs.Parts.{IsBehind, IsDataPart, Stands}
-use Rattle.bag_walks.specs.Gathered.{IsDatumAt}
-use Rattle.bag_walks.specs.Going.{GoesAt, IsLater, IsEarlier}
+use Rattle.bag_walks.specs.Gathering.{IsDatumAt}
+use Rattle.bag_walks.specs.SupersededPlaces.{GoesAt, IsLater, IsEarlier}
 use Rattle.bag_walks.proofs.Inside.{datum_there}
 use Rattle.bag_walks.proofs.Bridge.{data_are}
 use Rattle.bag_walks.proofs.Gathering.{datum_before}

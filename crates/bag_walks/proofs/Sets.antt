@@ -16,7 +16,7 @@ use Rattle.bag_model.specs.Shapes.{Shape}
 use Rattle.bag_model.specs.Values.{Value, Entries, pairs}
 use Rattle.bag_model.proofs.SpellingOrder.{spelling-order, spelling-one}
 use Rattle.bag_walks.specs.Parts.{IsBehind, HasNoHeader, IsDataPart, StaysBelow, IsSegment, Stands}
-use Rattle.bag_walks.specs.Gathered.{GathersData, GathersCounts, GathersEntries}
+use Rattle.bag_walks.specs.Gathering.{GathersData, GathersCounts, GathersEntries}
 use Rattle.bag_walks.proofs.Bridge.{data_are, headers_are}
 use Rattle.bag_walks.proofs.Gathering.{in_push, all_below, keys_push, each_push, datum_before, header_before, same_first}
 

@@ -1,6 +1,6 @@
 pub mod Parts
 pub mod Searches
-pub mod Gathered
+pub mod Gathering
 pub mod Slots
-pub mod Going
+pub mod SupersededPlaces
 pub mod SlotFits

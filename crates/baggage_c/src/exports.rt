@@ -2,8 +2,8 @@
 
 ghost use Rattle.std.specs.Prelude.{[], ◌∷◌};
 ghost use Rattle.byte_calls.specs.Contexts.{IsFaultAt, IsMergeOf};
-ghost use Rattle.byte_calls.specs.Calls.{Checks, IsTrimOf, IsCutMergeOf};
-ghost use Rattle.byte_calls.specs.Room.{Writes};
+ghost use Rattle.byte_calls.specs.Calls.{ChecksBytes, IsTrimOf, IsCutMergeOf};
+ghost use Rattle.byte_calls.specs.Room.{WritesList};
 ghost use Rattle.byte_calls.specs.Spans.{inputs_of};
 ghost use Rattle.baggage_c.specs.Answers.{answer_of, Tells};
 ghost use Rattle.baggage_c.specs.Forms.{form_numbered, form_within, InForm};
@@ -16,7 +16,7 @@ use std::alloc::Global;
 /// Whether bytes are those of a context, in either form.
 #[unsafe(no_mangle)]
 pub extern "C" fn baggage_check(alloc: Global, context: &[u8]) -> Answer
-    ensures { Tells answer_of (Checks context.now) result }
+    ensures { Tells answer_of (ChecksBytes context.now) result }
 {
     Answer::of(check(alloc, context))
 }
@@ -31,7 +31,7 @@ pub extern "C" fn baggage_merge(
     room: &mut [u8],
 ) -> Answer
     ensures { let inputs = first.now ∷ second.now ∷ [] in
-        InForm (form_numbered form) (λ form. Tells answer_of (Writes form (IsMergeOf inputs) (IsFaultAt inputs) room.old room.new)) room.old room.new result }
+        InForm (form_numbered form) (λ form. Tells answer_of (WritesList form (IsMergeOf inputs) (IsFaultAt inputs) room.old room.new)) room.old room.new result }
 {
     match form_numbered(form) {
         Ok(form) => Answer::of(merge_into(alloc, form, first, second, room)),
@@ -48,7 +48,7 @@ pub extern "C" fn baggage_merge_many(
     room: &mut [u8],
 ) -> Answer
     ensures { let inputs = inputs_of inputs.now in
-        InForm (form_numbered form) (λ form. Tells answer_of (Writes form (IsMergeOf inputs) (IsFaultAt inputs) room.old room.new)) room.old room.new result }
+        InForm (form_numbered form) (λ form. Tells answer_of (WritesList form (IsMergeOf inputs) (IsFaultAt inputs) room.old room.new)) room.old room.new result }
 {
     match form_numbered(form) {
         Ok(form) => Answer::of(merge_many_into(alloc, form, inputs, room)),
@@ -66,7 +66,7 @@ pub extern "C" fn baggage_trim(
     room: &mut [u8],
 ) -> Answer
     ensures { InForm (form_within form budget)
-        (λ form. Tells answer_of (Writes form (IsTrimOf form budget context.now) (IsFaultAt (context.now ∷ [])) room.old room.new))
+        (λ form. Tells answer_of (WritesList form (IsTrimOf form budget context.now) (IsFaultAt (context.now ∷ [])) room.old room.new))
         room.old room.new result }
 {
     match form_within(form, budget) {
@@ -87,7 +87,7 @@ pub extern "C" fn baggage_forward(
 ) -> Answer
     ensures { let inputs = first.now ∷ second.now ∷ [] in
         InForm (form_within form budget)
-        (λ form. Tells answer_of (Writes form (IsCutMergeOf form budget inputs) (IsFaultAt inputs) room.old room.new)) room.old room.new result }
+        (λ form. Tells answer_of (WritesList form (IsCutMergeOf form budget inputs) (IsFaultAt inputs) room.old room.new)) room.old room.new result }
 {
     match form_within(form, budget) {
         Ok(form) => Answer::of(forward_into(alloc, form, first, second, budget, room)),

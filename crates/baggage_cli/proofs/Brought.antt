@@ -6,7 +6,7 @@ use Rattle.std.specs.Result.{IsErrAnd}
 use Rattle.std.proofs.lemmas.Bool.{cases_lt}
 use Rattle.std.proofs.lemmas.List.{take_all, length-take-le}
 use Rattle.outside.specs.declared.TheConstants.{FETCH_MAX}
-use Rattle.outside.specs.Told.{Files, Asked, Asks, Fetches, fetched}
+use Rattle.outside.specs.Transfers.{Files, Asked, Asks, Fetches, fetched}
 use Rattle.bdl_lexer.specs.declared.TheConstants.{MAX_SOURCE}
 use Rattle.bdl_load.specs.Loading.{Holding}
 use Rattle.baggage_cli.specs.declared.refusals.Notice.TheVariants.{LibraryFailed, Memory}

@@ -3,7 +3,7 @@ use Rattle.std.proofs.Common.{◌≡◌, ◌≢◌, ◌⊎◌, inl, inr, ℕ, Li
 use Rattle.std.specs.Io.KnownBytes.{Appends}
 use Rattle.baggage_cli.specs.Commands.{Task, alone, load, build, under, compare, checking}
 use Rattle.baggage_cli.specs.declared.refusals.Notice.TheVariants.{WordsRefused}
-use Rattle.baggage_cli.specs.Delivery.{Tells, Delivers}
+use Rattle.baggage_cli.specs.Delivery.{TellsLine, Delivers}
 use Rattle.baggage_cli.specs.Outcomes.{Outcome}
 use Rattle.baggage_cli.specs.Refusals.{notice_line}
 use Rattle.baggage_cli.specs.Scene.{Change, Scene, IsSame, IsSteady, NeverFell, HasFailed, Takes, KeepsCounts}
@@ -18,7 +18,7 @@ same_never_fell c same = let e = same.1 in omega arith
 takes_never_fell : (c : Change (List ℕ)) (bytes : List ℕ) → Takes c bytes → NeverFell c
 takes_never_fell c bytes takes = let e = takes.1 in omega arith
 
-told_never_fell : (status : ℕ) (line : List ℕ) (errs : Change (List ℕ)) (answer : ℕ) → Tells status line errs answer → NeverFell errs
+told_never_fell : (status : ℕ) (line : List ℕ) (errs : Change (List ℕ)) (answer : ℕ) → TellsLine status line errs answer → NeverFell errs
 told_never_fell status line errs answer (inl told) = takes_never_fell errs line told.1
 told_never_fell status line errs answer (inr failed) = failed.1.2
 

@@ -7,7 +7,7 @@ use Rattle.text_lines.specs.Lines.{Line}
 use Rattle.text_lines.specs.Readings.{AllSay}
 use Rattle.wire_bytes.specs.declared.contexts.ByteCode.{ByteCode}
 use Rattle.wire_bytes.specs.declared.reading.WireCode.{WireCode}
-use Rattle.wire_bytes.specs.Codes.{code_of, byte_code_of}
+use Rattle.wire_bytes.specs.Reading.{code_of, byte_code_of}
 use Rattle.baggage_cli.specs.declared.refusals.InputFault.TheVariants.{Bytes}
 use Rattle.baggage_cli.specs.declared.refusals.Refusal.TheVariants.{Input}
 use Rattle.baggage_cli.specs.Reading.{Framed, RefusesLine, only_one, cut_lines}

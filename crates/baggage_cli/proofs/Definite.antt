@@ -6,7 +6,7 @@ use Rattle.context_model.proofs.FirstFaults.{reads_one_way}
 use Rattle.context_model.proofs.ContextFronts.{has_one_context}
 use Rattle.context_model.proofs.MergedLaws.{has_one_merge}
 use Rattle.wire_bytes.specs.declared.contexts.ByteCode.{ByteCode}
-use Rattle.wire_bytes.specs.Codes.{byte_code_of}
+use Rattle.wire_bytes.specs.Reading.{byte_code_of}
 use Rattle.bag_model.specs.Readings.{PathsOf}
 use Rattle.bag_model.specs.Shapes.{Nodes}
 use Rattle.bag_model.specs.Slots.{FindsSlot}
@@ -20,20 +20,20 @@ use Rattle.wire_bytes.proofs.OneCode.{one_code}
 use Rattle.bdl_load.specs.Loading.{Holding}
 use Rattle.report_text.specs.Blocks.{IsBlock}
 use Rattle.graph_text.specs.Additions.{Addition, graph_of}
-use Rattle.graph_text.specs.GraphLines.{LinesAreDefinite}
+use Rattle.graph_text.specs.Reading.{LinesAreDefinite}
 use Rattle.trace_model.specs.Graphs.{Graph, IsRecorded}
 use Rattle.trace_model.specs.Runs.{Lists}
-use Rattle.text_carrier.specs.Carried.{carried_text}
-use Rattle.text_carrier.specs.Collected.{Collects}
+use Rattle.text_carrier.specs.Carrying.{carried_text}
+use Rattle.text_carrier.specs.Collecting.{Collects}
 use Rattle.text_carrier.specs.declared.faults.CarryFault.{CarryFault}
 use Rattle.text_carrier.specs.declared.faults.CarryFault.TheVariants as pieces
 use Rattle.text_lines.specs.Lines.{Line, lines_of}
 use Rattle.text_lines.specs.Readings.{Reading, IsDefinite, AllSay, IsFirstBad}
 use Rattle.text_lines.proofs.HexLaws.{hex_lines_definite}
 use Rattle.text_lines.proofs.ReadingLaws.{all_say_one, first_bad_one, good_not_bad, none_bad, at_most_definite}
-use Rattle.baggage_cli.specs.Commands.{Origin, Form, as_lines, as_json, Purpose, decoding, running, explaining, Filter, trimming, merging, carrying, collecting, Task, alone, load, build, under, compare, checking}
+use Rattle.baggage_cli.specs.Commands.{Origin, ReportForm, as_lines, as_json, Purpose, decoding, running, explaining, Filter, trimming, merging, carrying, collecting, Task, alone, load, build, under, compare, checking}
 use Rattle.baggage_cli.specs.declared.merging.TheConstants.{LINES_MAX}
-use Rattle.baggage_cli.specs.declared.refusals.InputCode.TheVariants.{Form as Excess, TooManyLines}
+use Rattle.baggage_cli.specs.declared.refusals.InputCode.TheVariants.{ReportForm as Excess, TooManyLines}
 use Rattle.baggage_cli.specs.declared.refusals.InputFault.{InputFault}
 use Rattle.baggage_cli.specs.declared.refusals.InputFault.TheVariants.{Code, Hex, Bytes}
 use Rattle.baggage_cli.specs.declared.refusals.Refusal.{Refusal}
@@ -44,7 +44,7 @@ use Rattle.baggage_cli.specs.Decoding.{DecodesLines}
 use Rattle.baggage_cli.specs.Explaining.{IsPlace, IsNoPlace, IsUnexplained, IsExplained, ExplainsLines}
 use Rattle.baggage_cli.specs.Filters.{FiltersLines}
 use Rattle.baggage_cli.specs.Laws.{TableLaws, GraphLaws, Laws}
-use Rattle.baggage_cli.specs.Merging.{lists_of, merged_lines, IsMergeOf}
+use Rattle.baggage_cli.specs.Merging.{lists_of, merged_lines, IsMergeLine}
 use Rattle.baggage_cli.specs.Outcomes.{Outcome, GivesOne}
 use Rattle.baggage_cli.specs.Reading.{Framed, Within, RefusesLines, ReadsLines, only_one, ReadsOne, list_bytes, context_bytes, typed_bytes, cut_bytes, cut_lines, context_lines, typed_lines}
 use Rattle.baggage_cli.specs.Running.{input_fault, IsReportAs, IsRunReport, graph_inputs, GraphGives, RunsLines}
@@ -178,7 +178,7 @@ reads_lines_one reading definite gives one lines (Ok x) (Err s) (said, all, gave
 reads_lines_one reading definite gives one lines (Err r) (Ok y) refused (said, all, gave) = absurd (said_not_refused reading definite lines said r all refused)
 reads_lines_one reading definite gives one lines (Err r) (Err s) f g = ap Err (refuses_lines_one reading definite lines r s f g)
 
-merged_one : (said : List Framed) (x y : List ℕ) → IsMergeOf said x → IsMergeOf said y → x ≡ y
+merged_one : (said : List Framed) (x y : List ℕ) → IsMergeLine said x → IsMergeLine said y → x ≡ y
 merged_one said x y (a, is, x_is) (b, other, y_is) = let same = has_one_merge (lists_of said) a b is other in cc (x_is, y_is, same)
 
 -- ---- one line
@@ -296,12 +296,12 @@ within_text_one gives one input a b (inr f) (inr g) = one input a b f.1 g.1
 
 module _ (laws : GraphLaws) (table : Nodes) (is_table : IsTable table) where
   -- A run has one report of each form.
-  reports_one : (form : Form) (graph : Graph) (lists : Lists) (x y : List ℕ) → IsReportAs form table graph lists x → IsReportAs form table graph lists y → x ≡ y
+  reports_one : (form : ReportForm) (graph : Graph) (lists : Lists) (x y : List ℕ) → IsReportAs form table graph lists x → IsReportAs form table graph lists y → x ≡ y
   reports_one as_lines graph lists x y report other = laws.one_report table graph lists x y report other
   reports_one as_json graph lists x y (a, report, x_is) (b, other, y_is) = x_is ∙ ap (λ text. text ++ 10 ∷ []) (laws.one_json_report table graph lists a b report other) ∙ sym y_is
 
   -- A graph that is run gives one report.
-  runs_one : (form : Form) (graph : Graph) → IsRecorded table graph → (x y : List ℕ) → IsRunReport form table graph x → IsRunReport form table graph y → x ≡ y
+  runs_one : (form : ReportForm) (graph : Graph) → IsRecorded table graph → (x y : List ℕ) → IsRunReport form table graph x → IsRunReport form table graph y → x ≡ y
   runs_one form graph recorded x y (lists, ran, report) (others, run, reported) =
       let one = laws.one_run table graph others lists recorded run ran in
       reports_one form graph lists x y report (subst (λ ls. IsReportAs form table graph ls y) one reported)
@@ -326,7 +326,7 @@ module _ (laws : GraphLaws) (table : Nodes) (is_table : IsTable table) where
   graph_gives_one gives one text (Err r) (Ok y) refused (every, all, gave) = absurd (graph_not_bad text every r all refused)
   graph_gives_one gives one text (Err r) (Err s) f g = ap Err (refuses_lines_one (graph_inputs table) (graph_inputs_definite laws.definite table is_table) (lines_of text) r s f g)
 
-  run_gives_one : (form : Form) → GivesOne (InputUnder (running form) table)
+  run_gives_one : (form : ReportForm) → GivesOne (InputUnder (running form) table)
   run_gives_one form = within_text_one (RunsLines form table) (graph_gives_one (IsRunReport form table) (runs_one form))
 
 -- ---- certificates
@@ -432,7 +432,7 @@ same_table laws origin files held other table found told is same known =
 -- Lines come to one outcome by themselves.
 filters_lines_one : Laws → (filter : Filter) (lines : List Line) (a b : Outcome) → FiltersLines filter lines a → FiltersLines filter lines b → a ≡ b
 filters_lines_one laws (trimming budget) = reads_one_one (cut_lines budget) (cut_lines_definite budget) (λ said output. output ≡ trimmed_line budget said) (trims_one budget)
-filters_lines_one laws merging = reads_lines_one merged_lines merged_lines_definite IsMergeOf merged_one
+filters_lines_one laws merging = reads_lines_one merged_lines merged_lines_definite IsMergeLine merged_one
 filters_lines_one laws (carrying width) = reads_one_one byte_lines byte_lines_definite (λ bytes output. output ≡ carried_text width bytes) (carries_one width)
 filters_lines_one laws collecting = collects_lines_one laws
 

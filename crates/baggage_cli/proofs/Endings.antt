@@ -22,7 +22,7 @@ use Rattle.baggage_cli.specs.Explaining.{IsUnexplained}
 use Rattle.baggage_cli.specs.Filters.{FiltersLines, FilterGives}
 use Rattle.baggage_cli.specs.Loading.{IsLoadOutput, LoadGives}
 use Rattle.baggage_cli.specs.Outcomes.{Outcome, Then}
-use Rattle.baggage_cli.specs.Reading.{IsRead, Reads}
+use Rattle.baggage_cli.specs.Reading.{IsInputRead, ReadsAll}
 use Rattle.baggage_cli.specs.Refusals.{status_of, line_of, input_status, input_line, notice_line, piece_refusal}
 use Rattle.baggage_cli.specs.Scene.{Change, Halfway, until, since, Scene, IsSame, HasFailed, Takes}
 use Rattle.baggage_cli.specs.Tables.{IsUntaken, FileGives, IsUnprinted, TableGives, AsksForTable, AsksFront, CameFrom, TakesFrom, Obtains}
@@ -52,12 +52,12 @@ abbrev pub Written : Scene → List ℕ → Type 0
 Written scene output = Takes scene.out output × IsSame scene.errs
 
 pub data Ending (task : Task) (scene : Scene) (answer : ℕ) : Type 0 where
-  read_out : (input output : List ℕ) → answer ≡ 0 → ReadsSource task → IsRead scene.source input → Gives task scene input (Ok output)
+  read_out : (input output : List ℕ) → answer ≡ 0 → ReadsSource task → IsInputRead scene.source input → Gives task scene input (Ok output)
       → Written scene output → Ending task scene answer
   files_out : (output : List ℕ) → answer ≡ 0 → FetchesFiles task → (ReadsSource task → ⊥) → OfFiles scene task (λ held. FilesGive task held output)
       → IsSame scene.source → Written scene output → Ending task scene answer
   load_out : (rounds : ℕ) (output : List ℕ) → answer ≡ 0 → task ≡ load rounds → IsSame scene.source → IsLoadOutput rounds output → Written scene output → Ending task scene answer
-  bad_input : (input : List ℕ) (number : ℕ) (fault : InputFault) → answer ≡ input_status fault → ReadsSource task → IsRead scene.source input
+  bad_input : (input : List ℕ) (number : ℕ) (fault : InputFault) → answer ≡ input_status fault → ReadsSource task → IsInputRead scene.source input
       → Gives task scene input (Err (Input number fault)) → Said scene (input_line number fault) → Ending task scene answer
   bad_files : (refusal : Refusal) → answer ≡ 1 → FetchesFiles task → OfFiles scene task (λ held. RefusesFiles task held refusal)
       → IsSame scene.source → Said scene (line_of refusal) → Ending task scene answer
@@ -129,7 +129,7 @@ refuses_input (under (explaining step path) origin) scene input refusal (table, 
 refuses_input (checking origin file) scene input refusal (table, certificate, came, inl long) = (0, Code TooLong, cc (long.1))
 refuses_input (checking origin file) scene input refusal (table, certificate, came, inr (short, (number, fault, bad, is))) = (number, fault, is)
 
-input_ending : (task : Task) (scene : Scene) (answer : ℕ) (input : List ℕ) (outcome : Outcome) → ReadsSource task → IsRead scene.source input → Gives task scene input outcome
+input_ending : (task : Task) (scene : Scene) (answer : ℕ) (input : List ℕ) (outcome : Outcome) → ReadsSource task → IsInputRead scene.source input → Gives task scene input outcome
     → Delivers outcome scene.out scene.errs answer → Ending task scene answer
 input_ending task scene answer input (Ok output) reads read gave delivers = elim (output_delivered scene answer (Ok output) output refl delivers) [
   | inl done ↦ read_out input output done.0 reads read gave done.1
@@ -144,7 +144,7 @@ input_ending task scene answer input (Err refusal) reads read gave delivers =
 
 -- A task that reads the source, and what its input gives is what it gives for the task.
 reading_ending : (task : Task) (scene : Scene) (answer : ℕ) (outcome : Outcome) (gives : List ℕ → Outcome → Type 0) → ReadsSource task
-    → ((input : List ℕ) → gives input outcome → Gives task scene input outcome) → Reads gives scene.source outcome
+    → ((input : List ℕ) → gives input outcome → Gives task scene input outcome) → ReadsAll gives scene.source outcome
     → Delivers outcome scene.out scene.errs answer → Ending task scene answer
 reading_ending task scene answer outcome gives reads turns (counts, inl wanting) delivers = elim (refusal_delivered scene answer outcome (Plain Memory) wanting delivers) [
   | inl said ↦ memory_wanting said.0 said.1

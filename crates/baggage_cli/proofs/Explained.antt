@@ -10,7 +10,7 @@ use Rattle.bag_model.specs.Slots.{SlotAt, slots_of}
 use Rattle.bag_model.specs.SlotValues.{HasSlot}
 use Rattle.bag_scan.specs.declared.states.State.{State}
 use Rattle.bag_scan.specs.declared.states.State.TheVariants.{Exact}
-use Rattle.graph_text.specs.GraphLines.{IsGraphOf}
+use Rattle.graph_text.specs.Reading.{IsGraphOf}
 use Rattle.text_lines.specs.Lines.{lines_of}
 use Rattle.trace_model.specs.Graphs.{Graph}
 use Rattle.trace_model.specs.Runs.{Lists, list_at, IsRun}

@@ -11,7 +11,7 @@ use Rattle.bag_model.specs.Tables.{IsTable}
 use Rattle.bdl_load.specs.Loading.{Holding}
 use Rattle.def_evolve.specs.Common.{IsVerdict}
 use Rattle.def_evolve.specs.declared.verdicts.Verdict.{Verdict}
-use Rattle.bdl_check.specs.Definitions.{IsTableOf}
+use Rattle.bdl_check.specs.Compiler.{IsTableOf}
 use Rattle.report_text.specs.Blocks.{IsBlock}
 use Rattle.trace_model.specs.Graphs as model
 use Rattle.trace_model.specs.Graphs.{IsRecorded}
@@ -20,24 +20,24 @@ use Rattle.graph_report.specs.Reports.{IsReport}
 use Rattle.report_json.specs.JsonReports.{IsJsonReport}
 use Rattle.load_maker.specs.Loads.{load_table, load_text}
 use Rattle.load_maker.proofs.LoadTable.{load_is_table}
-use Rattle.graph_text.specs.GraphLines.{IsGraphOf}
+use Rattle.graph_text.specs.Reading.{IsGraphOf}
 use Rattle.text_lines.specs.declared.TheConstants.{INPUT_MAX}
 use Rattle.text_lines.specs.HexLines.{hex_line}
 use Rattle.text_lines.specs.Lines.{Line, lines_of}
 use Rattle.text_lines.specs.Readings.{Reading, AllSay}
 use Rattle.text_lines.proofs.ReadingLaws.{at_most-all_say, at_most-few}
-use Rattle.text_carrier.specs.Carried.{carried_text}
+use Rattle.text_carrier.specs.Carrying.{carried_text}
 use Rattle.write_proof.specs.Verdicts.{IsVerdictOf}
 use Rattle.write_proof.specs.declared.verdicts.Verified.{Verified}
 use Rattle.baggage_cli.specs.Building.{product_text}
 use Rattle.baggage_cli.specs.Carrying.{byte_lines}
 use Rattle.baggage_cli.specs.Collecting.{CollectsLines}
-use Rattle.baggage_cli.specs.Commands.{Origin, compiled, Product, Form, as_json, Purpose, decoding, running, explaining, trimming, carrying, Task, alone, trim, merge, carry, collect, load, build, under, compare, checking, decode, run_json, evolve, why, verify, ReadsSource, FetchesFiles}
+use Rattle.baggage_cli.specs.Commands.{Origin, compiled, Product, ReportForm, as_json, Purpose, decoding, running, explaining, trimming, carrying, Task, alone, trim, merge, carry, collect, load, build, under, compare, checking, decode, run_json, evolve, why, verify, ReadsSource, FetchesFiles}
 use Rattle.baggage_cli.specs.Checking.{verified_line, IsVerified, ChecksLines, VerdictUnder, TruthWhereYes}
 use Rattle.baggage_cli.specs.Explaining.{IsExplainedAt, IsExplained, ExplainsLines}
 use Rattle.baggage_cli.specs.Comparing.{verdict_line, SafeWhereItFits}
 use Rattle.baggage_cli.specs.declared.merging.TheConstants.{LINES_MAX}
-use Rattle.baggage_cli.specs.declared.refusals.InputCode.TheVariants.{TooLong, Form as Excess, TooManyLines}
+use Rattle.baggage_cli.specs.declared.refusals.InputCode.TheVariants.{TooLong, ReportForm as Excess, TooManyLines}
 use Rattle.baggage_cli.specs.declared.refusals.InputFault.{InputFault}
 use Rattle.baggage_cli.specs.declared.refusals.InputFault.TheVariants.{Code, Hex, Graph, Piece, Missing, Bytes, IllTyped}
 use Rattle.baggage_cli.specs.declared.refusals.Notice.TheVariants.{LibraryFailed, SourceFailed, Memory}
@@ -47,7 +47,7 @@ use Rattle.baggage_cli.specs.Filters.{FiltersLines, FilterGives}
 use Rattle.baggage_cli.specs.Laws.{GraphLaws, Laws}
 use Rattle.baggage_cli.specs.Merging.{lists_of, widest, MergesLines}
 use Rattle.baggage_cli.specs.Outcomes.{Outcome}
-use Rattle.baggage_cli.specs.Reading.{Framed, IsRead, Within, ReadsOne, cut_lines, context_lines, typed_lines}
+use Rattle.baggage_cli.specs.Reading.{Framed, IsInputRead, Within, ReadsOne, cut_lines, context_lines, typed_lines}
 use Rattle.baggage_cli.specs.Refusals.{status_of, input_status, input_line, line_of, notice_line}
 use Rattle.baggage_cli.specs.Loading.{load_heading, IsLoadOutput}
 use Rattle.baggage_cli.specs.Running.{IsReportAs, IsRunReport, ShowsTruth}
@@ -79,7 +79,7 @@ not_input fault answer is not_two not_three = elim (input_status_some fault answ
 -- ---- what was read
 
 -- The input is what the source told.
-told_input : (source : Change (List ℕ)) (told input : List ℕ) → source.before ≡ Some told → IsRead source input → told ≡ input
+told_input : (source : Change (List ℕ)) (told input : List ℕ) → source.before ≡ Some told → IsInputRead source input → told ≡ input
 told_input source told input is read = subst (λ before. IfSome before (λ t. t ≡ input)) is read.held
 
 behind_front : (n : ℕ) (bytes rest : List ℕ) → bytes ≡ take n bytes ++ rest → rest ≡ drop n bytes
@@ -94,7 +94,7 @@ left_behind (Some bytes) (Some rest) told n is taken =
     ap Some (behind_front n told rest (sym same ∙ taken))
 
 -- A source that tells has left what is behind an input.
-pub read_left : (source : Change (List ℕ)) (told input : List ℕ) → source.before ≡ Some told → IsRead source input → source.after ≡ Some (drop (INPUT_MAX + 1) told)
+pub read_left : (source : Change (List ℕ)) (told input : List ℕ) → source.before ≡ Some told → IsInputRead source input → source.after ≡ Some (drop (INPUT_MAX + 1) told)
 read_left source told input is read =
     left_behind source.before source.after told (INPUT_MAX + 1) is (subst (λ i. Consumes source.before source.after (take (INPUT_MAX + 1) i)) (sym (told_input source told input is read)) read.taken)
 
@@ -137,7 +137,7 @@ given_reads (checking origin file) files input outcome gave = tt
 pub record ReadOut (task : Task) (scene : Scene) : Type 0 where
   pub input : List ℕ
   pub output : List ℕ
-  pub read : IsRead scene.source input
+  pub read : IsInputRead scene.source input
   pub gave : Gives task scene input (Ok output)
   pub out : Takes scene.out output
 
@@ -249,12 +249,12 @@ shows_truth laws table graph lists recorded ran = λ n slot exact v among shown.
     laws.honest table graph lists n slot exact v (record { recorded = recorded; run = ran; within = recorded.sound.shows n among }) shown
 
 -- Where the answer is 0, the report of the run of the graph that the input says was written.
-abbrev pub RanUnder : Form → Origin → Holding → List ℕ → Scene → Type 0
+abbrev pub RanUnder : ReportForm → Origin → Holding → List ℕ → Scene → Type 0
 RanUnder form origin held input scene =
     (table : Nodes) × (graph : model.Graph) × (lists : Lists) × (output : List ℕ) × TableGives origin held (Ok table) × IsGraphOf table input graph
     × IsRun table graph lists × IsReportAs form table graph lists output × ShowsTruth table graph lists × Appends scene.out.before scene.out.after output
 
-pub run_appends : Laws → (form : Form) (origin : Origin) (held : Holding) (input : List ℕ) (scene : Scene) (answer : ℕ) → Answers (Some (under (running form) origin)) scene answer
+pub run_appends : Laws → (form : ReportForm) (origin : Origin) (held : Holding) (input : List ℕ) (scene : Scene) (answer : ℕ) → Answers (Some (under (running form) origin)) scene answer
     → scene.library.before ≡ Some held → scene.source.before ≡ Some input → answer ≡ 0 → RanUnder form origin held input scene
 run_appends laws form origin held input scene answer answers told content zero =
     let done = gave_under (running form) origin held input scene answer answers told content zero in
@@ -473,7 +473,7 @@ pub bad_told : Laws → (task : Task) (input : List ℕ) (number : ℕ) (fault :
 bad_told laws task input number fault scene answer answers told bad = by (ending task scene answer answers)
   where
     -- Whatever the task gave of its input is that.
-    gave_same : (bytes : List ℕ) (outcome : Outcome) → IsRead scene.source bytes → Gives task scene bytes outcome → outcome ≡ Err (Input number fault)
+    gave_same : (bytes : List ℕ) (outcome : Outcome) → IsInputRead scene.source bytes → Gives task scene bytes outcome → outcome ≡ Err (Input number fault)
     gave_same bytes outcome read gave =
         let given = told_gives task scene bytes outcome (given_tells task scene.library.before input (Err (Input number fault)) bad) gave in
         let same = told_input scene.source input bytes told read in

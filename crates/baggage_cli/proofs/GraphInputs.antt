@@ -7,7 +7,7 @@ use Rattle.text_lines.specs.Lines.{Line, lines_of}
 use Rattle.text_lines.specs.Readings.{AllSay, IsFirstBad}
 use Rattle.trace_model.specs.Graphs.{Graph}
 use Rattle.graph_text.specs.Additions.{Addition, graph_of}
-use Rattle.graph_text.specs.GraphLines.{graph_lines, IsGraphOf, IsRefusalOf}
+use Rattle.graph_text.specs.Reading.{graph_lines, IsGraphOf, IsRefusalOf}
 use Rattle.graph_text.specs.declared.faults.GraphFault.{GraphFault}
 use Rattle.graph_text.specs.declared.faults.GraphFault.TheVariants as graphs
 use Rattle.graph_text.specs.declared.faults.LineFault.{LineFault}

@@ -9,7 +9,7 @@ use Rattle.text_lines.specs.declared.TheConstants.{INPUT_MAX}
 use Rattle.text_lines.specs.Lines.{Line}
 use Rattle.baggage_cli.specs.declared.refusals.Refusal.{Refusal}
 use Rattle.baggage_cli.specs.Outcomes.{Outcome, outcome_of}
-use Rattle.baggage_cli.specs.Reading.{IsRead, ReadsInput, Reads, Within}
+use Rattle.baggage_cli.specs.Reading.{IsInputRead, ReadsInput, ReadsAll, Within}
 use Rattle.baggage_cli.specs.Scene.{Change, IsSteady}
 
 take_whole : (n : ℕ) (bytes : List ℕ) → length bytes ≤ n → take n bytes ≡ bytes
@@ -24,7 +24,7 @@ held_whole (Some told) None input taken end = absurd taken
 held_whole (Some told) (Some rest) input taken end = taken ∙ ap (λ behind. input ++ behind) end ∙ append-nil input
 
 -- All bytes up to the end are the input.
-pub whole_read : (source : Change (List ℕ)) (input : List ℕ) → Consumes source.before source.after input → IsAtEnd source.after → IsSteady source → length input ≤ INPUT_MAX → IsRead source input
+pub whole_read : (source : Change (List ℕ)) (input : List ℕ) → Consumes source.before source.after input → IsAtEnd source.after → IsSteady source → length input ≤ INPUT_MAX → IsInputRead source input
 whole_read source input taken end steady few = record {
   held = held_whole source.before source.after input taken end;
   taken = subst (Consumes source.before source.after) (sym (take_whole (INPUT_MAX + 1) input (omega arith))) taken;
@@ -44,7 +44,7 @@ long_input (Some told) (Some rest) front taken long =
 
 -- A source that gave one byte more than an input may have held an input that is too long.
 pub long_read : (source : Change (List ℕ)) (front : List ℕ) → Consumes source.before source.after front → length front ≡ INPUT_MAX + 1
-    → (input : List ℕ) × IsRead source input × (INPUT_MAX < length input)
+    → (input : List ℕ) × IsInputRead source input × (INPUT_MAX < length input)
 long_read source front taken long =
     let found = long_input source.before source.after front taken long in
     let above = found.3 in
@@ -52,9 +52,9 @@ long_read source front taken long =
 
 -- A source that gives no input is the refusal of each command that reads it.
 pub unread : (gives : List Line → Outcome → Type 0) (source : Change (List ℕ)) (result : Result (Vec ℕ) Refusal) (refusal : Refusal)
-    → IsErrAnd result (λ other. other ≡ refusal) → ReadsInput source (Err refusal) → Reads (Within gives) source (outcome_of result)
+    → IsErrAnd result (λ other. other ≡ refusal) → ReadsInput source (Err refusal) → ReadsAll (Within gives) source (outcome_of result)
 unread gives source (Ok input) refusal is reads = absurd is
-unread gives source (Err other) refusal is (counts, unread_) = subst (λ r. Reads (Within gives) source (Err r)) (sym is) (
+unread gives source (Err other) refusal is (counts, unread_) = subst (λ r. ReadsAll (Within gives) source (Err r)) (sym is) (
   counts,
   elim unread_ [
     | inl wanting ↦ inl (ap Err wanting)

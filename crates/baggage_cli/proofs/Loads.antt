@@ -3,7 +3,7 @@ use Rattle.std.proofs.Common.{◌≡◌, ℕ, ◌+◌, ◌*◌, ◌≤◌, List,
 use Rattle.bag_model.specs.Shapes.{Nodes}
 use Rattle.bag_model.specs.Tables.{IsTable}
 use Rattle.trace_model.specs.Graphs.{Graph}
-use Rattle.graph_text.specs.GraphLines.{IsGraphOf, IsFirstFault, IsRefusalOf}
+use Rattle.graph_text.specs.Reading.{IsGraphOf, IsFirstFault, IsRefusalOf}
 use Rattle.graph_text.specs.declared.faults.GraphFault.{GraphFault}
 use Rattle.graph_text.specs.declared.faults.GraphFault.TheVariants as faults
 use Rattle.graph_text.specs.declared.faults.LineFault.{LineFault}

@@ -9,8 +9,8 @@ use Rattle.std.proofs.lemmas.Bool.{cases_Bool, cases_lt}
 use Rattle.std.proofs.lemmas.Bool.Decides.{nat_tests}
 use Rattle.std.proofs.lemmas.Fmt.{decimal_is_IsNumeral}
 use Rattle.std.proofs.lemmas.Slice.Eq.{bytes_eq-Decides}
-use Rattle.graph_lines.specs.Taken.{IsNumberText}
-use Rattle.decimal_text.specs.Answers.{Answers}
+use Rattle.graph_lines.specs.Reading.{IsNumberText}
+use Rattle.decimal_text.specs.Answers.{IsSomeOf}
 use Rattle.baggage_cli.specs.Commands.{number_of, step_of}
 
 -- The number that a text says, by what `parse` answers.
@@ -74,14 +74,14 @@ test_passes word (few, is) =
     grind (arith, nat_tests, same, few)
 
 step_by : (word : List ℕ) (b : Bool) (result : Option ℕ) → (b ≡ true → IsNumberText word (digits_value 10 word)) → (IsNumberText word (digits_value 10 word) → b ≡ true)
-    → Answers (IsNumberText word) result → result ≡ (if b then Some (digits_value 10 word) else None)
+    → IsSomeOf (IsNumberText word) result → result ≡ (if b then Some (digits_value 10 word) else None)
 step_by word true (Some n) tells passes says = ap Some (step_value word n says)
 step_by word true None tells passes none = absurd (none (digits_value 10 word) (tells refl))
 step_by word false (Some n) tells passes says = absurd (true≢false (sym (passes (subst (IsNumberText word) (step_value word n says) says))))
 step_by word false None tells passes none = refl
 
 -- The number that a word says, by what is read of it.
-pub step_read : (word : List ℕ) (result : Option ℕ) → Answers (IsNumberText word) result → result ≡ step_of word
+pub step_read : (word : List ℕ) (result : Option ℕ) → IsSomeOf (IsNumberText word) result → result ≡ step_of word
 unfolding step_of
 step_read word result says =
     step_by word (bytes_eq word (decimal (digits_value 10 word)) && nat_lt (digits_value 10 word) (10 ^ 10)) result (test_tells word) (test_passes word) says

@@ -8,7 +8,7 @@ use Rattle.bdl_load.specs.declared.faults.DefFault.TheVariants as defs
 use Rattle.bdl_load.specs.Faults.{Blames}
 use Rattle.bdl_load.specs.Loading.{Holding, OfLibrary, AgreeButLast}
 use Rattle.bag_model.specs.Shapes.{Nodes}
-use Rattle.bdl_check.specs.Definitions.{IsFirstFaultOf}
+use Rattle.bdl_check.specs.Compiler.{IsFirstFaultOf}
 use Rattle.baggage_cli.specs.declared.refusals.Notice.TheVariants.{LibraryFailed, Memory}
 use Rattle.baggage_cli.specs.declared.refusals.Refusal.{Refusal}
 use Rattle.baggage_cli.specs.declared.refusals.Refusal.TheVariants.{Plain}

@@ -4,9 +4,9 @@ use Rattle.bag_model.specs.Shapes.{Nodes}
 use Rattle.bag_model.specs.Tables.{IsTable}
 use Rattle.bdl_load.specs.declared.faults.Fault.{Fault}
 use Rattle.bdl_load.specs.Loading.{Holding}
-use Rattle.bdl_check.specs.Definitions.{IsTableOf, IsFirstFaultOf}
+use Rattle.bdl_check.specs.Compiler.{IsTableOf, IsFirstFaultOf}
 use Rattle.table_text.specs.declared.faults.TableCode.{TableCode}
-use Rattle.table_text.specs.TableFaults.{IsTableFault}
+use Rattle.table_text.specs.Reading.{IsTableFault}
 use Rattle.table_text.specs.TableTexts.{table_text}
 use Rattle.baggage_cli.specs.declared.refusals.Refusal.{Refusal}
 use Rattle.baggage_cli.specs.Commands.{Origin, compiled, printed}

@@ -1,7 +1,7 @@
 -- What is so of the files that a library told, and what it was asked for.
 use Rattle.std.proofs.Common.{◌≡◌, inl, inr, ℕ, ◌<◌, ◌≤◌, List, [], ◌∷◌, ◌++◌, length, Option, Some, None, IfSome, Result, Ok, Err, refl, sym, ◌∙◌, ap, subst, append_assoc, arith}
 use Rattle.outside.specs.Causes.{Rose}
-use Rattle.outside.specs.Told.{Asked, Asks}
+use Rattle.outside.specs.Transfers.{Asked, Asks}
 use Rattle.bag_model.specs.Shapes.{Nodes}
 use Rattle.bdl_lexer.specs.declared.TheConstants.{MAX_SOURCE}
 use Rattle.bdl_load.specs.Loading.{Holding, OfLibrary}

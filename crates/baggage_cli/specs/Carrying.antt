@@ -2,7 +2,7 @@
 use Rattle.std.specs.Prelude.{◌≡◌, ℕ, List, []}
 use Rattle.context_model.specs.Atoms.{Atom}
 use Rattle.context_model.specs.ContextFault.{IsContextOf}
-use Rattle.text_carrier.specs.Carried.{carried_text}
+use Rattle.text_carrier.specs.Carrying.{carried_text}
 use Rattle.text_lines.specs.HexLines.{hex_lines}
 use Rattle.text_lines.specs.Lines.{Line}
 use Rattle.text_lines.specs.Readings.{Reading}

@@ -5,13 +5,13 @@ use Rattle.bag_model.specs.Shapes.{Nodes}
 use Rattle.bdl_load.specs.Loading.{Holding}
 use Rattle.text_lines.specs.Lines.{Line}
 use Rattle.trace_model.specs.Graphs.{Graph}
-use Rattle.write_proof.specs.Names.{code_name}
+use Rattle.write_proof.specs.CodeNames.{code_name}
 use Rattle.write_proof.specs.Verdicts.{IsVerdictOf, TellsTruth}
 use Rattle.write_proof.specs.declared.verdicts.Verified.{Verified}
 use Rattle.write_proof.specs.declared.verdicts.Verified.TheVariants.{Yes, No}
 use Rattle.baggage_cli.specs.Commands.{Origin}
 use Rattle.baggage_cli.specs.Outcomes.{Outcome, Then, ThenUses}
-use Rattle.baggage_cli.specs.Reading.{Reads, Within}
+use Rattle.baggage_cli.specs.Reading.{ReadsAll, Within}
 use Rattle.baggage_cli.specs.Running.{GraphGives}
 use Rattle.baggage_cli.specs.Scene.{Change, IsSame}
 use Rattle.baggage_cli.specs.Tables.{Obtains, Brings}
@@ -37,7 +37,7 @@ VerdictUnder table certificate = Within (ChecksLines table certificate)
 -- refused nothing is done to the source.
 abbrev pub BringsAndChecks : List ℕ → Change (List ℕ) → Nodes → Change Holding → Change (List (List ℕ)) → Outcome → Type 0
 BringsAndChecks file source table library requests =
-    Then (Brings file library requests) (IsSame source) (λ certificate. Reads (VerdictUnder table certificate) source)
+    Then (Brings file library requests) (IsSame source) (λ certificate. ReadsAll (VerdictUnder table certificate) source)
 
 -- A table is taken from where it comes, and then the certificate. Where the table is refused the library isn't asked for the certificate.
 abbrev pub Checks : Origin → List ℕ → Change Holding → Change (List (List ℕ)) → Change (List ℕ) → Outcome → Type 0

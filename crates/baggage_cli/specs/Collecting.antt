@@ -1,13 +1,13 @@
 -- What lines of pieces come to, put together.
 use Rattle.std.specs.Prelude.{◌≡◌, ◌⊎◌, ℕ, List, Ok, Err}
 use Rattle.context_model.specs.ContextFault.{IsFirstContextFault}
-use Rattle.text_carrier.specs.Collected.{Collects}
+use Rattle.text_carrier.specs.Collecting.{Collects}
 use Rattle.text_carrier.specs.declared.faults.CarryFault.{CarryFault}
 use Rattle.text_carrier.specs.declared.faults.CarryFault.TheVariants as pieces
 use Rattle.text_lines.specs.HexLines.{hex_line}
 use Rattle.text_lines.specs.Lines.{Line}
 use Rattle.wire_bytes.specs.declared.contexts.ByteCode.{ByteCode}
-use Rattle.wire_bytes.specs.Codes.{byte_code_of}
+use Rattle.wire_bytes.specs.Reading.{byte_code_of}
 use Rattle.baggage_cli.specs.declared.refusals.InputFault.TheVariants.{Bytes}
 use Rattle.baggage_cli.specs.declared.refusals.Refusal.{Refusal}
 use Rattle.baggage_cli.specs.declared.refusals.Refusal.TheVariants.{Input}

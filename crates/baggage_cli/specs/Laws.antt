@@ -4,15 +4,15 @@ use Rattle.bag_model.specs.Shapes.{Nodes}
 use Rattle.bag_model.specs.Tables.{IsTable}
 use Rattle.bdl_load.specs.Loading.{Holding}
 use Rattle.report_text.specs.Blocks.{HasOneBlock}
-use Rattle.text_carrier.specs.Collected.{CollectOneWay}
+use Rattle.text_carrier.specs.Collecting.{CollectOneWay}
 use Rattle.trace_model.specs.Graphs.{Graph, IsRecorded}
 use Rattle.trace_model.specs.Runs.{HasOneRun}
 use Rattle.trace_model.specs.Shown.{ShownIsHonest}
 use Rattle.graph_report.specs.Reports.{HasOneReport}
 use Rattle.report_json.specs.JsonReports.{HasOneJsonReport}
-use Rattle.graph_text.specs.GraphLines.{IsGraphOf, LinesAreDefinite}
+use Rattle.graph_text.specs.Reading.{IsGraphOf, LinesAreDefinite}
 use Rattle.def_evolve.specs.Breaks.{IsFitting}
-use Rattle.def_evolve.specs.Safety.{IsSafe}
+use Rattle.def_evolve.specs.Evolution.{IsSafe}
 use Rattle.write_proof.specs.Verdicts.{IsVerdictOf, TellsTruth, VerdictsAreOne}
 use Rattle.write_proof.specs.declared.verdicts.Verified.TheVariants.{Yes}
 use Rattle.baggage_cli.specs.declared.refusals.Refusal.{Refusal}

@@ -35,10 +35,10 @@ AreContexts lines form lists =
     (said : List Framed) × AllSay merged_lines [] lines said × (form ≡ widest said) × (lists ≡ lists_of said)
 
 -- The output is the line of the merge of these contexts, in the widest of their forms.
-abbrev pub IsMergeOf : List Framed → List ℕ → Type 0
-IsMergeOf said output =
+abbrev pub IsMergeLine : List Framed → List ℕ → Type 0
+IsMergeLine said output =
     (merged : List Atom) × IsMerged (lists_of said) merged × (output ≡ hex_line (bytes_of (widest said) merged))
 
 -- What lines come to, merged: lines of contexts give the line of their merge.
 abbrev pub MergesLines : List Line → Outcome → Type 0
-MergesLines = ReadsLines merged_lines IsMergeOf
+MergesLines = ReadsLines merged_lines IsMergeLine

@@ -16,7 +16,7 @@ use Rattle.text_lines.specs.HexLines.{IsHexFault, hex_lines}
 use Rattle.text_lines.specs.Lines.{Line, lines_of}
 use Rattle.text_lines.specs.Readings.{Reading, AllSay, IsFirstBad, at_most}
 use Rattle.wire_bytes.specs.declared.contexts.ByteCode.{ByteCode}
-use Rattle.wire_bytes.specs.Codes.{byte_code_of}
+use Rattle.wire_bytes.specs.Reading.{byte_code_of}
 use Rattle.baggage_cli.specs.declared.refusals.InputCode.TheVariants.{TooLong, NoLine, Form, BudgetRange}
 use Rattle.baggage_cli.specs.declared.refusals.InputFault.{InputFault}
 use Rattle.baggage_cli.specs.declared.refusals.InputFault.TheVariants.{Code, Hex, Bytes, IllTyped}
@@ -24,13 +24,13 @@ use Rattle.baggage_cli.specs.declared.refusals.Notice.TheVariants.{SourceFailed,
 use Rattle.baggage_cli.specs.declared.refusals.Refusal.{Refusal}
 use Rattle.baggage_cli.specs.declared.refusals.Refusal.TheVariants.{Input, Plain}
 use Rattle.baggage_cli.specs.Outcomes.{Outcome}
-use Rattle.baggage_cli.specs.Scene.{Change, NeverFell, IsSteady, HasFailed, Held}
+use Rattle.baggage_cli.specs.Scene.{Change, NeverFell, IsSteady, HasFailed, HeldContent}
 
 -- ---- the source
 
 -- The input that was read: all that the source held, or one byte more than an input may have of it.
-pub record IsRead (source : Change (List ℕ)) (input : List ℕ) : Type 0 where
-  pub held : Held source input
+pub record IsInputRead (source : Change (List ℕ)) (input : List ℕ) : Type 0 where
+  pub held : HeldContent source input
   pub taken : Consumes source.before source.after (take (INPUT_MAX + 1) input)
   pub ended : length input ≤ INPUT_MAX → IsAtEnd source.after
   pub steady : length input ≤ INPUT_MAX → IsSteady source
@@ -44,21 +44,21 @@ abbrev pub IsUnread : (List ℕ → Type 0) → Change (List ℕ) → Refusal �
 IsUnread Refuses source refusal =
     (refusal ≡ Plain Memory)
     ⊎ ((refusal ≡ Plain SourceFailed) × HasFailed source)
-    ⊎ ((input : List ℕ) × IsRead source input × Refuses input)
+    ⊎ ((input : List ℕ) × IsInputRead source input × Refuses input)
 
 -- What reading a source answers: its input, or why there is none.
 abbrev pub ReadsInput : Change (List ℕ) → Result (Vec ℕ) Refusal → Type 0
-ReadsInput source (Ok input) = NeverFell source × IsRead source input.items × (length input.items ≤ INPUT_MAX)
+ReadsInput source (Ok input) = NeverFell source × IsInputRead source input.items × (length input.items ≤ INPUT_MAX)
 ReadsInput source (Err refusal) = NeverFell source × IsUnread (λ input. IsTooLong input refusal) source refusal
 
 -- The source is read, and what it held gives the outcome. Memory may be wanting, and a source that failed
 -- has its cause. A source that doesn't tell had some input for which it is so.
-abbrev pub Reads : (List ℕ → Outcome → Type 0) → Change (List ℕ) → Outcome → Type 0
-Reads gives source outcome =
+abbrev pub ReadsAll : (List ℕ → Outcome → Type 0) → Change (List ℕ) → Outcome → Type 0
+ReadsAll gives source outcome =
     NeverFell source
     × ((outcome ≡ Err (Plain Memory))
     ⊎ ((outcome ≡ Err (Plain SourceFailed)) × HasFailed source)
-    ⊎ ((input : List ℕ) × IsRead source input × gives input outcome))
+    ⊎ ((input : List ℕ) × IsInputRead source input × gives input outcome))
 
 -- ---- lines
 

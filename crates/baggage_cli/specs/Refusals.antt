@@ -3,15 +3,15 @@ use Rattle.std.specs.Prelude.{ℕ, List, [], ◌∷◌, ◌++◌, codes}
 use Rattle.std.specs.Fmt.{decimal}
 use Rattle.context_model.specs.ByteCodes.{code_name}
 use Rattle.text_lines.specs.HexLines.{hex_name}
-use Rattle.wire_bytes.specs.Codes.{byte_code_of}
+use Rattle.wire_bytes.specs.Reading.{byte_code_of}
 use Rattle.bdl_load.specs.CodeNames.{def_name}
 use Rattle.bdl_load.specs.declared.faults.DefCode.{DefCode}
 use Rattle.bdl_load.specs.declared.faults.DefFault.{DefFault}
 use Rattle.bdl_load.specs.declared.faults.DefFault.TheVariants as defs
 use Rattle.bdl_load.specs.declared.faults.Fault.{Fault}
 use Rattle.table_text.specs.declared.faults.TableCode.{TableCode}
-use Rattle.table_text.specs.FaultNames.{table_code_name}
-use Rattle.graph_text.specs.CodeNames.{graph_code_name}
+use Rattle.table_text.specs.Faults.{table_code_name}
+use Rattle.graph_text.specs.Faults.{graph_code_name}
 use Rattle.graph_text.specs.declared.faults.GraphFault.{GraphFault}
 use Rattle.graph_text.specs.declared.faults.GraphFault.TheVariants as graphs
 use Rattle.text_carrier.specs.Views.{code_name as carry_code_name}

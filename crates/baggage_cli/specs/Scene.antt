@@ -2,7 +2,7 @@
 use Rattle.std.specs.Prelude.{◌≡◌, ℕ, ◌≤◌, List, Option, IfSome}
 use Rattle.std.specs.Io.KnownBytes.{Appends}
 use Rattle.outside.specs.Causes.{Rose}
-use Rattle.outside.specs.Told.{AppendsPart}
+use Rattle.outside.specs.Transfers.{AppendsPart}
 use Rattle.bdl_load.specs.Loading.{Holding}
 
 -- What an object tells of its content, and its count of faults, before and after.
@@ -70,8 +70,8 @@ abbrev pub HasFailed : {A : Type 0} → Change A → Type 0
 HasFailed c = Rose c.faults_before c.faults_after
 
 -- This was its content; where it doesn't tell, any content is as good.
-abbrev pub Held : {A : Type 0} → Change A → A → Type 0
-Held c content = IfSome c.before (λ told. told ≡ content)
+abbrev pub HeldContent : {A : Type 0} → Change A → A → Type 0
+HeldContent c content = IfSome c.before (λ told. told ≡ content)
 
 -- The bytes were appended to it.
 abbrev pub Takes : Change (List ℕ) → List ℕ → Type 0

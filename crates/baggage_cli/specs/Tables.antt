@@ -6,9 +6,9 @@ use Rattle.bdl_lexer.specs.declared.TheConstants.{MAX_SOURCE}
 use Rattle.bdl_load.specs.declared.faults.DefCode.TheVariants.{NoFile, DefTooLong}
 use Rattle.bdl_load.specs.declared.faults.Fault.{Fault}
 use Rattle.bdl_load.specs.Loading.{Holding, OfLibrary, AsksAll, AsksFirst}
-use Rattle.bdl_check.specs.Definitions.{IsTableOf, IsFirstFaultOf}
+use Rattle.bdl_check.specs.Compiler.{IsTableOf, IsFirstFaultOf}
 use Rattle.table_text.specs.declared.faults.TableCode.{TableCode}
-use Rattle.table_text.specs.TableFaults.{IsTableFault}
+use Rattle.table_text.specs.Reading.{IsTableFault}
 use Rattle.table_text.specs.TableTexts.{table_text}
 use Rattle.baggage_cli.specs.declared.refusals.Notice.TheVariants.{LibraryFailed, Memory}
 use Rattle.baggage_cli.specs.declared.refusals.Refusal.{Refusal}

@@ -9,7 +9,7 @@ use Rattle.baggage_cli.specs.declared.merging.TheConstants.{LINES_MAX}
 use Rattle.baggage_cli.specs.declared.refusals.Notice.TheVariants.{SinkFailed, WordsRefused}
 use Rattle.baggage_cli.specs.declared.refusals.Refusal.{Refusal}
 use Rattle.baggage_cli.specs.Building.{BuildsProduct}
-use Rattle.text_carrier.specs.Collected.{Collects}
+use Rattle.text_carrier.specs.Collecting.{Collects}
 use Rattle.baggage_cli.specs.Carrying.{AreOfContext, byte_lines}
 use Rattle.baggage_cli.specs.Checking.{VerdictUnder, Checks}
 use Rattle.baggage_cli.specs.Comparing.{Compares}
@@ -18,7 +18,7 @@ use Rattle.baggage_cli.specs.Delivery.{Notifies, Delivers}
 use Rattle.baggage_cli.specs.Filters.{FilterGives}
 use Rattle.baggage_cli.specs.Loading.{LoadGives}
 use Rattle.baggage_cli.specs.Outcomes.{Outcome}
-use Rattle.baggage_cli.specs.Reading.{Framed, Reads, cut_lines, context_lines}
+use Rattle.baggage_cli.specs.Reading.{Framed, ReadsAll, cut_lines, context_lines}
 use Rattle.baggage_cli.specs.Refusals.{line_of, notice_line}
 use Rattle.baggage_cli.specs.Scene.{Change, Scene, IsSame, Takes, TakesPart}
 use Rattle.baggage_cli.specs.Tables.{FileGives, TableGives, AsksForTable}
@@ -82,7 +82,7 @@ AsksNames held (checking origin file) names = AsksForFile held origin file names
 -- What a task may come to, with the library and the source before and after it.
 abbrev pub Comes : Task → Change Holding → Change (List (List ℕ)) → Change (List ℕ) → Outcome → Type 0
 Comes (alone filter) library requests source outcome =
-    IsSame library × IsSame requests × Reads (FilterGives filter) source outcome
+    IsSame library × IsSame requests × ReadsAll (FilterGives filter) source outcome
 Comes (load rounds) library requests source outcome =
     IsSame library × IsSame requests × IsSame source × LoadGives rounds outcome
 Comes (build product origin) library requests source outcome =

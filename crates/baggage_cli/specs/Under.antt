@@ -9,7 +9,7 @@ use Rattle.baggage_cli.specs.Commands.{Origin, Purpose, decoding, running, expla
 use Rattle.baggage_cli.specs.Decoding.{DecodesLines}
 use Rattle.baggage_cli.specs.Explaining.{ExplainsLines}
 use Rattle.baggage_cli.specs.Outcomes.{Outcome, Then}
-use Rattle.baggage_cli.specs.Reading.{Framed, Reads, Within, typed_lines}
+use Rattle.baggage_cli.specs.Reading.{Framed, ReadsAll, Within, typed_lines}
 use Rattle.baggage_cli.specs.Running.{RunsLines}
 use Rattle.baggage_cli.specs.Scene.{Change, IsSame}
 use Rattle.baggage_cli.specs.Tables.{Obtains}
@@ -28,7 +28,7 @@ InputUnder purpose table = Within (LinesGive purpose table)
 -- table is refused nothing is done to the source.
 abbrev pub ReadsUnder : Purpose → Origin → Change Holding → Change (List (List ℕ)) → Change (List ℕ) → Outcome → Type 0
 ReadsUnder purpose origin library requests source =
-    Then (Obtains origin library requests) (IsSame source) (λ table. Reads (InputUnder purpose table) source)
+    Then (Obtains origin library requests) (IsSame source) (λ table. ReadsAll (InputUnder purpose table) source)
 
 -- An input that isn't too long has one line, which says this context in its form, and the context is typed under the table.
 abbrev pub SaysTyped : Nodes → List ℕ → Framed → Type 0

@@ -6,7 +6,7 @@ ghost use Rattle.baggage_cli.specs.Checking as spec;
 ghost use Rattle.baggage_cli.specs.Checking.{BringsAndChecks, Checks, ChecksLines, VerdictUnder};
 ghost use Rattle.baggage_cli.specs.Commands.{origin_of};
 ghost use Rattle.baggage_cli.specs.Outcomes.{outcome_of, OrMemory};
-ghost use Rattle.baggage_cli.specs.Reading.{Reads};
+ghost use Rattle.baggage_cli.specs.Reading.{ReadsAll};
 ghost use Rattle.baggage_cli.specs.Scene.{change};
 
 use crate::commands::Origin;
@@ -50,7 +50,7 @@ fn check_source<S: Source>(
     table: &Table,
     certificate: &[u8],
 ) -> Result<Vec<u8>, Refusal>
-    ensures { Reads (VerdictUnder table.now certificate.now)
+    ensures { ReadsAll (VerdictUnder table.now certificate.now)
         (change S.left S.faults source.old source.new) (outcome_of result) }
 {
     let input = read_input(alloc, source)?;

@@ -114,7 +114,7 @@ fn read_step(word: &str) -> Option<u64>
 #[tactic(auto, unfolding(crate::specs::Commands::command_of))]
 fn bare_command(name: &str) -> Option<Command<'static>>
     ensures task { option_map spec.task_of result ≡ spec.command_of (name.now ∷ []) }
-    ensures range { IfSome result (λ command. spec.IsInRange (spec.task_of command)) }
+    ensures range { IfSome result (λ command. spec.IsWithinLimits (spec.task_of command)) }
 {
     match name {
         "merge" => Some(Command::Alone(Filter::Merge)),
@@ -126,7 +126,7 @@ fn bare_command(name: &str) -> Option<Command<'static>>
 /// The command that cuts to the budget of this word.
 fn trim_command(word: &str) -> Option<Command<'static>>
     ensures task { option_map spec.task_of result ≡ option_map spec.trim (spec.number_of word.now) }
-    ensures range { IfSome result (λ command. spec.IsInRange (spec.task_of command)) }
+    ensures range { IfSome result (λ command. spec.IsWithinLimits (spec.task_of command)) }
 {
     let budget = NonZeroU32::new(read_number(word)?)?;
     Some(Command::Alone(Filter::Trim { budget }))
@@ -135,7 +135,7 @@ fn trim_command(word: &str) -> Option<Command<'static>>
 /// The command that carries a context in pieces of so many bytes as this word says.
 fn carry_command(word: &str) -> Option<Command<'static>>
     ensures task { option_map spec.task_of result ≡ option_map spec.carry (spec.width_of word.now) }
-    ensures range { IfSome result (λ command. spec.IsInRange (spec.task_of command)) }
+    ensures range { IfSome result (λ command. spec.IsWithinLimits (spec.task_of command)) }
 {
     let width = read_number(word)?;
     if (width as usize) < WIDTH_MIN || WIDTH_MAX < width as usize {
@@ -147,7 +147,7 @@ fn carry_command(word: &str) -> Option<Command<'static>>
 /// The command that runs the load of so many rounds as this word says.
 fn load_command(word: &str) -> Option<Command<'static>>
     ensures task { option_map spec.task_of result ≡ option_map spec.load (spec.rounds_of word.now) }
-    ensures range { IfSome result (λ command. spec.IsInRange (spec.task_of command)) }
+    ensures range { IfSome result (λ command. spec.IsWithinLimits (spec.task_of command)) }
 {
     let rounds = read_number(word)?;
     if ROUNDS_MAX < rounds {
@@ -160,7 +160,7 @@ fn load_command(word: &str) -> Option<Command<'static>>
 #[tactic(auto, unfolding(crate::specs::Commands::command_of))]
 fn numbered_command<'a>(name: &str, word: &'a str) -> Option<Command<'a>>
     ensures task { option_map spec.task_of result ≡ spec.command_of (name.now ∷ word.now ∷ []) }
-    ensures range { IfSome result (λ command. spec.IsInRange (spec.task_of command)) }
+    ensures range { IfSome result (λ command. spec.IsWithinLimits (spec.task_of command)) }
 {
     match name {
         "trim" => trim_command(word),
@@ -178,7 +178,7 @@ fn numbered_command<'a>(name: &str, word: &'a str) -> Option<Command<'a>>
 #[tactic(auto, unfolding(crate::specs::Commands::command_of))]
 fn definition_command<'a>(name: &str, file: &'a str, bag: &'a str) -> Option<Command<'a>>
     ensures task { option_map spec.task_of result ≡ spec.command_of (name.now ∷ file.now ∷ bag.now ∷ []) }
-    ensures range { IfSome result (λ command. spec.IsInRange (spec.task_of command)) }
+    ensures range { IfSome result (λ command. spec.IsWithinLimits (spec.task_of command)) }
 {
     let origin = Origin::Bag { file, bag };
     let (slots, text) = (Product::SlotLine, Product::WholeText);
@@ -217,7 +217,7 @@ fn two_file_command<'a>(
     third: &'a str,
 ) -> Option<Command<'a>>
     ensures task { option_map spec.task_of result ≡ spec.command_of (name.now ∷ file.now ∷ second.now ∷ third.now ∷ []) }
-    ensures range { IfSome result (λ command. spec.IsInRange (spec.task_of command)) }
+    ensures range { IfSome result (λ command. spec.IsWithinLimits (spec.task_of command)) }
 {
     match name {
         "evolve" => Some(Command::Compare {
@@ -238,7 +238,7 @@ fn two_file_command<'a>(
 /// The command that asks for the certificate of a slot at the step whose number this word says.
 fn why_command<'a>(file: &'a str, bag: &'a str, word: &str, path: &'a str) -> Option<Command<'a>>
     ensures task { option_map spec.task_of result ≡ option_map (λ step. spec.why file.now bag.now step path.now) (spec.step_of word.now) }
-    ensures range { IfSome result (λ command. spec.IsInRange (spec.task_of command)) }
+    ensures range { IfSome result (λ command. spec.IsWithinLimits (spec.task_of command)) }
 {
     let step = read_step(word)?;
     Some(Command::Read {
@@ -257,7 +257,7 @@ fn place_command<'a>(
     path: &'a str,
 ) -> Option<Command<'a>>
     ensures task { option_map spec.task_of result ≡ spec.command_of (name.now ∷ file.now ∷ bag.now ∷ word.now ∷ path.now ∷ []) }
-    ensures range { IfSome result (λ command. spec.IsInRange (spec.task_of command)) }
+    ensures range { IfSome result (λ command. spec.IsWithinLimits (spec.task_of command)) }
 {
     match name {
         "why" => why_command(file, bag, word, path),
@@ -269,7 +269,7 @@ fn place_command<'a>(
 #[tactic(auto, unfolding(crate::specs::Commands::command_of))]
 pub fn command_of(words: &Words) -> Option<Command<'_>>
     ensures task { option_map spec.task_of result ≡ spec.command_of words.now }
-    ensures range { IfSome result (λ command. spec.IsInRange (spec.task_of command)) }
+    ensures range { IfSome result (λ command. spec.IsWithinLimits (spec.task_of command)) }
 {
     let name = words.get(0)?.as_str();
     match words.len() {

@@ -2,7 +2,7 @@
 
 ghost use Rattle.std.specs.Prelude.{◌≡◌, Ok, string_bytes, MatchResult};
 ghost use Rattle.baggage_cli.specs.Scene.{change};
-ghost use Rattle.baggage_cli.specs.Delivery.{Tells, Notifies, Refuses, Delivers};
+ghost use Rattle.baggage_cli.specs.Delivery.{TellsLine, Notifies, Refuses, Delivers};
 
 use crate::refusals::{Notice, Refusal, definition_line, table_line};
 use outside::{Failed, Memory, Sink, write_all};
@@ -13,7 +13,7 @@ const DEFINITION_REFUSED: u8 = 1;
 
 /// Writes a line to the sink of errors. The answer is the line's status, or that of a sink that failed.
 fn tell<E: Sink>(errs: &mut E, line: &str, status: u8) -> u8
-    ensures { Tells status line.now (change E.written E.faults errs.old errs.new) result }
+    ensures { TellsLine status line.now (change E.written E.faults errs.old errs.new) result }
 {
     match write_all(errs, line.as_bytes()) {
         Ok(()) => status,
@@ -31,7 +31,7 @@ pub fn notify<E: Sink>(errs: &mut E, notice: Notice) -> u8
 /// Says a line that takes memory. Where there was none for it, that is said instead.
 fn tell_in_full<E: Sink>(errs: &mut E, line: Result<String, Memory>, status: u8) -> u8
     ensures { MatchResult line
-        (λ line. Tells status (string_bytes line) (change E.written E.faults errs.old errs.new) result)
+        (λ line. TellsLine status (string_bytes line) (change E.written E.faults errs.old errs.new) result)
         (λ _. Notifies Notice.Memory (change E.written E.faults errs.old errs.new) result) }
 {
     match line {

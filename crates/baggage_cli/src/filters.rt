@@ -4,7 +4,7 @@ ghost use Rattle.text_lines.specs.Lines.{lines_of};
 ghost use Rattle.baggage_cli.specs.Commands.{HasWidth, filter_of};
 ghost use Rattle.baggage_cli.specs.Filters.{FiltersLines, FilterGives};
 ghost use Rattle.baggage_cli.specs.Outcomes.{outcome_of, OrMemory};
-ghost use Rattle.baggage_cli.specs.Reading.{Reads};
+ghost use Rattle.baggage_cli.specs.Reading.{ReadsAll};
 ghost use Rattle.baggage_cli.specs.Scene.{change};
 
 use crate::carrying::carried_lines;
@@ -37,7 +37,7 @@ pub fn filter_source<S: Source>(
     filter: Filter,
 ) -> Result<Vec<u8>, Refusal>
     requires { HasWidth (filter_of filter) }
-    ensures { Reads (FilterGives (filter_of filter))
+    ensures { ReadsAll (FilterGives (filter_of filter))
         (change S.left S.faults source.old source.new) (outcome_of result) }
 {
     let input = read_input(alloc, source)?;

@@ -4,7 +4,7 @@ ghost use Rattle.std.specs.Prelude.{◌≡◌, ℕ, ◌<◌, ◌≤◌, List, �
 ghost use Rattle.trace_model.specs.Graphs.{IsOfTable, IsTypedContext};
 ghost use Rattle.trace_model.specs.Runs.{list_at};
 ghost use Rattle.graph_report.specs.Reports.{IsReport};
-ghost use Rattle.graph_text.specs.GraphLines.{IsGraphOf};
+ghost use Rattle.graph_text.specs.Reading.{IsGraphOf};
 ghost use Rattle.load_maker.specs.Loads.{load_table, load_text};
 ghost use Rattle.load_maker.specs.declared.TheConstants.{ROUNDS_MAX};
 ghost use Rattle.baggage_cli.specs.Loading as spec;

@@ -3,13 +3,13 @@
 ghost use Rattle.std.specs.Prelude.{◌≡◌, ◌≢◌, ◌⊎◌, ℕ, ◌+◌, ◌≤◌, List, [], ◌∷◌, ◌++◌, Some, None, Err, length, drop};
 ghost use Rattle.std.specs.Io.KnownBytes.{Appends, IsAtEnd};
 ghost use Rattle.outside.specs.Causes.{Rose};
-ghost use Rattle.outside.specs.Told.{Asks};
+ghost use Rattle.outside.specs.Transfers.{Asks};
 ghost use Rattle.context_model.specs.Framing.{bytes_of};
 ghost use Rattle.context_model.specs.Merged.{IsMerged};
 ghost use Rattle.bag_model.specs.Shapes.{Nodes};
 ghost use Rattle.bag_model.specs.Slots.{slots_of};
 ghost use Rattle.bdl_load.specs.Loading.{Holding};
-ghost use Rattle.bdl_check.specs.Definitions.{IsTableOf};
+ghost use Rattle.bdl_check.specs.Compiler.{IsTableOf};
 ghost use Rattle.report_text.specs.Blocks.{IsBlock};
 ghost use Rattle.def_evolve.specs.Common.{IsVerdict};
 ghost use Rattle.def_evolve.specs.declared.verdicts.Verdict.{Verdict};
@@ -19,13 +19,13 @@ ghost use Rattle.graph_report.specs.Reports.{IsReport};
 ghost use Rattle.report_json.specs.JsonReports.{IsJsonReport};
 ghost use Rattle.load_maker.specs.Loads.{load_table, load_text};
 ghost use Rattle.table_text.specs.TableTexts.{table_text};
-ghost use Rattle.graph_text.specs.GraphLines.{IsGraphOf};
-ghost use Rattle.text_carrier.specs.Carried.{carried_text};
+ghost use Rattle.graph_text.specs.Reading.{IsGraphOf};
+ghost use Rattle.text_carrier.specs.Carrying.{carried_text};
 ghost use Rattle.text_lines.specs.declared.TheConstants.{INPUT_MAX};
 ghost use Rattle.text_lines.specs.HexLines.{hex_line};
 ghost use Rattle.write_proof.specs.Verdicts.{IsVerdictOf};
 ghost use Rattle.write_proof.specs.declared.verdicts.Verified.{Verified};
-ghost use Rattle.baggage_cli.specs.Commands.{Task, task_of, command_of, trim, merge, carry, collect, load, check, print, decode, run, run_json, run_table, evolve, why, verify, ReadsSource, FetchesFiles, IsInRange};
+ghost use Rattle.baggage_cli.specs.Commands.{Task, task_of, command_of, trim, merge, carry, collect, load, check, print, decode, run, run_json, run_table, evolve, why, verify, ReadsSource, FetchesFiles, IsWithinLimits};
 ghost use Rattle.baggage_cli.specs.Refusals.{input_status, input_line, notice_line, line_of};
 ghost use Rattle.baggage_cli.specs.Scene.{change, scene_of, HasNoFault};
 ghost use Rattle.baggage_cli.specs.Laws.{Laws};
@@ -101,7 +101,7 @@ fn carry_out<R: Threads + Sync, G: Gate, L: Library, S: Source>(
     library: &mut L,
     source: &mut S,
 ) -> Result<Vec<u8>, Refusal>
-    requires { IsInRange (task_of command) }
+    requires { IsWithinLimits (task_of command) }
     ensures { Comes (task_of command.entry) (change L.files L.faults library.old library.new)
         (change L.asked L.faults library.old library.new)
         (change S.left S.faults source.old source.new) (outcome_of result) }

@@ -3,7 +3,7 @@
 ghost use Rattle.text_lines.specs.Lines.{lines_of};
 ghost use Rattle.baggage_cli.specs.Commands.{origin_of, purpose_of};
 ghost use Rattle.baggage_cli.specs.Outcomes.{outcome_of, OrMemory};
-ghost use Rattle.baggage_cli.specs.Reading.{Reads};
+ghost use Rattle.baggage_cli.specs.Reading.{ReadsAll};
 ghost use Rattle.baggage_cli.specs.Scene.{change};
 ghost use Rattle.baggage_cli.specs.Under.{LinesGive, InputUnder, ReadsUnder};
 
@@ -46,7 +46,7 @@ fn read_source<R: Threads + Sync, G: Gate, S: Source>(
     purpose: Purpose<'_>,
     table: &Table,
 ) -> Result<Vec<u8>, Refusal>
-    ensures { Reads (InputUnder (purpose_of purpose.entry) table.now)
+    ensures { ReadsAll (InputUnder (purpose_of purpose.entry) table.now)
         (change S.left S.faults source.old source.new) (outcome_of result) }
 {
     let input = read_input(alloc, source)?;

@@ -8,7 +8,7 @@ use Rattle.bag_model.specs.Tables.{levels, node_count, IsTable}
 use Rattle.bdl_load.specs.declared.faults.DefCode.{DefCode}
 use Rattle.bdl_load.specs.declared.faults.DefCode.TheVariants.{TooDeep, TooManySlots}
 use Rattle.bdl_load.specs.Faults.{found, fault_in}
-use Rattle.bdl_parser.specs.Spelled.{IsSpelledDecl}
+use Rattle.bdl_parser.specs.Decls.{IsSpelledDecl}
 use Rattle.bdl_parser.specs.declared.trees.Decl.{Decl}
 use Rattle.bdl_parser.specs.declared.trees.Decl.TheVariants.{Bag, Struct}
 use Rattle.bdl_parser.specs.Trees.{BagFieldTree}
@@ -18,7 +18,7 @@ use Rattle.bdl_check.specs.Declarations.{Placed, named, number_named, kind_named
 use Rattle.bdl_check.specs.Layouts.{IsLaidOut}
 use Rattle.bdl_check.specs.Passes.{passes_decl}
 use Rattle.bdl_check.specs.Sizes.{HasSize, IsSizeOf, AreSizes, IsExcess}
-use Rattle.bdl_check.specs.Tables.{BagTree, bag_in, bag_named, Fits, IsUnfit}
+use Rattle.bdl_check.specs.Tables.{BagTree, bag_in, bag_named, FitsTable, IsUnfit}
 use Rattle.bdl_check.proofs.OneLayout.{one_layout}
 use Rattle.bdl_check.proofs.PassedTypes.{named_at, not_named}
 use Rattle.bdl_check.proofs.TableLaws.{AreGood, good_list, all_good, is_table}
@@ -84,7 +84,7 @@ bag_good ds file (Struct own spot list) bag e p s = absurd (cc e)
 
 -- The chosen bag makes a table where it fits.
 pub chosen_table : (ds : List Placed) (name : List ℕ) (bag : BagTree) (nodes : Nodes) → placed_faults ds ≡ [] → AreSpelled ds
-    → bag_named ds name ≡ Some bag → Fits ds bag.list nodes → IsTable nodes
+    → bag_named ds name ≡ Some bag → FitsTable ds bag.list nodes → IsTable nodes
 chosen_table ds name bag nodes none spelled e fits =
     let good = all_good ds none spelled in
     let d = and_then_is (λ (d : Placed). bag_in d.file d.decl) (named ds name) bag e in
@@ -95,7 +95,7 @@ chosen_table ds name bag nodes none spelled e fits =
 
 -- A bag that isn't too large fits, however it is laid out.
 pub sized_fits : (ds : List Placed) (list : List BagFieldTree) (size : Size) (nodes : Nodes) → HasSize ds list size → IsExcess size None
-    → IsLaidOut ds list nodes → Fits ds list nodes
+    → IsLaidOut ds list nodes → FitsTable ds list nodes
 sized_fits ds list size nodes h within l =
     let same = one_layout ds list nodes h.nodes l h.laid_out in
     let shallow = within.0 in let small = within.1 in

@@ -5,13 +5,13 @@ use Rattle.std.specs.List.{All}
 use Rattle.std.specs.Result.{IsErrAnd}
 use Rattle.std.proofs.lemmas.List.Concat.{flat_map-cons}
 use Rattle.std.proofs.lemmas.List.Elements.{All-nil, All-append, All-head, All-tail, All-map}
-use Rattle.outside.specs.Told.{Files, Asked}
+use Rattle.outside.specs.Transfers.{Files, Asked}
 use Rattle.bag_model.specs.Shapes.{Nodes}
 use Rattle.bdl_check.specs.declared.refusals.Refusal.{Refusal}
 use Rattle.bdl_check.specs.declared.refusals.Refusal.TheVariants.{At, Memory}
 use Rattle.bdl_check.specs.Declarations.{Placed, placed, placed_in, all_placed, AreSpelled}
 use Rattle.bdl_check.specs.Checks.{declared_faults}
-use Rattle.bdl_check.specs.Definitions.{AreFaultless, IsTableIn, IsFaultIn, IsTableOf, IsFirstFaultOf, CameOf}
+use Rattle.bdl_check.specs.Compiler.{AreFaultless, IsTableIn, IsFaultIn, IsTableOf, IsFirstFaultOf, CameOf}
 use Rattle.bdl_check.specs.Faults.{RefusesFor}
 use Rattle.bdl_check.specs.Recursion.{links}
 use Rattle.bdl_check.specs.Refusals.{IsAnswerOf}
@@ -22,8 +22,8 @@ use Rattle.bdl_load.specs.declared.faults.Fault.{Fault}
 use Rattle.bdl_load.specs.declared.files.LoadedFile.{LoadedFile}
 use Rattle.bdl_load.specs.Faults.{Blames}
 use Rattle.bdl_load.specs.Loading.{Holding, OfLibrary, Loads, all_loaded, stopped, names_of}
-use Rattle.bdl_parser.specs.Spelled.{IsSpelledDecl, AreSpelledDecls}
-use Rattle.topological_order.specs.Graphs.{Graph, Reaches}
+use Rattle.bdl_parser.specs.Decls.{IsSpelledDecl, AreSpelledDecls}
+use Rattle.topological_order.specs.Graphs.{EdgeLists, LeadsTo}
 use Rattle.topological_order.specs.Orders.{IsOrder}
 use Rattle.bdl_check.proofs.Lists.{to_all}
 
@@ -56,7 +56,7 @@ says_weaker P Q h Memory p = tt
 
 -- Files whose declarations have no fault, and have an order, are sound.
 pub sound_files : (files : List LoadedFile) (ds : List Placed) (order : List ℕ)
-    → ((graph : Graph) (order : List ℕ) (node : ℕ) → IsOrder graph order → Reaches graph node node → ⊥)
+    → ((graph : EdgeLists) (order : List ℕ) (node : ℕ) → IsOrder graph order → LeadsTo graph node node → ⊥)
     → ds ≡ all_placed files → declared_faults files ≡ [] → IsOrder (links ds) order → AreFaultless files
 sound_files files ds order exclude is none ordered = record {
   declared = none;

@@ -13,7 +13,7 @@ use Rattle.bag_model.specs.Shapes.{Shape, Nodes, fields, node, no_node}
 use Rattle.bag_model.specs.Tables.{levels_under, levels, nodes_under, node_count}
 use Rattle.bdl_parser.specs.Trees.{BagFieldTree}
 use Rattle.bdl_check.specs.Declarations.{Placed}
-use Rattle.bdl_check.specs.Layouts.{Layout, IsShapeOf, AreFieldsOf, IsInOrder}
+use Rattle.bdl_check.specs.Layouts.{Layout, IsShapeOf, AreFieldsOf, IsLaidOutInOrder}
 use Rattle.bdl_check.proofs.OneLayout.{Precedes, Rising, numbers, precedes_too, rises}
 use Rattle.bdl_check.proofs.Lists.{to_all, from_all}
 
@@ -104,12 +104,12 @@ module _ (ds : List Placed) (L : Layout) (t : BagFieldTree) (s : Shape) (here : 
 -- A bag in order with one field more behind the others, by its levels and fields.
 pub record Added (ds : List Placed) (L : Layout) (list : List BagFieldTree) (nodes : Nodes) (s : Shape) : Type 0 where
   pub more : Nodes
-  pub ordered : IsInOrder ds L list more
+  pub ordered : IsLaidOutInOrder ds L list more
   pub levels_are : levels more ≡ max (1 + levels_under s) (levels nodes)
   pub count_is : node_count more ≡ 1 + nodes_under s + node_count nodes
 
 pub added : (ds : List Placed) (L : Layout) (list : List BagFieldTree) (nodes : Nodes) (t : BagFieldTree) (s : Shape) → IsShapeOf ds L t.kind s
-    → IsNewNumber t.number list → IsInOrder ds L list nodes
+    → IsNewNumber t.number list → IsLaidOutInOrder ds L list nodes
     → Added ds L (list ++ t ∷ []) nodes s
 added ds L list nodes t s here new a =
     let i = insert ds L t s here a.sorted nodes (rises a.sorted (AllPairs-from_increasing (numbers a.sorted) a.rising))

@@ -6,7 +6,7 @@ use Rattle.bdl_parser.specs.declared.trees.Decl.TheVariants.{Bag, Struct}
 use Rattle.bdl_parser.specs.Trees as trees
 use Rattle.bdl_parser.specs.Trees.{BagFieldTree, TypeTree}
 use Rattle.bdl_check.specs.Declarations.{Placed}
-use Rattle.bdl_check.specs.Layouts.{Layout, IsShapeOfDecl, IsShapeOf, AreFieldsOf, IsInOrder, IsLaidOutWithin, IsLaidOut}
+use Rattle.bdl_check.specs.Layouts.{Layout, IsShapeOfDecl, IsShapeOf, AreFieldsOf, IsLaidOutInOrder, IsLaidOutWithin, IsLaidOut}
 
 -- What the one lays out so, the other does.
 abbrev pub Grows : Layout → Layout → Type 0
@@ -38,8 +38,8 @@ list_grows ds A B up (t ∷ ts) (f ∷ fs) (here, a) = (
       fs a,
 )
 
-order_grows : (ds : List Placed) (A B : Layout) → Grows A B → (list : List BagFieldTree) (nodes : Nodes) → IsInOrder ds A list nodes
-    → IsInOrder ds B list nodes
+order_grows : (ds : List Placed) (A B : Layout) → Grows A B → (list : List BagFieldTree) (nodes : Nodes) → IsLaidOutInOrder ds A list nodes
+    → IsLaidOutInOrder ds B list nodes
 order_grows ds A B up list nodes a = record {
   sorted = a.sorted;
   same = a.same;
@@ -94,16 +94,16 @@ list_within ds (t ∷ ts) (f ∷ fs) (here, a) =
     )
 
 -- A bag is laid out where its fields are in order and the bags in place are laid out.
-pub laid_out : (ds : List Placed) (list : List BagFieldTree) (nodes : Nodes) → IsInOrder ds (IsLaidOut ds) list nodes → IsLaidOut ds list nodes
+pub laid_out : (ds : List Placed) (list : List BagFieldTree) (nodes : Nodes) → IsLaidOutInOrder ds (IsLaidOut ds) list nodes → IsLaidOut ds list nodes
 laid_out ds list nodes a =
     let within = list_within ds a.sorted (fields nodes) a.each in
     (suc within.0, record { sorted = a.sorted; same = a.same; rising = a.rising; each = within.1 })
 
 within_order : (ds : List Placed) (room : ℕ) (list : List BagFieldTree) (nodes : Nodes) → IsLaidOutWithin room ds list nodes
-    → IsInOrder ds (IsLaidOut ds) list nodes
+    → IsLaidOutInOrder ds (IsLaidOut ds) list nodes
 within_order ds zero list nodes a = absurd a
 within_order ds (suc room) list nodes a = order_grows ds (IsLaidOutWithin room ds) (IsLaidOut ds) (λ _ _ inner. (room, inner)) list nodes a
 
 -- And only there.
-pub in_order : (ds : List Placed) (list : List BagFieldTree) (nodes : Nodes) → IsLaidOut ds list nodes → IsInOrder ds (IsLaidOut ds) list nodes
+pub in_order : (ds : List Placed) (list : List BagFieldTree) (nodes : Nodes) → IsLaidOut ds list nodes → IsLaidOutInOrder ds (IsLaidOut ds) list nodes
 in_order ds list nodes a = within_order ds a.0 list nodes a.1

@@ -13,7 +13,7 @@ use Rattle.bdl_check.specs.Declarations.{Placed, name_of, number_named}
 use Rattle.bdl_check.specs.DeclarationViews.{placed_of}
 use Rattle.bdl_check.specs.Recursion.{names_in, uses, links}
 use Rattle.bdl_parser.specs.Trees.{BagFieldTree}
-use Rattle.topological_order.specs.Graphs.{Graph, IsClosed, Reaches, by_edge, by_walk}
+use Rattle.topological_order.specs.Graphs.{EdgeLists, IsClosed, LeadsTo, by_edge, by_walk}
 
 -- A number that is found is one of a declaration.
 found_below : (within : Bool) (place number : ℕ) → cond within (Some place) None ≡ Some number → (within ≡ true) × (place ≡ number)
@@ -48,11 +48,11 @@ links_closed ds =
     (λ text number e. subst (λ (n : ℕ). number < n) count (number_below ds text number e)) (uses (get_or ds k d).decl))
 
 -- A node with an edge is a node.
-from_below : (graph : Graph) (from to : ℕ) → Reaches graph from to → from < length graph
+from_below : (graph : EdgeLists) (from to : ℕ) → LeadsTo graph from to → from < length graph
 from_below graph from to (by_edge f t edge) = slice_get_within graph f edge.row edge.is
 from_below graph from to (by_walk f next t edge rest) = slice_get_within graph f edge.row edge.is
 
-pub cyclic_below : (ds : List Placed) (number : ℕ) → Reaches (links ds) number number → number < length ds
+pub cyclic_below : (ds : List Placed) (number : ℕ) → LeadsTo (links ds) number number → number < length ds
 cyclic_below ds number h = subst (λ (n : ℕ). number < n) (length-map ds (row_of ds)) (from_below (links ds) number number h)
 
 -- The declaration of this number is there.

@@ -16,7 +16,7 @@ use Rattle.std.specs.Prelude.{Result, Ok, Err, OnOk}
 use Rattle.std.specs.Result.{is_err}
 use Rattle.std.specs.Str.{bytes_eq}
 use Rattle.bdl_check.specs.Declarations.{Placed, name_of, named, number_named}
-use Rattle.bdl_check.specs.DeclarationViews.{AreNumbersOf}
+use Rattle.bdl_check.specs.DeclarationViews.{NumbersDeclarations}
 use Rattle.bdl_check.proofs.Links.{number_below}
 use Rattle.bdl_check.proofs.PassedTypes.{named_at, not_named}
 
@@ -54,10 +54,10 @@ number_more ds d text new = by (bytes_eq (name_of d.decl) text) refl
         ∙ sym (cond-false (bytes_eq (name_of d.decl) text) (Some (length ds)) (number_named ds text) e)
 
 -- The number of one more declaration goes into the map.
-pub numbers_more : (ds : List Placed) (d : Placed) (name : List ℕ) (number : ℕ) (numbers grown : Numbers) → AreNumbersOf ds numbers
+pub numbers_more : (ds : List Placed) (d : Placed) (name : List ℕ) (number : ℕ) (numbers grown : Numbers) → NumbersDeclarations ds numbers
     → name ≡ name_of d.decl → number ≡ length ds → number_named ds name ≡ None
     → ((other : List ℕ) → get_by (λ key. slice_cmp nat_cmp other key.now) grown ≡ update bytes_eq (λ text. get_by (λ key. slice_cmp nat_cmp text key.now) numbers) name (Some number) other)
-    → AreNumbersOf (ds ++ d ∷ []) grown
+    → NumbersDeclarations (ds ++ d ∷ []) grown
 numbers_more ds d name number numbers grown before is count new more other =
     more other ∙ ap (λ (found : Option ℕ). cond (bytes_eq name other) (Some number) found) (before other)
     ∙ ap (λ (text : List ℕ). cond (bytes_eq text other) (Some number) (number_named ds other)) is

@@ -13,8 +13,8 @@ use Rattle.bdl_parser.specs.declared.trees.Decl.TheVariants.{Bag, Struct}
 use Rattle.bdl_parser.specs.Trees as trees
 use Rattle.bdl_parser.specs.Trees.{BagFieldTree, TypeTree}
 use Rattle.bdl_check.specs.Declarations.{Placed, named}
-use Rattle.bdl_check.specs.Layouts.{Layout, IsShapeOfDecl, IsShapeOf, IsFieldOf, AreFieldsOf, IsInOrder, IsLaidOutWithin, IsLaidOut, held_shape}
-use Rattle.bdl_check.specs.Tables.{BagTree, bag_named, Fits, IsUnfit, IsTableAmong, IsUntabled}
+use Rattle.bdl_check.specs.Layouts.{Layout, IsShapeOfDecl, IsShapeOf, IsFieldOf, AreFieldsOf, IsLaidOutInOrder, IsLaidOutWithin, IsLaidOut, held_shape}
+use Rattle.bdl_check.specs.Tables.{BagTree, bag_named, FitsTable, IsUnfit, IsTableAmong, IsUntabled}
 use Rattle.bag_model.specs.declared.TheConstants.{MAX_LEVELS, MAX_FIELDS}
 use Rattle.bdl_check.proofs.Lists.{is_in_front, is_behind}
 
@@ -156,8 +156,8 @@ same_nodes (node name number shape m) (node other place form n) e =
     let more = same_nodes m n rest in
     cc (named, numbered, shaped, more)
 
-one_in_order : (ds : List Placed) (A B : Layout) → Agree A B → (list : List BagFieldTree) (m n : Nodes) → IsInOrder ds A list m
-    → IsInOrder ds B list n → m ≡ n
+one_in_order : (ds : List Placed) (A B : Layout) → Agree A B → (list : List BagFieldTree) (m n : Nodes) → IsLaidOutInOrder ds A list m
+    → IsLaidOutInOrder ds B list n → m ≡ n
 one_in_order ds A B one list m n a b =
     let order = one_sorted list a.sorted b.sorted a.same b.same a.rising b.rising in
     same_nodes m n (one_list ds A B one b.sorted (fields m) (fields n) (subst (λ list. AreFieldsOf ds A list (fields m)) order a.each) b.each)
@@ -208,7 +208,7 @@ table_one ds name m n a b =
     let same = same_some (bag_named ds name) a.bag b.bag a.chosen b.chosen in
     one_layout ds b.bag.list m n (subst (λ (bag : BagTree). IsLaidOut ds bag.list m) same a.fits.laid_out) b.fits.laid_out
 
-fits_excludes : (ds : List Placed) (bag : BagTree) (table : Nodes) (f : Fault) → Fits ds bag.list table → IsUnfit ds bag f → ⊥
+fits_excludes : (ds : List Placed) (bag : BagTree) (table : Nodes) (f : Fault) → FitsTable ds bag.list table → IsUnfit ds bag f → ⊥
 fits_excludes ds bag table f t (IsUnfit.deep n a d e) = not_deeper ds bag.list n table a t.laid_out d t.shallow
 fits_excludes ds bag table f t (IsUnfit.large n a s l e) = not_larger ds bag.list n table a t.laid_out l t.small
 
@@ -217,4 +217,4 @@ pub table_excludes : (ds : List Placed) (root name : List ℕ) (table : Nodes) (
 table_excludes ds root name table f t (IsUntabled.missing none e) = let chosen = t.chosen in let same = sym none ∙ chosen in cc same
 table_excludes ds root name table f t (IsUntabled.unfit bag chosen u) =
     let same = same_some (bag_named ds name) t.bag bag t.chosen chosen in
-    fits_excludes ds bag table f (subst (λ (b : BagTree). Fits ds b.list table) same t.fits) u
+    fits_excludes ds bag table f (subst (λ (b : BagTree). FitsTable ds b.list table) same t.fits) u

@@ -5,7 +5,7 @@ use Rattle.std.proofs.lemmas.Bool.{cases_lt}
 use Rattle.bag_model.specs.Shapes.{Nodes}
 use Rattle.bdl_check.specs.Checks.{declared_faults}
 use Rattle.bdl_check.specs.Declarations.{Placed, place_of, all_placed}
-use Rattle.bdl_check.specs.Definitions.{IsTableIn, IsFaultIn, IsTableOf, IsFirstFaultOf}
+use Rattle.bdl_check.specs.Compiler.{IsTableIn, IsFaultIn, IsTableOf, IsFirstFaultOf}
 use Rattle.bdl_check.specs.Faults.{first}
 use Rattle.bdl_check.specs.Recursion.{links, IsRecursive}
 use Rattle.bdl_check.proofs.OneLayout.{untabled_one, table_one, table_excludes}
@@ -14,7 +14,7 @@ use Rattle.bdl_load.specs.declared.faults.Fault.{Fault}
 use Rattle.bdl_load.specs.declared.files.LoadedFile.{LoadedFile}
 use Rattle.bdl_load.specs.Faults.{found, fault_in}
 use Rattle.bdl_load.specs.Loading.{Holding, Loading, Loads, all_loaded, stopped}
-use Rattle.topological_order.specs.Graphs.{Graph}
+use Rattle.topological_order.specs.Graphs.{EdgeLists}
 use Rattle.topological_order.specs.Orders.{IsFirstCyclic}
 
 -- What the crate below promises.
@@ -24,7 +24,7 @@ LoadingOne = (held : Holding) (root : List ℕ) (outcome other : Loading) → Lo
 -- ---- files
 
 -- There is one first node that reaches itself.
-cyclic_one : (graph : Graph) (a b : ℕ) → IsFirstCyclic graph a → IsFirstCyclic graph b → a ≡ b
+cyclic_one : (graph : EdgeLists) (a b : ℕ) → IsFirstCyclic graph a → IsFirstCyclic graph b → a ≡ b
 cyclic_one graph a b p q = by (cases_lt a b) (cases_lt b a)
   where
     by : (a < b) ⊎ (b ≤ a) → (b < a) ⊎ (a ≤ b) → a ≡ b

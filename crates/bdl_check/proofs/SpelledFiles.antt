@@ -8,7 +8,7 @@ use Rattle.bag_model.specs.Tables.{is_name, IsTable}
 use Rattle.bdl_lexer.specs.declared.Token.{Token}
 use Rattle.bdl_lexer.specs.declared.TokenClass.{TokenClass}
 use Rattle.bdl_lexer.specs.declared.TokenClass.TheVariants.{Word, Number, Text, Sign}
-use Rattle.bdl_lexer.specs.Pieces.{IsInRange}
+use Rattle.bdl_lexer.specs.Scan.{IsNumberInRange}
 use Rattle.bdl_lexer.specs.Spans.{LiesIn, token_text}
 use Rattle.bdl_lexer.proofs.Spans.{tokens_lie}
 use Rattle.grammar_model.specs.Forms.{Form, token, two, either, made, Repeats, many, nothing, ended}
@@ -19,14 +19,14 @@ use Rattle.bdl_parser.specs.declared.trees.Module.{Module}
 use Rattle.bdl_parser.specs.declared.trees.Spot.{Spot}
 use Rattle.bdl_parser.specs.Grammar.{key, mark, name_in, number_in, a_name, a_number, a_text, a_leaf, a_holding, held_of, map_of, a_type, a_bag_field, a_struct_field, bag_fields, struct_fields, a_bag, a_struct, an_import, the_decls, a_module}
 use Rattle.bdl_parser.specs.Lexemes.{What, Lexeme, word, number, quoted, sign, what_of, lexemes_of}
-use Rattle.bdl_parser.specs.Spelled.{IsSpelledField, IsSpelledDecl, AreSpelledDecls}
+use Rattle.bdl_parser.specs.Decls.{IsSpelledField, IsSpelledDecl, AreSpelledDecls}
 use Rattle.bdl_parser.specs.Trees.{TypeTree, BagFieldTree, StructFieldTree}
 use Rattle.bdl_parser.specs.Trees as trees
 use Rattle.bdl_load.specs.declared.files.LoadedFile.{LoadedFile}
 use Rattle.bdl_load.specs.Loading.{Holding, Loading, Loads, Enters, Takes, all_loaded, stopped, loaded_as}
-use Rattle.bdl_load.specs.Sources.{SaysModule}
+use Rattle.bdl_load.specs.Source.{SaysModule}
 use Rattle.bdl_check.specs.Declarations.{all_placed}
-use Rattle.bdl_check.specs.Definitions.{IsTableOf}
+use Rattle.bdl_check.specs.Compiler.{IsTableOf}
 use Rattle.bdl_check.proofs.ChosenBags.{chosen_table}
 use Rattle.bdl_check.proofs.Compiling.{all_spelled}
 
@@ -42,7 +42,7 @@ IsSmall (sign byte) = Unit {0}
 abbrev AreSmall : List Lexeme → Type 0
 AreSmall ts = AllByRecursion (λ (t : Lexeme). IsSmall t.what) ts
 
-small_class : (class : TokenClass) (text : List ℕ) → IsInRange class → IsSmall (what_of class text)
+small_class : (class : TokenClass) (text : List ℕ) → IsNumberInRange class → IsSmall (what_of class text)
 small_class Word text within = tt
 small_class (Number value) text within = omega arith
 small_class Text text within = tt

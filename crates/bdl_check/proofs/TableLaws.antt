@@ -11,7 +11,7 @@ use Rattle.std.proofs.lemmas.Slice.Eq.{bytes_eq-Decides}
 use Rattle.bag_model.specs.Scalars as scalars
 use Rattle.bag_model.specs.Shapes.{Shape, Nodes, Field, fields, no_node, node}
 use Rattle.bag_model.specs.Tables.{is_name, IsScalarKind, IsKeyKind, IsShape, AreFields, levels, node_count, IsTable}
-use Rattle.bdl_parser.specs.Spelled.{IsSpelledField, IsSpelledDecl}
+use Rattle.bdl_parser.specs.Decls.{IsSpelledField, IsSpelledDecl}
 use Rattle.bdl_parser.specs.declared.trees.Decl.{Decl}
 use Rattle.bdl_parser.specs.declared.trees.Decl.TheVariants.{Bag, Struct}
 use Rattle.bdl_parser.specs.declared.trees.Holding.TheVariants.{AsSet, AsGreatest}
@@ -23,7 +23,7 @@ use Rattle.bdl_check.specs.declared.types.Role.TheVariants.{BagField, StructFiel
 use Rattle.bdl_check.specs.Checks.{placed_faults}
 use Rattle.bdl_check.specs.Declarations.{Placed, named, kind_named, AreSpelled}
 use Rattle.bdl_check.specs.Fields.{numbers_of, names_of, struct_names_of}
-use Rattle.bdl_check.specs.Layouts.{Layout, word_in, word_of_type, words_of, kind_of_decl, kind_in, IsShapeOfDecl, IsShapeOf, AreFieldsOf, IsInOrder, IsLaidOutWithin, IsLaidOut}
+use Rattle.bdl_check.specs.Layouts.{Layout, word_in, word_of_type, words_of, kind_of_decl, kind_in, IsShapeOfDecl, IsShapeOf, AreFieldsOf, IsLaidOutInOrder, IsLaidOutWithin, IsLaidOut}
 use Rattle.bdl_check.specs.Passes.{are_distinct, passes_name, passes_type, passes_decl}
 use Rattle.bdl_check.specs.Types.{Kinds}
 use Rattle.bdl_check.proofs.BagSizes.{or_first, or_second, not_so}
@@ -201,7 +201,7 @@ module _ (ds : List Placed) (good : AllGood ds) where
   fields_good L makes [] (node name number shape more) e g r = absurd e
   fields_good L makes (t ∷ ts) no_node e g r = absurd e
 
-  order_good : (L : Layout) → Makes ds L → (list : List BagFieldTree) (nodes : Nodes) → AreGood ds list → IsInOrder ds L list nodes → AreFields nodes
+  order_good : (L : Layout) → Makes ds L → (list : List BagFieldTree) (nodes : Nodes) → AreGood ds list → IsLaidOutInOrder ds L list nodes → AreFields nodes
   order_good L makes list nodes g a =
       let sorted : AreGood ds a.sorted = record {
         types = all_moved (λ (t : BagFieldTree). passes_type (kind_named ds) BagField t.kind ≡ true) list a.sorted a.same g.types;

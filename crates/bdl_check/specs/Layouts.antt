@@ -107,7 +107,7 @@ AreFieldsOf ds LaysOut (tree ∷ list) (field ∷ more) =
 AreFieldsOf ds LaysOut _ _ = ⊥
 
 -- The fields in ascending order of number, with bags in place that are laid out so.
-pub record IsInOrder (ds : List Placed) (LaysOut : Layout) (list : List trees.BagFieldTree)
+pub record IsLaidOutInOrder (ds : List Placed) (LaysOut : Layout) (list : List trees.BagFieldTree)
     (nodes : Nodes) : Type 0 where
   pub sorted : List trees.BagFieldTree
   pub same : IsPermutation list sorted
@@ -117,7 +117,7 @@ pub record IsInOrder (ds : List Placed) (LaysOut : Layout) (list : List trees.Ba
 -- The same, where at most so many bags stand inside one another, this one among them.
 abbrev pub IsLaidOutWithin : ℕ → List Placed → Layout
 IsLaidOutWithin zero ds list nodes = ⊥
-IsLaidOutWithin (suc room) ds list nodes = IsInOrder ds (IsLaidOutWithin room ds) list nodes
+IsLaidOutWithin (suc room) ds list nodes = IsLaidOutInOrder ds (IsLaidOutWithin room ds) list nodes
 
 -- The fields of a bag as those of a table, however deep its bags stand.
 abbrev pub IsLaidOut : List Placed → Layout

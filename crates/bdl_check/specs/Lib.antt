@@ -8,7 +8,7 @@ pub mod Passes
 pub mod Recursion
 pub mod Layouts
 pub mod Tables
-pub mod Definitions
+pub mod Compiler
 -- What contracts of the crate's own functions cite besides.
 pub mod DeclarationCode
 pub mod DeclarationViews

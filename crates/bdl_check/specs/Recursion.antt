@@ -8,7 +8,7 @@ use Rattle.bdl_load.specs.Faults.{found, fault_in}
 use Rattle.bdl_parser.specs.declared.trees.Decl.{Decl}
 use Rattle.bdl_parser.specs.declared.trees.Decl.TheVariants.{Bag, Struct}
 use Rattle.bdl_parser.specs.Trees.{TypeTree, name, leaf, held, map as map_of}
-use Rattle.topological_order.specs.Graphs.{Graph, Reaches}
+use Rattle.topological_order.specs.Graphs.{EdgeLists, LeadsTo}
 use Rattle.topological_order.specs.Orders.{IsFirstCyclic}
 
 -- The names among the nodes of a type.
@@ -24,12 +24,12 @@ uses (Bag own spot fields) = flat_map (λ field. names_in field.kind) fields
 uses (Struct own spot fields) = []
 
 -- For each declaration, the numbers of the declarations that it names.
-abbrev pub links : List Placed → Graph
+abbrev pub links : List Placed → EdgeLists
 links ds = map (λ d. filter_map (number_named ds) (uses d.decl)) ds
 
 -- No bag stands inside itself.
 abbrev pub IsAcyclic : List Placed → Type 0
-IsAcyclic ds = (number : ℕ) → Reaches (links ds) number number → ⊥
+IsAcyclic ds = (number : ℕ) → LeadsTo (links ds) number number → ⊥
 
 -- The fault of the first bag that stands inside itself, at its name.
 pub record IsRecursive (ds : List Placed) (fault : Fault) : Type 0 where

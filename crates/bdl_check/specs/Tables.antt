@@ -31,7 +31,7 @@ abbrev pub bag_named : List Placed → List ℕ → Option BagTree
 bag_named ds name = option_and_then (λ d. bag_in d.file d.decl) (named ds name)
 
 -- The fields laid out, in no more than 16 levels of headers and 16,384 fields.
-pub record Fits (ds : List Placed) (list : List BagFieldTree) (nodes : Nodes) : Type 0 where
+pub record FitsTable (ds : List Placed) (list : List BagFieldTree) (nodes : Nodes) : Type 0 where
   pub laid_out : IsLaidOut ds list nodes
   pub shallow : levels nodes ≤ MAX_LEVELS
   pub small : node_count nodes ≤ MAX_FIELDS
@@ -48,7 +48,7 @@ pub data IsUnfit (ds : List Placed) (bag : BagTree) (fault : Fault) : Type 0 whe
 pub record IsTableAmong (ds : List Placed) (name : List ℕ) (nodes : Nodes) : Type 0 where
   pub bag : BagTree
   pub chosen : bag_named ds name ≡ Some bag
-  pub fits : Fits ds bag.list nodes
+  pub fits : FitsTable ds bag.list nodes
 
 -- Why declarations have no table for this name: there is no such bag, which is a fault of the root,
 -- or it doesn't fit.

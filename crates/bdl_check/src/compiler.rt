@@ -4,8 +4,8 @@ ghost use Rattle.std.specs.Prelude.{◌≡◌, ◌≤◌, All, IfOk, IfErr, IfSo
 ghost use Rattle.outside.specs.Causes.{Rose};
 ghost use Rattle.bdl_load.specs.Faults.{Blames};
 ghost use Rattle.bdl_load.specs.Loading.{OfLibrary, AsksFirst};
-ghost use Rattle.bdl_parser.specs.Spelled.{AreSpelledDecls};
-ghost use Rattle.bdl_check.specs.Definitions.{IsTableIn, IsFaultIn, IsTableOf, IsFirstFaultOf, CameOf};
+ghost use Rattle.bdl_parser.specs.Decls.{AreSpelledDecls};
+ghost use Rattle.bdl_check.specs.Compiler.{IsTableIn, IsFaultIn, IsTableOf, IsFirstFaultOf, CameOf};
 ghost use Rattle.bdl_check.specs.Faults.{RefusesFor};
 
 use crate::checks::check_declarations;

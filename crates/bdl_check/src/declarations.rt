@@ -42,11 +42,11 @@ impl<'a> Model for Declarations<'a> {
 
     ghost coded = { placed_list_code };
 
-    ghost use Rattle.bdl_check.specs.DeclarationViews.{placed_of, AreNumbersOf};
+    ghost use Rattle.bdl_check.specs.DeclarationViews.{placed_of, NumbersDeclarations};
 
     ghost view = { λ list. map placed_of list.all.items };
 
-    ghost invariant = { λ list. AreNumbersOf (map placed_of list.all.items) list.numbers };
+    ghost invariant = { λ list. NumbersDeclarations (map placed_of list.all.items) list.numbers };
 }
 
 impl<'a> Declarations<'a> {

@@ -8,7 +8,7 @@ ghost use Rattle.bdl_check.specs.Checks.{declared_faults};
 ghost use Rattle.bdl_check.specs.Declarations.{all_placed};
 ghost use Rattle.bdl_check.specs.Faults.{first};
 ghost use Rattle.bdl_check.specs.Passes.{pass};
-ghost use Rattle.bdl_check.specs.Definitions.{IsTableOf, IsFirstFaultOf};
+ghost use Rattle.bdl_check.specs.Compiler.{IsTableOf, IsFirstFaultOf};
 ghost use Rattle.bdl_load.specs.declared.faults.Fault.{Fault};
 ghost use Rattle.bdl_load.specs.declared.files.LoadedFile.{LoadedFile};
 ghost use Rattle.bdl_load.specs.Loading.{Holding};

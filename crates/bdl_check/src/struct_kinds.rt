@@ -7,7 +7,7 @@ ghost use Rattle.bag_model.specs.Scalars as scalars;
 ghost use Rattle.bdl_check.specs.Declarations.{named};
 ghost use Rattle.bdl_check.specs.DeclarationViews.{placed_of};
 ghost use Rattle.bdl_check.specs.Layouts.{word_in, words_of, words_of_decl, kind_of_decl};
-ghost use Rattle.scalar_types.specs.KindViews.{IsWord, word_of, kind_of};
+ghost use Rattle.scalar_types.specs.KindViews.{IsPlainWord, word_of, kind_of};
 
 use crate::declarations::{Declaration, Declarations};
 use bdl_parser::{Decl, ScalarWord, StructFields, TypeForm};
@@ -115,7 +115,7 @@ fn struct_kinds(alloc: Global, fields: &StructFields) -> Result<KindList, Memory
 
 /// The kind of scalars that a word is.
 pub(crate) fn word_kind(word: ScalarWord) -> ScalarKind
-    ensures plain { IsWord result }
+    ensures plain { IsPlainWord result }
     ensures word { word_of result ≡ word_in word }
     ensures kind { kind_of result ≡ scalars.ScalarKind.One (word_in word) }
 {

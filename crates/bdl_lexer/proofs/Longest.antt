@@ -6,7 +6,7 @@ use Rattle.std.proofs.lemmas.List.Elements.{All-head, All-cons, All-same}
 use Rattle.bdl_lexer.specs.declared.TokenClass.{TokenClass}
 use Rattle.bdl_lexer.specs.declared.TokenClass.TheVariants.{Word, Number, Text, Sign}
 use Rattle.bdl_lexer.specs.Bytes.{is_letter, is_word_byte, is_text_byte}
-use Rattle.bdl_lexer.specs.Pieces.{IsWord, IsNumber, IsText, IsSign, HasForm, IsLongest}
+use Rattle.bdl_lexer.specs.Scan.{IsWord, IsNumberToken, IsText, IsSign, HasTokenForm, IsLongest}
 use Rattle.bdl_lexer.proofs.Runs.{StopsAt, run_longest}
 use Rattle.bdl_lexer.proofs.FirstBytes.{kind_of, kind_letter, kind_digit, kind_sign}
 
@@ -30,19 +30,19 @@ class_kind (Number _) = 2
 class_kind Text = 3
 class_kind (Sign _) = 4
 
-number_starts : (value : ℕ) (text : List ℕ) → IsNumber value text → Starts 2 text
+number_starts : (value : ℕ) (text : List ℕ) → IsNumberToken value text → Starts 2 text
 number_starts value [] form = absurd (omega (arith, form.nonempty))
 number_starts value (b ∷ more) form =
     record { byte = b; more = more; is = refl; kind_is = kind_digit b (All-head (λ b. is_ascii_digit b ≡ true) b more form.each) }
 
-pub form_starts : (class : TokenClass) (text : List ℕ) → HasForm class text → Starts (class_kind class) text
+pub form_starts : (class : TokenClass) (text : List ℕ) → HasTokenForm class text → Starts (class_kind class) text
 form_starts Word text form =
     record { byte = form.first; more = form.more; is = form.is; kind_is = kind_letter form.first form.letter }
 form_starts (Number value) text form = number_starts value text form
 form_starts Text text form = record { byte = 34; more = form.inner ++ 34 ∷ []; is = form.is; kind_is = refl }
 form_starts (Sign byte) text form = record { byte = byte; more = []; is = form.is; kind_is = kind_sign byte form.sign }
 
-pub form_some : (class : TokenClass) (text : List ℕ) → HasForm class text → 0 < length text
+pub form_some : (class : TokenClass) (text : List ℕ) → HasTokenForm class text → 0 < length text
 form_some class text form = let s = form_starts class text form in omega (arith, ap length s.is)
 
 -- tokens of two kinds don't begin at one place
@@ -57,7 +57,7 @@ word_bytes text form =
     All-same (λ b. is_word_byte b ≡ true) text (form.first ∷ form.more) form.is
     (All-cons (λ b. is_word_byte b ≡ true) form.first form.more (letter_in_word form.first form.letter) form.each)
 
-word_no_longer : (text rest : List ℕ) → IsWord text → StopsAt is_word_byte rest → (other : TokenClass) (longer after : List ℕ) → text ++ rest ≡ longer ++ after → HasForm other longer → length longer ≤ length text
+word_no_longer : (text rest : List ℕ) → IsWord text → StopsAt is_word_byte rest → (other : TokenClass) (longer after : List ℕ) → text ++ rest ≡ longer ++ after → HasTokenForm other longer → length longer ≤ length text
 word_no_longer text rest form stops Word longer after e it = run_longest is_word_byte text longer rest after e stops (word_bytes longer it)
 word_no_longer text rest form stops (Number v) longer after e it =
     apart 1 2 text longer rest after (form_starts Word text form) (form_starts (Number v) longer it) e (λ (q : 1 ≡ 2). omega arith)
@@ -66,7 +66,7 @@ word_no_longer text rest form stops Text longer after e it =
 word_no_longer text rest form stops (Sign b) longer after e it =
     apart 1 4 text longer rest after (form_starts Word text form) (form_starts (Sign b) longer it) e (λ (q : 1 ≡ 4). omega arith)
 
-number_no_longer : (value : ℕ) (text rest : List ℕ) → IsNumber value text → StopsAt is_ascii_digit rest → (other : TokenClass) (longer after : List ℕ) → text ++ rest ≡ longer ++ after → HasForm other longer → length longer ≤ length text
+number_no_longer : (value : ℕ) (text rest : List ℕ) → IsNumberToken value text → StopsAt is_ascii_digit rest → (other : TokenClass) (longer after : List ℕ) → text ++ rest ≡ longer ++ after → HasTokenForm other longer → length longer ≤ length text
 number_no_longer value text rest form stops Word longer after e it =
     apart 2 1 text longer rest after (form_starts (Number value) text form) (form_starts Word longer it) e (λ (q : 2 ≡ 1). omega arith)
 number_no_longer value text rest form stops (Number v) longer after e it = run_longest is_ascii_digit text longer rest after e stops it.each
@@ -82,7 +82,7 @@ inner_same text longer rest after inner other p q e =
     let tails : (inner ++ 34 ∷ []) ++ rest ≡ (other ++ 34 ∷ []) ++ after = cc in
     sym (append_assoc inner (34 ∷ []) rest) ∙ tails ∙ append_assoc other (34 ∷ []) after
 
-text_no_longer : (text rest : List ℕ) → IsText text → (other : TokenClass) (longer after : List ℕ) → text ++ rest ≡ longer ++ after → HasForm other longer → length longer ≤ length text
+text_no_longer : (text rest : List ℕ) → IsText text → (other : TokenClass) (longer after : List ℕ) → text ++ rest ≡ longer ++ after → HasTokenForm other longer → length longer ≤ length text
 text_no_longer text rest form Word longer after e it =
     apart 3 1 text longer rest after (form_starts Text text form) (form_starts Word longer it) e (λ (q : 3 ≡ 1). omega arith)
 text_no_longer text rest form (Number v) longer after e it =
@@ -93,7 +93,7 @@ text_no_longer text rest form Text longer after e it =
 text_no_longer text rest form (Sign b) longer after e it =
     apart 3 4 text longer rest after (form_starts Text text form) (form_starts (Sign b) longer it) e (λ (q : 3 ≡ 4). omega arith)
 
-sign_no_longer : (byte : ℕ) (text rest : List ℕ) → IsSign byte text → (other : TokenClass) (longer after : List ℕ) → text ++ rest ≡ longer ++ after → HasForm other longer → length longer ≤ length text
+sign_no_longer : (byte : ℕ) (text rest : List ℕ) → IsSign byte text → (other : TokenClass) (longer after : List ℕ) → text ++ rest ≡ longer ++ after → HasTokenForm other longer → length longer ≤ length text
 sign_no_longer byte text rest form Word longer after e it =
     apart 4 1 text longer rest after (form_starts (Sign byte) text form) (form_starts Word longer it) e (λ (q : 4 ≡ 1). omega arith)
 sign_no_longer byte text rest form (Number v) longer after e it =
@@ -105,7 +105,7 @@ sign_no_longer byte text rest form (Sign b) longer after e it = omega (arith, ap
 pub word_longest : (text rest : List ℕ) → IsWord text → StopsAt is_word_byte rest → IsLongest Word text rest
 word_longest text rest form stops = record { form = form; longest = word_no_longer text rest form stops }
 
-pub number_longest : (value : ℕ) (text rest : List ℕ) → IsNumber value text → StopsAt is_ascii_digit rest → IsLongest (Number value) text rest
+pub number_longest : (value : ℕ) (text rest : List ℕ) → IsNumberToken value text → StopsAt is_ascii_digit rest → IsLongest (Number value) text rest
 number_longest value text rest form stops = record { form = form; longest = number_no_longer value text rest form stops }
 
 pub text_longest : (text rest : List ℕ) → IsText text → IsLongest Text text rest

@@ -7,10 +7,10 @@ use Rattle.bdl_lexer.specs.declared.LexCode.{LexCode}
 use Rattle.bdl_lexer.specs.declared.LexCode.TheVariants.{NotUtf8, BadByte, OpenComment, OpenString, NumberRange}
 use Rattle.bdl_lexer.specs.declared.Token.{Token}
 use Rattle.bdl_lexer.specs.declared.TokenClass.{TokenClass}
-use Rattle.bdl_lexer.specs.Faults.{IsFault, IsNotUtf8, IsFaultBehind, FirstFault}
-use Rattle.bdl_lexer.specs.Pieces.{IsPiece}
+use Rattle.bdl_lexer.specs.Faults.{IsFault, IsNotUtf8, IsFaultBehind, FirstLexicalFault}
+use Rattle.bdl_lexer.specs.Scan.{IsPiece}
 use Rattle.bdl_lexer.specs.Places.{first_place, place_behind}
-use Rattle.bdl_lexer.specs.Tokens.{Piece, Begins, tokens_from, text_of, AreTokensOf}
+use Rattle.bdl_lexer.specs.Tokens.{SourcePiece, BeginsWithPieces, tokens_from, text_of, AreTokensOf}
 use Rattle.bdl_lexer.proofs.OnePiece.{piece_same, piece_some, fault_some, piece_or_fault, code_same}
 
 -- no piece is whole here
@@ -24,15 +24,15 @@ none_at_fault : (code : LexCode) (rest : List ℕ) → IsFault code rest → NoP
 none_at_fault code rest fault c text after p e = piece_or_fault code c rest text after fault p e
 
 -- pieces as far as they go are cut in one way
-one_cut : (ps qs : List Piece) (source rest left : List ℕ) → Begins ps source rest → Begins qs source left → NoPiece rest → NoPiece left → (ps ≡ qs) × (rest ≡ left)
+one_cut : (ps qs : List SourcePiece) (source rest left : List ℕ) → BeginsWithPieces ps source rest → BeginsWithPieces qs source left → NoPiece rest → NoPiece left → (ps ≡ qs) × (rest ≡ left)
 one_cut [] [] source rest left b d none other = (refl, sym b ∙ d)
 one_cut [] (q ∷ qs) source rest left b d none other = absurd (none q.class q.text d.0 d.2 (sym b ∙ d.1))
 one_cut (p ∷ ps) [] source rest left b d none other = absurd (other p.class p.text b.0 b.2 (sym d ∙ b.1))
 one_cut (p ∷ ps) (q ∷ qs) source rest left b d none other =
     let same = piece_same p.class q.class p.text q.text b.0 d.0 b.2 d.2 (sym b.1 ∙ d.1) in
-    let begins : Begins qs b.0 left = subst (λ s. Begins qs s left) (sym same.rest) d.3 in
+    let begins : BeginsWithPieces qs b.0 left = subst (λ s. BeginsWithPieces qs s left) (sym same.rest) d.3 in
     let more = one_cut ps qs b.0 rest left b.3 begins none other in
-    let heads : ◌≡◌ {A = Piece} p q = λ i. record { class = same.class i; text = same.text i } in
+    let heads : ◌≡◌ {A = SourcePiece} p q = λ i. record { class = same.class i; text = same.text i } in
     ((λ i. heads i ∷ more.0 i), more.1)
 
 -- a source has one list of tokens
@@ -52,7 +52,7 @@ behind_clash source tokens line column code a f =
     omega (arith, ap length same.1)
 
 -- a source that has tokens has no fault
-pub tokens_or_fault : (source : List ℕ) (tokens : List Token) (line column : ℕ) (code : LexCode) → AreTokensOf source tokens → FirstFault source line column code → ⊥
+pub tokens_or_fault : (source : List ℕ) (tokens : List Token) (line column : ℕ) (code : LexCode) → AreTokensOf source tokens → FirstLexicalFault source line column code → ⊥
 tokens_or_fault source tokens line column NotUtf8 a f = valid_clash source f.valid f.longest a.text
 tokens_or_fault source tokens line column BadByte a f = behind_clash source tokens line column BadByte a f
 tokens_or_fault source tokens line column OpenComment a f = behind_clash source tokens line column OpenComment a f
@@ -85,7 +85,7 @@ behind_same source line column other there code unlike p q =
 abbrev Cause : List ℕ → ℕ → ℕ → LexCode → Type 0
 Cause source line column code = ((code ≡ NotUtf8) × IsNotUtf8 source line column) ⊎ IsFaultBehind source line column code
 
-cause_of : (source : List ℕ) (line column : ℕ) (code : LexCode) → FirstFault source line column code → Cause source line column code
+cause_of : (source : List ℕ) (line column : ℕ) (code : LexCode) → FirstLexicalFault source line column code → Cause source line column code
 cause_of source line column NotUtf8 f = inl (refl, f)
 cause_of source line column BadByte f = inr f
 cause_of source line column OpenComment f = inr f
@@ -101,7 +101,7 @@ one_cause source line column other there code unlike (inr p) (inl q) = absurd (v
 one_cause source line column other there code unlike (inr p) (inr q) = behind_same source line column other there code unlike p q
 
 -- a source has one first fault
-pub one_fault : (source : List ℕ) (line column other there : ℕ) (code unlike : LexCode) → FirstFault source line column code → FirstFault source other there unlike → (line ≡ other) × (column ≡ there) × (code ≡ unlike)
+pub one_fault : (source : List ℕ) (line column other there : ℕ) (code unlike : LexCode) → FirstLexicalFault source line column code → FirstLexicalFault source other there unlike → (line ≡ other) × (column ≡ there) × (code ≡ unlike)
 one_fault source line column other there code unlike p q =
     let one = one_cause source line column other there code unlike (cause_of source line column code p) (cause_of source other there unlike q) in
     (one.line_is, one.column_is, one.code_is)

@@ -11,7 +11,7 @@ use Rattle.bdl_lexer.specs.declared.TokenClass.{TokenClass}
 use Rattle.bdl_lexer.specs.declared.TokenClass.TheVariants.{Word, Number, Text, Sign}
 use Rattle.bdl_lexer.specs.Bytes.{is_blank, is_letter, is_text_byte, is_line_byte, is_sign}
 use Rattle.bdl_lexer.specs.Faults.{begins_comment, begins_piece, IsBadByte, IsOpenComment, IsOpenString, IsLargeNumber, IsFault}
-use Rattle.bdl_lexer.specs.Pieces.{HasForm, IsText, IsLongest, IsToken, IsBlank, EndsLine, IsLineComment, HasNoClose, IsBlockComment, IsPiece}
+use Rattle.bdl_lexer.specs.Scan.{HasTokenForm, IsText, IsLongest, IsToken, IsBlank, EndsLine, IsLineComment, HasNoClose, IsBlockComment, IsPiece}
 use Rattle.bdl_lexer.proofs.FirstBytes.{kind_of, kind_blank}
 use Rattle.bdl_lexer.proofs.Longest.{Starts, same_kind, class_kind, form_starts}
 use Rattle.bdl_lexer.proofs.Runs.{StopsAt, run_longest}
@@ -28,7 +28,7 @@ split_same (d ∷ a) (c ∷ b) x y e len =
     ((λ i. heads i ∷ more.0 i), more.1)
 
 -- a text has one class
-class_same : (c d : TokenClass) (text : List ℕ) → class_kind c ≡ class_kind d → HasForm c text → HasForm d text → c ≡ d
+class_same : (c d : TokenClass) (text : List ℕ) → class_kind c ≡ class_kind d → HasTokenForm c text → HasTokenForm d text → c ≡ d
 class_same Word Word text k p q = refl
 class_same (Number v) (Number w) text k p q = ap Number (p.value_is ∙ sym q.value_is)
 class_same Text Text text k p q = refl
@@ -57,7 +57,7 @@ token_same c d a b x y p q e =
     let shorter = p.longest d b y e q.form in
     let longer = q.longest c a x (sym e) p.form in
     let same = split_same a b x y e (omega arith) in
-    let form : HasForm d a = subst (HasForm d) (sym same.0) q.form in
+    let form : HasTokenForm d a = subst (HasTokenForm d) (sym same.0) q.form in
     let kinds = same_kind (class_kind c) (class_kind d) a a [] [] (form_starts c a p.form) (form_starts d a form) refl in
     record { class = ap Some (class_same c d a kinds p.form form); text = same.0; rest = same.1 }
 

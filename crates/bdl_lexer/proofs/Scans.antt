@@ -11,8 +11,8 @@ use Rattle.bdl_lexer.specs.declared.TheConstants.{MAX_NUMBER}
 use Rattle.bdl_lexer.specs.declared.TokenClass.TheVariants.{Word, Number, Text, Sign}
 use Rattle.bdl_lexer.specs.Bytes.{is_blank, is_letter, is_word_byte, is_text_byte, is_line_byte, is_sign}
 use Rattle.bdl_lexer.specs.Faults.{IsOpenComment, IsOpenString, IsLargeNumber}
-use Rattle.bdl_lexer.specs.Pieces.{value_of, IsNumber, EndsLine, HasNoClose}
-use Rattle.bdl_lexer.specs.Steps.{Stands, ClosesAt}
+use Rattle.bdl_lexer.specs.Scan.{value_of, IsNumberToken, EndsLine, HasNoClose}
+use Rattle.bdl_lexer.specs.Lexer.{StandsFirst, ClosesAt}
 use Rattle.bdl_lexer.proofs.Runs.{StopsAt, IsRun, run_of}
 use Rattle.bdl_lexer.proofs.Longest.{letter_in_word, word_longest, number_longest, text_longest, sign_longest}
 
@@ -21,17 +21,17 @@ run_some : (test : ℕ → Bool) (first : ℕ) (more : List ℕ) (n : ℕ) → t
 run_some test first more zero passes run = absurd (let clash : true ≡ false = sym passes ∙ run.stops in cc)
 run_some test first more (suc n) passes run = omega arith
 
-pub blank_stands : (s : List ℕ) → 0 < length s → is_blank (get_or s 0 0) ≡ true → Stands None 1 s
+pub blank_stands : (s : List ℕ) → 0 < length s → is_blank (get_or s 0 0) ≡ true → StandsFirst None 1 s
 blank_stands [] some e = absurd (omega arith)
 blank_stands (b ∷ more) some e =
     record { some = omega arith; within = omega arith; piece = inl (record { byte = b; is = refl; blank = e }) }
 
-pub sign_stands : (s : List ℕ) → 0 < length s → is_sign (get_or s 0 0) ≡ true → Stands (Some (Sign (get_or s 0 0))) 1 s
+pub sign_stands : (s : List ℕ) → 0 < length s → is_sign (get_or s 0 0) ≡ true → StandsFirst (Some (Sign (get_or s 0 0))) 1 s
 sign_stands [] some e = absurd (omega arith)
 sign_stands (b ∷ more) some e =
     record { some = omega arith; within = omega arith; piece = record { longest = sign_longest b (b ∷ []) more (record { is = refl; sign = e }); in_range = tt } }
 
-word_at : (first : ℕ) (more : List ℕ) (n : ℕ) → is_letter first ≡ true → IsRun is_word_byte n (first ∷ more) → 0 < n → Stands (Some Word) n (first ∷ more)
+word_at : (first : ℕ) (more : List ℕ) (n : ℕ) → is_letter first ≡ true → IsRun is_word_byte n (first ∷ more) → 0 < n → StandsFirst (Some Word) n (first ∷ more)
 word_at first more zero e run some = absurd (omega arith)
 word_at first more (suc n) e run some = record {
   some = some;
@@ -42,7 +42,7 @@ word_at first more (suc n) e run some = record {
   };
 }
 
-pub word_stands : (s : List ℕ) (n : ℕ) → 0 < length s → is_letter (get_or s 0 0) ≡ true → n ≡ length (take_while is_word_byte s) → Stands (Some Word) n s
+pub word_stands : (s : List ℕ) (n : ℕ) → 0 < length s → is_letter (get_or s 0 0) ≡ true → n ≡ length (take_while is_word_byte s) → StandsFirst (Some Word) n s
 word_stands [] n some e len = absurd (omega arith)
 word_stands (first ∷ more) n some e len =
     let run = run_of is_word_byte (first ∷ more) n len in
@@ -54,7 +54,7 @@ digits_pass s n len = (run_of is_ascii_digit s n len).each
 record IsDigits (s : List ℕ) (n : ℕ) : Type 0 where
   some : 0 < n
   within : n ≤ length s
-  number : IsNumber (value_of (take n s)) (take n s)
+  number : IsNumberToken (value_of (take n s)) (take n s)
   stops : StopsAt is_ascii_digit (drop n s)
 
 digits_of : (s : List ℕ) (n : ℕ) → 0 < length s → is_ascii_digit (get_or s 0 0) ≡ true → n ≡ length (take_while is_ascii_digit s) → IsDigits s n
@@ -65,7 +65,7 @@ digits_of (first ∷ more) n some e len =
     let full = length-take-le n (first ∷ more) run.within in
     record { some = positive; within = run.within; number = record { nonempty = omega arith; each = run.each; value_is = refl }; stops = run.stops }
 
-pub number_stands : (s : List ℕ) (n value : ℕ) → 0 < length s → is_ascii_digit (get_or s 0 0) ≡ true → n ≡ length (take_while is_ascii_digit s) → value ≡ value_of (take n s) → value ≤ MAX_NUMBER → Stands (Some (Number value)) n s
+pub number_stands : (s : List ℕ) (n value : ℕ) → 0 < length s → is_ascii_digit (get_or s 0 0) ≡ true → n ≡ length (take_while is_ascii_digit s) → value ≡ value_of (take n s) → value ≤ MAX_NUMBER → StandsFirst (Some (Number value)) n s
 number_stands s n value some e len is small =
     let digits = digits_of s n some e len in
     record {
@@ -108,7 +108,7 @@ one_more_digit xs i value short is large =
     let most = front_no_more xs (i + 1) in
     omega arith
 
-text_at : (q : ℕ) (more : List ℕ) (n len : ℕ) → q ≡ 34 → IsRun is_text_byte n more → n < length more → get_or more n 0 ≡ 34 → len ≡ suc (suc n) → Stands (Some Text) len (q ∷ more)
+text_at : (q : ℕ) (more : List ℕ) (n len : ℕ) → q ≡ 34 → IsRun is_text_byte n more → n < length more → get_or more n 0 ≡ 34 → len ≡ suc (suc n) → StandsFirst (Some Text) len (q ∷ more)
 text_at q more n len is run short close e =
     let shape : take (suc n) more ≡ take n more ++ 34 ∷ [] = take-suc more n 0 short ∙ ap (λ b. take n more ++ b ∷ []) close in
     let whole : take len (q ∷ more) ≡ 34 ∷ (take n more ++ 34 ∷ []) = ap (λ k. take k (q ∷ more)) e ∙ (λ i. is i ∷ shape i) in
@@ -118,7 +118,7 @@ text_at q more n len is run short close e =
       piece = record { longest = text_longest (take len (q ∷ more)) (drop len (q ∷ more)) (record { inner = take n more; is = whole; each = run.each }); in_range = tt };
     }
 
-pub text_stands : (s : List ℕ) (n : ℕ) → 0 < length s → get_or s 0 0 ≡ 34 → n ≡ length (take_while is_text_byte (drop 1 s)) → 1 + n < length s → get_or s (1 + n) 0 ≡ 34 → Stands (Some Text) (1 + n + 1) s
+pub text_stands : (s : List ℕ) (n : ℕ) → 0 < length s → get_or s 0 0 ≡ 34 → n ≡ length (take_while is_text_byte (drop 1 s)) → 1 + n < length s → get_or s (1 + n) 0 ≡ 34 → StandsFirst (Some Text) (1 + n + 1) s
 text_stands [] n some first len short close = absurd (omega arith)
 text_stands (q ∷ more) n some first len short close =
     let next : 1 + n ≡ suc n = omega arith in
@@ -151,7 +151,7 @@ line_ends : (xs : List ℕ) → StopsAt is_line_byte xs → EndsLine xs
 line_ends [] stops = tt
 line_ends (b ∷ xs) stops = grind (arith, nat_tests)
 
-line_at : (a b : ℕ) (more : List ℕ) (n len : ℕ) → a ≡ 47 → b ≡ 47 → IsRun is_line_byte n more → len ≡ suc (suc n) → Stands None len (a ∷ b ∷ more)
+line_at : (a b : ℕ) (more : List ℕ) (n len : ℕ) → a ≡ 47 → b ≡ 47 → IsRun is_line_byte n more → len ≡ suc (suc n) → StandsFirst None len (a ∷ b ∷ more)
 line_at a b more n len p q run e =
     let whole : take len (a ∷ b ∷ more) ≡ 47 ∷ 47 ∷ take n more = ap (λ k. take k (a ∷ b ∷ more)) e ∙ (λ i. p i ∷ q i ∷ take n more) in
     let left : drop len (a ∷ b ∷ more) ≡ drop n more = ap (λ k. drop k (a ∷ b ∷ more)) e in
@@ -162,7 +162,7 @@ line_at a b more n len p q run e =
       piece = inr (inl (record { inner = take n more; is = whole; each = run.each; ends = subst EndsLine (sym left) (line_ends (drop n more) run.stops) }));
     }
 
-pub line_comment_stands : (s : List ℕ) (n : ℕ) → 2 ≤ length s → get_or s 0 0 ≡ 47 → get_or s 1 0 ≡ 47 → n ≡ length (take_while is_line_byte (drop 2 s)) → Stands None (2 + n) s
+pub line_comment_stands : (s : List ℕ) (n : ℕ) → 2 ≤ length s → get_or s 0 0 ≡ 47 → get_or s 1 0 ≡ 47 → n ≡ length (take_while is_line_byte (drop 2 s)) → StandsFirst None (2 + n) s
 line_comment_stands [] n some p q len = absurd (omega arith)
 line_comment_stands (a ∷ []) n some p q len = absurd (omega arith)
 line_comment_stands (a ∷ b ∷ more) n some p q len = line_at a b more n (2 + n) p q (run_of is_line_byte more n len) (omega arith)
@@ -180,7 +180,7 @@ closes_at s at within star slash none =
           none k (omega arith) (sym (get_or-take (at + 1) s k 0 below) ∙ p) (sym (get_or-take (at + 1) s (k + 1) 0 next) ∙ q);
     }
 
-block_at : (a b : ℕ) (more : List ℕ) (at len : ℕ) → a ≡ 47 → b ≡ 42 → ClosesAt more at → len ≡ suc (suc (suc (suc at))) → Stands None len (a ∷ b ∷ more)
+block_at : (a b : ℕ) (more : List ℕ) (at len : ℕ) → a ≡ 47 → b ≡ 42 → ClosesAt more at → len ≡ suc (suc (suc (suc at))) → StandsFirst None len (a ∷ b ∷ more)
 block_at a b more at len p q closes e =
     let within = closes.within in
     let star_next : take (suc at) more ≡ take at more ++ 42 ∷ [] = take-suc more at 0 (omega arith) ∙ ap (λ c. take at more ++ c ∷ []) closes.star_is in
@@ -196,7 +196,7 @@ block_at a b more at len p q closes e =
       piece = inr (inr (record { inner = take at more; is = whole; first = subst HasNoClose (ap (λ k. take k more) suc_at ∙ star_next) closes.first }));
     }
 
-pub block_comment_stands : (s : List ℕ) (at : ℕ) → 2 ≤ length s → get_or s 0 0 ≡ 47 → get_or s 1 0 ≡ 42 → ClosesAt (drop 2 s) at → Stands None (at + 4) s
+pub block_comment_stands : (s : List ℕ) (at : ℕ) → 2 ≤ length s → get_or s 0 0 ≡ 47 → get_or s 1 0 ≡ 42 → ClosesAt (drop 2 s) at → StandsFirst None (at + 4) s
 block_comment_stands [] at some p q closes = absurd (omega arith)
 block_comment_stands (a ∷ []) at some p q closes = absurd (omega arith)
 block_comment_stands (a ∷ b ∷ more) at some p q closes = block_at a b more at (at + 4) p q closes (omega arith)

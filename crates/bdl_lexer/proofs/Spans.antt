@@ -13,10 +13,10 @@ use Rattle.bdl_lexer.specs.declared.Token.{Token}
 use Rattle.bdl_lexer.specs.declared.TokenClass.{TokenClass}
 use Rattle.bdl_lexer.specs.declared.TokenClass.TheVariants.{Word, Number, Text, Sign}
 use Rattle.bdl_lexer.specs.Bytes.{is_word_byte}
-use Rattle.bdl_lexer.specs.Pieces.{HasForm, IsToken, IsPiece}
+use Rattle.bdl_lexer.specs.Scan.{HasTokenForm, IsToken, IsPiece}
 use Rattle.bdl_lexer.specs.Places.{first_place, next_place, place_behind}
-use Rattle.bdl_lexer.specs.Spans.{between_quotes, IsSpelled, LiesIn, AreInOrder}
-use Rattle.bdl_lexer.specs.Tokens.{Piece, Begins, token_of, token_at, tokens_from, AreTokensOf}
+use Rattle.bdl_lexer.specs.Spans.{between_quotes, IsSpelledToken, LiesIn, AreInOrder}
+use Rattle.bdl_lexer.specs.Tokens.{SourcePiece, BeginsWithPieces, token_of, token_at, tokens_from, AreTokensOf}
 use Rattle.bdl_lexer.proofs.Longest.{word_bytes}
 
 at_next : (place : Place) (b : ℕ) → (next_place place b).at ≡ place.at + 1
@@ -67,7 +67,7 @@ text_utf8 source front text after inner utf8 is quoted =
     (λ i. take (less i) (drop 1 (quoted i))) ∙ take_at inner (34 ∷ []) m refl in
     (omega arith, subst IsUtf8 (here ∙ sym there) middle)
 
-spelled : (class : TokenClass) (source front text after : List ℕ) → IsUtf8 source → source ≡ front ++ (text ++ after) → HasForm class text → IsSpelled class text
+spelled : (class : TokenClass) (source front text after : List ℕ) → IsUtf8 source → source ≡ front ++ (text ++ after) → HasTokenForm class text → IsSpelledToken class text
 spelled Word source front text after utf8 is form = word_utf8 text (word_bytes text form)
 spelled (Number v) source front text after utf8 is form = tt
 spelled Text source front text after utf8 is form = text_utf8 source front text after form.inner utf8 is form.is
@@ -81,7 +81,7 @@ lies class place source front text after utf8 is at token =
     record {
       within = omega (arith, ap length is, length-append front (text ++ after), length-append text after);
       longest = subst₂ (IsToken class) (sym here) (sym left) token;
-      spelled = subst (IsSpelled class) (sym here) (spelled class source front text after utf8 is token.longest.form);
+      spelled = subst (IsSpelledToken class) (sym here) (spelled class source front text after utf8 is token.longest.form);
     }
 
 token_lies : (class : Option TokenClass) (place : Place) (source front text after : List ℕ) → IsUtf8 source → source ≡ front ++ (text ++ after) → place.at ≡ length front → IsPiece class text after → All (LiesIn source) (option_to_list (option_map (token_of place (length text)) class))
@@ -89,7 +89,7 @@ token_lies None place source front text after utf8 is at piece = All-nil (LiesIn
 token_lies (Some class) place source front text after utf8 is at piece =
     All-cons (LiesIn source) (token_of place (length text) class) [] (lies class place source front text after utf8 is at piece) (All-nil (LiesIn source))
 
-lie_from : (pieces : List Piece) (place : Place) (source front rest : List ℕ) → IsUtf8 source → source ≡ front ++ rest → place.at ≡ length front → Begins pieces rest [] → All (LiesIn source) (tokens_from place pieces)
+lie_from : (pieces : List SourcePiece) (place : Place) (source front rest : List ℕ) → IsUtf8 source → source ≡ front ++ rest → place.at ≡ length front → BeginsWithPieces pieces rest [] → All (LiesIn source) (tokens_from place pieces)
 lie_from [] place source front rest utf8 is at begins = All-nil (LiesIn source)
 lie_from (piece ∷ pieces) place source front rest utf8 is at begins =
     let after = begins.0 in
@@ -115,7 +115,7 @@ order_next : (class : Option TokenClass) (text : List ℕ) (place : Place) (more
 order_next None text place more ordered = order_earlier more place.at (place_behind place text).at (let e = at_behind place text in omega arith) ordered
 order_next (Some class) text place more ordered = (omega arith, subst (λ n. AreInOrder n more) (at_behind place text) ordered)
 
-order_from : (pieces : List Piece) (place : Place) → AreInOrder place.at (tokens_from place pieces)
+order_from : (pieces : List SourcePiece) (place : Place) → AreInOrder place.at (tokens_from place pieces)
 order_from [] place = tt
 order_from (piece ∷ pieces) place = order_next piece.class piece.text place (tokens_from (place_behind place piece.text) pieces) (order_from pieces (place_behind place piece.text))
 

@@ -7,13 +7,13 @@ use Rattle.std.proofs.lemmas.List.Sums.{fold-append}
 use Rattle.bdl_lexer.specs.declared.lexer.Place.{Place}
 use Rattle.bdl_lexer.specs.declared.Token.{Token}
 use Rattle.bdl_lexer.specs.declared.TokenClass.{TokenClass}
-use Rattle.bdl_lexer.specs.Pieces.{IsPiece}
+use Rattle.bdl_lexer.specs.Scan.{IsPiece}
 use Rattle.bdl_lexer.specs.Places.{first_place, next_place, place_behind}
-use Rattle.bdl_lexer.specs.Steps.{Stands, IsTaken}
-use Rattle.bdl_lexer.specs.Tokens.{Piece, Begins, token_of, token_at, tokens_from, text_of, AreTokensOf}
+use Rattle.bdl_lexer.specs.Lexer.{StandsFirst, IsTaken}
+use Rattle.bdl_lexer.specs.Tokens.{SourcePiece, BeginsWithPieces, token_of, token_at, tokens_from, text_of, AreTokensOf}
 
 -- a piece at the front, and the bytes behind it
-pub taken : (class : Option TokenClass) (len : ℕ) (bytes after : List ℕ) (place next : Place) (answer : Option Token) → Stands class len bytes → after ≡ drop len bytes → next ≡ place_behind place (take len bytes) → answer ≡ option_map (token_of place len) class → IsTaken bytes place after next answer
+pub taken : (class : Option TokenClass) (len : ℕ) (bytes after : List ℕ) (place next : Place) (answer : Option Token) → StandsFirst class len bytes → after ≡ drop len bytes → next ≡ place_behind place (take len bytes) → answer ≡ option_map (token_of place len) class → IsTaken bytes place after next answer
 taken class len bytes after place next answer stands left moved is =
     let full = length-take-le len bytes stands.within in
     record {
@@ -25,12 +25,12 @@ taken class len bytes after place next answer stands left moved is =
       answer_is = is ∙ ap (λ n. option_map (token_of place n) class) (sym full);
     }
 
-begins_more : (pieces : List Piece) (source before after : List ℕ) (piece : Piece) → Begins pieces source before → before ≡ piece.text ++ after → IsPiece piece.class piece.text after → Begins (pieces ++ piece ∷ []) source after
+begins_more : (pieces : List SourcePiece) (source before after : List ℕ) (piece : SourcePiece) → BeginsWithPieces pieces source before → before ≡ piece.text ++ after → IsPiece piece.class piece.text after → BeginsWithPieces (pieces ++ piece ∷ []) source after
 begins_more [] source before after piece begins is whole = (after, begins ∙ is, whole, refl)
 begins_more (p ∷ pieces) source before after piece begins is whole =
     (begins.0, begins.1, begins.2, begins_more pieces begins.0 before after piece begins.3 is whole)
 
-tokens_more : (pieces : List Piece) (place : Place) (piece : Piece) → tokens_from place (pieces ++ piece ∷ []) ≡ tokens_from place pieces ++ option_to_list (token_at (place_behind place (text_of pieces)) piece)
+tokens_more : (pieces : List SourcePiece) (place : Place) (piece : SourcePiece) → tokens_from place (pieces ++ piece ∷ []) ≡ tokens_from place pieces ++ option_to_list (token_at (place_behind place (text_of pieces)) piece)
 tokens_more [] place piece = append-nil (option_to_list (token_at place piece))
 tokens_more (p ∷ pieces) place piece =
     let here = option_to_list (token_at place p) in
@@ -41,8 +41,8 @@ tokens_more (p ∷ pieces) place piece =
 
 -- so far: these tokens, with this rest and place
 pub record LexedTo (source : List ℕ) (tokens : List Token) (rest : List ℕ) (place : Place) : Type 0 where
-  pub pieces : List Piece
-  pub begins : Begins pieces source rest
+  pub pieces : List SourcePiece
+  pub begins : BeginsWithPieces pieces source rest
   pub are : tokens ≡ tokens_from first_place pieces
   pub place_is : place ≡ place_behind first_place (text_of pieces)
 
@@ -52,7 +52,7 @@ lexed_none source = record { pieces = []; begins = refl; are = refl; place_is = 
 pub lexed_more : (source : List ℕ) (tokens : List Token) (rest after : List ℕ) (place next : Place) (answer : Option Token) → LexedTo source tokens rest place → IsTaken rest place after next answer → LexedTo source (tokens ++ option_to_list answer) after next
 lexed_more source tokens rest after place next answer so_far step =
     let pieces = so_far.pieces in
-    let texts : text_of (pieces ++ step.piece ∷ []) ≡ text_of pieces ++ step.piece.text = sym (flat_map_more (λ (p : Piece). p.text) [] pieces step.piece) in
+    let texts : text_of (pieces ++ step.piece ∷ []) ≡ text_of pieces ++ step.piece.text = sym (flat_map_more (λ (p : SourcePiece). p.text) [] pieces step.piece) in
     record {
       pieces = pieces ++ step.piece ∷ [];
       begins = begins_more pieces source rest after step.piece so_far.begins step.is step.whole;

@@ -10,9 +10,9 @@ use Rattle.bdl_lexer.specs.declared.LexFault.TheVariants.{At, Memory}
 use Rattle.bdl_lexer.specs.declared.TheConstants.{MAX_NUMBER}
 use Rattle.bdl_lexer.specs.declared.TokenClass.TheVariants.{Number}
 use Rattle.bdl_lexer.specs.Bytes.{quote, star, slash, is_blank, is_letter, is_text_byte, is_sign}
-use Rattle.bdl_lexer.specs.Pieces.{IsLongest, EndsLine, HasNoClose}
+use Rattle.bdl_lexer.specs.Scan.{IsLongest, EndsLine, HasNoClose}
 use Rattle.bdl_lexer.specs.Places.{first_place, place_behind}
-use Rattle.bdl_lexer.specs.Tokens.{Piece, Begins, text_of}
+use Rattle.bdl_lexer.specs.Tokens.{SourcePiece, BeginsWithPieces, text_of}
 
 -- Behind a slash, a slash or a star begins a comment.
 abbrev pub begins_comment : List ℕ → Bool
@@ -72,19 +72,19 @@ pub record IsNotUtf8 (source : List ℕ) (line column : ℕ) : Type 0 where
 -- One that is has its fault behind the pieces that are whole.
 pub record IsFaultBehind (source : List ℕ) (line column : ℕ) (code : LexCode) : Type 0 where
   pub text : IsUtf8 source
-  pub pieces : List Piece
+  pub pieces : List SourcePiece
   pub rest : List ℕ
-  pub begins : Begins pieces source rest
+  pub begins : BeginsWithPieces pieces source rest
   pub fault : IsFault code rest
   pub line_is : line ≡ (place_behind first_place (text_of pieces)).line
   pub column_is : column ≡ (place_behind first_place (text_of pieces)).column
 
 -- The first lexical fault of a source, with its line, column and code.
-abbrev pub FirstFault : List ℕ → ℕ → ℕ → LexCode → Type 0
-FirstFault source line column NotUtf8 = IsNotUtf8 source line column
-FirstFault source line column code = IsFaultBehind source line column code
+abbrev pub FirstLexicalFault : List ℕ → ℕ → ℕ → LexCode → Type 0
+FirstLexicalFault source line column NotUtf8 = IsNotUtf8 source line column
+FirstLexicalFault source line column code = IsFaultBehind source line column code
 
 -- What a refusal says: the first fault, or that there is no memory.
 abbrev pub IsRefusalOf : List ℕ → LexFault → Type 0
-IsRefusalOf source (At line column code) = FirstFault source line column code
+IsRefusalOf source (At line column code) = FirstLexicalFault source line column code
 IsRefusalOf source Memory = Unit {0}

@@ -1,10 +1,10 @@
 -- The rule: bytes, places, pieces, tokens, and the first fault.
 pub mod Bytes
 pub mod Places
-pub mod Pieces
+pub mod Scan
 pub mod Tokens
 pub mod Faults
 -- What follows from the rule for each token, as the parser wants it.
 pub mod Spans
 -- What the crate's own functions say of one step.
-pub mod Steps
+pub mod Lexer

@@ -4,7 +4,7 @@ use Rattle.std.specs.Str.{IsUtf8}
 use Rattle.bdl_lexer.specs.declared.Token.{Token}
 use Rattle.bdl_lexer.specs.declared.TokenClass.{TokenClass}
 use Rattle.bdl_lexer.specs.declared.TokenClass.TheVariants.{Word, Text}
-use Rattle.bdl_lexer.specs.Pieces.{IsToken}
+use Rattle.bdl_lexer.specs.Scan.{IsToken}
 
 -- The bytes of a token.
 abbrev pub token_text : List ℕ → Token → List ℕ
@@ -19,16 +19,16 @@ abbrev pub between_quotes : List ℕ → List ℕ
 between_quotes text = take (length text - 2) (drop 1 text)
 
 -- A Word, and what stands between the quotes of a Text, is UTF-8.
-abbrev pub IsSpelled : TokenClass → List ℕ → Type 0
-IsSpelled Word text = IsUtf8 text
-IsSpelled Text text = (2 ≤ length text) × IsUtf8 (between_quotes text)
-IsSpelled _ text = Unit {0}
+abbrev pub IsSpelledToken : TokenClass → List ℕ → Type 0
+IsSpelledToken Word text = IsUtf8 text
+IsSpelledToken Text text = (2 ≤ length text) × IsUtf8 (between_quotes text)
+IsSpelledToken _ text = Unit {0}
 
 -- A token's bytes stand in the source, are the longest token there, and are spelled in UTF-8.
 pub record LiesIn (source : List ℕ) (token : Token) : Type 0 where
   pub within : token.at + token.len ≤ length source
   pub longest : IsToken token.class (token_text source token) (behind_token source token)
-  pub spelled : IsSpelled token.class (token_text source token)
+  pub spelled : IsSpelledToken token.class (token_text source token)
 
 -- Each token begins at or behind this byte, and the next one at or behind its end.
 abbrev pub AreInOrder : ℕ → List Token → Type 0

@@ -3,7 +3,7 @@
 ghost use Rattle.std.specs.Prelude.{◌≡◌, ℕ, List};
 ghost use Rattle.bdl_lexer.specs.declared.LexCode.{LexCode};
 ghost use Rattle.bdl_lexer.specs.declared.Token.{Token};
-ghost use Rattle.bdl_lexer.specs.Faults.{FirstFault};
+ghost use Rattle.bdl_lexer.specs.Faults.{FirstLexicalFault};
 ghost use Rattle.bdl_lexer.specs.Tokens.{AreTokensOf};
 
 /// A source has at most one list of tokens.
@@ -13,10 +13,10 @@ pub fn tokens_are_unique()
 
 /// A source that has tokens has no lexical fault.
 pub fn tokens_exclude_faults()
-    ensures { (source : List ℕ) → (tokens : List Token) → (line column : ℕ) → (code : LexCode) → AreTokensOf source tokens → FirstFault source line column code → ⊥ }
+    ensures { (source : List ℕ) → (tokens : List Token) → (line column : ℕ) → (code : LexCode) → AreTokensOf source tokens → FirstLexicalFault source line column code → ⊥ }
 {}
 
 /// A source has at most one first lexical fault.
 pub fn faults_are_unique()
-    ensures { (source : List ℕ) → (line column row place : ℕ) → (code other : LexCode) → FirstFault source line column code → FirstFault source row place other → (line ≡ row) × (column ≡ place) × (code ≡ other) }
+    ensures { (source : List ℕ) → (line column row place : ℕ) → (code other : LexCode) → FirstLexicalFault source line column code → FirstLexicalFault source row place other → (line ≡ row) × (column ≡ place) × (code ≡ other) }
 {}

@@ -45,7 +45,7 @@ pub(crate) struct Lexer<'a> {
 
 impl<'a> Lexer<'a> {
     ghost use Rattle.bdl_lexer.specs.Places.{first_place, place_behind};
-    ghost use Rattle.bdl_lexer.specs.Steps.{IsTaken, IsFaultHere};
+    ghost use Rattle.bdl_lexer.specs.Lexer.{IsTaken, IsFaultHere};
     ghost use Rattle.bdl_lexer.specs.declared.LexFault.TheVariants.{At};
 
     pub fn new(source: &'a [u8]) -> Self

@@ -4,9 +4,9 @@ ghost use Rattle.std.specs.Prelude.{◌≡◌, ℕ, ◌<◌, true, length, slice
 ghost use Rattle.std.specs.Char.{is_ascii_digit};
 ghost use Rattle.std.specs.List.{AllPass, take_while};
 ghost use Rattle.bdl_lexer.specs.Bytes.{is_blank, is_letter, is_word_byte, is_text_byte, is_line_byte, is_sign};
-ghost use Rattle.bdl_lexer.specs.Pieces.{value_of, HasNoClose};
+ghost use Rattle.bdl_lexer.specs.Scan.{value_of, HasNoClose};
 ghost use Rattle.bdl_lexer.specs.Faults.{IsFault};
-ghost use Rattle.bdl_lexer.specs.Steps.{Stands, ClosesAt};
+ghost use Rattle.bdl_lexer.specs.Lexer.{StandsFirst, ClosesAt};
 
 use crate::{LexCode, MAX_NUMBER, TokenClass};
 
@@ -107,7 +107,7 @@ fn close_at(bytes: &[u8]) -> Option<usize>
 fn number(bytes: &[u8]) -> Result<Found, LexCode>
     requires some { 0 < length bytes.now }
     requires digit { is_ascii_digit (slice_index bytes.now 0) ≡ true }
-    ensures found { IfOk result (λ found. Stands found.class found.len bytes.now) }
+    ensures found { IfOk result (λ found. StandsFirst found.class found.len bytes.now) }
     ensures fault { IfErr result (λ code. IsFault code bytes.now) }
 {
     let len = digits_len(bytes);
@@ -124,7 +124,7 @@ fn number(bytes: &[u8]) -> Result<Found, LexCode>
 fn text(bytes: &[u8]) -> Result<Found, LexCode>
     requires some { 0 < length bytes.now }
     requires quote { slice_index bytes.now 0 ≡ 34 }
-    ensures found { IfOk result (λ found. Stands found.class found.len bytes.now) }
+    ensures found { IfOk result (λ found. StandsFirst found.class found.len bytes.now) }
     ensures fault { IfErr result (λ code. IsFault code bytes.now) }
 {
     let end = 1 + text_len(&bytes[1..]);
@@ -142,7 +142,7 @@ fn text(bytes: &[u8]) -> Result<Found, LexCode>
 fn comment(bytes: &[u8]) -> Result<Found, LexCode>
     requires some { 0 < length bytes.now }
     requires slash { slice_index bytes.now 0 ≡ 47 }
-    ensures found { IfOk result (λ found. Stands found.class found.len bytes.now) }
+    ensures found { IfOk result (λ found. StandsFirst found.class found.len bytes.now) }
     ensures fault { IfErr result (λ code. IsFault code bytes.now) }
 {
     if bytes.len() < 2 {
@@ -170,7 +170,7 @@ fn comment(bytes: &[u8]) -> Result<Found, LexCode>
 /// The piece with which the bytes begin, or why none does.
 pub(crate) fn scan(bytes: &[u8]) -> Result<Found, LexCode>
     requires { 0 < length bytes.now }
-    ensures found { IfOk result (λ found. Stands found.class found.len bytes.now) }
+    ensures found { IfOk result (λ found. StandsFirst found.class found.len bytes.now) }
     ensures fault { IfErr result (λ code. IsFault code bytes.now) }
 {
     let first = bytes[0];

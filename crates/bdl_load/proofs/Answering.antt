@@ -4,12 +4,12 @@ use Rattle.std.specs.Prelude.{IfSome}
 use Rattle.std.specs.List.{AllByRecursion, IsDistinct, take-map}
 use Rattle.std.specs.Str.{bytes_eq}
 use Rattle.std.proofs.lemmas.List.{length-map}
-use Rattle.outside.specs.Told.{Files, Asked}
+use Rattle.outside.specs.Transfers.{Files, Asked}
 use Rattle.bdl_load.specs.declared.faults.DefFault.{DefFault}
 use Rattle.bdl_load.specs.declared.faults.DefFault.TheVariants.{At, Failed, Memory}
 use Rattle.bdl_load.specs.declared.faults.Fault.{Fault}
 use Rattle.bdl_load.specs.declared.files.LoadedFile.{LoadedFile}
-use Rattle.bdl_load.specs.Loader.{Answer, answer_names, Gives, known, Answered, Loaded, Ends}
+use Rattle.bdl_load.specs.Loader.{Answer, answer_names, GivesAnswers, known, Answered, Loaded, Ends}
 use Rattle.bdl_load.specs.Faults.{Blames}
 use Rattle.bdl_load.specs.Loading.{Holding, OfLibrary, AgreeButLast, AsksAll, AsksFirst, Loads, all_loaded, stopped, names_of}
 use Rattle.bdl_load.proofs.Asking.{same_bytes}
@@ -20,13 +20,13 @@ look : List Answer → Holding
 look [] name = None
 look (a ∷ answers) name = cond (bytes_eq a.name name) a.content (look answers name)
 
-look_later : (a : Answer) (answers these : List Answer) → AllByRecursion (λ name. bytes_eq a.name name ≡ false) (answer_names these) → Gives (look answers) these → Gives (look (a ∷ answers)) these
+look_later : (a : Answer) (answers these : List Answer) → AllByRecursion (λ name. bytes_eq a.name name ≡ false) (answer_names these) → GivesAnswers (look answers) these → GivesAnswers (look (a ∷ answers)) these
 unfolding look
 look_later a answers [] others g = tt
 look_later a answers (b ∷ these) (other, others) (e, g) =
     (ap (λ same. cond same a.content (look answers b.name)) other ∙ e, look_later a answers these others g)
 
-look_gives : (answers : List Answer) → IsDistinct bytes_eq (answer_names answers) → Gives (look answers) answers
+look_gives : (answers : List Answer) → IsDistinct bytes_eq (answer_names answers) → GivesAnswers (look answers) answers
 unfolding IsDistinct look
 look_gives [] d = tt
 look_gives (a ∷ answers) (others, d) =
@@ -34,16 +34,16 @@ look_gives (a ∷ answers) (others, d) =
 
 -- ---- files that are the same but for the last answer
 
-gives_take : (held : Holding) (n : ℕ) (answers : List Answer) → Gives held answers → Gives held (take n answers)
+gives_take : (held : Holding) (n : ℕ) (answers : List Answer) → GivesAnswers held answers → GivesAnswers held (take n answers)
 gives_take held zero answers g = tt
 gives_take held (suc n) [] g = tt
 gives_take held (suc n) (a ∷ answers) (e, g) = (e, gives_take held n answers g)
 
-agree : (held other : Holding) (answers : List Answer) → Gives held answers → Gives other answers → AllByRecursion (λ name. other name ≡ held name) (answer_names answers)
+agree : (held other : Holding) (answers : List Answer) → GivesAnswers held answers → GivesAnswers other answers → AllByRecursion (λ name. other name ≡ held name) (answer_names answers)
 agree held other [] g h = tt
 agree held other (a ∷ answers) (e, g) (f, h) = (f ∙ sym e, agree held other answers g h)
 
-agree_but_last : (held other : Holding) (answers : List Answer) → Gives held (known false answers) → Gives other answers → AgreeButLast (answer_names answers) held other
+agree_but_last : (held other : Holding) (answers : List Answer) → GivesAnswers held (known false answers) → GivesAnswers other answers → AgreeButLast (answer_names answers) held other
 agree_but_last held other answers g h =
     let count = length-map answers (λ (answer : Answer). answer.name) in
     subst (λ names. AllByRecursion (λ name. other name ≡ held name) names)
@@ -62,13 +62,13 @@ first_asked files before after root a = from files a.told
     other : Holding
     other = look a.answers
 
-    gives : Gives other a.answers
+    gives : GivesAnswers other a.answers
     gives = look_gives a.answers a.distinct
 
-    first : (held : Holding) → Gives held (known false a.answers) → AsksFirst held root (answer_names a.answers)
+    first : (held : Holding) → GivesAnswers held (known false a.answers) → AsksFirst held root (answer_names a.answers)
     first held g = let comes = a.comes other gives in (other, agree_but_last held other a.answers g gives, (stopped (answer_names a.answers) comes.0, comes.1, refl))
 
-    from : (those : Files) → IfSome those (λ held. Gives held (known false a.answers)) → OfLibrary those before after (λ held names. AsksFirst held root names)
+    from : (those : Files) → IfSome those (λ held. GivesAnswers held (known false a.answers)) → OfLibrary those before after (λ held names. AsksFirst held root names)
     from None told = (other, answer_names a.answers, tt, a.asks, first other (gives_take other (length a.answers - 1) a.answers gives))
     from (Some held) told = (held, answer_names a.answers, refl, a.asks, first held told)
 

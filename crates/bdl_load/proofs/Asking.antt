@@ -5,13 +5,13 @@ use Rattle.std.specs.List.{AllByRecursion, IsDistinct}
 use Rattle.std.specs.Str.{bytes_eq}
 use Rattle.std.proofs.lemmas.List.{map-append, append-nil}
 use Rattle.std.proofs.lemmas.Slice.Eq.{bytes_eq-Decides}
-use Rattle.outside.specs.Told.{Files, Asked, Asks}
+use Rattle.outside.specs.Transfers.{Files, Asked, Asks}
 use Rattle.bdl_load.specs.declared.faults.DefFault.{DefFault}
 use Rattle.bdl_load.specs.declared.faults.DefFault.TheVariants.{At, Failed, Memory}
 use Rattle.bdl_load.specs.declared.faults.Fault.{Fault}
 use Rattle.bdl_load.specs.declared.files.LoadedFile.{LoadedFile}
 use Rattle.bdl_load.specs.Loading.{Holding, Loading, stopped, is_among, names_of}
-use Rattle.bdl_load.specs.Loader.{IsHeld, Answer, answer_names, Gives, known, Answered, Loaded, Ends, Halts}
+use Rattle.bdl_load.specs.Loader.{IsHeld, Answer, answer_names, GivesAnswers, known, Answered, Loaded, Ends, Halts}
 
 -- ---- different names
 
@@ -53,39 +53,39 @@ distinct_snoc (x ∷ xs) name (first, d) e =
 
 -- ---- answers
 
-gives_front : (held : Holding) (a b : List Answer) → Gives held (a ++ b) → Gives held a
+gives_front : (held : Holding) (a b : List Answer) → GivesAnswers held (a ++ b) → GivesAnswers held a
 gives_front held [] b g = tt
 gives_front held (x ∷ a) b (e, g) = (e, gives_front held a b g)
 
-gives_back : (held : Holding) (a b : List Answer) → Gives held (a ++ b) → Gives held b
+gives_back : (held : Holding) (a b : List Answer) → GivesAnswers held (a ++ b) → GivesAnswers held b
 gives_back held [] b g = g
 gives_back held (x ∷ a) b (e, g) = gives_back held a b g
 
-gives_both : (held : Holding) (a b : List Answer) → Gives held a → Gives held b → Gives held (a ++ b)
+gives_both : (held : Holding) (a b : List Answer) → GivesAnswers held a → GivesAnswers held b → GivesAnswers held (a ++ b)
 gives_both held [] b g h = h
 gives_both held (x ∷ a) b (e, g) h = (e, gives_both held a b g h)
 
 -- one answer more in front of those but the last
-gives_cons : (held : Holding) (x : Answer) (a : List Answer) → held x.name ≡ x.content → Gives held (known false a) → Gives held (known false (x ∷ a))
+gives_cons : (held : Holding) (x : Answer) (a : List Answer) → held x.name ≡ x.content → GivesAnswers held (known false a) → GivesAnswers held (known false (x ∷ a))
 gives_cons held x [] e g = tt
 gives_cons held x (y ∷ a) e g =
     let more : length (x ∷ y ∷ a) - 1 ≡ suc (length (y ∷ a) - 1) = omega arith in
-    subst (λ n. Gives held (take n (x ∷ y ∷ a))) (sym more) (e, g)
+    subst (λ n. GivesAnswers held (take n (x ∷ y ∷ a))) (sym more) (e, g)
 
-gives_known : (held : Holding) (whole : Bool) (a b : List Answer) → Gives held a → Gives held (known whole b) → Gives held (known whole (a ++ b))
+gives_known : (held : Holding) (whole : Bool) (a b : List Answer) → GivesAnswers held a → GivesAnswers held (known whole b) → GivesAnswers held (known whole (a ++ b))
 gives_known held true a b g h = gives_both held a b g h
 gives_known held false [] b g h = h
 gives_known held false (x ∷ a) b (e, g) h = gives_cons held x (a ++ b) e (gives_known held false a b g h)
 
-told_both : (files : Files) (whole : Bool) (a b : List Answer) → IfSome files (λ held. Gives held a) → IfSome files (λ held. Gives held (known whole b)) → IfSome files (λ held. Gives held (known whole (a ++ b)))
+told_both : (files : Files) (whole : Bool) (a b : List Answer) → IfSome files (λ held. GivesAnswers held a) → IfSome files (λ held. GivesAnswers held (known whole b)) → IfSome files (λ held. GivesAnswers held (known whole (a ++ b)))
 told_both None whole a b g h = tt
 told_both (Some held) whole a b g h = gives_known held whole a b g h
 
-told_none : (files : Files) → IfSome files (λ held. Gives held [])
+told_none : (files : Files) → IfSome files (λ held. GivesAnswers held [])
 told_none None = tt
 told_none (Some held) = tt
 
-told_one : (files : Files) (name : List ℕ) (content : Option (List ℕ)) → IsHeld files name content → IfSome files (λ held. Gives held (record { name = name; content = content } ∷ []))
+told_one : (files : Files) (name : List ℕ) (content : Option (List ℕ)) → IsHeld files name content → IfSome files (λ held. GivesAnswers held (record { name = name; content = content } ∷ []))
 told_one None name content t = tt
 told_one (Some held) name content t = (t, tt)
 
@@ -172,7 +172,7 @@ answered_nothing whole files before earlier C d comes =
       comes = λ held g. subst (λ names. C names held) same (comes held);
     }
   where
-    known_nothing : (whole : Bool) → IfSome files (λ held. Gives held (known whole []))
+    known_nothing : (whole : Bool) → IfSome files (λ held. GivesAnswers held (known whole []))
     known_nothing true = told_none files
     known_nothing false = told_none files
 
@@ -198,7 +198,7 @@ pub record IsNew (earlier : List LoadedFile) (name : List ℕ) (before after : A
   pub asks : Asks (name ∷ []) before after
 
 answered_one : (whole : Bool) (files : Files) (before after : Asked) (earlier : List LoadedFile) (name : List ℕ) (content : Option (List ℕ)) (C : List (List ℕ) → Holding → Type 0) → IsNew earlier name before after
-    → IfSome files (λ held. Gives held (known whole (record { name = name; content = content } ∷ []))) → ((held : Holding) → held name ≡ content → C (names_of earlier ++ name ∷ []) held)
+    → IfSome files (λ held. GivesAnswers held (known whole (record { name = name; content = content } ∷ []))) → ((held : Holding) → held name ≡ content → C (names_of earlier ++ name ∷ []) held)
     → Answered whole files before after earlier C
 answered_one whole files before after earlier name content C new told comes = record {
   answers = record { name = name; content = content } ∷ [];

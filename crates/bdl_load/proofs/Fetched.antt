@@ -6,10 +6,10 @@ use Rattle.std.proofs.lemmas.List.{take_all, length-take-le}
 use Rattle.outside.specs.declared.TheConstants.{FETCH_MAX}
 use Rattle.bdl_lexer.specs.declared.TheConstants.{MAX_SOURCE}
 use Rattle.bdl_parser.specs.declared.trees.Module.{Module}
-use Rattle.outside.specs.Told.{Files, Fetches, fetched}
+use Rattle.outside.specs.Transfers.{Files, Fetches, fetched}
 use Rattle.bdl_load.specs.declared.faults.Finding.{Finding}
 use Rattle.bdl_load.specs.Loader.{IsHeld}
-use Rattle.bdl_load.specs.Sources.{SaysModule, IsSourceFault, too_long, lexical, syntactic}
+use Rattle.bdl_load.specs.Source.{SaysModule, IsSourceFault, too_long, lexical, syntactic}
 
 -- all of a file was fetched, or one byte too many
 whole_or : (file : List ℕ) → (fetched file ≡ file) ⊎ ((MAX_SOURCE < length (fetched file)) × (MAX_SOURCE < length file))

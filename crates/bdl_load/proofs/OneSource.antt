@@ -2,7 +2,7 @@
 use Rattle.std.proofs.Common.{◌≡◌, ℕ, List, sym, ◌∙◌, ap, subst, arith}
 use Rattle.bdl_lexer.specs.declared.LexCode.{LexCode}
 use Rattle.bdl_lexer.specs.declared.Token.{Token}
-use Rattle.bdl_lexer.specs.Faults.{FirstFault}
+use Rattle.bdl_lexer.specs.Faults.{FirstLexicalFault}
 use Rattle.bdl_lexer.specs.Tokens.{AreTokensOf}
 use Rattle.bdl_parser.specs.declared.ParseCode.{ParseCode}
 use Rattle.bdl_parser.specs.declared.trees.Module.{Module}
@@ -11,7 +11,7 @@ use Rattle.bdl_parser.specs.FirstFault.{IsModuleOf, FaultAt}
 use Rattle.bdl_parser.specs.Lexemes.{Lexeme, lexemes_of}
 use Rattle.bdl_load.specs.declared.faults.Finding.{Finding}
 use Rattle.bdl_load.specs.Faults.{found}
-use Rattle.bdl_load.specs.Sources.{of_lexer, SaysModule, IsLexical, IsSyntactic, IsSourceFault}
+use Rattle.bdl_load.specs.Source.{of_lexer, SaysModule, IsLexical, IsSyntactic, IsSourceFault}
 
 -- ---- what the layers below promise
 
@@ -19,10 +19,10 @@ abbrev pub TokensOne : Type 0
 TokensOne = (source : List ℕ) → (tokens others : List Token) → AreTokensOf source tokens → AreTokensOf source others → tokens ≡ others
 
 abbrev pub NoTokens : Type 0
-NoTokens = (source : List ℕ) → (tokens : List Token) → (line column : ℕ) → (code : LexCode) → AreTokensOf source tokens → FirstFault source line column code → ⊥
+NoTokens = (source : List ℕ) → (tokens : List Token) → (line column : ℕ) → (code : LexCode) → AreTokensOf source tokens → FirstLexicalFault source line column code → ⊥
 
 abbrev pub LexicalOne : Type 0
-LexicalOne = (source : List ℕ) → (line column row place : ℕ) → (code other : LexCode) → FirstFault source line column code → FirstFault source row place other → (line ≡ row) × (column ≡ place) × (code ≡ other)
+LexicalOne = (source : List ℕ) → (line column row place : ℕ) → (code other : LexCode) → FirstLexicalFault source line column code → FirstLexicalFault source row place other → (line ≡ row) × (column ≡ place) × (code ≡ other)
 
 abbrev pub ModulesOne : Type 0
 ModulesOne = (tokens : List Lexeme) → (module_ other : Module) → IsModuleOf tokens module_ → IsModuleOf tokens other → module_ ≡ other

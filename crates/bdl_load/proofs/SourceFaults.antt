@@ -3,7 +3,7 @@ use Rattle.std.proofs.Common.{◌≡◌, ℕ, List}
 use Rattle.bdl_load.specs.declared.faults.DefFault.{DefFault}
 use Rattle.bdl_load.specs.declared.faults.Finding.{Finding}
 use Rattle.bdl_load.specs.Faults.{Blames, fault_in}
-use Rattle.bdl_load.specs.Sources.{IsSourceFault, IsFaultOfSource}
+use Rattle.bdl_load.specs.Source.{IsSourceFault, IsFaultOfSource}
 use Rattle.bdl_load.proofs.Taking.{blames_so}
 
 pub blames_source : (name source : List ℕ) (finding : Finding) (refusal : DefFault) → IsSourceFault source finding

@@ -3,14 +3,14 @@ use Rattle.std.proofs.Common.{◌≡◌, ℕ, ◌+◌, ◌<◌, ◌≤◌, false
 use Rattle.std.specs.List.{IsDistinct}
 use Rattle.std.specs.Str.{bytes_eq}
 use Rattle.bdl_load.specs.declared.faults.TheConstants.{FIRST_SPOT}
-use Rattle.outside.specs.Told.{Files, Asked, Asks}
+use Rattle.outside.specs.Transfers.{Files, Asked, Asks}
 use Rattle.bdl_parser.specs.declared.trees.Import.{Import}
 use Rattle.bdl_load.specs.declared.faults.DefCode.TheVariants.{NoFile, ImportMissing}
 use Rattle.bdl_load.specs.declared.faults.DefFault.{DefFault}
 use Rattle.bdl_load.specs.declared.faults.DefFault.TheVariants.{At, Failed, Memory}
 use Rattle.bdl_load.specs.declared.faults.Fault.{Fault}
 use Rattle.bdl_load.specs.declared.files.LoadedFile.{LoadedFile}
-use Rattle.bdl_load.specs.Loader.{IsHeld, IsRead, IsBroken, IsSpelledFile, file_at, names_at, IsChosen, Passes, Loaded, Ends, Halts}
+use Rattle.bdl_load.specs.Loader.{IsHeld, IsFileRead, IsBroken, IsSpelledFile, file_at, names_at, IsChosen, Passes, Loaded, Ends, Halts}
 use Rattle.bdl_load.specs.Faults.{Blames, found, fault_in}
 use Rattle.bdl_load.specs.Loading.{Holding, all_loaded, stopped, IsFetched, is_among, names_of, Takes, Enters, Loads}
 use Rattle.bdl_load.proofs.Asking.{IsNew, distinct_none, ends_halted, answered_fault, answered_unknown, loaded_then, ends_then}
@@ -47,12 +47,12 @@ known_step files before loaded taking from number import next d chosen =
     (known_import files before (names_at loaded taking) (file_at loaded from).name loaded import (drop (number + 1) (imports_at loaded from)) d chosen)
 
 pub fetched_step : (files now : Files) (before between after : Asked) (loaded later : List LoadedFile) (taking : List ℕ) (from number : ℕ) (import : Import) (name : List ℕ) (file : LoadedFile) → IsNext loaded from number import
-    → IsNew loaded import.file before between → IsFetched (names_at loaded taking) loaded import.file → name ≡ import.file → now ≡ files → IsRead files name file
+    → IsNew loaded import.file before between → IsFetched (names_at loaded taking) loaded import.file → name ≡ import.file → now ≡ files → IsFileRead files name file
     → Loaded now between after (loaded ++ file ∷ []) later (λ held. InFile (names_at loaded taking) loaded file held (all_loaded later)) → Loaded files before after loaded later (Steps loaded taking from number later)
 fetched_step files now before between after loaded later taking from number import name file next new fetched named told read l =
     subst (λ those. Loaded files before after loaded later (λ held. Passes held (names_at loaded taking) (file_at loaded from).name loaded those later (drop (number + 1) (imports_at loaded from)))) (sym next)
     (fetched_import files before between after (names_at loaded taking) (file_at loaded from).name loaded later import (drop (number + 1) (imports_at loaded from)) file new fetched
-    (subst (λ name. IsRead files name file) named read)
+    (subst (λ name. IsFileRead files name file) named read)
     (subst (λ files. Loaded files between after (loaded ++ file ∷ []) later (λ held. InFile (names_at loaded taking) loaded file held (all_loaded later))) told l))
 
 -- what ends at the import of that number
@@ -66,12 +66,12 @@ ends_here files before after loaded taking from number import refusal next =
     subst (λ those. Ends files before after loaded (λ held outcome. Takes held (names_at loaded taking) loaded (file_at loaded from).name those outcome) refusal) (sym next)
 
 pub ended_step : (files now : Files) (before between after : Asked) (loaded : List LoadedFile) (taking : List ℕ) (from number : ℕ) (import : Import) (name : List ℕ) (file : LoadedFile) (refusal : DefFault) → IsNext loaded from number import
-    → IsNew loaded import.file before between → IsFetched (names_at loaded taking) loaded import.file → name ≡ import.file → now ≡ files → IsRead files name file
+    → IsNew loaded import.file before between → IsFetched (names_at loaded taking) loaded import.file → name ≡ import.file → now ≡ files → IsFileRead files name file
     → Ends now between after (loaded ++ file ∷ []) (InFile (names_at loaded taking) loaded file) refusal → Ends files before after loaded (FromImport loaded taking from number) refusal
 ended_step files now before between after loaded taking from number import name file refusal next new fetched named told read e =
     ends_here files before after loaded taking from number import refusal next
     (ended_import files before between after (names_at loaded taking) (file_at loaded from).name loaded import (drop (number + 1) (imports_at loaded from)) file refusal new fetched
-    (subst (λ name. IsRead files name file) named read)
+    (subst (λ name. IsFileRead files name file) named read)
     (subst (λ files. Ends files between after (loaded ++ file ∷ []) (InFile (names_at loaded taking) loaded file) refusal) told e))
 
 halts_so : (H K : Fault → Type 0) → ((fault : Fault) → H fault → K fault) → (refusal : DefFault) → Halts H refusal → Halts K refusal
@@ -117,11 +117,11 @@ pub new_import : (loaded : List LoadedFile) (taking : List ℕ) (name file : Lis
 new_import loaded taking name file before after d fetched named asks = record { distinct = d; fresh = fetched.fresh; asks = subst (λ name. Asks (name ∷ []) before after) named asks }
 
 -- a file that is read has the name of its import, and is spelled as it should be
-pub read_fresh : (files : Files) (loaded : List LoadedFile) (name other : List ℕ) (file : LoadedFile) → IsRead files name file → name ≡ other → is_among other (names_of loaded) ≡ false → is_among file.name (names_of loaded) ≡ false
+pub read_fresh : (files : Files) (loaded : List LoadedFile) (name other : List ℕ) (file : LoadedFile) → IsFileRead files name file → name ≡ other → is_among other (names_of loaded) ≡ false → is_among file.name (names_of loaded) ≡ false
 read_fresh files loaded name other file read same fresh =
     ap (λ (file : LoadedFile). is_among file.name (names_of loaded)) read.is ∙ ap (λ name. is_among name (names_of loaded)) same ∙ fresh
 
-pub read_spelled : (files : Files) (name : List ℕ) (file : LoadedFile) → IsRead files name file → IsSpelledFile file
+pub read_spelled : (files : Files) (name : List ℕ) (file : LoadedFile) → IsFileRead files name file → IsSpelledFile file
 read_spelled files name file read = subst IsSpelledFile (sym read.is) read.spelled
 
 -- ---- the root
@@ -155,7 +155,7 @@ root_broken files before after root (At file line column code) asks b =
 root_broken files before after root Failed asks b = root_memory files before after root asks
 root_broken files before after root Memory asks b = root_memory files before after root asks
 
-pub root_ended : (files now : Files) (before between after : Asked) (root : List ℕ) (file : LoadedFile) (refusal : DefFault) → Asks (root ∷ []) before between → now ≡ files → IsRead files root file
+pub root_ended : (files now : Files) (before between after : Asked) (root : List ℕ) (file : LoadedFile) (refusal : DefFault) → Asks (root ∷ []) before between → now ≡ files → IsFileRead files root file
     → Ends now between after (file ∷ []) (InFile [] [] file) refusal → RootEnds files before after root refusal
 root_ended files now before between after root file refusal asks told read e =
     ends_then files before between after [] (file ∷ []) (λ held. held root ≡ Some read.source) (InFile [] [] file) (λ held outcome. Loads held root outcome)
@@ -163,7 +163,7 @@ root_ended files now before between after root file refusal asks told read e =
     (λ held some names fault t. Loads.from_root read.source some (enters_read held [] [] files root file read (stopped names fault) t))
     refusal (subst (λ files. Ends files between after (file ∷ []) (InFile [] [] file) refusal) told e)
 
-pub root_loaded : (files now : Files) (before between after : Asked) (root : List ℕ) (file : LoadedFile) (later : List LoadedFile) → Asks (root ∷ []) before between → now ≡ files → IsRead files root file
+pub root_loaded : (files now : Files) (before between after : Asked) (root : List ℕ) (file : LoadedFile) (later : List LoadedFile) → Asks (root ∷ []) before between → now ≡ files → IsFileRead files root file
     → Loaded now between after (file ∷ []) later (λ held. InFile [] [] file held (all_loaded later)) → Loaded files before after [] later (λ held. Loads held root (all_loaded later))
 root_loaded files now before between after root file later asks told read l =
     loaded_then files before between after [] (file ∷ []) later (λ held. held root ≡ Some read.source) (λ held. InFile [] [] file held (all_loaded later)) (λ held. Loads held root (all_loaded later))

@@ -3,14 +3,14 @@ use Rattle.std.proofs.Common.{◌≡◌, ℕ, suc, ◌+◌, ◌<◌, ◌≤◌, 
 use Rattle.std.specs.List.{All, IsDistinct}
 use Rattle.std.specs.Str.{bytes_eq}
 use Rattle.std.proofs.lemmas.List.{drop_all}
-use Rattle.outside.specs.Told.{Files, Asked}
+use Rattle.outside.specs.Transfers.{Files, Asked}
 use Rattle.bdl_parser.specs.declared.trees.Import.{Import}
 use Rattle.bdl_load.specs.declared.faults.DefCode.TheVariants.{ImportMissing}
 use Rattle.bdl_load.specs.declared.faults.DefFault.{DefFault}
 use Rattle.bdl_load.specs.declared.faults.DefFault.TheVariants.{At, Failed, Memory}
 use Rattle.bdl_load.specs.declared.faults.Fault.{Fault}
 use Rattle.bdl_load.specs.declared.files.LoadedFile.{LoadedFile}
-use Rattle.bdl_load.specs.Loader.{IsHeld, IsRead, IsBroken, file_at, names_at, AreSound, IsChosen, Passes, Answered, Loaded, Ends, Halts}
+use Rattle.bdl_load.specs.Loader.{IsHeld, IsFileRead, IsBroken, file_at, names_at, AreSound, IsChosen, Passes, Answered, Loaded, Ends, Halts}
 use Rattle.bdl_load.specs.Faults.{Blames, found, fault_in}
 use Rattle.bdl_load.specs.Loading.{Holding, Loading, all_loaded, stopped, IsFetched, names_of, loaded_as, Takes, Enters}
 use Rattle.bdl_load.proofs.Asking.{IsNew, loaded_then, ends_then, loaded_nothing, loaded_file, answered_fault, answered_unknown, loaded_so, ends_so}
@@ -40,14 +40,14 @@ known_import files before taking from loaded import rest d chosen =
     loaded_nothing files before loaded (λ held. Passes held taking from loaded (import ∷ rest) loaded rest) d (λ held outcome t. Takes.known taking loaded from import rest outcome chosen.0 chosen.1 t)
 
 -- the file of an import, under the name that it was fetched by
-pub enters_read : (held : Holding) (taking : List (List ℕ)) (loaded : List LoadedFile) (files : Files) (name : List ℕ) (file : LoadedFile) (r : IsRead files name file) (outcome : Loading)
+pub enters_read : (held : Holding) (taking : List (List ℕ)) (loaded : List LoadedFile) (files : Files) (name : List ℕ) (file : LoadedFile) (r : IsFileRead files name file) (outcome : Loading)
     → Takes held (taking ++ file.name ∷ []) (loaded ++ file ∷ []) file.name file.«module».imports outcome → Enters held taking loaded name r.source outcome
 enters_read held taking loaded files name file r outcome t =
     Enters.read taking loaded name r.source r.module_ outcome r.says
     (subst (λ (file : LoadedFile). Takes held (taking ++ file.name ∷ []) (loaded ++ file ∷ []) file.name file.«module».imports outcome) r.is t)
 
 -- it is held under that name
-pub begun_file : (files : Files) (before after : Asked) (loaded : List LoadedFile) (name : List ℕ) (file : LoadedFile) (r : IsRead files name file) → IsNew loaded name before after
+pub begun_file : (files : Files) (before after : Asked) (loaded : List LoadedFile) (name : List ℕ) (file : LoadedFile) (r : IsFileRead files name file) → IsNew loaded name before after
     → Loaded files before after loaded (loaded ++ file ∷ []) (λ held. held name ≡ Some r.source)
 begun_file files before after loaded name file r new =
     subst (λ (other : LoadedFile). Loaded files before after loaded (loaded ++ other ∷ []) (λ held. held name ≡ Some r.source)) (sym r.is)
@@ -58,7 +58,7 @@ abbrev pub InFile : List (List ℕ) → List LoadedFile → LoadedFile → Holdi
 InFile taking loaded file held outcome = Takes held (taking ++ file.name ∷ []) (loaded ++ file ∷ []) file.name file.«module».imports outcome
 
 pub fetched_import : (files : Files) (before between after : Asked) (taking : List (List ℕ)) (from : List ℕ) (loaded later : List LoadedFile) (import : Import) (rest : List Import) (file : LoadedFile)
-    → IsNew loaded import.file before between → IsFetched taking loaded import.file → IsRead files import.file file
+    → IsNew loaded import.file before between → IsFetched taking loaded import.file → IsFileRead files import.file file
     → Loaded files between after (loaded ++ file ∷ []) later (λ held. InFile taking loaded file held (all_loaded later))
     → Loaded files before after loaded later (λ held. Passes held taking from loaded (import ∷ rest) later rest)
 fetched_import files before between after taking from loaded later import rest file new fetched r l =
@@ -70,7 +70,7 @@ fetched_import files before between after taking from loaded later import rest f
     (λ held is t outcome u. Takes.fetched taking loaded later from r.source import rest outcome fetched is (enters_read held taking loaded files import.file file r (all_loaded later) t) u)
 
 pub ended_import : (files : Files) (before between after : Asked) (taking : List (List ℕ)) (from : List ℕ) (loaded : List LoadedFile) (import : Import) (rest : List Import) (file : LoadedFile) (refusal : DefFault)
-    → IsNew loaded import.file before between → IsFetched taking loaded import.file → IsRead files import.file file
+    → IsNew loaded import.file before between → IsFetched taking loaded import.file → IsFileRead files import.file file
     → Ends files between after (loaded ++ file ∷ []) (InFile taking loaded file) refusal → Ends files before after loaded (λ held outcome. Takes held taking loaded from (import ∷ rest) outcome) refusal
 ended_import files before between after taking from loaded import rest file refusal new fetched r =
     ends_then files before between after loaded (loaded ++ file ∷ []) (λ held. held import.file ≡ Some r.source) (InFile taking loaded file)

@@ -1,7 +1,7 @@
 -- The rule: faults and their names, what bytes say, and loading.
 pub mod Faults
 pub mod CodeNames
-pub mod Sources
+pub mod Source
 pub mod Loading
 -- What the crate's own functions say.
 pub mod Loader

@@ -3,7 +3,7 @@ use Rattle.std.specs.Prelude.{◌≡◌, ℕ, ◌+◌, ◌-◌, ◌<◌, ◌≤�
 use Rattle.std.specs.List.{All, AllByRecursion, IsDistinct, slice_index_or}
 use Rattle.std.specs.Str.{bytes_eq}
 use Rattle.bdl_load.specs.declared.loader.TheConstants.{MAX_FILES}
-use Rattle.outside.specs.Told.{Files, Asked, Asks}
+use Rattle.outside.specs.Transfers.{Files, Asked, Asks}
 use Rattle.bdl_parser.specs.declared.trees.Import.{Import}
 use Rattle.bdl_parser.specs.declared.trees.Module.{Module}
 use Rattle.bdl_load.specs.declared.faults.DefFault.{DefFault}
@@ -14,8 +14,8 @@ use Rattle.bdl_load.specs.declared.files.LoadedFile.{LoadedFile}
 use Rattle.bdl_load.specs.declared.loader.Loader.{Loader}
 use Rattle.bdl_load.specs.Faults.{fault_in}
 use Rattle.bdl_load.specs.Loading.{Holding, Loading, all_loaded, stopped, is_among, names_of, loaded_as, IsFetched, Takes}
-use Rattle.bdl_load.specs.Sources.{SaysModule, IsSourceFault}
-use Rattle.bdl_parser.specs.Spelled.{AreSpelledDecls}
+use Rattle.bdl_load.specs.Source.{SaysModule, IsSourceFault}
+use Rattle.bdl_parser.specs.Decls.{AreSpelledDecls}
 
 -- ---- one file
 
@@ -24,7 +24,7 @@ abbrev pub IsHeld : Files → List ℕ → Option (List ℕ) → Type 0
 IsHeld files name content = IfSome files (λ held. held name ≡ content)
 
 -- The file of this name that a library holds, with what it says.
-pub record IsRead (files : Files) (name : List ℕ) (file : LoadedFile) : Type 0 where
+pub record IsFileRead (files : Files) (name : List ℕ) (file : LoadedFile) : Type 0 where
   pub source : List ℕ
   pub module_ : Module
   pub told : IsHeld files name (Some source)
@@ -43,7 +43,7 @@ pub record IsBroken (files : Files) (name : List ℕ) (fault : Fault) : Type 0 w
 -- The file of this name, or there is none.
 abbrev pub IsFound : Files → List ℕ → Option LoadedFile → Type 0
 IsFound files name None = IsHeld files name None
-IsFound files name (Some file) = IsRead files name file
+IsFound files name (Some file) = IsFileRead files name file
 
 -- ---- the files so far
 
@@ -91,8 +91,8 @@ abbrev pub answer_names : List Answer → List (List ℕ)
 answer_names answers = map (λ answer. answer.name) answers
 
 -- Files that give these answers.
-abbrev pub Gives : Holding → List Answer → Type 0
-Gives held answers = AllByRecursion (λ answer. held answer.name ≡ answer.content) answers
+abbrev pub GivesAnswers : Holding → List Answer → Type 0
+GivesAnswers held answers = AllByRecursion (λ answer. held answer.name ≡ answer.content) answers
 
 -- The answers that a library gave: all of these, or all but the last, which nobody knows.
 abbrev pub known : Bool → List Answer → List Answer
@@ -104,9 +104,9 @@ known false answers = take (length answers - 1) answers
 pub record Answered (whole : Bool) (files : Files) (before after : Asked) (loaded : List LoadedFile) (Comes : List (List ℕ) → Holding → Type 0) : Type 0 where
   pub answers : List Answer
   pub asks : Asks (answer_names answers) before after
-  pub told : IfSome files (λ held. Gives held (known whole answers))
+  pub told : IfSome files (λ held. GivesAnswers held (known whole answers))
   pub distinct : IsDistinct bytes_eq (names_of loaded ++ answer_names answers)
-  pub comes : (held : Holding) → Gives held answers → Comes (names_of loaded ++ answer_names answers) held
+  pub comes : (held : Holding) → GivesAnswers held answers → Comes (names_of loaded ++ answer_names answers) held
 
 -- These files were loaded after those, and this comes of the answers of a library.
 pub record Loaded (files : Files) (before after : Asked) (earlier later : List LoadedFile) (Comes : Holding → Type 0) : Type 0 where
@@ -136,8 +136,8 @@ abbrev pub names_taking : Loader → List (List ℕ)
 names_taking loader = names_at loader.files.items loader.taking.items
 
 -- The loader's files and numbers are sound.
-abbrev pub IsSound : Loader → Type 0
-IsSound loader = AreSound loader.files.items loader.taking.items
+abbrev pub IsSoundLoader : Loader → Type 0
+IsSoundLoader loader = AreSound loader.files.items loader.taking.items
 
 -- The numbers of the files whose imports are being taken, with the next file's.
 abbrev pub taking_next : Loader → List ℕ

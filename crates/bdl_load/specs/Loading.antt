@@ -4,7 +4,7 @@ use Rattle.std.specs.List.{AllByRecursion, list_any}
 use Rattle.std.specs.Str.{bytes_eq}
 use Rattle.bdl_load.specs.declared.faults.TheConstants.{FIRST_SPOT}
 use Rattle.bdl_load.specs.declared.loader.TheConstants.{MAX_FILES}
-use Rattle.outside.specs.Told.{Files, Asked, Asks}
+use Rattle.outside.specs.Transfers.{Files, Asked, Asks}
 use Rattle.bdl_parser.specs.declared.trees.Import.{Import}
 use Rattle.bdl_parser.specs.declared.trees.Module.{Module}
 use Rattle.bdl_load.specs.declared.faults.DefCode.TheVariants.{NoFile, ImportCycle, TooManyFiles, ImportMissing}
@@ -12,7 +12,7 @@ use Rattle.bdl_load.specs.declared.faults.Fault.{Fault}
 use Rattle.bdl_load.specs.declared.faults.Finding.{Finding}
 use Rattle.bdl_load.specs.declared.files.LoadedFile.{LoadedFile}
 use Rattle.bdl_load.specs.Faults.{found, fault_in}
-use Rattle.bdl_load.specs.Sources.{SaysModule, IsSourceFault}
+use Rattle.bdl_load.specs.Source.{SaysModule, IsSourceFault}
 
 -- What a library holds under each name.
 abbrev pub Holding : Type 0

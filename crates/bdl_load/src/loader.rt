@@ -2,11 +2,11 @@
 
 ghost use Rattle.std.specs.Prelude.{◌≡◌, [], ◌∷◌, ◌++◌, ◌<◌, ◌≤◌, length, All, IfOk, IfErr, OnOk, IsErrOf};
 ghost use Rattle.outside.specs.Causes.{Rose};
-ghost use Rattle.outside.specs.Told.{Asks};
-ghost use Rattle.bdl_load.specs.Loader.{IsFound, IsBroken, IsSpelledFile, IsSound, IsChosen, Halts, StopsImport, TakesAll, StopsInAll, TakesOne, StopsInOne, names_taking, taking_next, imports_from};
+ghost use Rattle.outside.specs.Transfers.{Asks};
+ghost use Rattle.bdl_load.specs.Loader.{IsFound, IsBroken, IsSpelledFile, IsSoundLoader, IsChosen, Halts, StopsImport, TakesAll, StopsInAll, TakesOne, StopsInOne, names_taking, taking_next, imports_from};
 ghost use Rattle.bdl_load.specs.Faults.{Blames};
 ghost use Rattle.bdl_load.specs.Loading.{LoadsAll, StopsAt, AsksInOrder, is_among, names_of};
-ghost use Rattle.bdl_parser.specs.Spelled.{AreSpelledDecls};
+ghost use Rattle.bdl_parser.specs.Decls.{AreSpelledDecls};
 
 use crate::faults::{DefCode, DefFault, FIRST_SPOT, blame};
 use crate::files::LoadedFile;
@@ -75,7 +75,7 @@ impl Loader {
 
     /// Whether the import's file is to be fetched, since it wasn't loaded before.
     fn is_to_fetch(&self, from: &str, import: &Import) -> Result<bool, DefFault>
-        requires { IsSound self.now }
+        requires { IsSoundLoader self.now }
         ensures chosen { IfOk result (IsChosen (names_taking self.now) self.now.files.items import.now.file) }
         ensures fault { IfErr result (Halts (StopsImport self.now from.now import.now)) }
     {
@@ -107,9 +107,9 @@ impl Loader {
     /// Takes the imports of the file of that number, one after another.
     #[cycle(load)]
     fn take_imports<L: Library>(&mut self, library: &mut L, from: usize) -> Result<(), DefFault>
-        requires sound { IsSound self.old }
+        requires sound { IsSoundLoader self.old }
         requires within { from < length self.old.files.items }
-        ensures sound { OnOk result (IsSound self.new) }
+        ensures sound { OnOk result (IsSoundLoader self.new) }
         ensures taking { OnOk result (self.new.taking.items ≡ self.old.taking.items) }
         ensures loaded { OnOk result (TakesAll L.files L.asked library.old library.new self.old from self.new) }
         ensures fault { IfErr result (StopsInAll L.files L.asked library.old library.new self.old from) }
@@ -132,10 +132,10 @@ impl Loader {
         from: usize,
         number: usize,
     ) -> Result<(), DefFault>
-        requires sound { IsSound self.old }
+        requires sound { IsSoundLoader self.old }
         requires within { from < length self.old.files.items }
         requires counted { number < length (imports_from self.old from) }
-        ensures sound { OnOk result (IsSound self.new) }
+        ensures sound { OnOk result (IsSoundLoader self.new) }
         ensures taking { OnOk result (self.new.taking.items ≡ self.old.taking.items) }
         ensures loaded { OnOk result (TakesOne L.files L.asked library.old library.new self.old from number self.new) }
         ensures fault { IfErr result (StopsInOne L.files L.asked library.old library.new self.old from number) }

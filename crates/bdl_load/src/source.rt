@@ -7,8 +7,8 @@ ghost use Rattle.bdl_lexer.specs.Tokens.{AreTokensOf};
 ghost use Rattle.bdl_parser.specs.FirstFault.{IsFaultOf};
 ghost use Rattle.bdl_parser.specs.Lexemes.{lexemes_of};
 ghost use Rattle.bdl_load.specs.Faults.{Blames};
-ghost use Rattle.bdl_load.specs.Sources.{of_lexer, of_parser, spot_at, SaysModule, IsFaultOfSource};
-ghost use Rattle.bdl_parser.specs.Spelled.{AreSpelledDecls};
+ghost use Rattle.bdl_load.specs.Source.{of_lexer, of_parser, spot_at, SaysModule, IsFaultOfSource};
+ghost use Rattle.bdl_parser.specs.Decls.{AreSpelledDecls};
 
 use crate::faults::{DefCode, DefFault, FIRST_SPOT, blame};
 use bdl_lexer::{LexCode, LexFault, MAX_SOURCE, Token, lex};

@@ -5,7 +5,7 @@ use Rattle.std.specs.Option.{is_some}
 use Rattle.bdl_parser.specs.declared.parser.FormFault.{FormFault}
 use Rattle.bdl_parser.specs.Grammar.{a_type}
 use Rattle.bdl_parser.specs.Lexemes.{Lexeme}
-use Rattle.bdl_parser.specs.Refusals.{IsTokenRefused, IsRefused, is_type_first}
+use Rattle.bdl_parser.specs.Refusals.{IsTokenRefused, IsFormRefused, is_type_first}
 use Rattle.bdl_parser.specs.Trees.{TypeTree}
 use Rattle.grammar_model.specs.Forms.{IsOne}
 use Rattle.grammar_model.specs.Stops.{Taken}
@@ -18,7 +18,7 @@ pub record Reads {A : Type 0} (F : Family A) (room : ℕ) (ts : List Lexeme) (a 
 
 -- the form is refused
 pub record Refuses {A : Type 0} (F : Family A) (room : ℕ) (e : FormFault) (ts bad : List Lexeme) : Type 0 where
-  pub is : IsRefused F room e ts bad
+  pub is : IsFormRefused F room e ts bad
 
 module _ {A B : Type 0} {meant : Lexeme → Option A} {G : Family B} {room : ℕ} where
   -- a token and then the rest
@@ -53,7 +53,7 @@ module _ {B : Type 0} {G : Family B} {room : ℕ} where
       record { is = refused_second a_type G room is_type_first lawful_type e ts mid bad t p r.is }
 
 -- the type is refused
-pub at_type : {B : Type 0} (G : Family B) {room : ℕ} {e : FormFault} {ts bad : List Lexeme} → IsRefused a_type room e ts bad
+pub at_type : {B : Type 0} (G : Family B) {room : ℕ} {e : FormFault} {ts bad : List Lexeme} → IsFormRefused a_type room e ts bad
     → Refuses (pair a_type G) room e ts bad
 at_type G {room = room} {e = e} {ts = ts} {bad = bad} r = record { is = refused_first a_type G room e ts bad r }
 
@@ -73,5 +73,5 @@ taken_by make F room ts a rest p = taken_made make F room ts a rest p.is
 
 -- What refuses the sequence refuses the form.
 pub refused_by : {A B : Type 0} (make : A → B) (F : Family A) (room : ℕ) (e : FormFault) (ts bad : List Lexeme)
-    → Refuses F room e ts bad → IsRefused (make_each make F) room e ts bad
+    → Refuses F room e ts bad → IsFormRefused (make_each make F) room e ts bad
 refused_by make F room e ts bad r = refused_made make F room e ts bad r.is

@@ -10,7 +10,7 @@ use Rattle.bdl_parser.specs.declared.trees.Module.{Module}
 use Rattle.bdl_parser.specs.FirstFault.{ExpectedAt, NestsAt, FaultAt}
 use Rattle.bdl_parser.specs.Grammar.{a_type, a_module}
 use Rattle.bdl_parser.specs.Lexemes.{Lexeme}
-use Rattle.bdl_parser.specs.Refusals.{IsRefused}
+use Rattle.bdl_parser.specs.Refusals.{IsFormRefused}
 use Rattle.grammar_model.specs.Stops.{behind}
 use Rattle.grammar_model.proofs.Growth.{Grows, grows_same}
 use Rattle.bdl_parser.proofs.GrammarLaws.{ender_module, grows_type, grows_module}
@@ -47,7 +47,7 @@ unfolding tail
 all_behind [] = refl
 all_behind (t ∷ bad) = refl
 
-expected_at : (ts bad : List Lexeme) (k : ℕ) → IsRefused a_module MAX_NESTING (Wrong Expected) ts bad → k + length bad ≡ length ts → ExpectedAt ts k
+expected_at : (ts bad : List Lexeme) (k : ℕ) → IsFormRefused a_module MAX_NESTING (Wrong Expected) ts bad → k + length bad ≡ length ts → ExpectedAt ts k
 expected_at ts bad k r count =
     let s = r MAX_NESTING (omega arith) in
     let split = ap length s.cut ∙ length-append s.front bad in
@@ -80,7 +80,7 @@ next_front front bad rest next k is len =
     let e : front ++ bad ≡ (front ++ next ∷ []) ++ rest = ap (λ xs. front ++ xs) is ∙ sym (append_assoc front (next ∷ []) rest) in
     ap (take (k + 1)) e ∙ take_at (front ++ next ∷ []) rest (k + 1) (let l = length-append front (next ∷ []) in omega arith)
 
-nests_at : (ts bad : List Lexeme) (k : ℕ) → IsRefused a_module MAX_NESTING (Wrong TypeNesting) ts bad → k + length bad ≡ length ts → NestsAt ts k
+nests_at : (ts bad : List Lexeme) (k : ℕ) → IsFormRefused a_module MAX_NESTING (Wrong TypeNesting) ts bad → k + length bad ≡ length ts → NestsAt ts k
 nests_at ts bad k r count =
     let s = r.stops in
     let split = ap length s.cut ∙ length-append s.front bad in
@@ -97,14 +97,14 @@ nests_at ts bad k r count =
     }
 
 -- what is left is no longer than all
-pub fault_within : (code : ParseCode) (ts bad : List Lexeme) → IsRefused a_module MAX_NESTING (Wrong code) ts bad
+pub fault_within : (code : ParseCode) (ts bad : List Lexeme) → IsFormRefused a_module MAX_NESTING (Wrong code) ts bad
     → length bad ≤ length ts
 fault_within Expected ts bad r =
     let s = r MAX_NESTING (omega arith) in omega (arith, ap length s.cut, length-append s.front bad)
 fault_within TypeNesting ts bad r = omega (arith, ap length r.cut, length-append r.front bad)
 
 -- where the parser stands is the first fault
-pub fault_at : (code : ParseCode) (ts bad : List Lexeme) (k : ℕ) → IsRefused a_module MAX_NESTING (Wrong code) ts bad
+pub fault_at : (code : ParseCode) (ts bad : List Lexeme) (k : ℕ) → IsFormRefused a_module MAX_NESTING (Wrong code) ts bad
     → k + length bad ≡ length ts → FaultAt ts k code
 fault_at Expected ts bad k r count = expected_at ts bad k r count
 fault_at TypeNesting ts bad k r count = nests_at ts bad k r count

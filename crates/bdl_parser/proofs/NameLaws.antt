@@ -7,7 +7,7 @@ use Rattle.std.proofs.lemmas.List.Sums.{list_all-from_AllPass}
 use Rattle.bag_model.specs.Words.{Reserved, reserved_words, reserved_of, is_word, is_name}
 use Rattle.bag_model.proofs.WordLaws.{reserved_found}
 use Rattle.bdl_lexer.specs.Bytes.{is_letter, is_word_byte}
-use Rattle.bdl_lexer.specs.Pieces.{IsWord}
+use Rattle.bdl_lexer.specs.Scan.{IsWord}
 use Rattle.bdl_parser.specs.declared.words.Reserved.{Reserved as Seen}
 use Rattle.bdl_parser.specs.ReservedWords.{in_code}
 use Rattle.bdl_parser.specs.Trees.{name}

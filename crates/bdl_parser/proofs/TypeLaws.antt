@@ -8,7 +8,7 @@ use Rattle.bdl_parser.specs.Grammar.{key, a_leaf, a_holding, held_of, map_of, a_
 use Rattle.bdl_parser.specs.declared.trees.Spot.{Spot}
 use Rattle.bdl_parser.specs.declared.trees.TypeForm.{TypeForm}
 use Rattle.bdl_parser.specs.Lexemes.{Lexeme, word}
-use Rattle.bdl_parser.specs.Refusals.{meets, IsTokenRefused, IsRefused, is_type_first, HasFirst}
+use Rattle.bdl_parser.specs.Refusals.{meets, IsTokenRefused, IsFormRefused, is_type_first, HasFirst}
 use Rattle.bdl_parser.specs.Trees.{TypeTree, leaf}
 use Rattle.bdl_parser.specs.Views.{tree_at}
 use Rattle.bdl_parser.specs.Words.{leaf_of}
@@ -47,7 +47,7 @@ none_of_three : (ts : List Lexeme) → meets a_leaf ts ≡ false → meets a_hol
 none_of_three [] p q r = refl
 none_of_three (t ∷ ts) p q r = λ i. p i || (q i || r i)
 
-pub leaf_refused : (room : ℕ) (e : FormFault) (ts bad : List Lexeme) → meets a_holding ts ≡ false → meets (key (codes "map")) ts ≡ false → IsTokenRefused a_leaf e ts bad → IsRefused a_type room e ts bad
+pub leaf_refused : (room : ℕ) (e : FormFault) (ts bad : List Lexeme) → meets a_holding ts ≡ false → meets (key (codes "map")) ts ≡ false → IsTokenRefused a_leaf e ts bad → IsFormRefused a_type room e ts bad
 leaf_refused room (Wrong Expected) ts bad q r it = λ n le.
     subst (Stops (a_type n) ts) it.0 (stops_here (a_type n) is_type_first (lawful_type n) ts (none_of_three ts it.1 q r))
 leaf_refused room (Wrong TypeNesting) ts bad q r it = absurd it
@@ -115,12 +115,12 @@ room_is room inner ts bad e r =
     let two : suc (inner + 1) ≡ room + 1 = omega arith in
     subst₂ (λ n m. GoesOn (a_type n) (a_type m) ts bad) one two r
 
-pub held_refused_type : (room inner : ℕ) (e : FormFault) (ts bad : List Lexeme) → room ≡ inner + 1 → meets a_holding ts ≡ true → IsRefused (λ n. held_of (a_type n)) inner e ts bad → IsRefused a_type room e ts bad
+pub held_refused_type : (room inner : ℕ) (e : FormFault) (ts bad : List Lexeme) → room ≡ inner + 1 → meets a_holding ts ≡ true → IsFormRefused (λ n. held_of (a_type n)) inner e ts bad → IsFormRefused a_type room e ts bad
 held_refused_type room inner (Wrong Expected) ts bad is first r = held_stops room inner ts bad is first r
 held_refused_type room inner (Wrong TypeNesting) ts bad is first r = room_is room inner ts bad is (held_goes inner ts bad first r)
 held_refused_type room inner Memory ts bad is first r = tt
 
-pub map_refused_type : (room inner : ℕ) (e : FormFault) (ts bad : List Lexeme) → room ≡ inner + 1 → meets (key (codes "map")) ts ≡ true → IsRefused (λ n. map_of (a_type n)) inner e ts bad → IsRefused a_type room e ts bad
+pub map_refused_type : (room inner : ℕ) (e : FormFault) (ts bad : List Lexeme) → room ≡ inner + 1 → meets (key (codes "map")) ts ≡ true → IsFormRefused (λ n. map_of (a_type n)) inner e ts bad → IsFormRefused a_type room e ts bad
 map_refused_type room inner (Wrong Expected) ts bad is first r = map_stops room inner ts bad is first r
 map_refused_type room inner (Wrong TypeNesting) ts bad is first r = room_is room inner ts bad is (map_goes inner ts bad first r)
 map_refused_type room inner Memory ts bad is first r = tt

@@ -5,7 +5,7 @@ pub mod Lexemes
 pub mod Grammar
 pub mod FirstFault
 -- What follows from the rule for fields, as a table wants it.
-pub mod Spelled
+pub mod Decls
 -- The trees of the code's types.
 pub mod Views
 -- What the crate's own functions say.

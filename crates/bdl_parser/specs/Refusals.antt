@@ -30,10 +30,10 @@ IsTokenRefused meant Memory ts left = Unit {0}
 
 -- Expected: with this room or more it stops at what is left. TypeNesting: with this room it stops there, and with one
 -- more it goes on.
-abbrev pub IsRefused : {A : Type 0} → (ℕ → Form Lexeme A) → ℕ → FormFault → List Lexeme → List Lexeme → Type 0
-IsRefused family room (Wrong Expected) ts left = StopsFrom family room ts left
-IsRefused family room (Wrong TypeNesting) ts left = GoesOn (family room) (family (room + 1)) ts left
-IsRefused family room Memory ts left = Unit {0}
+abbrev pub IsFormRefused : {A : Type 0} → (ℕ → Form Lexeme A) → ℕ → FormFault → List Lexeme → List Lexeme → Type 0
+IsFormRefused family room (Wrong Expected) ts left = StopsFrom family room ts left
+IsFormRefused family room (Wrong TypeNesting) ts left = GoesOn (family room) (family (room + 1)) ts left
+IsFormRefused family room Memory ts left = Unit {0}
 
 -- What a meaning says.
 abbrev pub meant_by : Meaning → What
@@ -43,10 +43,10 @@ meant_by (Quoted bytes) = quoted bytes.now
 meant_by (Sign byte) = sign byte
 
 -- A word has the bytes of one, and what is between quotes is UTF-8.
-abbrev pub IsWellFormed : Meaning → Type 0
-IsWellFormed (Word bytes) = IsUtf8 bytes.now × (is_word bytes.now ≡ true)
-IsWellFormed (Quoted bytes) = IsUtf8 bytes.now
-IsWellFormed _ = Unit {0}
+abbrev pub IsWellSpelled : Meaning → Type 0
+IsWellSpelled (Word bytes) = IsUtf8 bytes.now × (is_word bytes.now ≡ true)
+IsWellSpelled (Quoted bytes) = IsUtf8 bytes.now
+IsWellSpelled _ = Unit {0}
 
 -- The first token says this at this place.
 abbrev pub HasFirst : What → Spot → List Lexeme → Type 0

@@ -3,8 +3,8 @@
 ghost use Rattle.std.specs.Prelude.{◌≡◌, false, [], codes, IfOk, IfErr, OnOk};
 ghost use Rattle.std.specs.List.{AllByRecursion};
 ghost use Rattle.bdl_parser.specs.Grammar.{key, a_bag_field, a_struct_field, bag_fields, struct_fields, a_bag, a_struct, a_decl, an_import, the_decls, a_module};
-ghost use Rattle.bdl_parser.specs.Refusals.{meets, IsRefused};
-ghost use Rattle.bdl_parser.specs.Spelled.{IsSpelledField, IsSpelledDecl, AreSpelledDecls};
+ghost use Rattle.bdl_parser.specs.Refusals.{meets, IsFormRefused};
+ghost use Rattle.bdl_parser.specs.Decls.{IsSpelledField, IsSpelledDecl, AreSpelledDecls};
 ghost use Rattle.bdl_parser.specs.Views.{bag_field_of, struct_field_of};
 ghost use Rattle.grammar_model.specs.Forms.{Repeats, many};
 ghost use Rattle.grammar_model.specs.Stops.{Taken};
@@ -19,7 +19,7 @@ impl<'a> Parser<'a> {
     fn bag_field(&mut self, alloc: Global) -> Result<BagField, FormFault>
         ensures ok { IfOk result (λ field. Taken a_bag_field MAX_NESTING self.old (bag_field_of field) self.new) }
         ensures spelled { IfOk result (λ field. IsSpelledField (bag_field_of field)) }
-        ensures err { IfErr result (λ fault. IsRefused a_bag_field MAX_NESTING fault self.old self.new) }
+        ensures err { IfErr result (λ fault. IsFormRefused a_bag_field MAX_NESTING fault self.old self.new) }
     {
         let kind = self.type_node(alloc, MAX_NESTING)?;
         let (name, name_at) = self.name(alloc)?;
@@ -37,7 +37,7 @@ impl<'a> Parser<'a> {
 
     fn struct_field(&mut self, alloc: Global) -> Result<StructField, FormFault>
         ensures ok { IfOk result (λ field. Taken a_struct_field MAX_NESTING self.old (struct_field_of field) self.new) }
-        ensures err { IfErr result (λ fault. IsRefused a_struct_field MAX_NESTING fault self.old self.new) }
+        ensures err { IfErr result (λ fault. IsFormRefused a_struct_field MAX_NESTING fault self.old self.new) }
     {
         let kind = self.type_node(alloc, MAX_NESTING)?;
         let (name, name_at) = self.name(alloc)?;
@@ -52,7 +52,7 @@ impl<'a> Parser<'a> {
     fn bag_fields(&mut self, alloc: Global) -> Result<BagFields, FormFault>
         ensures ok { IfOk result (λ fields. Taken bag_fields MAX_NESTING self.old fields self.new) }
         ensures spelled { IfOk result (λ fields. AllByRecursion IsSpelledField fields) }
-        ensures err { IfErr result (λ fault. IsRefused bag_fields MAX_NESTING fault self.old self.new) }
+        ensures err { IfErr result (λ fault. IsFormRefused bag_fields MAX_NESTING fault self.old self.new) }
     {
         let mut fields = BagFields::new(alloc);
         'fields: while !self.is_at_sign(b'}') {
@@ -65,7 +65,7 @@ impl<'a> Parser<'a> {
 
     fn struct_fields(&mut self, alloc: Global) -> Result<StructFields, FormFault>
         ensures ok { IfOk result (λ fields. Taken struct_fields MAX_NESTING self.old fields self.new) }
-        ensures err { IfErr result (λ fault. IsRefused struct_fields MAX_NESTING fault self.old self.new) }
+        ensures err { IfErr result (λ fault. IsFormRefused struct_fields MAX_NESTING fault self.old self.new) }
     {
         let mut fields = StructFields::new(alloc);
         'fields: while !self.is_at_sign(b'}') {
@@ -79,7 +79,7 @@ impl<'a> Parser<'a> {
     fn bag(&mut self, alloc: Global) -> Result<Decl, FormFault>
         ensures ok { IfOk result (λ decl. Taken a_bag MAX_NESTING self.old decl self.new) }
         ensures spelled { IfOk result IsSpelledDecl }
-        ensures err { IfErr result (λ fault. IsRefused a_bag MAX_NESTING fault self.old self.new) }
+        ensures err { IfErr result (λ fault. IsFormRefused a_bag MAX_NESTING fault self.old self.new) }
     {
         self.key("bag")?;
         let (name, at) = self.name(alloc)?;
@@ -91,7 +91,7 @@ impl<'a> Parser<'a> {
     fn structure(&mut self, alloc: Global) -> Result<Decl, FormFault>
         ensures ok { IfOk result (λ decl. Taken a_struct MAX_NESTING self.old decl self.new) }
         ensures spelled { IfOk result IsSpelledDecl }
-        ensures err { IfErr result (λ fault. IsRefused a_struct MAX_NESTING fault self.old self.new) }
+        ensures err { IfErr result (λ fault. IsFormRefused a_struct MAX_NESTING fault self.old self.new) }
     {
         self.key("struct")?;
         let (name, at) = self.name(alloc)?;
@@ -103,7 +103,7 @@ impl<'a> Parser<'a> {
     fn decl(&mut self, alloc: Global) -> Result<Decl, FormFault>
         ensures ok { IfOk result (λ decl. Taken a_decl MAX_NESTING self.old decl self.new) }
         ensures spelled { IfOk result IsSpelledDecl }
-        ensures err { IfErr result (λ fault. IsRefused a_decl MAX_NESTING fault self.old self.new) }
+        ensures err { IfErr result (λ fault. IsFormRefused a_decl MAX_NESTING fault self.old self.new) }
     {
         if self.is_at_key("bag") {
             return self.bag(alloc);
@@ -116,7 +116,7 @@ impl<'a> Parser<'a> {
 
     fn import(&mut self, alloc: Global) -> Result<Import, FormFault>
         ensures ok { IfOk result (λ import. Taken (λ n. an_import) 0 self.old import self.new) }
-        ensures err { IfErr result (λ fault. IsRefused (λ n. an_import) 0 fault self.old self.new) }
+        ensures err { IfErr result (λ fault. IsFormRefused (λ n. an_import) 0 fault self.old self.new) }
     {
         self.key("import")?;
         let (file, at) = self.quoted(alloc)?;
@@ -127,7 +127,7 @@ impl<'a> Parser<'a> {
     fn imports(&mut self, alloc: Global) -> Result<Imports, FormFault>
         ensures ok { IfOk result (λ imports. Repeats an_import self.old imports self.new) }
         ensures end { OnOk result (meets (key (codes "import")) self.new ≡ false) }
-        ensures err { IfErr result (λ fault. IsRefused (λ n. many an_import (the_decls n)) MAX_NESTING fault self.old self.new) }
+        ensures err { IfErr result (λ fault. IsFormRefused (λ n. many an_import (the_decls n)) MAX_NESTING fault self.old self.new) }
     {
         let mut imports = Imports::new(alloc);
         'imports: while self.is_at_key("import") {
@@ -141,7 +141,7 @@ impl<'a> Parser<'a> {
         ensures ok { IfOk result (λ decls. Taken the_decls MAX_NESTING self.old decls []) }
         ensures spelled { IfOk result AreSpelledDecls }
         ensures end { OnOk result (self.new ≡ []) }
-        ensures err { IfErr result (λ fault. IsRefused the_decls MAX_NESTING fault self.old self.new) }
+        ensures err { IfErr result (λ fault. IsFormRefused the_decls MAX_NESTING fault self.old self.new) }
     {
         let mut decls = Decls::new(alloc);
         'decls: while self.left() > 0 {
@@ -155,7 +155,7 @@ impl<'a> Parser<'a> {
     pub fn module(&mut self, alloc: Global) -> Result<Module, FormFault>
         ensures ok { IfOk result (λ module_. Taken a_module MAX_NESTING self.old module_ []) }
         ensures spelled { IfOk result (λ module_. AreSpelledDecls module_.decls) }
-        ensures err { IfErr result (λ fault. IsRefused a_module MAX_NESTING fault self.old self.new) }
+        ensures err { IfErr result (λ fault. IsFormRefused a_module MAX_NESTING fault self.old self.new) }
     {
         let imports = self.imports(alloc)?;
         let decls = self.decls(alloc)?;

@@ -5,7 +5,7 @@ ghost use Rattle.std.specs.Prelude.{All, IfOk, IfErr};
 ghost use Rattle.bdl_lexer.specs.Spans.{LiesIn};
 ghost use Rattle.bdl_parser.specs.FirstFault.{IsModuleOf, IsFaultOf};
 ghost use Rattle.bdl_parser.specs.Lexemes.{lexemes_of};
-ghost use Rattle.bdl_parser.specs.Spelled.{AreSpelledDecls};
+ghost use Rattle.bdl_parser.specs.Decls.{AreSpelledDecls};
 
 mod decls;
 pub mod laws;

@@ -3,7 +3,7 @@
 ghost use Rattle.std.specs.Prelude.{◌≡◌, ◌<◌, true, [], length, drop, MatchOption, IfSome, IfOk, IfErr};
 ghost use Rattle.bag_model.specs.Words.{is_name};
 ghost use Rattle.bdl_parser.specs.Grammar.{key, mark, a_name, a_number, a_text};
-ghost use Rattle.bdl_parser.specs.Refusals.{meets, IsTokenRefused, meant_by, IsWellFormed, HasFirst};
+ghost use Rattle.bdl_parser.specs.Refusals.{meets, IsTokenRefused, meant_by, IsWellSpelled, HasFirst};
 ghost use Rattle.grammar_model.specs.Forms.{IsOne};
 
 use crate::ParseCode;
@@ -87,7 +87,7 @@ impl<'a> Parser<'a> {
     #[tactic(auto, using(crate::proofs::NameLaws::token_is_word))]
     pub fn peek(&self) -> Option<(Meaning<'a>, Spot)>
         ensures first { MatchOption result (self.now ≡ []) (λ found. HasFirst (meant_by found.0) found.1 self.now) }
-        ensures formed { IfSome result (λ found. IsWellFormed found.0) }
+        ensures formed { IfSome result (λ found. IsWellSpelled found.0) }
     {
         let token = self.rest.first()?;
         let text = &self.source[token.at..token.at + token.len];

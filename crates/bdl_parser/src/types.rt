@@ -3,7 +3,7 @@
 ghost use Rattle.std.specs.Prelude.{◌≡◌, IfOk, IfErr};
 ghost use Rattle.bdl_parser.specs.declared.trees.Spot.{Spot};
 ghost use Rattle.bdl_parser.specs.Grammar.{a_leaf, a_holding, a_type, held_of, map_of};
-ghost use Rattle.bdl_parser.specs.Refusals.{meets, IsTokenRefused, IsRefused, is_type_first};
+ghost use Rattle.bdl_parser.specs.Refusals.{meets, IsTokenRefused, IsFormRefused, is_type_first};
 ghost use Rattle.bdl_parser.specs.Trees.{held};
 ghost use Rattle.bdl_parser.specs.Views.{tree_at, tree_of};
 ghost use Rattle.grammar_model.specs.Forms.{IsOne};
@@ -47,7 +47,7 @@ impl<'a> Parser<'a> {
 
     /// Why no type may be read where none may stand.
     fn no_room(&self) -> FormFault
-        ensures { IsRefused a_type 0 result self.now self.now }
+        ensures { IsFormRefused a_type 0 result self.now self.now }
     {
         if self.is_at_type() {
             FormFault::Wrong(ParseCode::TypeNesting)
@@ -104,7 +104,7 @@ impl<'a> Parser<'a> {
     #[cycle(nested)]
     pub fn type_node(&mut self, alloc: Global, room: u32) -> Result<TypeNode, FormFault>
         ensures ok { IfOk result (λ node. Taken a_type room self.old (tree_of node) self.new) }
-        ensures err { IfErr result (λ fault. IsRefused a_type room fault self.old self.new) }
+        ensures err { IfErr result (λ fault. IsFormRefused a_type room fault self.old self.new) }
     {
         let Some(inner) = room.checked_sub(1) else {
             return Err(self.no_room());
@@ -121,7 +121,7 @@ impl<'a> Parser<'a> {
     #[cycle(nested)]
     fn held_type(&mut self, alloc: Global, room: u32) -> Result<TypeNode, FormFault>
         ensures ok { IfOk result (λ node. Taken (λ n. held_of (a_type n)) room self.old (tree_of node) self.new) }
-        ensures err { IfErr result (λ fault. IsRefused (λ n. held_of (a_type n)) room fault self.old self.new) }
+        ensures err { IfErr result (λ fault. IsFormRefused (λ n. held_of (a_type n)) room fault self.old self.new) }
     {
         let (holding, at) = self.holding()?;
         self.sign(b'<')?;
@@ -134,7 +134,7 @@ impl<'a> Parser<'a> {
     #[cycle(nested)]
     fn map_type(&mut self, alloc: Global, room: u32) -> Result<TypeNode, FormFault>
         ensures ok { IfOk result (λ node. Taken (λ n. map_of (a_type n)) room self.old (tree_of node) self.new) }
-        ensures err { IfErr result (λ fault. IsRefused (λ n. map_of (a_type n)) room fault self.old self.new) }
+        ensures err { IfErr result (λ fault. IsFormRefused (λ n. map_of (a_type n)) room fault self.old self.new) }
     {
         let at = self.key("map")?;
         self.sign(b'<')?;

@@ -9,7 +9,7 @@ use Rattle.context_model.specs.Orders.{atom_cmp}
 use Rattle.context_model.specs.Merge.{greedy_merge}
 use Rattle.context_model.specs.Merged.{IsMerged, MergesFew, MergesInGroups}
 use Rattle.context_model.specs.ContextFault.{IsContextOf}
-use Rattle.wire_bytes.specs.Codes.{byte_code_of}
+use Rattle.wire_bytes.specs.Reading.{byte_code_of}
 use Rattle.byte_calls.specs.declared.refusals.Refusal.{Refusal}
 use Rattle.byte_calls.specs.declared.refusals.Refusal.TheVariants.{Fault, Memory, Room}
 use Rattle.byte_calls.specs.declared.spans.Span.{Span}

@@ -8,9 +8,9 @@ use Rattle.byte_calls.specs.declared.refusals.Refusal.{Refusal}
 use Rattle.byte_calls.specs.Contexts.{IsMergeOf, IsRefusalAt}
 
 -- The answer is the number of atoms of the context whose bytes these are, or tells their first fault.
-abbrev pub Checks : List ℕ → Result ℕ Refusal → Type 0
-Checks bytes (Ok count) = (list : List Atom) × IsContextOf list bytes × (count ≡ length list)
-Checks bytes (Err refusal) = IsRefusalAt 0 bytes refusal
+abbrev pub ChecksBytes : List ℕ → Result ℕ Refusal → Type 0
+ChecksBytes bytes (Ok count) = (list : List Atom) × IsContextOf list bytes × (count ≡ length list)
+ChecksBytes bytes (Err refusal) = IsRefusalAt 0 bytes refusal
 
 -- The bytes are those of a context, and this is what is left of it within the budget.
 abbrev pub IsTrimOf : Form → ℕ → List ℕ → List Atom → Type 0

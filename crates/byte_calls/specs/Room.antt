@@ -4,13 +4,13 @@ use Rattle.context_model.specs.declared.Form.{Form}
 use Rattle.context_model.specs.Atoms.{Atom}
 use Rattle.context_model.specs.ByteCodes.{ByteCode}
 use Rattle.context_model.specs.Framing.{bytes_of}
-use Rattle.wire_bytes.specs.Codes.{byte_code_of}
+use Rattle.wire_bytes.specs.Reading.{byte_code_of}
 use Rattle.byte_calls.specs.declared.refusals.Refusal.{Refusal}
 use Rattle.byte_calls.specs.declared.refusals.Refusal.TheVariants.{Fault, Memory, Room}
 
 -- The room has place for these bytes, so many: it begins with them, and goes on as before.
-abbrev pub BeginsWith : List ℕ → ℕ → List ℕ → List ℕ → Type 0
-BeginsWith bytes size old new = (size ≡ length bytes) × (size ≤ length old) × (new ≡ bytes ++ drop size old)
+abbrev pub HoldsBytes : List ℕ → ℕ → List ℕ → List ℕ → Type 0
+HoldsBytes bytes size old new = (size ≡ length bytes) × (size ≤ length old) × (new ≡ bytes ++ drop size old)
 
 -- The room has no place for these bytes, so many, and is as before.
 abbrev pub IsTooShortFor : List ℕ → ℕ → List ℕ → List ℕ → Type 0
@@ -18,9 +18,9 @@ IsTooShortFor bytes size old new = (size ≡ length bytes) × (length old < size
 
 -- A list for which the first fact holds is written into the room, and its size is the answer. Otherwise nothing is written: the room is
 -- too short for such a list, of whose size the answer is; or an input has a fault, for which the second fact holds; or there is no memory.
-abbrev pub Writes : Form → (List Atom → Type 0) → (ℕ → ℕ → ByteCode → Type 0) → List ℕ → List ℕ → Result ℕ Refusal → Type 0
-Writes form IsMade IsFault old new (Ok size) = (list : List Atom) × IsMade list × BeginsWith (bytes_of form list) size old new
-Writes form IsMade IsFault old new (Err (Fault context offset code)) = IsFault context offset (byte_code_of code) × (new ≡ old)
-Writes form IsMade IsFault old new (Err Memory) = new ≡ old
-Writes form IsMade IsFault old new (Err (Room size)) =
+abbrev pub WritesList : Form → (List Atom → Type 0) → (ℕ → ℕ → ByteCode → Type 0) → List ℕ → List ℕ → Result ℕ Refusal → Type 0
+WritesList form IsMade IsFault old new (Ok size) = (list : List Atom) × IsMade list × HoldsBytes (bytes_of form list) size old new
+WritesList form IsMade IsFault old new (Err (Fault context offset code)) = IsFault context offset (byte_code_of code) × (new ≡ old)
+WritesList form IsMade IsFault old new (Err Memory) = new ≡ old
+WritesList form IsMade IsFault old new (Err (Room size)) =
     (list : List Atom) × IsMade list × IsTooShortFor (bytes_of form list) size old new

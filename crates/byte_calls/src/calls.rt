@@ -3,8 +3,8 @@
 ghost use Rattle.std.specs.Prelude.{◌≤◌, [], ◌∷◌};
 ghost use Rattle.context_model.specs.Framing.{least_budget};
 ghost use Rattle.byte_calls.specs.Contexts.{IsFaultAt, IsMergeOf};
-ghost use Rattle.byte_calls.specs.Calls.{Checks, IsTrimOf, IsCutMergeOf};
-ghost use Rattle.byte_calls.specs.Room.{Writes};
+ghost use Rattle.byte_calls.specs.Calls.{ChecksBytes, IsTrimOf, IsCutMergeOf};
+ghost use Rattle.byte_calls.specs.Room.{WritesList};
 ghost use Rattle.byte_calls.specs.Spans.{inputs_of};
 
 use crate::contexts::{read_all_merged, read_at, read_merged};
@@ -17,7 +17,7 @@ use wire_bytes::Form;
 
 /// How many atoms the context has whose bytes these are, in either form.
 pub fn check(alloc: Global, context: &[u8]) -> Result<usize, Refusal>
-    ensures { Checks context.now result }
+    ensures { ChecksBytes context.now result }
 {
     let context = read_at(alloc, 0, context)?;
     Ok(context.list().len())
@@ -33,7 +33,7 @@ pub fn merge_into(
     room: &mut [u8],
 ) -> Result<usize, Refusal>
     ensures { let inputs = first.now ∷ second.now ∷ [] in
-        Writes form (IsMergeOf inputs) (IsFaultAt inputs) room.old room.new result }
+        WritesList form (IsMergeOf inputs) (IsFaultAt inputs) room.old room.new result }
 {
     let merged = read_merged(alloc, first, second)?;
     write_into(alloc, form, merged.list(), room)
@@ -47,7 +47,7 @@ pub fn merge_many_into(
     room: &mut [u8],
 ) -> Result<usize, Refusal>
     ensures { let inputs = inputs_of inputs.now in
-        Writes form (IsMergeOf inputs) (IsFaultAt inputs) room.old room.new result }
+        WritesList form (IsMergeOf inputs) (IsFaultAt inputs) room.old room.new result }
 {
     let merged = read_all_merged(alloc, 0, inputs)?;
     write_into(alloc, form, merged.list(), room)
@@ -62,7 +62,7 @@ pub fn trim_into(
     room: &mut [u8],
 ) -> Result<usize, Refusal>
     requires { least_budget form ≤ budget }
-    ensures { Writes form (IsTrimOf form budget context.now) (IsFaultAt (context.now ∷ [])) room.old room.new result }
+    ensures { WritesList form (IsTrimOf form budget context.now) (IsFaultAt (context.now ∷ [])) room.old room.new result }
 {
     let mut context = read_at(alloc, 0, context)?;
     trim_context(form, &mut context, budget);
@@ -81,7 +81,7 @@ pub fn forward_into(
 ) -> Result<usize, Refusal>
     requires { least_budget form ≤ budget }
     ensures { let inputs = first.now ∷ second.now ∷ [] in
-        Writes form (IsCutMergeOf form budget inputs) (IsFaultAt inputs) room.old room.new result }
+        WritesList form (IsCutMergeOf form budget inputs) (IsFaultAt inputs) room.old room.new result }
 {
     let mut merged = read_merged(alloc, first, second)?;
     trim_context(form, &mut merged, budget);

@@ -1,7 +1,7 @@
 //! The room that a caller hands in.
 
 ghost use Rattle.std.specs.Prelude.{◌≡◌, MatchResult};
-ghost use Rattle.byte_calls.specs.Room.{BeginsWith, IsTooShortFor, Writes};
+ghost use Rattle.byte_calls.specs.Room.{HoldsBytes, IsTooShortFor, WritesList};
 
 use crate::refusals::Refusal;
 use atom_list::AtomList;
@@ -11,7 +11,7 @@ use wire_bytes::{Form, write};
 /// Writes bytes at the front of the room, and answers how many they are. The rest of the room stays. Where the room is shorter than they
 /// are, all of it stays, and `Err` has their number.
 pub fn put(bytes: &[u8], room: &mut [u8]) -> Result<usize, usize>
-    ensures { MatchResult result (λ size. BeginsWith bytes.now size room.old room.new) (λ size. IsTooShortFor bytes.now size room.old room.new) }
+    ensures { MatchResult result (λ size. HoldsBytes bytes.now size room.old room.new) (λ size. IsTooShortFor bytes.now size room.old room.new) }
 {
     let size = bytes.len();
     if room.len() < size {
@@ -29,7 +29,7 @@ pub(crate) fn write_into(
     list: &AtomList,
     room: &mut [u8],
 ) -> Result<usize, Refusal>
-    ensures { Writes form (λ written. written ≡ list.now) (λ _ _ _. ⊥) room.old room.new result }
+    ensures { WritesList form (λ written. written ≡ list.now) (λ _ _ _. ⊥) room.old room.new result }
 {
     let bytes = write(alloc, form, list)?;
     match put(&bytes, room) {

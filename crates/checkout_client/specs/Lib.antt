@@ -1,2 +1,2 @@
-pub mod Written
-pub mod Read
+pub mod Writes
+pub mod Readings

@@ -5,9 +5,9 @@
 
 ghost use Rattle.std.specs.Prelude.{IfOk, IfErr};
 ghost use Rattle.std.specs.Option.{option_map};
-ghost use Rattle.decimal_text.specs.Answers.{Answers};
-ghost use Rattle.checkout_client.specs.Written.{SaysWrite};
-ghost use Rattle.checkout_client.specs.Read.{IsRead, IsUnreadFor};
+ghost use Rattle.decimal_text.specs.Answers.{IsSomeOf};
+ghost use Rattle.checkout_client.specs.Writes.{SaysWrite};
+ghost use Rattle.checkout_client.specs.Readings.{IsRead, IsUnreadFor};
 
 use accessor_gen::laws::values_fit_at_slots;
 use accessor_gen::{Reading, accessor};
@@ -44,9 +44,9 @@ impl From<Memory> for FieldFault {
 }
 
 impl From<ContextFault> for FieldFault {
-    ghost use Rattle.checkout_client.specs.Read.{Tells};
+    ghost use Rattle.checkout_client.specs.Readings.{TellsFault};
 
-    ghost from_gives = { Tells };
+    ghost from_gives = { TellsFault };
 
     fn from(fault: ContextFault) -> FieldFault {
         match fault {
@@ -64,7 +64,7 @@ pub fn write_field(
     name: &str,
     text: &str,
 ) -> Result<Option<Vec<u8>>, Memory>
-    ensures { IfOk result (λ sent. Answers (SaysWrite table.now name.now text.now) (option_map (λ bytes. bytes.items) sent)) }
+    ensures { IfOk result (λ sent. IsSomeOf (SaysWrite table.now name.now text.now) (option_map (λ bytes. bytes.items) sent)) }
 {
     // The proof rests on these laws.
     writes_are_of_their_shape();

@@ -7,7 +7,7 @@ use Rattle.context_model.specs.Orders.{Path, atom_cmp, path_cmp, IsIn}
 use Rattle.context_model.specs.Paths.{depth_after, path_after, paths_after, paths, last_path_after}
 use Rattle.context_model.specs.WellFormed.{IsWellFormed}
 use Rattle.context_model.specs.Ended.{HasMarker, front_of, IsBeyond}
-use Rattle.context_model.specs.Behind.{HasMarkerBehind, HasFirstMarkerBehind, EndsAtFirstMarker}
+use Rattle.context_model.specs.MarkerPlaces.{HasMarkerBehind, HasFirstMarkerBehind, EndsAtFirstMarker}
 use Rattle.context_model.specs.MergedMarkers.{HasLeastFirstMarker, KeepsFirstMarker, KeepsFronts}
 use Rattle.context_model.proofs.OrderLaws.{paths_total, paths_anti}
 use Rattle.context_model.proofs.GreedyElements.{All-at}

@@ -9,7 +9,7 @@ use Rattle.context_model.specs.Kinds.Kind.{Datum, Indexed, Keyed}
 use Rattle.context_model.specs.Varints.{unsigned_varint, unsigned_form, unsigned_tail}
 use Rattle.context_model.specs.WellFormed.{IsWellFormed}
 use Rattle.context_model.specs.Merged.{IsMerged, merge_of}
-use Rattle.context_model.specs.Behind.{HasMarkerBehind}
+use Rattle.context_model.specs.MarkerPlaces.{HasMarkerBehind}
 use Rattle.context_model.proofs.MergedLaws.{merges_greedily}
 
 -- a key with one datum, below the field 4 and below the field 5

@@ -7,7 +7,7 @@ use Rattle.context_model.specs.Paths.{depth_after, path_after, paths, last_path_
 use Rattle.context_model.specs.WellFormed.{IsWellFormed}
 use Rattle.context_model.specs.Ended.{IsEnded}
 use Rattle.context_model.specs.Merged.{IsMerged}
-use Rattle.context_model.specs.Behind.{HasMarkerBehind}
+use Rattle.context_model.specs.MarkerPlaces.{HasMarkerBehind}
 use Rattle.context_model.specs.MergedMarkers.{KeepsMarkers, KeepsMarkersBehind, EndsWithEach}
 use Rattle.context_model.proofs.GreedyElements.{All-at, All-from}
 use Rattle.context_model.proofs.Following.{path_after-marker}

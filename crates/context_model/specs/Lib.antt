@@ -15,6 +15,6 @@ pub mod WellFormed
 pub mod WireFault
 pub mod ContextFault
 pub mod WithoutData
-pub mod Behind
+pub mod MarkerPlaces
 pub mod Merged
 pub mod MergedMarkers

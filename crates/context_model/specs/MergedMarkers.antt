@@ -7,7 +7,7 @@ use Rattle.context_model.specs.Orders.{Path, path_cmp, IsIn}
 use Rattle.context_model.specs.Paths.{paths}
 use Rattle.context_model.specs.WellFormed.{IsWellFormed}
 use Rattle.context_model.specs.Ended.{HasMarker, front_of, IsEnded}
-use Rattle.context_model.specs.Behind.{HasMarkerBehind, HasFirstMarkerBehind}
+use Rattle.context_model.specs.MarkerPlaces.{HasMarkerBehind, HasFirstMarkerBehind}
 use Rattle.context_model.specs.Merged.{SomeHasPath, IsMerged}
 
 -- A merge has a marker exactly where one of the lists has one.

@@ -1,3 +1,3 @@
-pub mod Laws
+pub mod Lattice
 pub mod Entries
-pub mod Counted
+pub mod Counts

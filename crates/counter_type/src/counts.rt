@@ -5,7 +5,7 @@ ghost use Rattle.std.specs.Option.{option_map};
 ghost use Rattle.context_model.specs.Merge.{AllBelow};
 ghost use Rattle.context_model.specs.KeyedMerge.{Finds, IsUnion, keys_of};
 ghost use Rattle.context_model.specs.Orders.{atom_cmp};
-ghost use Rattle.counter_type.specs.Counted.{IsCounted, counts_joined};
+ghost use Rattle.counter_type.specs.Counts.{IsCounted, counts_joined};
 
 use crate::entries::{copied_entries, join_entries};
 use crate::keys::Keys;
@@ -27,7 +27,7 @@ impl Model for Counts {
 
     ghost Value = { List (List ℕ × ℕ) };
 
-    ghost use Rattle.counter_type.specs.Counted.{IsCounted};
+    ghost use Rattle.counter_type.specs.Counts.{IsCounted};
 
     ghost view = { λ counts. counts.entries.items };
 
@@ -108,9 +108,9 @@ impl Counts {
 /// A count. A join keeps the greater one, and 0 says nothing.
 impl Lattice for u64 {
     ghost use Rattle.std.specs.Prelude.{◌≡◌, max};
-    ghost use Rattle.counter_type.specs.Counted.{IsCount, count_laws};
+    ghost use Rattle.counter_type.specs.Counts.{FitsCount, count_laws};
 
-    ghost proper = { IsCount };
+    ghost proper = { FitsCount };
 
     ghost alike = { λ _ _. Unit {0} };
 
@@ -163,7 +163,7 @@ impl Keys for Writers {
 
 impl Lattice for Counts {
     ghost use Rattle.std.specs.Prelude.{◌≡◌, []};
-    ghost use Rattle.counter_type.specs.Counted.{IsCounted, counts_joined, counts_laws};
+    ghost use Rattle.counter_type.specs.Counts.{IsCounted, counts_joined, counts_laws};
 
     ghost proper = { IsCounted };
 

@@ -1,7 +1,7 @@
 //! Values that are joined.
 
 ghost use Rattle.std.specs.Prelude.{◌≡◌, ◌↔◌, IsTrue, IfOk, OnOk, OnErr};
-ghost use Rattle.counter_type.specs.Laws.{LatticeLaws};
+ghost use Rattle.counter_type.specs.Lattice.{LatticeLaws};
 
 use outside::Memory;
 
@@ -39,7 +39,7 @@ pub trait Lattice: Drop {
 
 /// The lattice of one value, which says nothing. A set is a map to it.
 impl Lattice for () {
-    ghost use Rattle.counter_type.specs.Laws.{unit_laws};
+    ghost use Rattle.counter_type.specs.Lattice.{unit_laws};
 
     ghost proper = { λ _. Unit {0} };
 

@@ -8,7 +8,7 @@ use Rattle.std.proofs.lemmas.Bool.{cases_lt}
 use Rattle.std.proofs.lemmas.Str.{IsUtf8-from_ascii}
 use Rattle.std.proofs.lemmas.Str.Parse.{IsNumeralModel, numerals_by_value, tells_digits, parse_plain, digit_at}
 use Rattle.std.proofs.lemmas.Fmt.{decimal_is_IsNumeral, decimal-digits_value, parse-decimal, first_decimal, decimal_digit, IsAscii-decimal}
-use Rattle.decimal_text.specs.Answers.{Answers}
+use Rattle.decimal_text.specs.Answers.{IsSomeOf}
 
 -- The text is the number's, which has 64 bits.
 abbrev pub Says : List ℕ → ℕ → Type 0
@@ -37,7 +37,7 @@ own : IsNumeralModel (AllDigits 10) (digits_value 10)
 own = numerals_by_value (AllDigits 10) tells_digits
 
 -- What `parse` answers of a text that doesn't begin badly is the number that it says.
-pub parsed : {E : Type 0} (text : List ℕ) (r : Result ℕ E) → ParsesUnsigned 64 10 text r → (BeginsBadly text → ⊥) → Answers (Says text) (result_ok r)
+pub parsed : {E : Type 0} (text : List ℕ) (r : Result ℕ E) → ParsesUnsigned 64 10 text r → (BeginsBadly text → ⊥) → IsSomeOf (Says text) (result_ok r)
 parsed {E} text (Ok n) p good =
     let read = parse_plain own {E = E} 64 text (Ok n) p (λ plus. good (inl plus)) in
     let bare : get_or text 0 0 ≡ 48 → length text ≡ 1 = (λ zero_first. elim (cases_lt 1 (length text)) [

@@ -3,7 +3,7 @@
 
 ghost use Rattle.std.specs.Prelude.{◌≡◌, ◌⊎◌, ◌↔◌, ◌^◌, ◌<◌, IsTrue, length, slice_index};
 ghost use Rattle.std.specs.Fmt.{decimal};
-ghost use Rattle.decimal_text.specs.Answers.{Answers};
+ghost use Rattle.decimal_text.specs.Answers.{IsSomeOf};
 
 /// Whether the text begins with a plus, or with a zero that isn't all of it.
 fn has_plus_or_leading_zero(text: &[u8]) -> bool
@@ -14,7 +14,7 @@ fn has_plus_or_leading_zero(text: &[u8]) -> bool
 
 /// The number of 64 bits that decimal digits say, without a sign and without a leading zero unless the number is 0.
 pub fn read_decimal(text: &[u8]) -> Option<u64>
-    ensures { Answers (λ number. (text.now ≡ decimal number) × (number < 2 ^ 64)) result }
+    ensures { IsSomeOf (λ number. (text.now ≡ decimal number) × (number < 2 ^ 64)) result }
 {
     if has_plus_or_leading_zero(text) {
         return None;

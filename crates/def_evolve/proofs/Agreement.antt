@@ -14,7 +14,7 @@ use Rattle.bag_model.proofs.ScalarOrder.{scalar_total, pick_total, pick_exact}
 use Rattle.bag_model.proofs.Uniqueness.{IsFirst-unique, Reads-unique}
 use Rattle.def_evolve.specs.Widening.{Widens}
 use Rattle.def_evolve.specs.Breaks.{Fits}
-use Rattle.def_evolve.specs.Agreeing.{HasField, Agree, AgreeEach}
+use Rattle.def_evolve.specs.Agreement.{HasField, Agree, AgreeEach}
 use Rattle.def_evolve.proofs.Wider.{same_values, wider_kinds_spell_alike}
 use Rattle.def_evolve.proofs.Fitting.{FieldsFit, fits_inside}
 

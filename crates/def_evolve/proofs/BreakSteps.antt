@@ -10,15 +10,15 @@ use Rattle.bag_model.specs.declared.Pick.TheVariants.{Least, Greatest}
 use Rattle.bag_model.specs.Scalars.{ScalarKind}
 use Rattle.bag_model.specs.Shapes.{Shape, Nodes, Field, Taint, Scalar, Set, Counter, Map, Bag, fields}
 use Rattle.bag_model.specs.Tables.{AreFields}
-use Rattle.field_table.specs.Kept.{FindsNumber}
+use Rattle.field_table.specs.Tables.{FindsNumber}
 use Rattle.def_evolve.specs.declared.breaks.Break.{Break}
 use Rattle.def_evolve.specs.declared.verdicts.Change.{Change}
 use Rattle.def_evolve.specs.declared.verdicts.Change.TheVariants as changes
 use Rattle.def_evolve.specs.declared.verdicts.Part.{Part}
 use Rattle.def_evolve.specs.declared.verdicts.Part.TheVariants.{Number, MapValue}
 use Rattle.def_evolve.specs.Widening.{Widens}
-use Rattle.def_evolve.specs.Breaks.{way_cmp, variant_of, Differs, LeadsTo, IsBreak, IsFirstBreak, Fits}
-use Rattle.def_evolve.specs.Found.{FindsBreak, FindsKindBreak}
+use Rattle.def_evolve.specs.Breaks.{way_cmp, variant_of, Differs, LeadsAlong, IsBreak, IsFirstBreak, Fits}
+use Rattle.def_evolve.specs.BreakSearches.{FindsBreak, FindsKindBreak}
 use Rattle.def_evolve.proofs.Fitting.{FitsInside}
 use Rattle.def_evolve.proofs.FieldPlaces.{nodes_from_place, node_there, nodes_end, get_in, later_number, none_numbered, one_numbered}
 
@@ -60,12 +60,12 @@ not_differ old new changes.Kind f d = search (f, d)
 pub fits_from : (old new : Shape) → FitsInside old new → Fits old new
 fits_from old new f [] change x = not_differ old new change f (subst (λ (b : Shape). Differs change old b) (sym x.3) (subst (λ (a : Shape). Differs change a x.1) (sym x.2) x.4))
 fits_from (Map key shape) (Map other more) f (MapValue ∷ way) change x =
-    f.1 way change (x.0, x.1, subst (λ (s : Shape). LeadsTo s way x.0) (sym x.2.1) x.2.2, subst (λ (s : Shape). LeadsTo s way x.1) (sym x.3.1) x.3.2, x.4)
+    f.1 way change (x.0, x.1, subst (λ (s : Shape). LeadsAlong s way x.0) (sym x.2.1) x.2.2, subst (λ (s : Shape). LeadsAlong s way x.1) (sym x.3.1) x.3.2, x.4)
 fits_from (Bag nodes) (Bag others) f (Number number ∷ way) change x =
     let a = x.2.1 in
     let b = x.3.1 in
     f a.0 b.0 a.1 b.1 (b.2 ∙ sym a.2) way change
-    (x.0, x.1, subst (λ (s : Shape). LeadsTo s way x.0) (sym a.3) x.2.2, subst (λ (s : Shape). LeadsTo s way x.1) (sym b.3) x.3.2, x.4)
+    (x.0, x.1, subst (λ (s : Shape). LeadsAlong s way x.0) (sym a.3) x.2.2, subst (λ (s : Shape). LeadsAlong s way x.1) (sym b.3) x.3.2, x.4)
 fits_from old new f (part ∷ way) change x = search (f, x.2.1, x.3.1)
 
 -- What is found of a kind is what is found of a scalar, and of a set.
@@ -94,7 +94,7 @@ map_first key other shape more way change up first = record {
         no_break changes.Key d = d up
         no_break changes.Kind d = d
     later (MapValue ∷ rest) its x =
-        first.first rest its (x.0, x.1, subst (λ (s : Shape). LeadsTo s rest x.0) (sym x.2.1) x.2.2, subst (λ (s : Shape). LeadsTo s rest x.1) (sym x.3.1) x.3.2, x.4)
+        first.first rest its (x.0, x.1, subst (λ (s : Shape). LeadsAlong s rest x.0) (sym x.2.1) x.2.2, subst (λ (s : Shape). LeadsAlong s rest x.1) (sym x.3.1) x.3.2, x.4)
     later (Number number ∷ rest) its x = absurd x.2.1
 
 -- ---- field by field
@@ -129,7 +129,7 @@ bag_break nodes others (Number number ∷ way) change x =
       numbered = b.2 ∙ sym a.2;
       rest = way;
       is = ap (λ n. Number n ∷ way) (sym a.2);
-      breaks = (x.0, x.1, subst (λ (s : Shape). LeadsTo s way x.0) (sym a.3) x.2.2, subst (λ (s : Shape). LeadsTo s way x.1) (sym b.3) x.3.2, x.4);
+      breaks = (x.0, x.1, subst (λ (s : Shape). LeadsAlong s way x.0) (sym a.3) x.2.2, subst (λ (s : Shape). LeadsAlong s way x.1) (sym b.3) x.3.2, x.4);
     }
 bag_break nodes others (MapValue ∷ way) change x = absurd x.2.1
 

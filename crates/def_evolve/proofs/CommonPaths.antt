@@ -13,7 +13,7 @@ use Rattle.bag_model.specs.Slots.{SlotAt, slots_in, slots_of, within}
 use Rattle.bag_model.specs.Tables.{IsShape, AreFields, nodes_under, node_count}
 use Rattle.bag_model.proofs.Finite.{in_append, in_append_first, in_append_second}
 use Rattle.bag_model.proofs.SlotsBelow.{in_map}
-use Rattle.field_table.specs.Kept.{FindsNumber}
+use Rattle.field_table.specs.Tables.{FindsNumber}
 use Rattle.trace_model.proofs.SlotParts.{map_in}
 use Rattle.def_evolve.specs.Common.{IsSlotPath, AreCommonPaths, IsCommonCount}
 use Rattle.def_evolve.proofs.CommonSlots.{slot_of}

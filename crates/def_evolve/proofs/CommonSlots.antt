@@ -7,8 +7,8 @@ use Rattle.bag_model.proofs.Finite.{in_append}
 use Rattle.bag_model.proofs.SlotsBelow.{in_map}
 use Rattle.def_evolve.specs.declared.verdicts.Part.{Part}
 use Rattle.def_evolve.specs.declared.verdicts.Part.TheVariants.{Number}
-use Rattle.def_evolve.specs.Breaks.{LeadsTo, Fits, IsFitting}
-use Rattle.def_evolve.specs.Safety.{IsCommonSlot}
+use Rattle.def_evolve.specs.Breaks.{LeadsAlong, Fits, IsFitting}
+use Rattle.def_evolve.specs.Evolution.{IsCommonSlot}
 use Rattle.def_evolve.proofs.Fitting.{leads_on}
 
 -- The way with these numbers.
@@ -44,12 +44,12 @@ slot_of (node name number shape nodes) slot i = by (in_append slot (map (within 
         record { field = s.field; there = inr s.there; inner = s.inner; inside = s.inside; numbers = s.numbers; shape = s.shape }
 
 -- a slot that is the field itself
-own_slot : (own : Shape) (slot : SlotAt) → IsIn slot (record { names = []; numbers = []; shape = own } ∷ []) → LeadsTo own (way_of slot.numbers) slot.shape
-own_slot own slot (inl e) = subst (λ (s : SlotAt). LeadsTo own (way_of s.numbers) s.shape) (sym e) refl
+own_slot : (own : Shape) (slot : SlotAt) → IsIn slot (record { names = []; numbers = []; shape = own } ∷ []) → LeadsAlong own (way_of slot.numbers) slot.shape
+own_slot own slot (inl e) = subst (λ (s : SlotAt). LeadsAlong own (way_of s.numbers) s.shape) (sym e) refl
 own_slot own slot (inr none) = absurd none
 
 mutual
-  pub slot_leads : (own : Shape) (slot : SlotAt) → IsIn slot (slots_in own) → LeadsTo own (way_of slot.numbers) slot.shape
+  pub slot_leads : (own : Shape) (slot : SlotAt) → IsIn slot (slots_in own) → LeadsAlong own (way_of slot.numbers) slot.shape
   slot_leads Taint slot i = own_slot Taint slot i
   slot_leads (Scalar pick kind) slot i = own_slot (Scalar pick kind) slot i
   slot_leads (Set kind) slot i = own_slot (Set kind) slot i
@@ -58,17 +58,17 @@ mutual
   slot_leads (Bag nodes) slot i = slots_lead nodes nodes slot (λ field j. j) i
 
   -- of some of a bag's fields
-  slots_lead : (nodes all : Nodes) (slot : SlotAt) → ((field : Field) → IsIn field (fields nodes) → IsIn field (fields all)) → IsIn slot (slots_of nodes) → LeadsTo (Bag all) (way_of slot.numbers) slot.shape
+  slots_lead : (nodes all : Nodes) (slot : SlotAt) → ((field : Field) → IsIn field (fields nodes) → IsIn field (fields all)) → IsIn slot (slots_of nodes) → LeadsAlong (Bag all) (way_of slot.numbers) slot.shape
   slots_lead no_node all slot among none = elim none [ ]
   slots_lead (node name number shape nodes) all slot among i =
       by (in_append slot (map (within name number) (slots_in shape)) (slots_of nodes) i) (λ inner j. slot_leads shape inner j) (λ j. slots_lead nodes all slot (λ field k. among field (inr k)) j)
     where
-      by : IsIn slot (map (within name number) (slots_in shape)) ⊎ IsIn slot (slots_of nodes) → ((inner : SlotAt) → IsIn inner (slots_in shape) → LeadsTo shape (way_of inner.numbers) inner.shape)
-          → (IsIn slot (slots_of nodes) → LeadsTo (Bag all) (way_of slot.numbers) slot.shape) → LeadsTo (Bag all) (way_of slot.numbers) slot.shape
+      by : IsIn slot (map (within name number) (slots_in shape)) ⊎ IsIn slot (slots_of nodes) → ((inner : SlotAt) → IsIn inner (slots_in shape) → LeadsAlong shape (way_of inner.numbers) inner.shape)
+          → (IsIn slot (slots_of nodes) → LeadsAlong (Bag all) (way_of slot.numbers) slot.shape) → LeadsAlong (Bag all) (way_of slot.numbers) slot.shape
       by (inl j) own rest =
           let s = in_map (within name number) (slots_in shape) slot j in
           let field : Field = record { name = name; number = number; shape = shape } in
-          subst (λ (x : SlotAt). LeadsTo (Bag all) (way_of x.numbers) x.shape) (sym s.2) (shape, (field, among field (inl refl), refl, refl), own s.0 s.1)
+          subst (λ (x : SlotAt). LeadsAlong (Bag all) (way_of x.numbers) x.shape) (sym s.2) (shape, (field, among field (inl refl), refl, refl), own s.0 s.1)
       by (inr j) own rest = rest j
 
 -- What is inside a common slot fits as the tables do.
@@ -79,5 +79,5 @@ slot_fits old new a b f common = λ more change x.
     way : List Part
     way = way_of a.numbers
 
-    behind : LeadsTo (Bag new) way b.shape
-    behind = subst (λ numbers. LeadsTo (Bag new) (way_of numbers) b.shape) (sym common.one) (slot_leads (Bag new) b common.behind)
+    behind : LeadsAlong (Bag new) way b.shape
+    behind = subst (λ numbers. LeadsAlong (Bag new) (way_of numbers) b.shape) (sym common.one) (slot_leads (Bag new) b common.behind)

@@ -9,7 +9,7 @@ use Rattle.bag_model.specs.Sizes.{shape_size, nodes_size}
 use Rattle.bag_model.specs.Tables.{IsShape, AreFields}
 use Rattle.bag_model.proofs.PathLaws.{is_field}
 use Rattle.bag_model.proofs.SizeLaws.{size_at}
-use Rattle.field_table.specs.Kept.{FindsNumber}
+use Rattle.field_table.specs.Tables.{FindsNumber}
 use Rattle.field_table.specs.Plain.{nodes_of, field_of, shape_of}
 use Rattle.field_table.specs.declared.shapes.Slot.{Slot}
 use Rattle.field_table.specs.declared.shapes.Slots.{Slots}

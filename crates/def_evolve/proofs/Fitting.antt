@@ -10,7 +10,7 @@ use Rattle.def_evolve.specs.declared.verdicts.Change.TheVariants as changes
 use Rattle.def_evolve.specs.declared.verdicts.Part.{Part}
 use Rattle.def_evolve.specs.declared.verdicts.Part.TheVariants.{Number, MapValue}
 use Rattle.def_evolve.specs.Widening.{Widens}
-use Rattle.def_evolve.specs.Breaks.{variant_of, Differs, LeadsTo, Fits}
+use Rattle.def_evolve.specs.Breaks.{variant_of, Differs, LeadsAlong, Fits}
 use Rattle.def_evolve.proofs.Wider.{told_wider}
 
 -- The fields with one number fit.
@@ -61,6 +61,6 @@ fits_inside old (Scalar pick kind) f = absurd (at_once old (Scalar pick kind) ch
 fits_inside old new f = absurd (at_once old new changes.Shape f (λ e. cc e))
 
 -- Ways one behind another.
-pub leads_on : (own mid shape : Shape) (way more : List Part) → LeadsTo own way mid → LeadsTo mid more shape → LeadsTo own (way ++ more) shape
-leads_on own mid shape [] more e l = subst (λ (s : Shape). LeadsTo s more shape) (sym e) l
+pub leads_on : (own mid shape : Shape) (way more : List Part) → LeadsAlong own way mid → LeadsAlong mid more shape → LeadsAlong own (way ++ more) shape
+leads_on own mid shape [] more e l = subst (λ (s : Shape). LeadsAlong s more shape) (sym e) l
 leads_on own mid shape (part ∷ way) more s l = (s.0, s.1, leads_on s.0 mid shape way more s.2 l)

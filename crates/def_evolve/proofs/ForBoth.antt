@@ -5,7 +5,7 @@ use Rattle.bag_model.specs.Shapes.{Shape, Nodes, Field, Taint, Scalar, Set, Coun
 use Rattle.bag_model.specs.Readings.{key_path, node_path}
 use Rattle.bag_model.specs.Typed.{IsTyped, AreTyped}
 use Rattle.def_evolve.specs.Breaks.{Fits}
-use Rattle.def_evolve.specs.Agreeing.{IsTypedForBoth, AreTypedForBoth}
+use Rattle.def_evolve.specs.Agreement.{IsTypedForBoth, AreTypedForBoth}
 use Rattle.def_evolve.proofs.Wider.{wider_spelling}
 use Rattle.def_evolve.proofs.Fitting.{FieldsFit, fits_inside}
 

@@ -17,7 +17,7 @@ use Rattle.def_evolve.specs.declared.verdicts.Part.{Part}
 use Rattle.def_evolve.specs.declared.verdicts.Part.TheVariants.{Number, MapValue}
 use Rattle.def_evolve.specs.declared.verdicts.Verdict.{Verdict}
 use Rattle.def_evolve.specs.declared.verdicts.Verdict.TheVariants as verdicts
-use Rattle.def_evolve.specs.Breaks.{part_rank, way_cmp, way_text, StepsTo, LeadsTo, variant_of, KeysDiffer, KindsDiffer, Differs, IsBreak, IsFirstBreak}
+use Rattle.def_evolve.specs.Breaks.{part_rank, way_cmp, way_text, StepsTo, LeadsAlong, variant_of, KeysDiffer, KindsDiffer, Differs, IsBreak, IsFirstBreak}
 use Rattle.def_evolve.specs.Common.{IsCommonCount, IsVerdict}
 
 -- ---- the order of ways
@@ -72,11 +72,11 @@ one_step (Bag nodes) (Number number) a b ok s t =
 one_step (Map key shape) MapValue a b ok s t = (sym s ∙ t, subst IsShape s ok.1)
 one_step own part a b ok s t = absurd (search (s, t))
 
-one_shape : (own : Shape) (way : List Part) (a b : Shape) → IsShape own → LeadsTo own way a → LeadsTo own way b → a ≡ b
+one_shape : (own : Shape) (way : List Part) (a b : Shape) → IsShape own → LeadsAlong own way a → LeadsAlong own way b → a ≡ b
 one_shape own [] a b ok s t = sym s ∙ t
 one_shape own (part ∷ way) a b ok s t =
     let step = one_step own part s.0 t.0 ok s.1 t.1 in
-    one_shape s.0 way a b step.1 s.2 (subst (λ (x : Shape). LeadsTo x way b) (sym step.0) t.2)
+    one_shape s.0 way a b step.1 s.2 (subst (λ (x : Shape). LeadsAlong x way b) (sym step.0) t.2)
 
 -- ---- one reason
 

@@ -22,8 +22,8 @@ use Rattle.trace_model.proofs.FaithfulLaws.{runs_are_faithful}
 use Rattle.trace_model.proofs.SlotParts.{slot_typed}
 use Rattle.trace_model.proofs.TruthLaws.{has_one_truth}
 use Rattle.def_evolve.specs.Breaks.{IsFitting}
-use Rattle.def_evolve.specs.Agreeing.{Agree}
-use Rattle.def_evolve.specs.Safety.{IsCommonSlot, IsSafe}
+use Rattle.def_evolve.specs.Agreement.{Agree}
+use Rattle.def_evolve.specs.Evolution.{IsCommonSlot, IsSafe}
 use Rattle.def_evolve.proofs.Agreement.{agree_at}
 use Rattle.def_evolve.proofs.ForBoth.{typed_for_both}
 use Rattle.def_evolve.proofs.CommonSlots.{slot_fits}

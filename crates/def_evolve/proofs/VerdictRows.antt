@@ -13,8 +13,8 @@ use Rattle.def_evolve.specs.declared.verdicts.Part.TheVariants.{Number, MapValue
 use Rattle.def_evolve.specs.declared.verdicts.Verdict.TheVariants as verdicts
 use Rattle.def_evolve.specs.Widening.{Widens}
 use Rattle.def_evolve.specs.Breaks.{way_cmp, way_text, Fits, IsBreak, IsFitting}
-use Rattle.def_evolve.specs.Agreeing.{HasField, elements_of, Agree, AgreeEach}
-use Rattle.def_evolve.specs.Texts.{verdict_text}
+use Rattle.def_evolve.specs.Agreement.{HasField, elements_of, Agree, AgreeEach}
+use Rattle.def_evolve.specs.Verdicts.{verdict_text}
 use Rattle.def_evolve.proofs.BreakSteps.{fits_from}
 use Rattle.def_evolve.proofs.Fitting.{FieldsFit}
 

@@ -6,7 +6,7 @@ use Rattle.std.specs.FinMap.{nat_cmp-IsAntisymmetric}
 use Rattle.std.proofs.lemmas.Cmp.{on_total, nat_cmp_total}
 use Rattle.context_model.specs.Orders.{IsIn}
 use Rattle.context_model.proofs.GreedyElements.{All-at}
-use Rattle.bag_model.specs.Scalars.{Word, Boolean, Int32, Int64, Sint32, Sint64, Uint32, Uint64, Fixed32, Fixed64, Sfixed32, Sfixed64, Str, Bytes, Form, UnsignedVarint, SignedVarint, form_of, ScalarKind, Plain, Signed, Unsigned, ScalarValue, IsOfForm, ArePlainsOf, IsScalarOf, plain_spelling, field_spelling, packed_spelling, spelling}
+use Rattle.bag_model.specs.Scalars.{Word, Boolean, Int32, Int64, Sint32, Sint64, Uint32, Uint64, Fixed32, Fixed64, Sfixed32, Sfixed64, Str, Bytes, SpellingForm, UnsignedVarint, SignedVarint, form_of, ScalarKind, Plain, Signed, Unsigned, ScalarValue, IsOfForm, ArePlainsOf, IsScalarOf, plain_spelling, field_spelling, packed_spelling, spelling}
 use Rattle.bag_model.specs.ShapeCode.{word_number, word_back, word_undone}
 use Rattle.bag_model.specs.Typed.{IsSpelling}
 use Rattle.bag_model.proofs.NumberCodes.{unsigned_wide, signed_wide}
@@ -18,12 +18,12 @@ use Rattle.def_evolve.specs.Widening.{wider_words, AreWider, Widens, WiderKindsS
 -- ---- words
 
 -- Each value of the first form is one of the second, and is spelled alike, by itself and as a field of a struct.
-abbrev StandsFor : Form → Form → Type 0
+abbrev StandsFor : SpellingForm → SpellingForm → Type 0
 StandsFor form wider =
     (v : Plain) → IsOfForm form v
     → IsOfForm wider v × (plain_spelling wider v ≡ plain_spelling form v) × (field_spelling wider v ≡ field_spelling form v)
 
-itself : (form : Form) → StandsFor form form
+itself : (form : SpellingForm) → StandsFor form form
 itself form v h = (h, refl, refl)
 
 unsigned_up : StandsFor (UnsignedVarint false) (UnsignedVarint true)

@@ -8,7 +8,7 @@ use Rattle.bag_model.specs.Scalars as model
 use Rattle.bag_model.specs.Slots.{dotted}
 use Rattle.scalar_types.specs.declared.kinds.ScalarKind.{ScalarKind}
 use Rattle.scalar_types.specs.declared.kinds.ScalarKind.TheVariants.{Packed}
-use Rattle.scalar_types.specs.KindViews.{IsWord, word_of, kind_of}
+use Rattle.scalar_types.specs.KindViews.{IsPlainWord, word_of, kind_of}
 use Rattle.def_evolve.specs.Widening.{AreWider, Widens}
 use Rattle.def_evolve.specs.declared.verdicts.Part.{Part}
 use Rattle.def_evolve.specs.Breaks.{part_text}
@@ -39,7 +39,7 @@ wider_long [] (wider ∷ more) w = absurd w
 wider_long (word ∷ words) [] w = absurd w
 wider_long (word ∷ words) (wider ∷ more) w = ap suc (wider_long words more w.1)
 
-pub kind_word : (kind : ScalarKind) → IsWord kind → kind_of kind ≡ model.ScalarKind.One (word_of kind)
+pub kind_word : (kind : ScalarKind) → IsPlainWord kind → kind_of kind ≡ model.ScalarKind.One (word_of kind)
 kind_word (Packed words) h = absurd h
 kind_word kind h = refl
 
@@ -47,10 +47,10 @@ pub words_turn : (kinds : List ScalarKind) (i : ℕ) (x : ScalarKind) → i < le
 words_turn kinds i x l e =
     drop_there (map word_of kinds) i (word_of x) (slice_get-map word_of kinds i ∙ ap (λ (o : Option ScalarKind). option_map word_of o) (slice_get-get_or kinds i x l ∙ ap Some (sym e)))
 
-pub word_there : (kinds : List ScalarKind) (i : ℕ) (x : ScalarKind) → i < length kinds → x ≡ get_or kinds i x → All IsWord kinds → IsWord x
-word_there kinds i x l e all = subst IsWord (sym e) (All-get_or IsWord kinds i x l all)
+pub word_there : (kinds : List ScalarKind) (i : ℕ) (x : ScalarKind) → i < length kinds → x ≡ get_or kinds i x → All IsPlainWord kinds → IsPlainWord x
+word_there kinds i x l e all = subst IsPlainWord (sym e) (All-get_or IsPlainWord kinds i x l all)
 
-module _ (kinds others : List ScalarKind) (i : ℕ) (x y : ScalarKind) (within : i < length kinds) (also : i < length others) (is : x ≡ get_or kinds i x) (other : y ≡ get_or others i y) (words : All IsWord kinds) (more : All IsWord others) where
+module _ (kinds others : List ScalarKind) (i : ℕ) (x y : ScalarKind) (within : i < length kinds) (also : i < length others) (is : x ≡ get_or kinds i x) (other : y ≡ get_or others i y) (words : All IsPlainWord kinds) (more : All IsPlainWord others) where
   -- Of the structs from a field on: that field, and the rest.
   pub wider_turn : AreWider (drop i (map word_of kinds)) (drop i (map word_of others)) ↔ (Widens (kind_of x) (kind_of y) × AreWider (drop (i + 1) (map word_of kinds)) (drop (i + 1) (map word_of others)))
   wider_turn =

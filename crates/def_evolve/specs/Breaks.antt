@@ -43,9 +43,9 @@ StepsTo (Map key value) MapValue shape = value ≡ shape
 StepsTo own part shape = ⊥
 
 -- This way leads from a field of the first shape to one of the second.
-abbrev pub LeadsTo : Shape → List Part → Shape → Type 0
-LeadsTo own [] shape = own ≡ shape
-LeadsTo own (part ∷ way) shape = (next : Shape) × StepsTo own part next × LeadsTo next way shape
+abbrev pub LeadsAlong : Shape → List Part → Shape → Type 0
+LeadsAlong own [] shape = own ≡ shape
+LeadsAlong own (part ∷ way) shape = (next : Shape) × StepsTo own part next × LeadsAlong next way shape
 
 -- ---- breaks
 
@@ -78,7 +78,7 @@ Differs changes.Kind old new = KindsDiffer old new
 
 -- At the end of this way both have a field, and the old one may not become the new one. Names don't matter.
 abbrev pub IsBreak : Shape → Shape → List Part → Change → Type 0
-IsBreak old new way change = (a b : Shape) × LeadsTo old way a × LeadsTo new way b × Differs change a b
+IsBreak old new way change = (a b : Shape) × LeadsAlong old way a × LeadsAlong new way b × Differs change a b
 
 -- It is a break, and none comes before it.
 pub record IsFirstBreak (old new : Shape) (way : List Part) (change : Change) : Type 0 where

@@ -1,7 +1,7 @@
 pub mod Widening
 pub mod Breaks
 pub mod Common
-pub mod Agreeing
-pub mod Safety
-pub mod Found
-pub mod Texts
+pub mod Agreement
+pub mod Evolution
+pub mod BreakSearches
+pub mod Verdicts

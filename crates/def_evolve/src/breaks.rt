@@ -6,7 +6,7 @@ ghost use Rattle.bag_model.specs.Tables.{IsShape, AreFields};
 ghost use Rattle.scalar_types.specs.KindViews.{kind_of};
 ghost use Rattle.field_table.specs.Plain.{nodes_of, shape_of};
 ghost use Rattle.def_evolve.specs.Breaks.{part_text, way_text};
-ghost use Rattle.def_evolve.specs.Found.{FindsBreak, FindsKindBreak};
+ghost use Rattle.def_evolve.specs.BreakSearches.{FindsBreak, FindsKindBreak};
 
 use crate::verdicts::{Change, Part};
 use crate::widening::widens;

@@ -2,7 +2,7 @@
 
 ghost use Rattle.std.specs.Prelude.{◌≡◌, ℕ, IfOk};
 ghost use Rattle.def_evolve.specs.Common.{IsVerdict};
-ghost use Rattle.def_evolve.specs.Safety.{IsSafe};
+ghost use Rattle.def_evolve.specs.Evolution.{IsSafe};
 ghost use Rattle.def_evolve.specs.declared.verdicts.Verdict.TheVariants.{Fits};
 
 use crate::breaks::first_break_in;

@@ -34,7 +34,7 @@ pub enum Verdict {
 
 impl fmt::Display for Change {
     ghost use Rattle.std.specs.Prelude.{Some};
-    ghost use Rattle.def_evolve.specs.Texts.{change_name};
+    ghost use Rattle.def_evolve.specs.Verdicts.{change_name};
 
     ghost output = { λ change. Some (change_name change) };
 
@@ -49,7 +49,7 @@ impl fmt::Display for Change {
 
 impl fmt::Display for Verdict {
     ghost use Rattle.std.specs.Prelude.{Some};
-    ghost use Rattle.def_evolve.specs.Texts.{verdict_text};
+    ghost use Rattle.def_evolve.specs.Verdicts.{verdict_text};
 
     ghost output = { λ verdict. Some (verdict_text verdict) };
 

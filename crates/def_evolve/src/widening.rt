@@ -1,7 +1,7 @@
 //! Which kinds of scalars may take the place of a kind. Nothing here takes memory.
 
 ghost use Rattle.std.specs.Prelude.{◌↔◌, All, IsTrue, map};
-ghost use Rattle.scalar_types.specs.KindViews.{IsWord, word_of, kind_of};
+ghost use Rattle.scalar_types.specs.KindViews.{IsPlainWord, word_of, kind_of};
 ghost use Rattle.def_evolve.specs.Widening.{AreWider, Widens};
 
 use scalar_types::ScalarKind;
@@ -21,8 +21,8 @@ pub(crate) fn widens(kind: &ScalarKind, wider: &ScalarKind) -> bool
 
 /// The same of the fields of two structs: there are as many, and each may take the place of that at its place.
 fn are_wider(words: &[ScalarKind], more: &[ScalarKind]) -> bool
-    requires words { All IsWord words.now }
-    requires more { All IsWord more.now }
+    requires words { All IsPlainWord words.now }
+    requires more { All IsPlainWord more.now }
     ensures { IsTrue result ↔ AreWider (map word_of words.now) (map word_of more.now) }
 {
     if words.len() != more.len() {
@@ -38,7 +38,7 @@ fn are_wider(words: &[ScalarKind], more: &[ScalarKind]) -> bool
 
 /// The same of a kind that is no struct.
 fn is_wider(word: &ScalarKind, wider: &ScalarKind) -> bool
-    requires { IsWord word.now }
+    requires { IsPlainWord word.now }
     ensures { IsTrue result ↔ Widens (kind_of word.now) (kind_of wider.now) }
 {
     match word {

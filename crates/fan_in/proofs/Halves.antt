@@ -6,7 +6,7 @@ use Rattle.context_model.specs.Atoms.{Atom}
 use Rattle.context_model.specs.Orders.{atom_cmp}
 use Rattle.context_model.specs.Merge.{greedy_merge}
 use Rattle.context_model.specs.Merged.{IsMerged, MergesInGroups}
-use Rattle.fan_in.specs.Named.{named}
+use Rattle.fan_in.specs.Pools.{named}
 
 -- The greedy merge of the merges of both halves is the merge of all places.
 halves_merge : MergesInGroups → (pool : List (List Atom)) (places left right : List ℕ) (a b merged : List Atom) → places ≡ left ++ right

@@ -2,7 +2,7 @@
 
 ghost use Rattle.std.specs.Prelude.{◌<◌, length, All, IfOk};
 ghost use Rattle.context_model.specs.Merged.{IsMerged};
-ghost use Rattle.fan_in.specs.Named.{named};
+ghost use Rattle.fan_in.specs.Pools.{named};
 
 use atom_list::Context;
 use lex_merge::laws::{merges_few, merges_in_groups};

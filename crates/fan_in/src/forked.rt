@@ -3,7 +3,7 @@
 ghost use Rattle.std.specs.Prelude.{◌<◌, length, All, IfOk};
 ghost use Rattle.std.specs.Thread.{IsSync};
 ghost use Rattle.context_model.specs.Merged.{IsMerged};
-ghost use Rattle.fan_in.specs.Named.{named};
+ghost use Rattle.fan_in.specs.Pools.{named};
 
 use crate::alone::merge_alone;
 use atom_list::Context;

@@ -9,8 +9,8 @@ use Rattle.field_calls.specs.declared.refusals.FieldRefusal.{FieldRefusal}
 use Rattle.field_calls.specs.declared.refusals.FieldRefusal.TheVariants.{NoField, Memory}
 
 -- The text is that of the table.
-abbrev pub IsTableOf : Nodes → List ℕ → Type 0
-IsTableOf nodes text = IsTable nodes × (text ≡ table_text nodes)
+abbrev pub IsPrintedTable : Nodes → List ℕ → Type 0
+IsPrintedTable nodes text = IsTable nodes × (text ≡ table_text nodes)
 
 -- The slot with this place looks so and has this name path.
 pub record IsField (nodes : Nodes) (name : List ℕ) (slot : ℕ) (at : SlotAt) : Type 0 where
@@ -18,15 +18,15 @@ pub record IsField (nodes : Nodes) (name : List ℕ) (slot : ℕ) (at : SlotAt) 
   pub named : name_path at ≡ name
 
 -- Some slot of the table has this name path.
-abbrev pub HasField : Nodes → List ℕ → Type 0
-HasField nodes name = (slot : ℕ) × (at : SlotAt) × IsField nodes name slot at
+abbrev pub NamesField : Nodes → List ℕ → Type 0
+NamesField nodes name = (slot : ℕ) × (at : SlotAt) × IsField nodes name slot at
 
 -- No slot of the table has it.
-abbrev pub HasNoField : Nodes → List ℕ → Type 0
-HasNoField nodes name = FindsSlot nodes name None
+abbrev pub NamesNoField : Nodes → List ℕ → Type 0
+NamesNoField nodes name = FindsSlot nodes name None
 
 -- The refusal says that no slot has the name, and it is so; want of memory claims nothing.
 abbrev pub IsUnnamed : Nodes → List ℕ → FieldRefusal → Type 0
-IsUnnamed nodes name NoField = HasNoField nodes name
+IsUnnamed nodes name NoField = NamesNoField nodes name
 IsUnnamed nodes name Memory = Unit {0}
 IsUnnamed nodes name other = ⊥

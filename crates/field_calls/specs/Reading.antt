@@ -13,12 +13,12 @@ use Rattle.bag_model.specs.Values.{Value}
 use Rattle.bag_scan.specs.declared.states.State.{State}
 use Rattle.bag_scan.specs.declared.states.State.TheVariants.{Exact}
 use Rattle.report_text.specs.ValueTexts.{value_text}
-use Rattle.table_text.specs.TableFaults.{IsTableFault}
-use Rattle.wire_bytes.specs.Codes.{byte_code_of}
-use Rattle.byte_calls.specs.Room.{BeginsWith, IsTooShortFor}
+use Rattle.table_text.specs.Reading.{IsTableFault}
+use Rattle.wire_bytes.specs.Reading.{byte_code_of}
+use Rattle.byte_calls.specs.Room.{HoldsBytes, IsTooShortFor}
 use Rattle.field_calls.specs.declared.refusals.FieldRefusal.{FieldRefusal}
 use Rattle.field_calls.specs.declared.refusals.FieldRefusal.TheVariants.{Table, NoField, Fault, IllTyped, Memory, Room}
-use Rattle.field_calls.specs.Fields.{IsTableOf, IsField, HasField, HasNoField}
+use Rattle.field_calls.specs.Fields.{IsPrintedTable, IsField, NamesField, NamesNoField}
 
 -- The bytes are those of a context in which each atom is spelled as the table says.
 abbrev pub IsTypedContextOf : Nodes → List Atom → List ℕ → Type 0
@@ -38,7 +38,7 @@ IsMisread nodes bytes other = ⊥
 
 -- The bytes are those of a typed context, a slot has this name path, the state says whether the slot is ended there, and the text is that of
 -- the value that the context says of it.
-pub record IsText (nodes : Nodes) (bytes name : List ℕ) (state : State) (text : List ℕ) : Type 0 where
+pub record IsFieldText (nodes : Nodes) (bytes name : List ℕ) (state : State) (text : List ℕ) : Type 0 where
   pub list : List Atom
   pub typed : IsTypedContextOf nodes list bytes
   pub slot : ℕ
@@ -51,19 +51,19 @@ pub record IsText (nodes : Nodes) (bytes name : List ℕ) (state : State) (text 
 
 -- Why nothing is read of a field of this table: no slot has the name; or one has it, and the bytes are those of no typed context. Want of
 -- memory claims nothing.
-abbrev pub IsUnreadFor : Nodes → List ℕ → List ℕ → FieldRefusal → Type 0
-IsUnreadFor nodes bytes name NoField = HasNoField nodes name
-IsUnreadFor nodes bytes name Memory = Unit {0}
-IsUnreadFor nodes bytes name refusal = HasField nodes name × IsMisread nodes bytes refusal
+abbrev pub IsFieldUnread : Nodes → List ℕ → List ℕ → FieldRefusal → Type 0
+IsFieldUnread nodes bytes name NoField = NamesNoField nodes name
+IsFieldUnread nodes bytes name Memory = Unit {0}
+IsFieldUnread nodes bytes name refusal = NamesField nodes name × IsMisread nodes bytes refusal
 
 -- The text of the field stands at the front of the room, and the answer has its state and its size; or the room is too short for it. Or the
 -- table's text has this first fault, or it is that of a table and nothing is read of the field, and the room is as before.
 abbrev pub ReadsField : List ℕ → List ℕ → List ℕ → List ℕ → List ℕ → Result (State × ℕ) FieldRefusal → Type 0
 ReadsField table bytes name old new (Ok answer) =
-    (nodes : Nodes) × IsTableOf nodes table × (text : List ℕ) × IsText nodes bytes name answer.0 text × BeginsWith text answer.1 old new
+    (nodes : Nodes) × IsPrintedTable nodes table × (text : List ℕ) × IsFieldText nodes bytes name answer.0 text × HoldsBytes text answer.1 old new
 ReadsField table bytes name old new (Err (Room size)) =
-    (nodes : Nodes) × IsTableOf nodes table × (state : State) × (text : List ℕ) × IsText nodes bytes name state text × IsTooShortFor text size old new
+    (nodes : Nodes) × IsPrintedTable nodes table × (state : State) × (text : List ℕ) × IsFieldText nodes bytes name state text × IsTooShortFor text size old new
 ReadsField table bytes name old new (Err (Table line code)) = IsTableFault table line code × (new ≡ old)
 ReadsField table bytes name old new (Err Memory) = new ≡ old
 ReadsField table bytes name old new (Err refusal) =
-    (nodes : Nodes) × IsTableOf nodes table × IsUnreadFor nodes bytes name refusal × (new ≡ old)
+    (nodes : Nodes) × IsPrintedTable nodes table × IsFieldUnread nodes bytes name refusal × (new ≡ old)

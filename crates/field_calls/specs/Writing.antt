@@ -8,16 +8,16 @@ use Rattle.bag_model.specs.Shapes.{Nodes}
 use Rattle.bag_model.specs.Slots.{SlotAt}
 use Rattle.bag_model.specs.SlotValues.{only}
 use Rattle.bag_model.specs.Values.{Value}
-use Rattle.table_text.specs.TableFaults.{IsTableFault}
+use Rattle.table_text.specs.Reading.{IsTableFault}
 use Rattle.write_text.specs.Writes.{IsWrite}
-use Rattle.byte_calls.specs.Room.{BeginsWith, IsTooShortFor}
+use Rattle.byte_calls.specs.Room.{HoldsBytes, IsTooShortFor}
 use Rattle.field_calls.specs.declared.refusals.FieldRefusal.{FieldRefusal}
 use Rattle.field_calls.specs.declared.refusals.FieldRefusal.TheVariants.{Table, NoField, NoWrite, Memory, Room}
-use Rattle.field_calls.specs.Fields.{IsTableOf, IsField, HasNoField}
+use Rattle.field_calls.specs.Fields.{IsPrintedTable, IsField, NamesNoField}
 
 -- A slot has this name path, the text is a write of a value to it in the form that is asked for, and the bytes are those of the context that
 -- says this value of the slot and nothing else.
-pub record SaysWrite (form : Form) (nodes : Nodes) (name text bytes : List ℕ) : Type 0 where
+pub record SaysFieldWrite (form : Form) (nodes : Nodes) (name text bytes : List ℕ) : Type 0 where
   pub slot : ℕ
   pub at : SlotAt
   pub field : IsField nodes name slot at
@@ -34,7 +34,7 @@ HasNoWrite form nodes name text =
 
 -- Why nothing is written to a field of this table. Want of memory claims nothing.
 abbrev pub IsUnwrittenFor : Form → Nodes → List ℕ → List ℕ → FieldRefusal → Type 0
-IsUnwrittenFor form nodes name text NoField = HasNoField nodes name
+IsUnwrittenFor form nodes name text NoField = NamesNoField nodes name
 IsUnwrittenFor form nodes name text NoWrite = HasNoWrite form nodes name text
 IsUnwrittenFor form nodes name text Memory = Unit {0}
 IsUnwrittenFor form nodes name text other = ⊥
@@ -43,10 +43,10 @@ IsUnwrittenFor form nodes name text other = ⊥
 -- text has this first fault, or it is that of a table and nothing is written to the field, and the room is as before.
 abbrev pub WritesField : Form → List ℕ → List ℕ → List ℕ → List ℕ → List ℕ → Result ℕ FieldRefusal → Type 0
 WritesField form table name text old new (Ok size) =
-    (nodes : Nodes) × IsTableOf nodes table × (bytes : List ℕ) × SaysWrite form nodes name text bytes × BeginsWith bytes size old new
+    (nodes : Nodes) × IsPrintedTable nodes table × (bytes : List ℕ) × SaysFieldWrite form nodes name text bytes × HoldsBytes bytes size old new
 WritesField form table name text old new (Err (Room size)) =
-    (nodes : Nodes) × IsTableOf nodes table × (bytes : List ℕ) × SaysWrite form nodes name text bytes × IsTooShortFor bytes size old new
+    (nodes : Nodes) × IsPrintedTable nodes table × (bytes : List ℕ) × SaysFieldWrite form nodes name text bytes × IsTooShortFor bytes size old new
 WritesField form table name text old new (Err (Table line code)) = IsTableFault table line code × (new ≡ old)
 WritesField form table name text old new (Err Memory) = new ≡ old
 WritesField form table name text old new (Err refusal) =
-    (nodes : Nodes) × IsTableOf nodes table × IsUnwrittenFor form nodes name text refusal × (new ≡ old)
+    (nodes : Nodes) × IsPrintedTable nodes table × IsUnwrittenFor form nodes name text refusal × (new ≡ old)

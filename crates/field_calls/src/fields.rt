@@ -1,7 +1,7 @@
 //! Fields by their names.
 
 ghost use Rattle.std.specs.Prelude.{◌≡◌, IfOk, IfErr};
-ghost use Rattle.accessor_gen.specs.Accessors.{IsAccessorOf};
+ghost use Rattle.accessor_gen.specs.Finding.{IsAccessorOf};
 ghost use Rattle.field_calls.specs.Fields.{IsUnnamed};
 
 use crate::refusals::FieldRefusal;

@@ -1,7 +1,7 @@
 //! What a context says of a field, as text.
 
 ghost use Rattle.std.specs.Prelude.{IfOk, IfErr};
-ghost use Rattle.field_calls.specs.Reading.{IsMisread, IsText, IsTypedContextOf, IsUnreadFor, ReadsField};
+ghost use Rattle.field_calls.specs.Reading.{IsMisread, IsFieldText, IsTypedContextOf, IsFieldUnread, ReadsField};
 
 use crate::fields::field_named;
 use crate::refusals::FieldRefusal;
@@ -37,8 +37,8 @@ fn field_text(
     context: &[u8],
     name: &[u8],
 ) -> Result<(State, Vec<u8>), FieldRefusal>
-    ensures read { IfOk result (λ read. IsText table.now context.now name.now read.0 read.1.items) }
-    ensures refused { IfErr result (IsUnreadFor table.now context.now name.now) }
+    ensures read { IfOk result (λ read. IsFieldText table.now context.now name.now read.0 read.1.items) }
+    ensures refused { IfErr result (IsFieldUnread table.now context.now name.now) }
 {
     let field = field_named(alloc, table, name)?;
     let context = typed_context(alloc, table, context)?;

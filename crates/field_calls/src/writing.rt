@@ -1,7 +1,7 @@
 //! The context of one write.
 
 ghost use Rattle.std.specs.Prelude.{IfOk, IfErr};
-ghost use Rattle.field_calls.specs.Writing.{IsUnwrittenFor, SaysWrite, WritesField};
+ghost use Rattle.field_calls.specs.Writing.{IsUnwrittenFor, SaysFieldWrite, WritesField};
 
 use crate::fields::field_named;
 use crate::refusals::FieldRefusal;
@@ -22,7 +22,7 @@ fn write_bytes(
     name: &[u8],
     text: &[u8],
 ) -> Result<Vec<u8>, FieldRefusal>
-    ensures written { IfOk result (λ bytes. SaysWrite form table.now name.now text.now bytes.items) }
+    ensures written { IfOk result (λ bytes. SaysFieldWrite form table.now name.now text.now bytes.items) }
     ensures refused { IfErr result (IsUnwrittenFor form table.now name.now text.now) }
 {
     // The proof rests on these laws.

@@ -7,7 +7,7 @@ use Rattle.bag_model.specs.declared.TheConstants.{MAX_FIELDS}
 use Rattle.bag_model.specs.Shapes.{Field, fields, Nodes}
 use Rattle.bag_model.specs.Slots.{slots_of, slot_count, starts}
 use Rattle.bag_model.proofs.SlotLaws.{slots_list, slots_of-list, starts-zero, starts-bound, starts-all}
-use Rattle.field_table.specs.Kept.{capped, ends_after, start_at, Holds}
+use Rattle.field_table.specs.Tables.{capped, ends_after, start_at, Holds}
 
 pub length-ends : (b : ℕ) (fs : List Field) → length (ends_after b fs) ≡ length fs
 length-ends b [] = refl

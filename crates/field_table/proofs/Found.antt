@@ -8,14 +8,14 @@ use Rattle.std.proofs.lemmas.Option.{slice_get-map, slice_get_within}
 use Rattle.bag_model.specs.declared.TheConstants.{MAX_FIELDS}
 use Rattle.bag_model.specs.Shapes as model
 use Rattle.bag_model.specs.Slots.{slots_of, slot_count, FindsField}
-use Rattle.field_table.specs.Paths.{IsSplit}
+use Rattle.field_table.specs.Shapes.{IsSplit}
 use Rattle.bag_model.specs.Tables.{IsTable}
 use Rattle.bag_model.proofs.SlotLaws.{slots_few}
 use Rattle.bag_model.proofs.PathLaws.{reached_bound}
 use Rattle.field_table.specs.declared.shapes.Slot.{Slot}
 use Rattle.field_table.specs.declared.shapes.Slots.{Slots}
 use Rattle.field_table.specs.declared.shapes.Shape.TheViews.{out-Slots}
-use Rattle.field_table.specs.Kept.{KeptField, IsPlaceOf, IsReady, capped, name}
+use Rattle.field_table.specs.Tables.{KeptField, IsPlaceOf, IsReady, capped, name}
 use Rattle.field_table.specs.Plain.{kept_bag, shape_of, nodes_of, name_of, IsIndexed, IsOrdered}
 use Rattle.field_table.proofs.Opened.{names_of-items}
 use Rattle.field_table.proofs.Held.{field_open, item_at, item_field}

@@ -20,7 +20,7 @@ use Rattle.field_table.specs.declared.shapes.Slots.{Slots}
 use Rattle.field_table.specs.declared.shapes.Shape.TheFolds.{fold-roll-Shape, fold_out-Slot, fold_out-Shape, map-Shape}
 use Rattle.field_table.specs.declared.shapes.Shape.TheOpen.{Shape-F}
 use Rattle.field_table.specs.declared.shapes.Shape.TheViews.{out-Slots, out-Shape, roll-Shape, roll-out-Shape}
-use Rattle.field_table.specs.Kept.{Kept, KeptField, KeptBag, Bag, plain, plain_bag, ends_of, start_at, Holds, IsReady, IsKept}
+use Rattle.field_table.specs.Tables.{Kept, KeptField, KeptBag, Bag, plain, plain_bag, ends_of, start_at, Holds, IsReady, IsKept}
 use Rattle.field_table.specs.Plain.{shape_step, slot_step, slots_step, kept_shape, kept_field, kept_bag, field_of, shape_of, nodes_of}
 use Rattle.field_table.proofs.Ends.{before_is, length-ends}
 use Rattle.field_table.proofs.Opened.{get_field, length_fields, has_indexes, open_ends}

@@ -13,7 +13,7 @@ use Rattle.field_table.specs.declared.shapes.Slots.{Slots}
 use Rattle.field_table.specs.declared.shapes.Shape.TheFolds.{fold_out-Slots}
 use Rattle.field_table.specs.declared.shapes.Shape.TheViews.{out-Slots, roll-Slots, out-roll-Slots}
 use Rattle.field_table.specs.declared.shapes.Shape.TheOpen.{Slots-F}
-use Rattle.field_table.specs.Kept.{Kept, KeptField, KeptBag, kept, kept_nodes, ends_of, plain, plain_bag, plain_nodes, capped, start_at, name, ends_after, HasPlaces, IsNameOrder, IsInOrder, IsKept, IsKeptBag, AreKept}
+use Rattle.field_table.specs.Tables.{Kept, KeptField, KeptBag, kept, kept_nodes, ends_of, plain, plain_bag, plain_nodes, capped, start_at, name, ends_after, HasPlaces, IsNameOrder, IsInOrder, IsKept, IsKeptBag, AreKept}
 use Rattle.field_table.proofs.Ends.{length-ends, last_end}
 use Rattle.field_table.specs.Plain.{shape_step, slot_step, slots_step, kept_field, kept_bag, field_of, nodes_of, name_of, IsIndexed, IsOrdered}
 

@@ -8,7 +8,7 @@ use Rattle.bag_model.specs.Tables.{AreFields}
 use Rattle.bag_model.specs.Words.{HasNoDot}
 use Rattle.bag_model.proofs.PathLaws.{reached_at, reached_from, is_field, one_place, name_no_dot, dot_there, one_split}
 use Rattle.bag_model.proofs.SlotPaths.{slot_leads}
-use Rattle.field_table.specs.Paths.{IsSplit, IsOnly}
+use Rattle.field_table.specs.Shapes.{IsSplit, IsOnly}
 
 -- The names behind the first are the rest of a path.
 abbrev pub AreRest : List (List ℕ) → Option (List ℕ) → Type 0

@@ -15,7 +15,7 @@ use Rattle.context_model.specs.Orders.{IsIn}
 use Rattle.bag_model.specs.Shapes as model
 use Rattle.bag_model.specs.Slots.{slot_count}
 use Rattle.bag_model.proofs.SlotLaws.{slots_list, length-slots}
-use Rattle.field_table.specs.Kept.{capped, ends_after, HasPlaces, IsNameOrder}
+use Rattle.field_table.specs.Tables.{capped, ends_after, HasPlaces, IsNameOrder}
 use Rattle.field_table.proofs.Ranks.{ranked, stands}
 
 -- The ends with one field more.

@@ -13,7 +13,7 @@ use Rattle.field_table.specs.declared.shapes.Shape.TheOpen.{Slots-F}
 use Rattle.field_table.specs.declared.shapes.Shape.TheViews.{out-Slots, roll-Slots, out-roll-Slots, roll-Slot}
 use Rattle.field_table.specs.declared.shapes.Shape.TheFolds.{fold-roll-Slot}
 use Rattle.field_table.proofs.Held.{field_open}
-use Rattle.field_table.specs.Kept.{Kept, KeptField, KeptBag, plain, IsKept, capped, ends_after, HasPlaces, IsNameOrder}
+use Rattle.field_table.specs.Tables.{Kept, KeptField, KeptBag, plain, IsKept, capped, ends_after, HasPlaces, IsNameOrder}
 use Rattle.field_table.specs.Plain.{shape_step, slot_step, slots_step, kept_shape, kept_field, shape_of, field_of, nodes_of, name_of, IsIndexed, IsOrdered}
 use Rattle.field_table.proofs.Opened.{IsKeptField, has_indexes, are_indexed, are_ordered, fields_of-items, fields_of-rolled, map_push}
 use Rattle.field_table.proofs.Places.{ends_push, places_push}

@@ -13,7 +13,7 @@ use Rattle.std.proofs.lemmas.Cmp.{nat_list_cmp_total}
 use Rattle.std.proofs.lemmas.Map.Lookups.{exact_bytes}
 use Rattle.std.proofs.lemmas.Option.{slice_get_within, get_or_from_slice_get}
 use Rattle.context_model.specs.Orders.{IsIn}
-use Rattle.field_table.specs.Kept.{IsNameOrder, IsRank, IsPlaceOf}
+use Rattle.field_table.specs.Tables.{IsNameOrder, IsRank, IsPlaceOf}
 
 abbrev pub name_cmp : List ℕ → List ℕ → Ordering
 name_cmp = slice_cmp nat_cmp

@@ -11,7 +11,7 @@ use Rattle.field_table.specs.declared.shapes.Shape.TheVariants as variants
 use Rattle.field_table.specs.declared.shapes.Slots.{Slots}
 use Rattle.field_table.specs.declared.shapes.Shape.TheFolds.{fold-roll-Shape}
 use Rattle.field_table.specs.declared.shapes.Shape.TheOpen.{Shape-F}
-use Rattle.field_table.specs.Kept.{Kept, KeptField, KeptBag, plain, Taint, Scalar, Set, Counter, Map, IsLoose}
+use Rattle.field_table.specs.Tables.{Kept, KeptField, KeptBag, plain, Taint, Scalar, Set, Counter, Map, IsLoose}
 use Rattle.field_table.specs.Plain.{shape_step, slot_step, slots_step, kept_shape, shape_of, nodes_of, IsIndexedShape}
 use Rattle.field_table.proofs.Held.{shape_bag}
 

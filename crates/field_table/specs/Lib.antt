@@ -1,5 +1,5 @@
-pub mod Paths
-pub mod Kept
+pub mod Shapes
+pub mod Tables
 pub mod Plain
 pub mod Ranges
 pub mod Views

@@ -8,7 +8,7 @@ use Rattle.field_table.specs.declared.shapes.Slot.{Slot}
 use Rattle.field_table.specs.declared.shapes.Slots.{Slots}
 use Rattle.field_table.specs.declared.shapes.Shape.TheFolds.{fold-Shape, fold-Slot, fold-Slots}
 use Rattle.field_table.specs.declared.shapes.Shape.TheOpen.{Shape-F, Slot-F, Slots-F}
-use Rattle.field_table.specs.Kept.{Kept, KeptField, KeptBag, kept, kept_nodes, plain, plain_bag, IsKeptBag, IsInOrder, IsLoose, Taint, Scalar, Set, Counter, Map, Bag}
+use Rattle.field_table.specs.Tables.{Kept, KeptField, KeptBag, kept, kept_nodes, plain, plain_bag, IsKeptBag, IsInOrder, IsLoose, Taint, Scalar, Set, Counter, Map, Bag}
 
 abbrev pub shape_step : Shape-F Kept KeptField KeptBag → Kept
 shape_step Shape-F.Taint = Taint

@@ -10,9 +10,9 @@ ghost use Rattle.std.specs.declared.cmp.Ordering.TheVariants.{Less};
 ghost use Rattle.bag_model.specs.Shapes.{fields, no_node};
 ghost use Rattle.bag_model.specs.Slots.{slots_of, slot_count, starts, name_path, FindsField};
 ghost use Rattle.bag_model.specs.Words.{HasNoDot};
-ghost use Rattle.field_table.specs.Paths.{IsOnly, IsSplit};
+ghost use Rattle.field_table.specs.Shapes.{IsOnly, IsSplit};
 ghost use Rattle.bag_model.specs.Tables.{levels, AreFields};
-ghost use Rattle.field_table.specs.Kept.{capped, Bag, KeptBag, FindsNumber, HasPlaces, IsKept, IsNameOrder, IsPlaceOf, IsRank, IsReady, Holds};
+ghost use Rattle.field_table.specs.Tables.{capped, Bag, KeptBag, FindsNumber, HasPlaces, IsKept, IsNameOrder, IsPlaceOf, IsRank, IsReady, Holds};
 ghost use Rattle.field_table.specs.Plain.{shape_of, kept_shape, name_of, number_of, field_of, nodes_of, kept_bag, IsIndexed, IsIndexedShape, IsIndexedField, IsOrdered};
 
 use crate::slot_paths::SlotPath;

@@ -5,7 +5,7 @@ ghost use Rattle.std.specs.List.{slice_get};
 ghost use Rattle.std.specs.Option.{option_map};
 ghost use Rattle.bag_model.specs.Slots.{slots_of, name_path, FindsSlot, FindsRange};
 ghost use Rattle.bag_model.specs.Tables.{IsTable};
-ghost use Rattle.field_table.specs.Kept.{IsReady};
+ghost use Rattle.field_table.specs.Tables.{IsReady};
 ghost use Rattle.field_table.specs.Plain.{shape_of, nodes_of, kept_bag, IsIndexed};
 
 use crate::shapes::{Shape, Slots};

@@ -4,7 +4,7 @@
 
 ghost use Rattle.std.specs.Prelude.{◌≤◌, IfOk, IfErr};
 ghost use Rattle.context_model.specs.Framing.{least_budget};
-ghost use Rattle.forwarding.specs.Sent.{Forwards, RefusesFirst};
+ghost use Rattle.forwarding.specs.Forwards.{Forwards, RefusesFirst};
 
 use lex_merge::merge;
 use overflow_trim::trim_context;

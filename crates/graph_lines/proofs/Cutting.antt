@@ -2,7 +2,7 @@
 use Rattle.std.proofs.Common.{◌≡◌, ℕ, List, sym, ◌∙◌}
 use Rattle.std.specs.Fmt.{decimal}
 use Rattle.graph_lines.specs.Forms.{IsName, IsPath, IsNumber, HasNoSpace}
-use Rattle.graph_lines.specs.Taken.{IsCut, NameThen, PathThen, NumberThen, IsNumberText}
+use Rattle.graph_lines.specs.Reading.{IsCut, NameThen, PathThen, NumberThen, IsNumberText}
 use Rattle.graph_lines.proofs.Separated.{same_cut}
 use Rattle.graph_lines.proofs.Names.{name_no_space, path_no_space}
 use Rattle.graph_lines.proofs.Decimals.{number_no_space, same_number}

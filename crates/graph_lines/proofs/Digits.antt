@@ -5,9 +5,9 @@ use Rattle.std.specs.Str.Parse.{AllDigits, digits_value, digits_value_after}
 use Rattle.std.proofs.lemmas.Bool.{cases_lt}
 use Rattle.std.proofs.lemmas.Str.Parse.{IsNumeralModel, numerals_by_value, tells_digits, digits_value_short}
 use Rattle.std.proofs.lemmas.Fmt.{decimal_is_IsNumeral, decimal_nonempty, decimal-digits_value, first_decimal, decimal_digit, length-decimal-le}
-use Rattle.decimal_text.specs.Answers.{Answers}
+use Rattle.decimal_text.specs.Answers.{IsSomeOf}
 use Rattle.graph_lines.specs.Forms.{IsNumber}
-use Rattle.graph_lines.specs.Taken.{IsNumberText}
+use Rattle.graph_lines.specs.Reading.{IsNumberText}
 use Rattle.graph_lines.proofs.Decimals.{small_number}
 
 -- The first bytes of the text are digits, and say the number.
@@ -38,7 +38,7 @@ own = numerals_by_value (AllDigits 10) tells_digits
 -- What digits of another shape are worth is the number that they say.
 pub said_number : (text : List ℕ) (r : Option ℕ) → (IsMisshapen text → ⊥)
     → MatchOption r (AllDigits 10 text → ⊥) (λ number. AllDigits 10 text × (number ≡ digits_value 10 text))
-    → Answers (IsNumberText text) r
+    → IsSomeOf (IsNumberText text) r
 said_number text None good h = λ number is.
     h (subst (AllDigits 10) (sym is.1) (decimal_is_IsNumeral number (small_number number is.0)).0.1)
 said_number text (Some number) good h =

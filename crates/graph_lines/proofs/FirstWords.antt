@@ -8,7 +8,7 @@ use Rattle.context_model.specs.declared.Form.{Form as WireForm}
 use Rattle.context_model.specs.declared.Form.TheVariants.{One, Two}
 use Rattle.graph_lines.specs.Statements.{NamedView, NamedAct, Statement, Start, Recv, Set, Branch, Forward, Trim, Join, Service, Step, Show}
 use Rattle.graph_lines.specs.Forms.{service_word, act_name, words_of, HasNoSpace}
-use Rattle.graph_lines.specs.Taken.{first_word, more_words}
+use Rattle.graph_lines.specs.Reading.{first_word, more_words}
 
 -- Texts with different bytes aren't the same.
 pub differ : (a b : List ℕ) → bytes_eq a b ≡ false → a ≡ b → ⊥

@@ -5,8 +5,8 @@ use Rattle.std.specs.Fmt.{decimal}
 use Rattle.std.specs.List.{join_with_byte}
 use Rattle.std.proofs.lemmas.List.{length-map}
 use Rattle.graph_lines.specs.Statements.{NamedView, NamedAct, Statement, All, Nothing, Only, Start, Recv, Set, Branch, Forward, Trim, Join, Service, Step, Show}
-use Rattle.graph_lines.specs.Forms.{IsNumber, HasNoSpace, IsSoundView, IsSoundAct, IsSound, view_words, act_name, act_words, HasForm}
-use Rattle.graph_lines.specs.Taken.{first_word}
+use Rattle.graph_lines.specs.Forms.{IsNumber, HasNoSpace, IsSoundView, IsSoundNamedAct, IsSound, view_words, act_name, act_words, HasForm}
+use Rattle.graph_lines.specs.Reading.{first_word}
 use Rattle.graph_lines.proofs.Separated.{free_there, same_cut, same_joined}
 use Rattle.graph_lines.proofs.Names.{name_no_space, path_no_space, paths_free}
 use Rattle.graph_lines.proofs.Decimals.{number_no_space, numbers_free, same_number, same_numbers}
@@ -22,7 +22,7 @@ view_some All = omega arith
 view_some Nothing = omega arith
 view_some (Only paths) = omega arith
 
-pub act_some : (act : NamedAct) → IsSoundAct act → 0 < length (act_words act)
+pub act_some : (act : NamedAct) → IsSoundNamedAct act → 0 < length (act_words act)
 act_some (Join parents) h = omega (arith, h.0, length-map parents decimal)
 act_some (Start service) h = omega arith
 act_some act h = omega arith
@@ -52,9 +52,9 @@ one_number m n x y p q e =
 
 -- The other act says the same.
 abbrev SaysSame : NamedAct → NamedAct → Type 0
-SaysSame a b = IsSoundAct b → join_with_byte 32 (act_words a) ≡ join_with_byte 32 (act_words b) → a ≡ b
+SaysSame a b = IsSoundNamedAct b → join_with_byte 32 (act_words a) ≡ join_with_byte 32 (act_words b) → a ≡ b
 
-one_act : (a b : NamedAct) → IsSoundAct a → act_name a ≡ act_name b → SaysSame a b
+one_act : (a b : NamedAct) → IsSoundNamedAct a → act_name a ≡ act_name b → SaysSame a b
 one_act (Start service) b p name = only_start (SaysSame (Start service)) (λ other q e. ap Start e) b (sym name)
 one_act (Recv service hex) b p name =
     only_recv (SaysSame (Recv service hex)) (λ other more q e.

@@ -73,19 +73,19 @@ IsSoundView Nothing = Unit {0}
 IsSoundView (Only paths) = (0 < length paths) × AllByRecursion IsPath paths
 
 -- The parts of an act are numbers, names, paths and words as their kind wants it; a write isn't empty, but may hold spaces.
-abbrev pub IsSoundAct : NamedAct → Type 0
-IsSoundAct (Start service) = IsName service
-IsSoundAct (Recv service hex) = IsName service × IsOneWord hex
-IsSoundAct (Set parent path write) = IsNumber parent × IsPath path × (0 < length write)
-IsSoundAct (Branch parent) = IsNumber parent
-IsSoundAct (Forward parent service) = IsNumber parent × IsName service
-IsSoundAct (Trim parent budget) = IsNumber parent × IsNumber budget
-IsSoundAct (Join parents) = (0 < length parents) × AllByRecursion IsNumber parents
+abbrev pub IsSoundNamedAct : NamedAct → Type 0
+IsSoundNamedAct (Start service) = IsName service
+IsSoundNamedAct (Recv service hex) = IsName service × IsOneWord hex
+IsSoundNamedAct (Set parent path write) = IsNumber parent × IsPath path × (0 < length write)
+IsSoundNamedAct (Branch parent) = IsNumber parent
+IsSoundNamedAct (Forward parent service) = IsNumber parent × IsName service
+IsSoundNamedAct (Trim parent budget) = IsNumber parent × IsNumber budget
+IsSoundNamedAct (Join parents) = (0 < length parents) × AllByRecursion IsNumber parents
 
 -- Each part of what a line says is as its kind wants it.
 abbrev pub IsSound : Statement → Type 0
 IsSound (Service form name view) = IsName name × IsSoundView view
-IsSound (Step number act) = IsNumber number × IsSoundAct act
+IsSound (Step number act) = IsNumber number × IsSoundNamedAct act
 IsSound (Show step) = IsNumber step
 
 -- The line has a form, and says this: it is the words of something sound, one space between two of them.

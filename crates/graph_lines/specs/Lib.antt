@@ -1,4 +1,4 @@
 pub mod Statements
 pub mod Forms
-pub mod Taken
-pub mod Views
+pub mod Reading
+pub mod Acts

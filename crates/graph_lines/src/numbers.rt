@@ -3,8 +3,8 @@
 ghost use Rattle.std.specs.Prelude.{◌≡◌, ◌⊎◌, ◌↔◌, ◌<◌, ◌≤◌, IsTrue, IfOk, length, slice_index, MatchOption};
 ghost use Rattle.std.specs.Option.{option_map};
 ghost use Rattle.std.specs.Str.Parse.{AllDigits, digits_value};
-ghost use Rattle.decimal_text.specs.Answers.{Answers};
-ghost use Rattle.graph_lines.specs.Taken.{Takes, IsNumberText, NumberThen, AreNumbers};
+ghost use Rattle.decimal_text.specs.Answers.{IsSomeOf};
+ghost use Rattle.graph_lines.specs.Reading.{TakesOnly, IsNumberText, NumberThen, AreNumbers};
 
 use crate::words::cut_word;
 use outside::Memory;
@@ -39,7 +39,7 @@ fn worth_of(text: &[u8]) -> Option<u64>
 
 /// The number that the bytes of a text say.
 fn number_of(text: &[u8]) -> Option<u64>
-    ensures { Answers (IsNumberText text.now) result }
+    ensures { IsSomeOf (IsNumberText text.now) result }
 {
     if is_misshapen(text) {
         None
@@ -50,14 +50,14 @@ fn number_of(text: &[u8]) -> Option<u64>
 
 /// The number that is a text: 1 to 10 decimal digits, without a leading zero unless it is `0`.
 pub fn read_number(text: &str) -> Option<u64>
-    ensures { Answers (IsNumberText text.now) result }
+    ensures { IsSomeOf (IsNumberText text.now) result }
 {
     number_of(text.as_bytes())
 }
 
 /// A number at the front of a text, and what stands behind the space after it.
 pub fn take_number(text: &str) -> Option<(u64, &str)>
-    ensures { Takes (NumberThen text.now) (option_map (λ cut. (cut.0, cut.1.now)) result) }
+    ensures { TakesOnly (NumberThen text.now) (option_map (λ cut. (cut.0, cut.1.now)) result) }
 {
     let (digits, rest) = cut_word(text)?;
     let number = read_number(digits)?;
@@ -66,7 +66,7 @@ pub fn take_number(text: &str) -> Option<(u64, &str)>
 
 /// The numbers that are a text, with one space between two of them.
 pub fn read_numbers(alloc: Global, text: &str) -> Result<Option<Vec<u64>>, Memory>
-    ensures { IfOk result (λ read. Answers (AreNumbers text.now) (option_map (λ numbers. numbers.items) read)) }
+    ensures { IfOk result (λ read. IsSomeOf (AreNumbers text.now) (option_map (λ numbers. numbers.items) read)) }
 {
     let mut numbers = Vec::new(alloc);
     for word in text.split(' ') {

@@ -2,11 +2,11 @@
 
 ghost use Rattle.std.specs.Prelude.{ℕ, codes, IfOk, MatchOption};
 ghost use Rattle.std.specs.Option.{option_map};
-ghost use Rattle.decimal_text.specs.Answers.{Answers};
+ghost use Rattle.decimal_text.specs.Answers.{IsSomeOf};
 ghost use Rattle.graph_lines.specs.Statements as plain;
 ghost use Rattle.graph_lines.specs.Forms.{service_word, HasForm};
-ghost use Rattle.graph_lines.specs.Taken.{IsViewText, IsBehind, IsStatementText};
-ghost use Rattle.graph_lines.specs.Views.{view_of, statement_of};
+ghost use Rattle.graph_lines.specs.Reading.{IsViewText, IsRestText, IsStatementText};
+ghost use Rattle.graph_lines.specs.Acts.{view_of, statement_of};
 
 use crate::acts::read_act;
 use crate::numbers::{read_number, take_number};
@@ -18,7 +18,7 @@ use std::alloc::Global;
 
 /// The view of a service: `all`, `none` or `only PATH [PATH ..]`
 fn read_view(alloc: Global, text: &str) -> Result<Option<NamedView<'_>>, Memory>
-    ensures { IfOk result (λ read. Answers (IsViewText text.now) (option_map view_of read)) }
+    ensures { IfOk result (λ read. IsSomeOf (IsViewText text.now) (option_map view_of read)) }
 {
     let Some((word, rest)) = cut_word(text) else {
         return Ok(match text {
@@ -38,7 +38,7 @@ fn read_view(alloc: Global, text: &str) -> Result<Option<NamedView<'_>>, Memory>
 
 /// What stands behind the word for a service of this form: `NAME` and a view
 fn read_service(alloc: Global, form: Form, text: &str) -> Result<Option<Statement<'_>>, Memory>
-    ensures { IfOk result (λ read. Answers (IsBehind (service_word form) text.now) (option_map statement_of read)) }
+    ensures { IfOk result (λ read. IsSomeOf (IsRestText (service_word form) text.now) (option_map statement_of read)) }
 {
     let Some((name, rest)) = take_name(text) else {
         return Ok(None);
@@ -51,7 +51,7 @@ fn read_service(alloc: Global, form: Form, text: &str) -> Result<Option<Statemen
 
 /// `show STEP`
 fn read_show(text: &str) -> Option<Statement<'_>>
-    ensures { Answers (IsBehind (codes "show") text.now) (option_map statement_of result) }
+    ensures { IsSomeOf (IsRestText (codes "show") text.now) (option_map statement_of result) }
 {
     let step = read_number(text)?;
     Some(Statement::Show { step })
@@ -60,8 +60,8 @@ fn read_show(text: &str) -> Option<Statement<'_>>
 /// A step with an act of this name.
 fn read_step<'a>(alloc: Global, name: &str, text: &'a str) -> Result<Option<Statement<'a>>, Memory>
     ensures { IfOk result (λ read. MatchOption read
-        ((number : ℕ) (act : plain.NamedAct) → IsBehind name.now text.now (plain.Step number act) → ⊥)
-        (λ statement. IsBehind name.now text.now (statement_of statement))) }
+        ((number : ℕ) (act : plain.NamedAct) → IsRestText name.now text.now (plain.Step number act) → ⊥)
+        (λ statement. IsRestText name.now text.now (statement_of statement))) }
 {
     let Some((number, rest)) = take_number(text) else {
         return Ok(None);
@@ -74,7 +74,7 @@ fn read_step<'a>(alloc: Global, name: &str, text: &'a str) -> Result<Option<Stat
 
 /// What a line of characters says, or none where it has no form.
 fn read_words(alloc: Global, text: &str) -> Result<Option<Statement<'_>>, Memory>
-    ensures { IfOk result (λ read. Answers (IsStatementText text.now) (option_map statement_of read)) }
+    ensures { IfOk result (λ read. IsSomeOf (IsStatementText text.now) (option_map statement_of read)) }
 {
     let Some((first, rest)) = cut_word(text) else {
         return Ok(None);

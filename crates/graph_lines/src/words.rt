@@ -5,9 +5,9 @@ ghost use Rattle.std.specs.Char.{is_ascii_digit};
 ghost use Rattle.std.specs.List.{list_all};
 ghost use Rattle.std.specs.Option.{option_map};
 ghost use Rattle.bag_model.specs.Words.{is_letter, is_word};
-ghost use Rattle.decimal_text.specs.Answers.{Answers};
+ghost use Rattle.decimal_text.specs.Answers.{IsSomeOf};
 ghost use Rattle.graph_lines.specs.Forms.{IsPath, IsOneWord, HasNoSpace};
-ghost use Rattle.graph_lines.specs.Taken.{Takes, IsCut, NameThen, PathThen, ArePaths};
+ghost use Rattle.graph_lines.specs.Reading.{TakesOnly, IsCut, NameThen, PathThen, ArePaths};
 
 use outside::Memory;
 use std::alloc::Global;
@@ -85,7 +85,7 @@ pub(crate) fn is_one_word(text: &str) -> bool
 
 /// A name at the front of a text, and what stands behind the space after it.
 pub(crate) fn take_name(text: &str) -> Option<(&str, &str)>
-    ensures { Takes (NameThen text.now) (option_map (λ cut. (cut.0.now, cut.1.now)) result) }
+    ensures { TakesOnly (NameThen text.now) (option_map (λ cut. (cut.0.now, cut.1.now)) result) }
 {
     let (name, rest) = cut_word(text)?;
     if is_name(name.as_bytes()) {
@@ -97,7 +97,7 @@ pub(crate) fn take_name(text: &str) -> Option<(&str, &str)>
 
 /// A path at the front of a text, and what stands behind the space after it.
 pub(crate) fn take_path(text: &str) -> Option<(&str, &str)>
-    ensures { Takes (PathThen text.now) (option_map (λ cut. (cut.0.now, cut.1.now)) result) }
+    ensures { TakesOnly (PathThen text.now) (option_map (λ cut. (cut.0.now, cut.1.now)) result) }
 {
     let (path, rest) = cut_word(text)?;
     if is_path(path.as_bytes()) {
@@ -109,7 +109,7 @@ pub(crate) fn take_path(text: &str) -> Option<(&str, &str)>
 
 /// The paths that are a text, with one space between two of them.
 pub(crate) fn read_paths(alloc: Global, text: &str) -> Result<Option<Vec<&str>>, Memory>
-    ensures { IfOk result (λ read. Answers (ArePaths text.now)
+    ensures { IfOk result (λ read. IsSomeOf (ArePaths text.now)
         (option_map (λ paths. map (λ path. path.now) paths.items) read)) }
 {
     let mut paths = Vec::new(alloc);

@@ -5,7 +5,7 @@ use Rattle.trace_model.specs.Graphs.{Graph, IsRecorded, IsTypedContext}
 use Rattle.trace_model.specs.Runs.{Lists, list_at, IsRun}
 use Rattle.trace_model.specs.Truth.{SameWritesReachAlike}
 use Rattle.trace_model.specs.Faithful.{IsRunStep, IsFaithful, AlikeStepsSayTheSame}
-use Rattle.graph_runner.specs.Alike.{AlikeStepsAgree}
+use Rattle.graph_runner.specs.Runs.{AlikeStepsAgree}
 
 pub run_step_of : (nodes : Nodes) (graph : Graph) (lists : Lists) → IsRecorded nodes graph → IsRun nodes graph lists → (n : ℕ) → n < length graph.steps → IsRunStep nodes graph lists n
 run_step_of nodes graph lists recorded run n within = record { recorded = recorded; run = run; within = within }

@@ -3,10 +3,10 @@ use Rattle.std.proofs.Common.{◌≡◌, inl, inr, ℕ, zero, suc, ◌+◌, ◌<
 use Rattle.context_model.specs.Orders.{IsIn}
 use Rattle.trace_model.specs.Graphs.{Step, Graph, parents_of, HasStep}
 use Rattle.trace_model.specs.Runs.{Lists}
-use Rattle.step_rules.specs.Parents.{AreWithin, ArePlacesOf}
+use Rattle.step_rules.specs.Parents.{AreWithinLists, ArePlacesOf}
 
 -- What was seen of each place holds of all.
-pub all_within : (lists : Lists) (places : List ℕ) → ((k : ℕ) → k < length places → get_or places k 0 < length lists) → AreWithin lists places
+pub all_within : (lists : Lists) (places : List ℕ) → ((k : ℕ) → k < length places → get_or places k 0 < length lists) → AreWithinLists lists places
 all_within lists [] each place i = absurd i
 all_within lists (first ∷ rest) each place (inl e) = subst (λ n. n < length lists) (sym e) (each 0 (omega arith))
 all_within lists (first ∷ rest) each place (inr i) = all_within lists rest (λ k l. each (suc k) (omega (arith, l))) place i
@@ -16,7 +16,7 @@ one_step a b e = cc
 
 -- As many places as the step that stands there has parents are places of its parents.
 pub places_of : (graph : Graph) (n : ℕ) (step : Step) (parents places : List ℕ) (lists : Lists) → HasStep graph n step → parents ≡ parents_of step.act
-    → length places ≡ length parents → AreWithin lists places → (own : Step) → HasStep graph n own → ArePlacesOf (parents_of own.act) lists places
+    → length places ≡ length parents → AreWithinLists lists places → (own : Step) → HasStep graph n own → ArePlacesOf (parents_of own.act) lists places
 places_of graph n step parents places lists there are many within own has =
     let one : step ≡ own = one_step step own (sym there ∙ has) in
     record {

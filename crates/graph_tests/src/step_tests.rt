@@ -2,7 +2,7 @@
 
 ghost use Rattle.std.specs.Prelude.{◌≡◌, length};
 ghost use Rattle.trace_model.specs.Graphs.{IsOfTable};
-ghost use Rattle.step_rules.specs.Parents.{AreWithin};
+ghost use Rattle.step_rules.specs.Parents.{AreWithinLists};
 
 use crate::fixtures::{context_of, digits_of, graph_of, table_of, with_words};
 use atom_list::Context;
@@ -158,7 +158,7 @@ static GIVEN: [(usize, &str, &[usize], &str); 32] = [
 /// There are as many places as parents, and all are places of the pool.
 fn check_places(rt: &impl Abort, parents: &[usize], pool: &[Context], places: &[usize])
     ensures many { length places.now ≡ length parents.now }
-    ensures within { AreWithin pool.now places.now }
+    ensures within { AreWithinLists pool.now places.now }
 {
     assert!(rt; places.len() == parents.len());
     for place in places {

@@ -11,7 +11,7 @@ use Rattle.bag_model.proofs.IllTyped.{first_ill_typed}
 use Rattle.bag_walks.proofs.OnePlace.{one_place}
 use Rattle.wire_bytes.proofs.OneCode.{one_code}
 use Rattle.wire_bytes.specs.declared.contexts.ByteCode.{ByteCode}
-use Rattle.wire_bytes.specs.Codes.{byte_code_of}
+use Rattle.wire_bytes.specs.Reading.{byte_code_of}
 use Rattle.text_lines.specs.HexLines.{hex_bytes}
 use Rattle.text_lines.specs.Lines.{lines_of}
 use Rattle.text_lines.proofs.ReadingLaws.{first_of_one, first_of_none, all_say_one, first_bad_one, good_not_bad}
@@ -21,8 +21,8 @@ use Rattle.graph_lines.specs.Statements as lines
 use Rattle.graph_lines.specs.Statements.{Statement}
 use Rattle.graph_text.specs.declared.faults.LineFault.{LineFault}
 use Rattle.graph_text.specs.declared.faults.LineFault.TheVariants.{Bytes, IllTyped}
-use Rattle.graph_text.specs.Additions.{Addition, graph_of, SaysTyped, IsGood, HasBadBytes, ReceivesBad, IsBad}
-use Rattle.graph_text.specs.GraphLines.{SaysAddition, HasFault, graph_lines, IsGraphOf, IsFirstFault, LinesAreDefinite}
+use Rattle.graph_text.specs.Additions.{Addition, graph_of, SaysTypedContext, IsGood, HasBadBytes, ReceivesBad, IsBad}
+use Rattle.graph_text.specs.Reading.{SaysAddition, HasFault, graph_lines, IsGraphOf, IsFirstFault, LinesAreDefinite}
 use Rattle.graph_text.specs.Rules.{Breaks, rules}
 use Rattle.graph_text.proofs.Meanings.{HasOneWrite, one_addition}
 
@@ -59,7 +59,7 @@ one_received : (table : Nodes) (hex : List ℕ) (f g : LineFault) → HasBadByte
 one_received table hex f g (bytes, says, wrong) (others, say, bad) =
     one_wrong table bytes f g wrong (subst (λ bs. IsWrong table bs g) (one_hex hex bytes others says say) bad)
 
-typed_not_wrong : (table : Nodes) (hex : List ℕ) (list : List Atom) (fault : LineFault) → SaysTyped table hex list → HasBadBytes table hex fault → ⊥
+typed_not_wrong : (table : Nodes) (hex : List ℕ) (list : List Atom) (fault : LineFault) → SaysTypedContext table hex list → HasBadBytes table hex fault → ⊥
 typed_not_wrong table hex list fault (bytes, says, is, typed) (others, say, bad) = by (subst (λ bs. IsWrong table bs fault) (one_hex hex bytes others says say) bad)
   where
     by : IsWrong table bytes fault → ⊥

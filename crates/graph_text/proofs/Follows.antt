@@ -14,11 +14,11 @@ use Rattle.text_lines.specs.Readings.{NoneOf}
 use Rattle.trace_model.specs.Graphs as graphs
 use Rattle.trace_model.specs.Graphs.{Act, Graph, HasStep, IsGraph, IsSoundAct, StaysAt, form_at, parents_of}
 use Rattle.recorded_graph.specs.declared.graphs.TheConstants.{STEPS_MAX}
-use Rattle.recorded_graph.specs.Growth.{MayFollow}
+use Rattle.recorded_graph.specs.Graphs.{MayBeNext}
 use Rattle.graph_lines.specs.Forms.{IsSound}
 use Rattle.graph_lines.specs.Statements as lines
 use Rattle.graph_lines.specs.Statements.{NamedView, NamedAct, Statement}
-use Rattle.graph_text.specs.Additions.{Addition, AddStep, MeansAct, StandsAt, IsGood}
+use Rattle.graph_text.specs.Additions.{Addition, AddStep, MeansAct, StandsAtService, IsGood}
 use Rattle.graph_text.specs.Names.{names_of, service_named, service_at, steps_named, parents_named}
 use Rattle.graph_text.specs.Rules.{JoinsApart, HasNoBudget, Breaks, rules}
 
@@ -70,7 +70,7 @@ stands_within graph n service sound e =
     subst (λ k. k < length graph.services) own.2 (sound.services n own.0 own.1)
 
 -- The step stands at a service of the graph.
-service_within : (graph : Graph) (named : NamedAct) (service : ℕ) → IsGraph graph → StandsAt graph named service → service < length graph.services
+service_within : (graph : Graph) (named : NamedAct) (service : ℕ) → IsGraph graph → StandsAtService graph named service → service < length graph.services
 service_within graph (lines.Start name) service sound stands = named_within graph name service stands
 service_within graph (lines.Recv name hex) service sound stands = named_within graph name service stands
 service_within graph (lines.Set parent path write) service sound stands = stands_within graph parent service sound stands
@@ -97,7 +97,7 @@ some_budget graph parent number budget service keeps at =
 
 -- What a step does is sound.
 sound_act : (table : Nodes) (graph : Graph) (number : ℕ) (named : NamedAct) (act : Act) (service : ℕ) → IsSound (lines.Step number named) → KeepsRules table graph (lines.Step number named)
-    → StandsAt graph named service → MeansAct table (form_at graph service) named act → IsSoundAct (form_at graph service) act
+    → StandsAtService graph named service → MeansAct table (form_at graph service) named act → IsSoundAct (form_at graph service) act
 sound_act table graph number (lines.Start name) act service sound keeps stands means = subst (IsSoundAct (form_at graph service)) (sym means) tt
 sound_act table graph number (lines.Recv name hex) act service sound keeps stands (list, says, is) = subst (IsSoundAct (form_at graph service)) (sym is) tt
 sound_act table graph number (lines.Set parent path write) act service sound keeps stands (slot, v, says, is) = subst (IsSoundAct (form_at graph service)) (sym is) tt
@@ -131,7 +131,7 @@ joined_parent graph number parent parents n service own keeps stands i e = not_a
     keeps (parent, n, inl refl, i, λ same. differ (let there = stands_there graph n own e in cc (stands, there, same))))
 
 -- A step stands where it must behind its parents.
-stays : (table : Nodes) (graph : Graph) (number : ℕ) (named : NamedAct) (act : Act) (service : ℕ) → KeepsRules table graph (lines.Step number named) → StandsAt graph named service → MeansAct table (form_at graph service) named act
+stays : (table : Nodes) (graph : Graph) (number : ℕ) (named : NamedAct) (act : Act) (service : ℕ) → KeepsRules table graph (lines.Step number named) → StandsAtService graph named service → MeansAct table (form_at graph service) named act
     → (n : ℕ) (own : graphs.Step) → IsIn n (parents_named named) → HasStep graph n own → StaysAt act own.service service
 stays table graph number (lines.Start name) act service keeps stands means n own i e = absurd i
 stays table graph number (lines.Recv name hex) act service keeps stands means n own i e = absurd i
@@ -152,9 +152,9 @@ one_step step other e = cc e
 
 -- The step of a good line may be the next of a sound graph.
 pub may_follow : (table : Nodes) (graph : Graph) (number : ℕ) (named : NamedAct) (step : graphs.Step) → IsGraph graph → IsSound (lines.Step number named)
-    → IsGood table graph (lines.Step number named) (AddStep step) → MayFollow graph step
+    → IsGood table graph (lines.Step number named) (AddStep step) → MayBeNext graph step
 may_follow table graph number named step sound line (keeps, (service, act, stands, means, is)) =
-    subst (MayFollow graph) (sym (one_step step (record { service = service; act = act }) is)) (record {
+    subst (MayBeNext graph) (sym (one_step step (record { service = service; act = act }) is)) (record {
       act = sound_act table graph number named act service line keeps stands means;
       service = service_within graph named service sound stands;
       parents = λ parent i.

@@ -1,7 +1,7 @@
 -- Graphs grow by one addition after the other.
 use Rattle.std.proofs.Common.{◌≡◌, List, [], ◌∷◌, ◌++◌, refl}
 use Rattle.trace_model.specs.Graphs.{Graph}
-use Rattle.recorded_graph.specs.Growth.{empty_graph}
+use Rattle.recorded_graph.specs.Graphs.{empty_graph}
 use Rattle.graph_text.specs.Additions.{Addition, with_addition, grown, graph_of}
 
 grown_more : (graph : Graph) (every : List Addition) (a : Addition) → grown graph (every ++ a ∷ []) ≡ with_addition (grown graph every) a

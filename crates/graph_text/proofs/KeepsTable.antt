@@ -23,8 +23,8 @@ use Rattle.recorded_graph.proofs.Growing.{empty_sound, service_sound, step_sound
 use Rattle.graph_lines.specs.Forms.{IsSound}
 use Rattle.graph_lines.specs.Statements as lines
 use Rattle.graph_lines.specs.Statements.{NamedView, NamedAct, Statement}
-use Rattle.graph_text.specs.Additions.{Addition, with_addition, graph_of, MeansView, MeansAct, StandsAt, IsGood}
-use Rattle.graph_text.specs.GraphLines.{SaysAddition, graph_lines, IsGraphOf}
+use Rattle.graph_text.specs.Additions.{Addition, with_addition, graph_of, MeansView, MeansAct, StandsAtService, IsGood}
+use Rattle.graph_text.specs.Reading.{SaysAddition, graph_lines, IsGraphOf}
 use Rattle.graph_text.proofs.Follows.{KeepsRules, may_follow, is_shown}
 use Rattle.graph_text.proofs.Grown.{graph_of_more}
 use Rattle.bag_walks.proofs.SlotFits.{only_fits}
@@ -77,7 +77,7 @@ known (views.Only slots) slot f = elim (in_or_not slot slots) [ inl i ↦ i | in
 -- ---- steps
 
 act_of_table : WritesFit → (table : Nodes) (graph : Graph) (number : ℕ) (named : NamedAct) (act : Act) (service : ℕ) → KeepsRules table graph (lines.Step number named)
-    → StandsAt graph named service → MeansAct table (form_at graph service) named act → IsActOf table (view_at graph service) act
+    → StandsAtService graph named service → MeansAct table (form_at graph service) named act → IsActOf table (view_at graph service) act
 act_of_table writes table graph number (lines.Start name) act service keeps stands means = subst (IsActOf table (view_at graph service)) (sym means) tt
 act_of_table writes table graph number (lines.Recv name hex) act service keeps stands (list, (bytes, says, of_bytes, typed), is) =
     subst (IsActOf table (view_at graph service)) (sym is) (record { well_formed = of_bytes.1; typed = typed })

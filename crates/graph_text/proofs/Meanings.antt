@@ -22,7 +22,7 @@ use Rattle.trace_model.specs.Graphs.{Act, Graph, form_at}
 use Rattle.write_text.specs.Writes.{IsWrite}
 use Rattle.graph_lines.specs.Statements as lines
 use Rattle.graph_lines.specs.Statements.{NamedView, NamedAct, Statement}
-use Rattle.graph_text.specs.Additions.{Addition, AddService, MeansView, SaysTyped, SaysWrite, MeansAct, StandsAt, Adds}
+use Rattle.graph_text.specs.Additions.{Addition, AddService, MeansView, SaysTypedContext, SaysWriteAt, MeansAct, StandsAtService, LineAdds}
 
 -- A text is at most one write of a shape in a form.
 abbrev pub HasOneWrite : Type 0
@@ -40,14 +40,14 @@ one_view table (lines.Only paths) v w (xs, are, is) (ys, also, means) =
     let same = Rises-unique nat_cmp nat_cmp_total xs ys are.rises also.rises (λ slot. ((λ i. (also.each slot).1 ((are.each slot).0 i)), λ i. (are.each slot).1 ((also.each slot).0 i))) in
     is ∙ ap views.Only same ∙ sym means
 
-pub one_context : (table : Nodes) (hex : List ℕ) (a b : List Atom) → SaysTyped table hex a → SaysTyped table hex b → a ≡ b
+pub one_context : (table : Nodes) (hex : List ℕ) (a b : List Atom) → SaysTypedContext table hex a → SaysTypedContext table hex b → a ≡ b
 one_context table hex a b (bytes, says, is, typed) (others, say, also, too) =
     let some : Some others ≡ Some bytes = sym say ∙ says in
     let same : others ≡ bytes = cc some in
     (has_one_context bytes).list a b is (subst (λ bs. IsContextOf b bs) same also)
 
 module _ (writes : HasOneWrite) (table : Nodes) (is_table : IsTable table) where
-  one_write : (form : WireForm) (path write : List ℕ) (i j : ℕ) (v w : Value) → SaysWrite table form path write i v → SaysWrite table form path write j w → (i ≡ j) × (v ≡ w)
+  one_write : (form : WireForm) (path write : List ℕ) (i j : ℕ) (v w : Value) → SaysWriteAt table form path write i v → SaysWriteAt table form path write j w → (i ≡ j) × (v ≡ w)
   one_write form path write i j v w (at, (own, here, named), has, says) (other, (found, there, called), also, say) =
       let place : i ≡ j = name_paths_differ table i j own found is_table here there (named ∙ sym called) in
       let slots : other ≡ at = one_slot (slots_of table) j other at also (subst (λ k. HasSlot table k at) place has) in
@@ -67,7 +67,7 @@ module _ (writes : HasOneWrite) (table : Nodes) (is_table : IsTable table) where
   one_act form (lines.Trim parent budget) a b m n = m ∙ sym n
   one_act form (lines.Join parents) a b m n = m ∙ sym n
 
-  one_place : (graph : Graph) (named : NamedAct) (m n : ℕ) → StandsAt graph named m → StandsAt graph named n → m ≡ n
+  one_place : (graph : Graph) (named : NamedAct) (m n : ℕ) → StandsAtService graph named m → StandsAtService graph named n → m ≡ n
   one_place graph (lines.Start name) m n p q = cc (p, q)
   one_place graph (lines.Recv name hex) m n p q = cc (p, q)
   one_place graph (lines.Set parent path write) m n p q = cc (p, q)
@@ -78,7 +78,7 @@ module _ (writes : HasOneWrite) (table : Nodes) (is_table : IsTable table) where
   one_place graph (lines.Join (parent ∷ parents)) m n p q = cc (p, q)
 
   -- A line adds one thing.
-  pub one_addition : (graph : Graph) (line : Statement) (a b : Addition) → Adds table graph line a → Adds table graph line b → a ≡ b
+  pub one_addition : (graph : Graph) (line : Statement) (a b : Addition) → LineAdds table graph line a → LineAdds table graph line b → a ≡ b
   one_addition graph (lines.Service form name named) a b (v, means, is) (w, mean, also) =
       is ∙ ap (λ view. AddService (record { name = name; form = form; view = view })) (one_view table named v w means mean) ∙ sym also
   one_addition graph (lines.Step number named) a b (m, act, stands, means, is) (n, other, stand, mean, also) =

@@ -13,8 +13,8 @@ use Rattle.std.specs.Map.{update}
 use Rattle.std.specs.Ordering.{nat_cmp}
 use Rattle.std.specs.Str.{bytes_eq}
 use Rattle.trace_model.specs.Graphs.{Graph, Service}
-use Rattle.recorded_graph.specs.Growth.{with_service}
-use Rattle.graph_text.specs.Names.{names_of, place_of, service_named, AreNumbersOf}
+use Rattle.recorded_graph.specs.Graphs.{with_service}
+use Rattle.graph_text.specs.Names.{names_of, place_of, service_named, NumbersServices}
 
 -- A last element is the first that passes where it does and no other, and changes nothing where it doesn't.
 position_of_last : {A : Type 0} (p : A → Bool) (xs : List A) (x : A) → position p xs ≡ None → p x ≡ true → position p (xs ++ x ∷ []) ≡ Some (length xs)
@@ -44,9 +44,9 @@ place_more names own name new = by (bytes_eq own name) refl
 
 -- The number of a service that is declared goes into the map.
 pub numbers_grow : (graph after : Graph) (own : Service) (name : List ℕ) (number : ℕ) (numbers grown : BTreeMap (Bor (List ℕ)) ℕ)
-    → AreNumbersOf graph numbers → own.name ≡ name → number ≡ length graph.services → service_named graph name ≡ None
+    → NumbersServices graph numbers → own.name ≡ name → number ≡ length graph.services → service_named graph name ≡ None
     → ((other : List ℕ) → get_by (λ key. slice_cmp nat_cmp other key.now) grown ≡ update bytes_eq (λ text. get_by (λ key. slice_cmp nat_cmp text key.now) numbers) name (Some number) other)
-    → after ≡ with_service graph own → AreNumbersOf after grown
+    → after ≡ with_service graph own → NumbersServices after grown
 numbers_grow graph after own name number numbers grown before named count new more is other =
     let long : length (names_of graph) ≡ length graph.services = length-map graph.services (λ (service : Service). service.name) in
     let names : names_of (with_service graph own) ≡ names_of graph ++ own.name ∷ [] = map-append (λ (service : Service). service.name) graph.services (own ∷ []) in

@@ -14,7 +14,7 @@ use Rattle.trace_model.specs.Graphs as graphs
 use Rattle.trace_model.specs.Graphs.{Graph, form_at, view_at}
 use Rattle.recorded_graph.specs.declared.graphs.TheConstants.{STEPS_MAX}
 use Rattle.write_text.specs.Writes.{IsWrite}
-use Rattle.recorded_graph.specs.Growth.{with_service}
+use Rattle.recorded_graph.specs.Graphs.{with_service}
 use Rattle.graph_lines.specs.Statements.{NamedView, NamedAct, Statement, Set, Join, Step, Service}
 use Rattle.graph_text.specs.declared.TheConstants.{PARENTS_MAX}
 use Rattle.graph_text.specs.declared.faults.GraphCode.{GraphCode}
@@ -24,7 +24,7 @@ use Rattle.graph_text.specs.declared.faults.Refusal.{Refusal}
 use Rattle.graph_text.specs.declared.faults.Refusal.TheVariants.{Fault, Memory}
 use Rattle.graph_text.specs.Names.{service_named, service_at, parents_named}
 use Rattle.graph_text.specs.Rules.{MissesPath, IsMisnumbered, NamesNoStep, GoesNowhere, Redeclares, JoinsApart, NamesNoPath, WritesUnknown, Miswrites, IsOneTooMany, JoinsTooMany, Breaks, rules}
-use Rattle.graph_text.specs.Additions.{AddService, MeansView, GrowsTo, StandsAt, FindsKnown, IsWriteAt, IsNext, IsRefusedPath, IsRefusedWrite, IsRefusedNext}
+use Rattle.graph_text.specs.Additions.{AddService, MeansView, GrowsTo, StandsAtService, FindsKnown, IsWriteAt, IsNextStep, IsRefusedPath, IsRefusedWrite, IsRefusedNext}
 use Rattle.graph_text.proofs.Meanings.{one_slot}
 
 -- What can't hold is not broken.
@@ -113,7 +113,7 @@ module _ (table : Nodes) (is_table : IsTable table) (graph : Graph) (parent : �
             let room : IsOneTooMany graph set → ⊥ = λ most. omega arith in
             (numbered, (stands, (goes, (no, (no, (has_path, (is_known, (is_write, (no, (room, (no, (no, (no, tt)))))))))))))
 
-        pub write_good : length graph.steps < STEPS_MAX → IsNext table graph (Set parent path write) (record { service = service; act = graphs.Act.Set parent slot v })
+        pub write_good : length graph.steps < STEPS_MAX → IsNextStep table graph (Set parent path write) (record { service = service; act = graphs.Act.Set parent slot v })
         write_good few =
             let says_write : IsWrite (form_at graph service) says.0.shape v write = subst (λ (f : WireForm). IsWrite f says.0.shape v write) (sym own) says.2 in
             (none_broken few, (service, graphs.Act.Set parent slot v, stands_at, (slot, v, (says.0, found.1, says.1, says_write), refl), refl))
@@ -121,7 +121,7 @@ module _ (table : Nodes) (is_table : IsTable table) (graph : Graph) (parent : �
 -- ---- a join of earlier steps
 
 -- It stands where its first parent does.
-stands_first : (graph : Graph) (service : ℕ) (parents : List ℕ) → 0 < length parents → ((n : ℕ) → IsIn n parents → service_at graph n ≡ Some service) → StandsAt graph (Join parents) service
+stands_first : (graph : Graph) (service : ℕ) (parents : List ℕ) → 0 < length parents → ((n : ℕ) → IsIn n parents → service_at graph n ≡ Some service) → StandsAtService graph (Join parents) service
 stands_first graph service [] some at = absurd (omega arith)
 stands_first graph service (parent ∷ parents) some at = at parent (inl refl)
 
@@ -172,7 +172,7 @@ module _ (table : Nodes) (graph : Graph) (parents : List ℕ) (early : (n : ℕ)
           let few_parents : JoinsTooMany join → ⊥ = λ many. omega arith in
           (join_numbered, (join_stands, (join_goes, (no, (joined, (no, (no, (no, (no, (room, (few_parents, (no, (no, tt)))))))))))))
 
-      pub join_good : length parents ≤ PARENTS_MAX → 0 < length parents → IsNext table graph (Join parents) (record { service = service; act = graphs.Act.Join parents })
+      pub join_good : length parents ≤ PARENTS_MAX → 0 < length parents → IsNextStep table graph (Join parents) (record { service = service; act = graphs.Act.Join parents })
       join_good most some = (join_kept most, (service, graphs.Act.Join parents, stands_first graph service parents some at, refl, refl))
 
 -- ---- a service

@@ -11,7 +11,7 @@ use Rattle.graph_text.specs.declared.faults.LineFault.TheVariants.{Code, Bytes, 
 use Rattle.graph_text.specs.declared.faults.Refusal.{Refusal}
 use Rattle.graph_text.specs.declared.faults.Refusal.TheVariants.{Fault, Memory}
 use Rattle.graph_text.specs.Additions.{Addition, with_addition, graph_of}
-use Rattle.graph_text.specs.GraphLines.{SaysAddition, HasFault, IsRefusedText, graph_lines, IsRefusalOf, fault_at}
+use Rattle.graph_text.specs.Reading.{SaysAddition, HasFault, IsRefusedText, graph_lines, IsRefusalOf, fault_at}
 use Rattle.graph_text.proofs.Grown.{graph_of_more}
 
 -- The lines so far say the graph.

@@ -21,9 +21,9 @@ use Rattle.text_lines.specs.Readings.{IsFirstOf, NoneOf}
 use Rattle.trace_model.specs.Graphs as graphs
 use Rattle.trace_model.specs.Graphs.{Act, Graph, form_at, view_at}
 use Rattle.wire_bytes.specs.declared.contexts.ByteCode.{ByteCode}
-use Rattle.wire_bytes.specs.Codes.{byte_code_of}
+use Rattle.wire_bytes.specs.Reading.{byte_code_of}
 use Rattle.write_text.specs.Writes.{IsWrite}
-use Rattle.recorded_graph.specs.Growth.{empty_graph, with_service, with_step, with_show}
+use Rattle.recorded_graph.specs.Graphs.{empty_graph, with_service, with_step, with_show}
 use Rattle.graph_lines.specs.Statements.{NamedView, NamedAct, Statement, All, Nothing, Only, Start, Recv, Set, Branch, Forward, Trim, Join, Service, Step, Show}
 use Rattle.graph_text.specs.declared.faults.GraphCode.{GraphCode}
 use Rattle.graph_text.specs.declared.faults.GraphCode.TheVariants.{NoSuchPath, NotKnown, BadValue, HexTooLong, BadHex}
@@ -82,8 +82,8 @@ MeansView table Nothing view = view ≡ views.Nothing
 MeansView table (Only paths) view = (slots : List ℕ) × AreSlotsOf table paths slots × (view ≡ views.Only slots)
 
 -- The digits are those of a context that is typed under the table.
-abbrev pub SaysTyped : Nodes → List ℕ → List Atom → Type 0
-SaysTyped table hex list =
+abbrev pub SaysTypedContext : Nodes → List ℕ → List Atom → Type 0
+SaysTypedContext table hex list =
     (bytes : List ℕ) × (hex_bytes hex ≡ Some bytes) × IsContextOf list bytes × AreTyped table (PathsOf list) []
 
 -- The path is that of this slot, which the service of this step knows.
@@ -97,50 +97,50 @@ abbrev pub IsWriteAt : Nodes → WireForm → ℕ → Value → List ℕ → Typ
 IsWriteAt table form slot v write = (at : SlotAt) × HasSlot table slot at × IsWrite form at.shape v write
 
 -- The text is a write of this value, in the form, to the slot that has this path and this number.
-abbrev pub SaysWrite : Nodes → WireForm → List ℕ → List ℕ → ℕ → Value → Type 0
-SaysWrite table form path write slot v =
+abbrev pub SaysWriteAt : Nodes → WireForm → List ℕ → List ℕ → ℕ → Value → Type 0
+SaysWriteAt table form path write slot v =
     (at : SlotAt) × FindsSlot table path (Some slot) × HasSlot table slot at × IsWrite form at.shape v write
 
 -- An act with its names is this act at a service of the form.
 abbrev pub MeansAct : Nodes → WireForm → NamedAct → Act → Type 0
 MeansAct table form (Start name) act = act ≡ graphs.Start
-MeansAct table form (Recv name hex) act = (list : List Atom) × SaysTyped table hex list × (act ≡ graphs.Recv list)
+MeansAct table form (Recv name hex) act = (list : List Atom) × SaysTypedContext table hex list × (act ≡ graphs.Recv list)
 MeansAct table form (Set parent path write) act =
-    (slot : ℕ) × (v : Value) × SaysWrite table form path write slot v × (act ≡ graphs.Set parent slot v)
+    (slot : ℕ) × (v : Value) × SaysWriteAt table form path write slot v × (act ≡ graphs.Set parent slot v)
 MeansAct table form (Branch parent) act = act ≡ graphs.Branch parent
 MeansAct table form (Forward parent name) act = act ≡ graphs.Forward parent
 MeansAct table form (Trim parent budget) act = act ≡ graphs.Trim parent budget
 MeansAct table form (Join parents) act = act ≡ graphs.Join parents
 
 -- The act stands at the service with this number: the one that it goes to, or else that of its first parent.
-abbrev pub StandsAt : Graph → NamedAct → ℕ → Type 0
-StandsAt graph (Start name) service = service_named graph name ≡ Some service
-StandsAt graph (Recv name hex) service = service_named graph name ≡ Some service
-StandsAt graph (Set parent path write) service = service_at graph parent ≡ Some service
-StandsAt graph (Branch parent) service = service_at graph parent ≡ Some service
-StandsAt graph (Forward parent name) service = service_named graph name ≡ Some service
-StandsAt graph (Trim parent budget) service = service_at graph parent ≡ Some service
-StandsAt graph (Join []) service = ⊥
-StandsAt graph (Join (parent ∷ parents)) service = service_at graph parent ≡ Some service
+abbrev pub StandsAtService : Graph → NamedAct → ℕ → Type 0
+StandsAtService graph (Start name) service = service_named graph name ≡ Some service
+StandsAtService graph (Recv name hex) service = service_named graph name ≡ Some service
+StandsAtService graph (Set parent path write) service = service_at graph parent ≡ Some service
+StandsAtService graph (Branch parent) service = service_at graph parent ≡ Some service
+StandsAtService graph (Forward parent name) service = service_named graph name ≡ Some service
+StandsAtService graph (Trim parent budget) service = service_at graph parent ≡ Some service
+StandsAtService graph (Join []) service = ⊥
+StandsAtService graph (Join (parent ∷ parents)) service = service_at graph parent ≡ Some service
 
 -- What a line adds, behind lines that said this graph.
-abbrev pub Adds : Nodes → Graph → Statement → Addition → Type 0
-Adds table graph (Service form name named) addition =
+abbrev pub LineAdds : Nodes → Graph → Statement → Addition → Type 0
+LineAdds table graph (Service form name named) addition =
     (view : View) × MeansView table named view × (addition ≡ AddService (record { name = name; form = form; view = view }))
-Adds table graph (Step number named) addition =
-    (service : ℕ) × (act : Act) × StandsAt graph named service × MeansAct table (form_at graph service) named act
+LineAdds table graph (Step number named) addition =
+    (service : ℕ) × (act : Act) × StandsAtService graph named service × MeansAct table (form_at graph service) named act
     × (addition ≡ AddStep (record { service = service; act = act }))
-Adds table graph (Show n) addition = addition ≡ AddShow n
+LineAdds table graph (Show n) addition = addition ≡ AddShow n
 
 -- ---- good and bad lines
 
 -- The line breaks no rule and adds this.
 abbrev pub IsGood : Nodes → Graph → Statement → Addition → Type 0
-IsGood table graph line addition = NoneOf (Breaks table graph line) rules × Adds table graph line addition
+IsGood table graph line addition = NoneOf (Breaks table graph line) rules × LineAdds table graph line addition
 
 -- An act is good as the next step, and this is the step.
-abbrev pub IsNext : Nodes → Graph → NamedAct → graphs.Step → Type 0
-IsNext table graph named step = IsGood table graph (Step (length graph.steps) named) (AddStep step)
+abbrev pub IsNextStep : Nodes → Graph → NamedAct → graphs.Step → Type 0
+IsNextStep table graph named step = IsGood table graph (Step (length graph.steps) named) (AddStep step)
 
 -- The graph grows to this one by what a good line adds.
 abbrev pub GrowsTo : Nodes → Graph → Statement → Graph → Type 0

@@ -1,5 +1,5 @@
 pub mod Names
 pub mod Rules
 pub mod Additions
-pub mod GraphLines
-pub mod CodeNames
+pub mod Reading
+pub mod Faults

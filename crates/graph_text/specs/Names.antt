@@ -23,8 +23,8 @@ abbrev pub service_named : Graph → List ℕ → Option ℕ
 service_named graph name = place_of (names_of graph) name
 
 -- The map has the number of each service by its name, and no other name.
-abbrev pub AreNumbersOf : Graph → BTreeMap (Bor (List ℕ)) ℕ → Type 0
-AreNumbersOf graph numbers = (name : List ℕ) → get_by (λ key. slice_cmp nat_cmp name key.now) numbers ≡ service_named graph name
+abbrev pub NumbersServices : Graph → BTreeMap (Bor (List ℕ)) ℕ → Type 0
+NumbersServices graph numbers = (name : List ℕ) → get_by (λ key. slice_cmp nat_cmp name key.now) numbers ≡ service_named graph name
 
 -- The number of the service at which a step stands.
 abbrev pub service_at : Graph → ℕ → Option ℕ

@@ -1,7 +1,7 @@
 //! Why a text says no graph.
 
 ghost use Rattle.std.specs.Prelude.{◌≡◌};
-ghost use Rattle.graph_text.specs.GraphLines.{fault_at};
+ghost use Rattle.graph_text.specs.Reading.{fault_at};
 
 use outside::Memory;
 use std::alloc::AllocFailed;
@@ -136,7 +136,7 @@ impl<T: Drop> From<AllocFailed<T>> for Refusal {
 
 impl fmt::Display for GraphCode {
     ghost use Rattle.std.specs.Prelude.{Some};
-    ghost use Rattle.graph_text.specs.CodeNames.{graph_code_name};
+    ghost use Rattle.graph_text.specs.Faults.{graph_code_name};
 
     ghost output = { λ code. Some (graph_code_name code) };
 

@@ -5,7 +5,7 @@ ghost use Rattle.bag_model.specs.Shapes.{Nodes};
 ghost use Rattle.bag_model.specs.Tables.{IsTable};
 ghost use Rattle.trace_model.specs.Graphs.{Graph, IsRecorded};
 ghost use Rattle.graph_text.specs.declared.faults.LineFault.{LineFault};
-ghost use Rattle.graph_text.specs.GraphLines.{LinesAreDefinite, IsGraphOf, IsFirstFault};
+ghost use Rattle.graph_text.specs.Reading.{LinesAreDefinite, IsGraphOf, IsFirstFault};
 
 use graph_lines::lines_have_one_form;
 use write_text::laws::{texts_are_one_write, writes_are_of_their_shape};

@@ -3,7 +3,7 @@
 ghost use Rattle.std.specs.Prelude.{◌≡◌, ◌≢◌, ◌<◌, ◌≤◌, length, None, Some, IfOk, IfErr, OnOk, OnErr, All};
 ghost use Rattle.trace_model.specs.Graphs.{form_at};
 ghost use Rattle.recorded_graph.specs.declared.graphs.TheConstants.{STEPS_MAX};
-ghost use Rattle.recorded_graph.specs.Growth.{empty_graph, with_service, with_step, with_show, MayFollow};
+ghost use Rattle.recorded_graph.specs.Graphs.{empty_graph, with_service, with_step, with_show, MayBeNext};
 ghost use Rattle.recorded_graph.specs.Plain.{service_of, step_of};
 ghost use Rattle.graph_text.specs.Names.{service_named, service_at};
 
@@ -26,7 +26,7 @@ impl<'a> Model for Reader<'a> {
     ghost use Rattle.std.specs.Prelude.{◌≡◌};
     ghost use Rattle.trace_model.specs.Graphs as model;
     ghost use Rattle.recorded_graph.specs.GraphCode.{graph_code};
-    ghost use Rattle.graph_text.specs.Names.{AreNumbersOf};
+    ghost use Rattle.graph_text.specs.Names.{NumbersServices};
 
     ghost Value = { model.Graph };
 
@@ -34,7 +34,7 @@ impl<'a> Model for Reader<'a> {
 
     ghost view = { λ reader. reader.graph };
 
-    ghost invariant = { λ reader. AreNumbersOf reader.graph reader.numbers };
+    ghost invariant = { λ reader. NumbersServices reader.graph reader.numbers };
 }
 
 impl<'a> Reader<'a> {
@@ -160,7 +160,7 @@ impl<'a> Reader<'a> {
     /// The same with a step that may follow those before.
     pub(crate) fn with_step(self, step: Step) -> Result<Reader<'a>, Memory>
         requires room { length self.steps < STEPS_MAX }
-        requires follows { MayFollow self (step_of step) }
+        requires follows { MayBeNext self (step_of step) }
         ensures { IfOk result (λ reader. reader ≡ with_step self.entry (step_of step)) }
     {
         let Reader { mut graph, numbers } = self;

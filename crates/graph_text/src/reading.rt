@@ -5,9 +5,9 @@ ghost use Rattle.trace_model.specs.Graphs.{IsOfTable};
 ghost use Rattle.graph_text.specs.Additions.{Addition, GrowsTo, IsRefused, with_addition};
 ghost use Rattle.graph_lines.specs.Forms.{IsSound};
 ghost use Rattle.graph_lines.specs.Statements as lines;
-ghost use Rattle.graph_lines.specs.Views.{view_of, act_of, statement_of};
+ghost use Rattle.graph_lines.specs.Acts.{view_of, act_of, statement_of};
 ghost use Rattle.bag_model.specs.Shapes.{Nodes};
-ghost use Rattle.graph_text.specs.GraphLines.{SaysAddition, IsRefusedText, IsGraphOf, IsRefusalOf};
+ghost use Rattle.graph_text.specs.Reading.{SaysAddition, IsRefusedText, IsGraphOf, IsRefusalOf};
 
 use crate::faults::{GraphCode, GraphFault, LineFault, Refusal};
 use crate::laws::texts_give_recorded_graphs;

@@ -3,7 +3,7 @@
 ghost use Rattle.std.specs.Prelude.{IfOk, IfErr};
 ghost use Rattle.text_lines.specs.HexLines.{hex_codes, BreaksHex};
 ghost use Rattle.text_lines.specs.Readings.{NoneOf};
-ghost use Rattle.graph_text.specs.Additions.{SaysTyped, IsRefusedHex};
+ghost use Rattle.graph_text.specs.Additions.{SaysTypedContext, IsRefusedHex};
 
 use crate::faults::{GraphCode, LineFault, Refusal};
 use atom_list::Context;
@@ -16,7 +16,7 @@ use wire_bytes::{ContextFault, form_of, offset, read_context_owned};
 /// The context that digits say, which is typed under the table.
 pub(crate) fn read_received(alloc: Global, table: &Table, hex: &[u8]) -> Result<Context, Refusal>
     ensures hex { IfOk result (λ _. NoneOf (BreaksHex hex.now) hex_codes) }
-    ensures ok { IfOk result (λ context. SaysTyped table.now hex.now context) }
+    ensures ok { IfOk result (λ context. SaysTypedContext table.now hex.now context) }
     ensures err { IfErr result (IsRefusedHex table.now hex.now) }
 {
     let bytes = match hex_bytes(alloc, hex) {

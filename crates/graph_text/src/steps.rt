@@ -4,13 +4,13 @@ ghost use Rattle.std.specs.Prelude.{◌≡◌, ◌≢◌, ◌<◌, ◌≤◌, �
 ghost use Rattle.context_model.specs.Orders.{IsIn};
 ghost use Rattle.bag_model.specs.Shapes.{Nodes};
 ghost use Rattle.bag_model.specs.Slots.{slots_of};
-ghost use Rattle.bag_value.specs.Plain.{plain};
-ghost use Rattle.graph_lines.specs.Forms.{IsSoundAct};
+ghost use Rattle.bag_value.specs.Vals.{plain};
+ghost use Rattle.graph_lines.specs.Forms.{IsSoundNamedAct};
 ghost use Rattle.graph_lines.specs.Statements as lines;
-ghost use Rattle.graph_lines.specs.Views.{act_of};
+ghost use Rattle.graph_lines.specs.Acts.{act_of};
 ghost use Rattle.recorded_graph.specs.Plain.{step_of};
 ghost use Rattle.graph_text.specs.Names.{service_at};
-ghost use Rattle.graph_text.specs.Additions.{AddStep, FindsKnown, IsWriteAt, IsGood, IsNext, IsRefusedPath, IsRefusedWrite, IsRefused, IsRefusedNext};
+ghost use Rattle.graph_text.specs.Additions.{AddStep, FindsKnown, IsWriteAt, IsGood, IsNextStep, IsRefusedPath, IsRefusedWrite, IsRefused, IsRefusedNext};
 
 use crate::faults::{GraphCode, Refusal};
 use crate::reader::Reader;
@@ -86,7 +86,7 @@ impl<'a> Reader<'a> {
 
     /// `start N NAME`
     fn start(&self, service: &str) -> Result<Step, Refusal>
-        ensures ok { (table : Nodes) → IfOk result (λ step. IsNext table self.now (lines.Start service.now) (step_of step)) }
+        ensures ok { (table : Nodes) → IfOk result (λ step. IsNextStep table self.now (lines.Start service.now) (step_of step)) }
         ensures err { (table : Nodes) → IfErr result (IsRefusedNext table self.now (lines.Start service.now)) }
     {
         let service = self.service(service)?;
@@ -99,7 +99,7 @@ impl<'a> Reader<'a> {
 
     /// `recv N NAME HEX`
     fn recv(&self, alloc: Global, table: &Table, service: &str, hex: &str) -> Result<Step, Refusal>
-        ensures ok { IfOk result (λ step. IsNext table.now self.now (lines.Recv service.now hex.now) (step_of step)) }
+        ensures ok { IfOk result (λ step. IsNextStep table.now self.now (lines.Recv service.now hex.now) (step_of step)) }
         ensures err { IfErr result (IsRefusedNext table.now self.now (lines.Recv service.now hex.now)) }
     {
         let service = self.service(service)?;
@@ -135,7 +135,7 @@ impl<'a> Reader<'a> {
         path: &str,
         write: &str,
     ) -> Result<Step, Refusal>
-        ensures ok { IfOk result (λ step. IsNext table.now self.now (lines.Set parent path.now write.now) (step_of step)) }
+        ensures ok { IfOk result (λ step. IsNextStep table.now self.now (lines.Set parent path.now write.now) (step_of step)) }
         ensures err { IfErr result (IsRefusedNext table.now self.now (lines.Set parent path.now write.now)) }
     {
         // It says that the table is one, so that a path is that of one slot.
@@ -158,7 +158,7 @@ impl<'a> Reader<'a> {
 
     /// `branch N PARENT`
     fn branch(&self, parent: u64) -> Result<Step, Refusal>
-        ensures ok { (table : Nodes) → IfOk result (λ step. IsNext table self.now (lines.Branch parent) (step_of step)) }
+        ensures ok { (table : Nodes) → IfOk result (λ step. IsNextStep table self.now (lines.Branch parent) (step_of step)) }
         ensures err { (table : Nodes) → IfErr result (IsRefusedNext table self.now (lines.Branch parent)) }
     {
         let parent = self.earlier(parent)?;
@@ -171,7 +171,7 @@ impl<'a> Reader<'a> {
 
     /// `forward N PARENT NAME`
     fn forward(&self, parent: u64, service: &str) -> Result<Step, Refusal>
-        ensures ok { (table : Nodes) → IfOk result (λ step. IsNext table self.now (lines.Forward parent service.now) (step_of step)) }
+        ensures ok { (table : Nodes) → IfOk result (λ step. IsNextStep table self.now (lines.Forward parent service.now) (step_of step)) }
         ensures err { (table : Nodes) → IfErr result (IsRefusedNext table self.now (lines.Forward parent service.now)) }
     {
         let parent = self.earlier(parent)?;
@@ -185,7 +185,7 @@ impl<'a> Reader<'a> {
 
     /// `trim N PARENT BUDGET`
     fn trim(&self, parent: u64, budget: u64) -> Result<Step, Refusal>
-        ensures ok { (table : Nodes) → IfOk result (λ step. IsNext table self.now (lines.Trim parent budget) (step_of step)) }
+        ensures ok { (table : Nodes) → IfOk result (λ step. IsNextStep table self.now (lines.Trim parent budget) (step_of step)) }
         ensures err { (table : Nodes) → IfErr result (IsRefusedNext table self.now (lines.Trim parent budget)) }
     {
         let parent = self.earlier(parent)?;
@@ -204,7 +204,7 @@ impl<'a> Reader<'a> {
     /// `join N PARENT [PARENT ..]`
     fn join(&self, alloc: Global, parents: &[u64]) -> Result<Step, Refusal>
         requires { 0 < length parents.now }
-        ensures ok { (table : Nodes) → IfOk result (λ step. IsNext table self.now (lines.Join parents.now) (step_of step)) }
+        ensures ok { (table : Nodes) → IfOk result (λ step. IsNextStep table self.now (lines.Join parents.now) (step_of step)) }
         ensures err { (table : Nodes) → IfErr result (IsRefusedNext table self.now (lines.Join parents.now)) }
     {
         self.check_earlier(parents)?;
@@ -222,8 +222,8 @@ impl<'a> Reader<'a> {
 
     /// The step that an act says, which is the next.
     fn next_step(&self, alloc: Global, table: &Table, act: &NamedAct<'_>) -> Result<Step, Refusal>
-        requires { IsSoundAct (act_of act.now) }
-        ensures ok { IfOk result (λ step. IsNext table.now self.now (act_of act.now) (step_of step)) }
+        requires { IsSoundNamedAct (act_of act.now) }
+        ensures ok { IfOk result (λ step. IsNextStep table.now self.now (act_of act.now) (step_of step)) }
         ensures err { IfErr result (IsRefusedNext table.now self.now (act_of act.now)) }
     {
         match act {
@@ -249,7 +249,7 @@ impl<'a> Reader<'a> {
         number: u64,
         act: &NamedAct<'_>,
     ) -> Result<Step, Refusal>
-        requires { IsSoundAct (act_of act.now) }
+        requires { IsSoundNamedAct (act_of act.now) }
         ensures ok { IfOk result (λ step. IsGood table.now self.now
             (lines.Step number (act_of act.now)) (AddStep (step_of step))) }
         ensures err { IfErr result (IsRefused table.now self.now (lines.Step number (act_of act.now))) }

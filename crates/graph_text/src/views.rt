@@ -6,7 +6,7 @@ ghost use Rattle.std.specs.Ordering.{nat_cmp};
 ghost use Rattle.context_model.specs.Orders.{IsIn, Rises};
 ghost use Rattle.field_table.specs.Views as tables;
 ghost use Rattle.graph_lines.specs.Statements as lines;
-ghost use Rattle.graph_lines.specs.Views.{view_of};
+ghost use Rattle.graph_lines.specs.Acts.{view_of};
 ghost use Rattle.graph_text.specs.Additions.{InSome, MeansView, AreRangesOf, IsRefusedView};
 ghost use Rattle.graph_text.specs.Rules.{MissesPath};
 

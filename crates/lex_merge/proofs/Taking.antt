@@ -13,7 +13,7 @@ use Rattle.context_model.proofs.OrderLaws.{atoms_total, atoms_anti}
 use Rattle.context_model.proofs.GreedyLaws.{greedy-comm}
 use Rattle.context_model.proofs.Rising.{greedy-right_empty, greedy-less, greedy-equal}
 use Rattle.atom_list.specs.Builder.{Built, room_of}
-use Rattle.lex_merge.specs.Runs.{merge_from, IsRun, IsLater, HasRoom, GoesOn}
+use Rattle.lex_merge.specs.Runs.{merge_from, IsMergeRun, ComesLater, HasMergeRoom, MergeGoesOn}
 
 -- ---- runs
 
@@ -21,7 +21,7 @@ pub comm : (a b : List Atom) → greedy_merge atom_cmp a b ≡ greedy_merge atom
 comm a b = greedy-comm atom_cmp atoms_total a b (λ x y in_a in_b tie. atoms_anti x y tie)
 
 -- A run of no atom.
-pub run_none : (a : List Atom) (i : ℕ) (b : List Atom) (j : ℕ) → i ≤ length a → j ≤ length b → IsRun a i b j i j
+pub run_none : (a : List Atom) (i : ℕ) (b : List Atom) (j : ℕ) → i ≤ length a → j ≤ length b → IsMergeRun a i b j i j
 run_none a i b j in_a in_b = record {
   from_a = omega arith;
   upto_a = in_a;
@@ -36,7 +36,7 @@ one_more a i k whole rest next order within so_far step =
     so_far ∙ ap (λ l. slice_range a i k ++ l) step ∙ sym (append_assoc (slice_range a i k) (atom_at a k ∷ []) next) ∙ ap (λ l. l ++ next) (sym (between_more a i k [] order within))
 
 -- An atom that comes before the second list's.
-pub run_less : (a : List Atom) (i : ℕ) (b : List Atom) (j k l : ℕ) → IsRun a i b j k l → k < length a → l < length b → atom_cmp (atom_at a k) (atom_at b l) ≡ Less → IsRun a i b j (k + 1) l
+pub run_less : (a : List Atom) (i : ℕ) (b : List Atom) (j k l : ℕ) → IsMergeRun a i b j k l → k < length a → l < length b → atom_cmp (atom_at a k) (atom_at b l) ≡ Less → IsMergeRun a i b j (k + 1) l
 run_less a i b j k l run in_a in_b less = record {
   from_a = omega (arith, run.from_a);
   upto_a = omega arith;
@@ -55,7 +55,7 @@ run_less a i b j k l run in_a in_b less = record {
         ∙ ap (λ ys. atom_at a k ∷ greedy_merge atom_cmp (drop (k + 1) a) ys) (sym at_b)
 
 -- An atom of both.
-pub run_equal : (a : List Atom) (i : ℕ) (b : List Atom) (j k l : ℕ) → IsRun a i b j k l → k < length a → l < length b → atom_cmp (atom_at a k) (atom_at b l) ≡ Equal → IsRun a i b j (k + 1) (l + 1)
+pub run_equal : (a : List Atom) (i : ℕ) (b : List Atom) (j k l : ℕ) → IsMergeRun a i b j k l → k < length a → l < length b → atom_cmp (atom_at a k) (atom_at b l) ≡ Equal → IsMergeRun a i b j (k + 1) (l + 1)
 run_equal a i b j k l run in_a in_b equal = record {
   from_a = omega (arith, run.from_a);
   upto_a = omega arith;
@@ -76,7 +76,7 @@ pub tied : (x y : Atom) → x ≡ y → atom_cmp x y ≡ Equal
 tied x y same = subst (λ z. atom_cmp x z ≡ Equal) same (tied_itself atoms_total x)
 
 -- A run behind a run.
-pub run_run : (a : List Atom) (i : ℕ) (b : List Atom) (j k l m n : ℕ) → IsRun a i b j k l → IsRun a k b l m n → IsRun a i b j m n
+pub run_run : (a : List Atom) (i : ℕ) (b : List Atom) (j k l m n : ℕ) → IsMergeRun a i b j k l → IsMergeRun a k b l m n → IsMergeRun a i b j m n
 run_run a i b j k l m n first second = record {
   from_a = omega (arith, first.from_a, second.from_a);
   upto_a = second.upto_a;
@@ -95,7 +95,7 @@ run_run a i b j k l m n first second = record {
         sym (append_cancel_right (slice_range a i m) (slice_range a i k ++ slice_range a k m) (drop m a) whole)
 
 -- Where a run from the first places on has all of the second list, the merge is the first.
-pub all_of : (a b : List Atom) (i j : ℕ) → IsRun a 0 b 0 i j → length b ≤ j → greedy_merge atom_cmp a b ≡ a
+pub all_of : (a b : List Atom) (i j : ℕ) → IsMergeRun a 0 b 0 i j → length b ≤ j → greedy_merge atom_cmp a b ≡ a
 all_of a b i j run all =
     run.begins
     ∙ ap (λ ys. slice_range a 0 i ++ greedy_merge atom_cmp (drop i a) ys) (drop_all j b all)
@@ -103,7 +103,7 @@ all_of a b i j run all =
     ∙ sym (drop_split a 0 i (omega arith))
 
 -- Of two atoms that don't tie the other comes first.
-pub later_back : (a : List Atom) (i : ℕ) (b : List Atom) (j : ℕ) → IsLater a i b j → i < length a → j < length b → atom_cmp (atom_at b j) (atom_at a i) ≡ Less
+pub later_back : (a : List Atom) (i : ℕ) (b : List Atom) (j : ℕ) → ComesLater a i b j → i < length a → j < length b → atom_cmp (atom_at b j) (atom_at a i) ≡ Less
 later_back a i b j later in_a in_b = atoms_total.antisymm (atom_at b j) (atom_at a i) ∙ ap ordering_reverse (later in_a in_b)
 
 -- ---- rooms
@@ -119,15 +119,15 @@ room_split a i k order = ap room_of (drop_split a i k order) ∙ room_of-append 
 -- ---- building
 
 -- The other way round.
-pub room_back : (a : List Atom) (i : ℕ) (b : List Atom) (j : ℕ) (built : Built) → HasRoom a i b j built → HasRoom b j a i built
+pub room_back : (a : List Atom) (i : ℕ) (b : List Atom) (j : ℕ) (built : Built) → HasMergeRoom a i b j built → HasMergeRoom b j a i built
 room_back a i b j built room = record { upto_a = room.upto_b; upto_b = room.upto_a; bytes = omega (arith, room.bytes); atoms = omega (arith, room.atoms) }
 
-pub room_first : (a : List Atom) (i : ℕ) (b : List Atom) (j : ℕ) (built : Built) (k l : ℕ) → HasRoom a i b j built → IsRun a i b j k l → room_of (slice_range a i k) ≤ built.byte_room
+pub room_first : (a : List Atom) (i : ℕ) (b : List Atom) (j : ℕ) (built : Built) (k l : ℕ) → HasMergeRoom a i b j built → IsMergeRun a i b j k l → room_of (slice_range a i k) ≤ built.byte_room
 room_first a i b j built k l room run = let s = room_split a i k run.from_a in omega (arith, room.bytes)
 
 -- A run is put out.
-pub goes_on : (a : List Atom) (i : ℕ) (b : List Atom) (j : ℕ) (old new : Built) (k l : ℕ) → HasRoom a i b j old → IsRun a i b j k l → new.atoms ≡ old.atoms ++ slice_range a i k
-    → old.byte_room ≤ new.byte_room + room_of (slice_range a i k) → new.atom_room + k ≡ old.atom_room + i → GoesOn a i b j old k l new
+pub goes_on : (a : List Atom) (i : ℕ) (b : List Atom) (j : ℕ) (old new : Built) (k l : ℕ) → HasMergeRoom a i b j old → IsMergeRun a i b j k l → new.atoms ≡ old.atoms ++ slice_range a i k
+    → old.byte_room ≤ new.byte_room + room_of (slice_range a i k) → new.atom_room + k ≡ old.atom_room + i → MergeGoesOn a i b j old k l new
 goes_on a i b j old new k l room run atoms bytes count =
     let first = room_split a i k run.from_a in
     let second = room_split b j l run.from_b in
@@ -139,7 +139,7 @@ goes_on a i b j old new k l room run atoms bytes count =
     }
 
 -- The other way round.
-pub goes_back : (a : List Atom) (i : ℕ) (b : List Atom) (j : ℕ) (old new : Built) (k l : ℕ) → GoesOn a i b j old k l new → GoesOn b j a i old l k new
+pub goes_back : (a : List Atom) (i : ℕ) (b : List Atom) (j : ℕ) (old new : Built) (k l : ℕ) → MergeGoesOn a i b j old k l new → MergeGoesOn b j a i old l k new
 goes_back a i b j old new k l on = record {
   room = room_back a k b l new on.room;
   same = ap (λ rest. new.atoms ++ rest) (comm (drop l b) (drop k a)) ∙ on.same ∙ ap (λ rest. old.atoms ++ rest) (comm (drop i a) (drop j b));

@@ -2,7 +2,7 @@
 
 ghost use Rattle.context_model.specs.Merged.{PathsTellLists, HasOneMerge, HasLastAtoms, MergesGreedily, MergesFew, MergesOneByOne, MergesInGroups, MergesOfMerges, MergesMembers, KeepsElements, KeepsAtoms, StaysWithinLimit};
 ghost use Rattle.context_model.specs.MergedMarkers.{KeepsMarkers, KeepsMarkersBehind, KeepsFirstMarker, KeepsFronts, EndsWithEach};
-ghost use Rattle.context_model.specs.Behind.{EndsAtFirstMarker};
+ghost use Rattle.context_model.specs.MarkerPlaces.{EndsAtFirstMarker};
 ghost use Rattle.lex_merge.specs.Laws.{MergesInAnyOrder, MergesInAnyGrouping, MergesOnce};
 
 /// The merge of two lists doesn't know which came first.

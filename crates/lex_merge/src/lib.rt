@@ -5,7 +5,7 @@ ghost use Rattle.std.specs.Prelude.{◌≡◌, [], ◌∷◌, IfOk};
 ghost use Rattle.context_model.specs.Orders.{atom_cmp};
 ghost use Rattle.context_model.specs.Merge.{greedy_merge};
 ghost use Rattle.context_model.specs.Merged.{IsMerged};
-ghost use Rattle.lex_merge.specs.Runs.{IsRun, HasRoom};
+ghost use Rattle.lex_merge.specs.Runs.{IsMergeRun, HasMergeRoom};
 
 pub use crate::many::merge_many;
 use crate::runs::{atom, common_front, push_run, run_end};
@@ -21,7 +21,7 @@ mod runs;
 
 /// An empty list with room for the atoms of both lists.
 fn room_for(alloc: Global, a: &AtomList, b: &AtomList) -> Result<Builder, Memory>
-    ensures room { IfOk result (HasRoom a.now 0 b.now 0) }
+    ensures room { IfOk result (HasMergeRoom a.now 0 b.now 0) }
     ensures empty { IfOk result (λ built. built.atoms ≡ []) }
 {
     let (first, second) = (a.room().ok_or(Memory)?, b.room().ok_or(Memory)?);
@@ -32,7 +32,7 @@ fn room_for(alloc: Global, a: &AtomList, b: &AtomList) -> Result<Builder, Memory
 
 /// The merge of two lists whose first `front` atoms are the same. Where the second brings no atom, it is the first list.
 fn merge_behind(alloc: Global, a: &AtomList, b: &AtomList, front: usize) -> Result<AtomList, Memory>
-    requires { IsRun a.now 0 b.now 0 front front }
+    requires { IsMergeRun a.now 0 b.now 0 front front }
     ensures { IfOk result (λ merged. merged ≡ greedy_merge atom_cmp a.now b.now) }
 {
     let (mut i, mut j) = run_end(a, front, b, front);

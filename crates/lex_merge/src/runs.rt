@@ -2,7 +2,7 @@
 
 ghost use Rattle.std.specs.Prelude.{◌≡◌, ◌+◌, ◌<◌, ◌≤◌, length, false, if◌then◌else◌};
 ghost use Rattle.context_model.specs.Paths.{atom_at};
-ghost use Rattle.lex_merge.specs.Runs.{IsRun, IsLater, HasRoom, GoesOn};
+ghost use Rattle.lex_merge.specs.Runs.{IsMergeRun, ComesLater, HasMergeRoom, MergeGoesOn};
 
 use atom_kinds::compare;
 use atom_list::{AtomList, Builder};
@@ -18,8 +18,8 @@ pub(crate) fn atom(list: &AtomList, at: usize) -> &[u8]
 
 /// How many first atoms two lists have in common.
 pub(crate) fn common_front(a: &AtomList, b: &AtomList) -> usize
-    ensures first { IsRun a.now 0 b.now 0 result result }
-    ensures second { IsRun b.now 0 a.now 0 result result }
+    ensures first { IsMergeRun a.now 0 b.now 0 result result }
+    ensures second { IsMergeRun b.now 0 a.now 0 result result }
 {
     let most = a.len().min(b.len());
     for at in 0..most {
@@ -34,8 +34,8 @@ pub(crate) fn common_front(a: &AtomList, b: &AtomList) -> usize
 fn run_to(a: &AtomList, i: usize, b: &AtomList, j: usize) -> (usize, bool)
     requires first { i ≤ length a.now }
     requires second { j < length b.now }
-    ensures run { IsRun a.now i b.now j result.0 (if result.1 then j + 1 else j) }
-    ensures ends { result.1 ≡ false → IsLater a.now result.0 b.now j }
+    ensures run { IsMergeRun a.now i b.now j result.0 (if result.1 then j + 1 else j) }
+    ensures ends { result.1 ≡ false → ComesLater a.now result.0 b.now j }
 {
     let other = atom(b, j);
     for at in i..a.len() {
@@ -52,8 +52,8 @@ fn run_to(a: &AtomList, i: usize, b: &AtomList, j: usize) -> (usize, bool)
 pub(crate) fn run_end(a: &AtomList, i: usize, b: &AtomList, j: usize) -> (usize, usize)
     requires first { i ≤ length a.now }
     requires second { j ≤ length b.now }
-    ensures run { IsRun a.now i b.now j result.0 result.1 }
-    ensures ends { IsLater a.now result.0 b.now result.1 }
+    ensures run { IsMergeRun a.now i b.now j result.0 result.1 }
+    ensures ends { ComesLater a.now result.0 b.now result.1 }
 {
     let mut next = i;
     for other in j..b.len() {
@@ -70,9 +70,9 @@ pub(crate) fn run_end(a: &AtomList, i: usize, b: &AtomList, j: usize) -> (usize,
 fn run_behind(a: &AtomList, i: usize, b: &AtomList, j: usize) -> (usize, usize)
     requires first { i ≤ length a.now }
     requires second { j ≤ length b.now }
-    requires before { IsLater b.now j a.now i }
-    ensures run { IsRun a.now i b.now j result.0 result.1 }
-    ensures ends { IsLater a.now result.0 b.now result.1 }
+    requires before { ComesLater b.now j a.now i }
+    ensures run { IsMergeRun a.now i b.now j result.0 result.1 }
+    ensures ends { ComesLater a.now result.0 b.now result.1 }
     ensures some { i < length a.now → j < length b.now → i < result.0 }
 {
     if i == a.len() || j == b.len() {
@@ -90,10 +90,10 @@ pub(crate) fn push_run(
     b: &AtomList,
     j: usize,
 ) -> (usize, usize)
-    requires room { HasRoom a.now i b.now j built.old }
-    requires before { IsLater b.now j a.now i }
-    ensures on { GoesOn a.now i b.now j built.old result.0 result.1 built.new }
-    ensures ends { IsLater a.now result.0 b.now result.1 }
+    requires room { HasMergeRoom a.now i b.now j built.old }
+    requires before { ComesLater b.now j a.now i }
+    ensures on { MergeGoesOn a.now i b.now j built.old result.0 result.1 built.new }
+    ensures ends { ComesLater a.now result.0 b.now result.1 }
     ensures some { i < length a.now → j < length b.now → i < result.0 }
 {
     let (next, other) = run_behind(a, i, b, j);

@@ -4,7 +4,7 @@ use Rattle.std.proofs.Math.Nat.{div-lt_iff_lt-mul, pow-le-pow_right}
 use Rattle.std.proofs.lemmas.List.{take_more, map-append}
 use Rattle.context_model.specs.Varints.{big_endian, complement}
 use Rattle.context_model.proofs.Digits.{power_positive, more-div, big_endian-more}
-use Rattle.lex_varint.specs.Fronts.{turned}
+use Rattle.lex_varint.specs.Readings.{turned}
 
 -- the number with one byte more stays below the bound of the whole
 pub room_more : (high number i n : ℕ) → number / 256 ^ i ≡ high → i < n → (high + 1) * 256 ^ n ≤ 2 ^ 64 → number * 256 + 255 < 2 ^ 64

@@ -4,7 +4,7 @@ use Rattle.std.specs.Int.{leading_ones, w8}
 use Rattle.std.proofs.lemmas.Bool.{cases_eq}
 use Rattle.context_model.proofs.VarintLaws.{upto_eight, unsigned_first, natural_first}
 use Rattle.context_model.proofs.UnsignedFronts.{HasOnes, HasOnes-leading}
-use Rattle.lex_varint.specs.Fronts.{natural_demand}
+use Rattle.lex_varint.specs.Readings.{natural_demand}
 
 -- the same for the bytes that begin the codes of signed numbers from 0 on
 pub record HasNaturalOnes (b k : ℕ) : Type 0 where

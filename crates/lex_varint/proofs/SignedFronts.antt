@@ -7,7 +7,7 @@ use Rattle.context_model.specs.Varints.{big_endian, natural_form, natural_tail, 
 use Rattle.context_model.proofs.Digits.{length-big_endian}
 use Rattle.context_model.proofs.VarintLaws.{natural_first, natural_room, natural_tail-most, natural_tail-length, natural_tail-room, natural_tail-below, natural_tail-le, natural_tail-whole, natural_room-most, natural_bytes, powers, wide}
 use Rattle.context_model.proofs.VarintForms.{natural_part, natural_part-back, natural_byte, natural_rises-lengths, natural_form-unique, length-natural_form, length_bound}
-use Rattle.lex_varint.specs.Fronts.{BeginsWith, IsSignedAt, IsSignedCut, IsSignedLong, IsSignedOut, natural_demand, turned, with_sign}
+use Rattle.lex_varint.specs.Readings.{BeginsWith, IsSignedAt, IsSignedCut, IsSignedLong, IsSignedOut, natural_demand, turned, with_sign}
 use Rattle.lex_varint.specs.declared.VarintFault.{VarintFault}
 use Rattle.lex_varint.specs.declared.VarintFault.TheVariants.{Cut, LongForm, OutOfRange}
 use Rattle.lex_varint.proofs.Ones.{HasNaturalOnes, HasNaturalOnes-follows}

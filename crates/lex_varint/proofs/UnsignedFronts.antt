@@ -4,7 +4,7 @@ use Rattle.std.specs.Int.{leading_ones, w8}
 use Rattle.context_model.specs.Varints.{big_endian, unsigned_form, unsigned_tail, unsigned_varint}
 use Rattle.context_model.proofs.VarintLaws.{unsigned_first, unsigned_room, unsigned_tail-most, unsigned_room-most}
 use Rattle.context_model.proofs.VarintForms.{unsigned_part-back, length-unsigned_form}
-use Rattle.lex_varint.specs.Fronts.{BeginsWith, IsUnsignedAt, IsUnsignedCut, IsUnsignedLong}
+use Rattle.lex_varint.specs.Readings.{BeginsWith, IsUnsignedAt, IsUnsignedCut, IsUnsignedLong}
 use Rattle.lex_varint.specs.declared.VarintFault.{VarintFault}
 use Rattle.lex_varint.specs.declared.VarintFault.TheVariants.{Cut, LongForm}
 use Rattle.context_model.proofs.UnsignedFronts.{HasOnes, HasOnes-leading, Stands, Stands-unique, Stands-taken, Stands-long, Stands-uncut}

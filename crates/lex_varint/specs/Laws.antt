@@ -4,7 +4,7 @@ use Rattle.std.specs.Int.{w64}
 use Rattle.std.specs.Ordering.{nat_cmp, int_cmp, ordering_then}
 use Rattle.std.specs.Cmp.Lexicographic.{slice_cmp}
 use Rattle.context_model.specs.Varints.{unsigned_varint, signed_varint}
-use Rattle.lex_varint.specs.Fronts.{IsUnsignedAt, IsSignedAt}
+use Rattle.lex_varint.specs.Readings.{IsUnsignedAt, IsSignedAt}
 
 -- The code of an unsigned number is read back, whatever follows it.
 abbrev pub UnsignedReadsBack : Type 0

@@ -9,7 +9,7 @@
 
 ghost use Rattle.std.specs.Prelude.{◌≡◌, ◌≢◌, ◌↔◌, ℕ, ℤ, ◌+◌, ◌-◌, ◌*◌, ◌/◌, ◌^◌, ◌<◌, ◌≤◌, List, ◌∷◌, ◌++◌, length, map, pos, negsuc, if◌then◌else◌, ◌≤ℤ◌, unsigned_abs};
 ghost use Rattle.context_model.specs.Varints.{big_endian, unsigned_tail, unsigned_varint, natural_form, natural_tail, signed_varint, complement};
-ghost use Rattle.lex_varint.specs.Fronts.{IsUnsignedAt, IsUnsignedCut, IsUnsignedLong, IsSignedAt, IsSignedCut, IsSignedLong, IsSignedOut, natural_demand, turned, with_sign};
+ghost use Rattle.lex_varint.specs.Readings.{IsUnsignedAt, IsUnsignedCut, IsUnsignedLong, IsSignedAt, IsSignedCut, IsSignedLong, IsSignedOut, natural_demand, turned, with_sign};
 
 use std::marker::Model;
 

@@ -4,10 +4,10 @@ use Rattle.std.proofs.lemmas.List.{append-nil}
 use Rattle.text_lines.specs.Lines.{Line, numbered}
 use Rattle.text_lines.specs.Readings.{AllSay}
 use Rattle.trace_model.specs.Graphs.{Graph}
-use Rattle.recorded_graph.specs.Growth.{empty_graph}
+use Rattle.recorded_graph.specs.Graphs.{empty_graph}
 use Rattle.graph_lines.specs.Statements.{Statement}
 use Rattle.graph_text.specs.Additions.{Addition, with_addition, grown, graph_of}
-use Rattle.graph_text.specs.GraphLines.{graph_lines, IsGraphOf}
+use Rattle.graph_text.specs.Reading.{graph_lines, IsGraphOf}
 use Rattle.load_maker.specs.Loads.{load_table, load_lines, load_text}
 use Rattle.load_maker.proofs.CleanLines.{words_text, SayClean, clean_utf8, lines_said}
 use Rattle.load_maker.proofs.GoodLines.{Grows}

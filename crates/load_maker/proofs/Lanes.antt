@@ -5,7 +5,7 @@ use Rattle.std.specs.Fmt.{decimal}
 use Rattle.std.specs.Prelude.{List}
 use Rattle.trace_model.specs.Graphs as graphs
 use Rattle.trace_model.specs.Graphs.{Graph}
-use Rattle.recorded_graph.specs.Growth.{with_step}
+use Rattle.recorded_graph.specs.Graphs.{with_step}
 use Rattle.graph_lines.specs.Statements.{NamedAct}
 use Rattle.graph_lines.specs.Forms.{IsPath}
 use Rattle.graph_text.specs.Additions.{AddStep}

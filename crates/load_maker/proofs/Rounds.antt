@@ -5,7 +5,7 @@ use Rattle.context_model.specs.declared.Form.TheVariants.{One}
 use Rattle.trace_model.specs.Graphs as graphs
 use Rattle.trace_model.specs.Graphs.{Graph}
 use Rattle.bag_model.specs.Views as views
-use Rattle.recorded_graph.specs.Growth.{empty_graph, with_step, with_show}
+use Rattle.recorded_graph.specs.Graphs.{empty_graph, with_step, with_show}
 use Rattle.graph_lines.specs.Statements.{Statement, Service, All, Nothing, Start, Step, Show}
 use Rattle.graph_text.specs.Additions.{AddService, AddStep, AddShow, with_addition}
 use Rattle.graph_text.specs.Rules.{NamesNoStep}

@@ -6,7 +6,7 @@ use Rattle.std.specs.Option.{option_map}
 use Rattle.context_model.specs.declared.Form.TheVariants.{One}
 use Rattle.bag_model.specs.Views as views
 use Rattle.trace_model.specs.Graphs.{Graph, Service, Step}
-use Rattle.recorded_graph.specs.Growth.{with_step}
+use Rattle.recorded_graph.specs.Graphs.{with_step}
 use Rattle.graph_text.specs.Names.{service_at}
 
 -- The two services of the load.

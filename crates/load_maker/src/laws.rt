@@ -2,7 +2,7 @@
 
 ghost use Rattle.std.specs.Prelude.{◌≡◌, ℕ, ◌+◌, ◌*◌, ◌≤◌, [], ◌∷◌, length};
 ghost use Rattle.trace_model.specs.Graphs.{Graph};
-ghost use Rattle.graph_text.specs.GraphLines.{IsGraphOf};
+ghost use Rattle.graph_text.specs.Reading.{IsGraphOf};
 ghost use Rattle.load_maker.specs.Loads.{load_table, load_text};
 ghost use Rattle.load_maker.specs.declared.TheConstants.{ROUNDS_MAX};
 

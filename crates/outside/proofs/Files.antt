@@ -10,7 +10,7 @@ use Rattle.std.specs.String.{string_cmp}
 use Rattle.std.proofs.lemmas.List.{take_min}
 use Rattle.std.proofs.lemmas.Map.Text.{btree_map_updates_text}
 use Rattle.outside.specs.Libraries.{held_in}
-use Rattle.outside.specs.Told.{with_file, fetched}
+use Rattle.outside.specs.Transfers.{with_file, fetched}
 use Rattle.outside.specs.declared.TheConstants.{FETCH_MAX}
 
 -- A choice between two contents, seen as bytes.

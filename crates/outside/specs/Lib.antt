@@ -3,4 +3,4 @@ pub mod Causes
 pub mod Faults
 pub mod InMemory
 pub mod Libraries
-pub mod Told
+pub mod Transfers

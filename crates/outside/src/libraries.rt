@@ -3,7 +3,7 @@
 ghost use Rattle.std.specs.Prelude.{◌≡◌, ℕ, ◌-◌, ◌^◌, ◌≤◌, [], ◌∷◌, length, IfOk, IfSome, OnOk, OnErr, Option, Some, None};
 ghost use Rattle.std.specs.Option.{option_map};
 ghost use Rattle.outside.specs.Causes.{HasCauseAt};
-ghost use Rattle.outside.specs.Told.{Files, Fetches, Asked, Asks, with_file};
+ghost use Rattle.outside.specs.Transfers.{Files, Fetches, Asked, Asks, with_file};
 ghost use Rattle.outside.specs.Libraries.{held_in};
 ghost use Rattle.outside.specs.Bounds.{zero_in_range};
 ghost use Rattle.outside.specs.Faults.{faults_in, faults_in_range};

@@ -3,7 +3,7 @@
 ghost use Rattle.std.specs.Prelude.{◌≡◌, ℕ, ◌+◌, ◌^◌, ◌<◌, ◌≤◌, List, length, IfOk, OnOk, OnErr, Err};
 ghost use Rattle.std.specs.Io.KnownBytes.{Appends, Consumes, IsAtEnd};
 ghost use Rattle.outside.specs.Causes.{HasCause, Rose};
-ghost use Rattle.outside.specs.Told.{AppendsPart};
+ghost use Rattle.outside.specs.Transfers.{AppendsPart};
 
 use crate::answers::{Failed, ReadFault};
 use crate::streams::{Sink, Source};

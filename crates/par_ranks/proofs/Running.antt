@@ -9,13 +9,13 @@ use Rattle.trace_model.specs.Graphs.{Graph}
 use Rattle.trace_model.specs.Runs.{Lists, list_at, IsRun}
 use Rattle.recorded_graph.proofs.Parents.{in_at}
 use Rattle.par_ranks.specs.Turns.{IsPlan, row_at}
-use Rattle.par_ranks.specs.Rows.{IsGiven, IsRow, AreMade, ArePut, IsRowRun}
+use Rattle.par_ranks.specs.Rows.{IsGiven, AreIndependent, AreMade, ArePut, IsRowRun}
 use Rattle.par_ranks.proofs.Giving.{given_moved}
 use Rattle.par_ranks.proofs.Turning.{row_within}
 use Rattle.par_ranks.proofs.Putting.{place_in}
 
 -- The steps of a row are steps of the graph, by their places.
-pub row_steps : (graph : Graph) (row : List ℕ) (count : ℕ) → IsRow graph row → count ≡ length graph.steps → All (λ step. step < count) row
+pub row_steps : (graph : Graph) (row : List ℕ) (count : ℕ) → AreIndependent graph row → count ≡ length graph.steps → All (λ step. step < count) row
 row_steps graph row count is many k d l =
     subst (λ (step : ℕ). step < count) (get_or_default row k 0 d l)
     (subst (λ (c : ℕ). get_or row k 0 < c) (sym many) (is.within (get_or row k 0) (in_at row k l)))
@@ -32,7 +32,7 @@ pub none_run : (nodes : Nodes) (graph : Graph) (row : List ℕ) (old : Lists) �
 none_run nodes graph row old = record { as_many = refl; given = λ j l. absurd (omega (arith, l)); kept = λ n out. refl }
 
 -- One step more.
-pub one_run : (nodes : Nodes) (graph : Graph) (row : List ℕ) (k : ℕ) (old lists : Lists) (step : ℕ) (list : List Atom) → IsRow graph row → k < length row → step ≡ get_or row k 0 → step < length lists
+pub one_run : (nodes : Nodes) (graph : Graph) (row : List ℕ) (k : ℕ) (old lists : Lists) (step : ℕ) (list : List Atom) → AreIndependent graph row → k < length row → step ≡ get_or row k 0 → step < length lists
     → IsGiven nodes graph lists step list → AreRunTo nodes graph row k old lists → AreRunTo nodes graph row (k + 1) old (set lists step list)
 one_run nodes graph row k old lists step list is here same within gives are = record {
   as_many = length-set lists step list ∙ are.as_many;
@@ -73,7 +73,7 @@ all_run nodes graph row k old new all are = record {
 
 -- ---- a row in chunks
 
-pub put_run : (nodes : Nodes) (graph : Graph) (row : List ℕ) (made old new : Lists) → IsRow graph row → AreMade nodes graph old row made → ArePut row made old new → IsRowRun nodes graph row old new
+pub put_run : (nodes : Nodes) (graph : Graph) (row : List ℕ) (made old new : Lists) → AreIndependent graph row → AreMade nodes graph old row made → ArePut row made old new → IsRowRun nodes graph row old new
 put_run nodes graph row made old new is are put = record {
   as_many = put.as_many;
   given = λ n i.
@@ -91,7 +91,7 @@ pub record AreRowsRun (nodes : Nodes) (graph : Graph) (rows : List (List ℕ)) (
   pub as_many : length lists ≡ length graph.steps
   pub given : (turn n : ℕ) → turn < bound → IsIn n (row_at rows turn) → IsGiven nodes graph lists n (list_at lists n)
 
-pub planned_row : (graph : Graph) (rows : List (List ℕ)) (turn : ℕ) → IsPlan graph rows → IsRow graph (row_at rows turn)
+pub planned_row : (graph : Graph) (rows : List (List ℕ)) (turn : ℕ) → IsPlan graph rows → AreIndependent graph (row_at rows turn)
 planned_row graph rows turn plan = record {
   within = λ n i. (plan.own turn n i).0;
   apart = λ n parent step i has named j.

@@ -3,7 +3,7 @@
 ghost use Rattle.std.specs.Prelude.{◌≡◌, ◌+◌, ◌/◌, ◌%◌, ◌<◌, ℕ, min, length, slice_index_or, All, IfOk, OnOk};
 ghost use Rattle.std.specs.Fork.{slice_chunk};
 ghost use Rattle.trace_model.specs.Graphs.{IsOfTable};
-ghost use Rattle.par_ranks.specs.Rows.{IsRow, AreMade, ArePut, IsRowRun};
+ghost use Rattle.par_ranks.specs.Rows.{AreIndependent, AreMade, ArePut, IsRowRun};
 
 use crate::chunks::chunk_count;
 use crate::steps::{run_chunk, run_in_turn};
@@ -97,7 +97,7 @@ fn run_in_chunks<R: Threads + Sync, G: Gate>(
 ) -> Result<(), Memory>
     requires table { IsOfTable table.now graph.now }
     requires lists { length lists.old.items ≡ length graph.now.steps }
-    requires row { IsRow graph.now row.now }
+    requires row { AreIndependent graph.now row.now }
     requires chunks { 0 < chunks }
     ensures { OnOk result (IsRowRun table.now graph.now row.now lists.old.items lists.new.items) }
 {
@@ -121,7 +121,7 @@ pub(crate) fn run_row<R: Threads + Sync, G: Gate>(
 ) -> Result<(), Memory>
     requires table { IsOfTable table.now graph.now }
     requires lists { length lists.old.items ≡ length graph.now.steps }
-    requires row { IsRow graph.now row.now }
+    requires row { AreIndependent graph.now row.now }
     ensures { OnOk result (IsRowRun table.now graph.now row.now lists.old.items lists.new.items) }
 {
     let chunks = chunk_count(graph, lists.as_slice(), row);

@@ -4,7 +4,7 @@ ghost use Rattle.std.specs.Prelude.{◌≡◌, ◌<◌, ℕ, length, IfOk};
 ghost use Rattle.trace_model.specs.Graphs.{IsOfTable, IsTypedContext};
 ghost use Rattle.trace_model.specs.Runs.{list_at, IsRun};
 ghost use Rattle.trace_model.specs.Faithful.{IsFaithful};
-ghost use Rattle.graph_runner.specs.Alike.{AlikeStepsAgree};
+ghost use Rattle.graph_runner.specs.Runs.{AlikeStepsAgree};
 ghost use Rattle.par_ranks.specs.Turns.{IsPlan};
 
 use crate::rows::run_row;

@@ -2,7 +2,7 @@
 
 ghost use Rattle.std.specs.Prelude.{◌≡◌, ◌<◌, length, All, IfOk, OnOk};
 ghost use Rattle.trace_model.specs.Graphs.{IsOfTable};
-ghost use Rattle.par_ranks.specs.Rows.{IsGiven, IsRow, AreMade, IsRowRun};
+ghost use Rattle.par_ranks.specs.Rows.{IsGiven, AreIndependent, AreMade, IsRowRun};
 
 use crate::turns::WIDE_MIN;
 use atom_list::Context;
@@ -70,7 +70,7 @@ pub(crate) fn run_in_turn<R: Threads + Sync, G: Gate>(
 ) -> Result<(), Memory>
     requires table { IsOfTable table.now graph.now }
     requires lists { length lists.old.items ≡ length graph.now.steps }
-    requires row { IsRow graph.now row.now }
+    requires row { AreIndependent graph.now row.now }
     ensures { OnOk result (IsRowRun table.now graph.now row.now lists.old.items lists.new.items) }
 {
     for step in row {

@@ -11,7 +11,7 @@ use Rattle.recorded_graph.specs.declared.graphs.TheConstants.{STEPS_MAX}
 use Rattle.recorded_graph.specs.declared.steps.Service.{Service}
 use Rattle.recorded_graph.specs.declared.steps.Step.{Step}
 use Rattle.recorded_graph.specs.Plain.{service_of, step_of, plain_graph, IsKeptGraph}
-use Rattle.recorded_graph.specs.Growth.{empty_graph, with_service, with_step, with_show, MayHaveParent, MayFollow, GraphsOfTablesGrow}
+use Rattle.recorded_graph.specs.Graphs.{empty_graph, with_service, with_step, with_show, MayHaveParent, MayBeNext, GraphsOfTablesGrow}
 
 -- An element of a list with one more is one of the list, or the last.
 get_more : {A : Type 0} (xs : List A) (x y : A) (n : ℕ) → slice_get (xs ++ x ∷ []) n ≡ Some y → (slice_get xs n ≡ Some y) ⊎ ((n ≡ length xs) × (x ≡ y))
@@ -73,7 +73,7 @@ each_step graph step P old new n own e = elim (get_more graph.steps step own n e
   | inr h ↦ subst (λ s. P n s) h.1 (subst (λ m. P m step) (sym h.0) new)
 ]
 
-module _ (graph : Graph) (step : model.Step) (g : IsGraph graph) (f : MayFollow graph step) where
+module _ (graph : Graph) (step : model.Step) (g : IsGraph graph) (f : MayBeNext graph step) where
   earlier_in : (n parent : ℕ) (own : model.Step) → HasStep (with_step graph step) n own → IsIn parent (parents_of own.act) → parent < length graph.steps
   earlier_in n parent own e i = each_step graph step (λ m s. IsIn parent (parents_of s.act) → parent < length graph.steps)
       (λ m s h j. let sooner = g.earlier m parent s h j in let within = slice_get_within graph.steps m s h in omega (arith, sooner, within))
@@ -95,7 +95,7 @@ module _ (graph : Graph) (step : model.Step) (g : IsGraph graph) (f : MayFollow 
 
 -- A step that is sound at its service, and has its parents, may follow.
 pub may_follow : (graph : Graph) (step : model.Step) (service : model.Service) → HasService graph step.service service → step.service < length graph.services
-    → IsSoundAct service.form step.act → ((parent : ℕ) → IsIn parent (parents_of step.act) → MayHaveParent graph step parent) → MayFollow graph step
+    → IsSoundAct service.form step.act → ((parent : ℕ) → IsIn parent (parents_of step.act) → MayHaveParent graph step parent) → MayBeNext graph step
 may_follow graph step service at within sound parents = record { act = subst (λ s. IsSoundAct (form_of_service s) step.act) (sym at) sound; service = within; parents = parents }
 
 -- ---- graphs of a table
@@ -143,7 +143,7 @@ service_kept services steps shows service k =
     (record { sound = service_sound (plain_graph services steps shows) (service_of service) k.sound; few = k.few })
 
 pub step_kept : (services : List Service) (steps : List Step) (shows : List ℕ) (step : Step) → IsKeptGraph (plain_graph services steps shows)
-    → length (map step_of steps) < STEPS_MAX → MayFollow (plain_graph services steps shows) (step_of step) → IsKeptGraph (plain_graph services (steps ++ step ∷ []) shows)
+    → length (map step_of steps) < STEPS_MAX → MayBeNext (plain_graph services steps shows) (step_of step) → IsKeptGraph (plain_graph services (steps ++ step ∷ []) shows)
 step_kept services steps shows step k room f =
     subst IsKeptGraph (sym (more_steps services steps shows step))
     (record {

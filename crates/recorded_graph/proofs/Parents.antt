@@ -9,7 +9,7 @@ use Rattle.trace_model.specs.Graphs.{Graph, HasStep, StaysAt}
 use Rattle.recorded_graph.specs.declared.steps.Service.{Service}
 use Rattle.recorded_graph.specs.declared.steps.Step.{Step}
 use Rattle.recorded_graph.specs.Plain.{step_of, plain_graph}
-use Rattle.recorded_graph.specs.Growth.{MayHaveParent}
+use Rattle.recorded_graph.specs.Graphs.{MayHaveParent}
 
 -- The element at a place is the graph's step there.
 pub step_at : (services : List Service) (steps : List Step) (shows : List ℕ) (n : ℕ) (step : Step) → n < length steps → step ≡ get_or steps n step → HasStep (plain_graph services steps shows) n (step_of step)

@@ -1,3 +1,3 @@
 pub mod Plain
 pub mod GraphCode
-pub mod Growth
+pub mod Graphs

@@ -1,7 +1,7 @@
 -- The graphs of the code as plain ones.
 use Rattle.std.specs.Prelude.{ℕ, ◌≤◌, List, length, map}
 use Rattle.field_table.specs.Views.{view_of}
-use Rattle.bag_value.specs.Plain.{plain}
+use Rattle.bag_value.specs.Vals.{plain}
 use Rattle.trace_model.specs.Graphs as model
 use Rattle.recorded_graph.specs.declared.graphs.TheConstants.{STEPS_MAX}
 use Rattle.recorded_graph.specs.declared.steps.Act.{Act}

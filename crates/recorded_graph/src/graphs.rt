@@ -4,7 +4,7 @@ ghost use Rattle.std.specs.Prelude.{◌≡◌, ◌↔◌, ℕ, ◌<◌, ◌≤�
 ghost use Rattle.context_model.specs.Orders.{IsIn};
 ghost use Rattle.trace_model.specs.Graphs.{parents_of, IsGraph, HasService, HasStep};
 ghost use Rattle.recorded_graph.specs.Plain.{act_of, service_of, step_of};
-ghost use Rattle.recorded_graph.specs.Growth.{empty_graph, with_service, with_step, with_show, MayHaveParent, MayFollow};
+ghost use Rattle.recorded_graph.specs.Graphs.{empty_graph, with_service, with_step, with_show, MayHaveParent, MayBeNext};
 
 use crate::steps::{Service, Step};
 use outside::Memory;
@@ -117,7 +117,7 @@ impl Graph {
     /// Whether the step may be the next: it is sound, stands at a service of the graph, and its parents are steps of the graph,
     /// at whose service it stands unless it is a forward. It takes no memory.
     pub fn may_follow(&self, step: &Step) -> bool
-        ensures { IsTrue result ↔ MayFollow self.now (step_of step.now) }
+        ensures { IsTrue result ↔ MayBeNext self.now (step_of step.now) }
     {
         if self.services() <= step.service {
             return false;
@@ -138,7 +138,7 @@ impl Graph {
     /// Adds a step at the end. Want of memory leaves the graph unchanged.
     pub fn add_step(&mut self, step: Step) -> Result<(), Memory>
         requires room { length self.old.steps < STEPS_MAX }
-        requires follows { MayFollow self.old (step_of step) }
+        requires follows { MayBeNext self.old (step_of step) }
         ensures ok { OnOk result (self.new ≡ with_step self.old (step_of step)) }
         ensures err { OnErr result (self.new ≡ self.old) }
     {

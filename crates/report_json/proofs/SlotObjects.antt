@@ -13,7 +13,7 @@ use Rattle.bag_scan.specs.States.{IsFirstMarker, TellsState}
 use Rattle.bag_scan.specs.declared.spans.Span.{Span}
 use Rattle.bag_scan.specs.declared.states.State.{State}
 use Rattle.bag_scan.specs.declared.states.State.TheVariants.{Exact}
-use Rattle.bag_decode.specs.SlotWalks.{IsSpanOfSlot, SaysAt}
+use Rattle.bag_decode.specs.Slots.{IsSpanOfSlot, SaysAt}
 use Rattle.report_text.proofs.SlotLines.{exact_is}
 use Rattle.serde_json.specs.Data.{Data}
 use Rattle.report_json.specs.JsonReports.{slot_object, IsSlotObject}

@@ -14,7 +14,7 @@ use Rattle.hex.specs.Hex.{encode_lower}
 use Rattle.context_model.specs.KeyedMerge.{EachPair}
 use Rattle.bag_model.specs.declared.Pick.{Pick}
 use Rattle.bag_model.specs.Scalars as scalars
-use Rattle.bag_model.specs.Scalars.{Form, Word, ScalarKind, ScalarValue, Plain, Truth, Signed, Unsigned, Text, Octets, IsOfForm, IsPlainOf, ArePlainsOf, IsScalarOf, form_of}
+use Rattle.bag_model.specs.Scalars.{SpellingForm, Word, ScalarKind, ScalarValue, Plain, Truth, Signed, Unsigned, Text, Octets, IsOfForm, IsPlainOf, ArePlainsOf, IsScalarOf, form_of}
 use Rattle.bag_model.specs.Shapes.{Shape, Nodes, no_node, node}
 use Rattle.bag_model.specs.Tables.{IsShape, AreFields}
 use Rattle.bag_model.specs.Values.{Value, Entries, Values, no_entry, entry, no_value, value, pairs, IsOfShape, AreOfShapes}
@@ -85,7 +85,7 @@ quoted_utf8 bytes (cs, (all, is)) =
 bytes_utf8 : (bytes : List ℕ) → IsUtf8 (bytes_text bytes)
 bytes_utf8 bytes = IsUtf8-append (codes "0x") (encode_lower bytes) (literal_utf8 (codes "0x") refl) (hex_utf8 bytes)
 
-text_utf8 : (form : Form) (bytes : List ℕ) → IsOfForm form (Text bytes) → IsUtf8 bytes
+text_utf8 : (form : SpellingForm) (bytes : List ℕ) → IsOfForm form (Text bytes) → IsUtf8 bytes
 text_utf8 scalars.TextBytes bytes h = h
 text_utf8 form bytes h = absurd h
 

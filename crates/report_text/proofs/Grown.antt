@@ -1,6 +1,6 @@
 -- Texts that grew, step by step.
 use Rattle.std.proofs.Common.{◌≡◌, ℕ, List, [], ◌++◌, sym, ap, ◌∙◌, append_assoc, append-nil, Result, Ok, Err, OnErr}
-use Rattle.report_text.specs.Growth.{Extends}
+use Rattle.report_text.specs.Extension.{Extends}
 
 -- Nothing was appended.
 pub unchanged : (before after : List ℕ) → after ≡ before → Extends before after

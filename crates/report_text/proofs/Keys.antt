@@ -3,9 +3,9 @@ use Rattle.std.proofs.Common.{◌≡◌, ℕ, zero, suc, ◌+◌, ◌<◌, List,
 use Rattle.context_model.specs.Merge.{AllBelow}
 use Rattle.context_model.specs.KeyedMerge.{keys_of}
 use Rattle.bag_model.specs.Scalars.{ScalarValue, scalar_cmp}
-use Rattle.scalar_types.specs.ScalarViews.{value_of}
+use Rattle.scalar_types.specs.Scalars.{value_of}
 use Rattle.bag_value.specs.declared.lists.Entry.{Entry}
-use Rattle.bag_value.specs.Plain.{pair_of}
+use Rattle.bag_value.specs.Vals.{pair_of}
 
 -- The key of each entry comes before the key.
 abbrev pub AllBefore : ScalarValue → List Entry → Type 0

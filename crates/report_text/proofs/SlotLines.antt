@@ -14,7 +14,7 @@ use Rattle.bag_scan.specs.States.{IsFirstMarker, TellsState}
 use Rattle.bag_scan.specs.declared.spans.Span.{Span}
 use Rattle.bag_scan.specs.declared.states.State.{State}
 use Rattle.bag_scan.specs.declared.states.State.TheVariants.{Exact, Partial}
-use Rattle.bag_decode.specs.SlotWalks.{IsSpanOfSlot, SaysAt}
+use Rattle.bag_decode.specs.Slots.{IsSpanOfSlot, SaysAt}
 use Rattle.report_text.specs.Blocks.{slot_line, is_exact, IsSlotLine, AddsSlotLines}
 
 pub no_lines : (nodes : Nodes) (list : List Atom) (text : List ℕ) → AddsSlotLines nodes list 0 text text

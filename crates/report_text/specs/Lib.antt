@@ -1,5 +1,5 @@
 pub mod Commas
-pub mod Growth
+pub mod Extension
 pub mod ScalarTexts
 pub mod ValueTexts
 pub mod Blocks

@@ -5,9 +5,9 @@ ghost use Rattle.bag_model.specs.Readings.{PathsOf};
 ghost use Rattle.bag_model.specs.Slots.{SlotAt, slots_of};
 ghost use Rattle.bag_model.specs.SlotValues.{HasSlot};
 ghost use Rattle.bag_model.specs.Typed.{AreTyped};
-ghost use Rattle.bag_value.specs.Plain.{plain};
+ghost use Rattle.bag_value.specs.Vals.{plain};
 ghost use Rattle.report_text.specs.Blocks.{slot_line, AddsSlotLines, AddsBlock, IsBlock};
-ghost use Rattle.report_text.specs.Growth.{Extends};
+ghost use Rattle.report_text.specs.Extension.{Extends};
 
 use crate::value_texts::put_value;
 use atom_list::Context;

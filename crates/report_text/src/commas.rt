@@ -2,7 +2,7 @@
 
 ghost use Rattle.std.specs.Prelude.{◌≡◌, ◌++◌, OnOk, OnErr};
 ghost use Rattle.report_text.specs.Commas.{comma_before};
-ghost use Rattle.report_text.specs.Growth.{Extends};
+ghost use Rattle.report_text.specs.Extension.{Extends};
 
 use outside::Memory;
 

@@ -6,9 +6,9 @@ use Rattle.std.proofs.lemmas.List.{length-append, append_assoc}
 use Rattle.std.proofs.Math.Seq.{drop-append-add, take-append_seam, get_or-append_seam}
 use Rattle.std.specs.Str.{IsAscii, IsUtf8}
 use Rattle.bag_model.specs.Scalars.{ended}
-use Rattle.scalar_types.specs.Spelling.{AlwaysFits}
+use Rattle.scalar_types.specs.Codec.{AlwaysFits}
 use Rattle.scalar_types.specs.Fronts.{Begins, BeginsWithSome}
-use Rattle.scalar_types.specs.Escapes.{IsNonzero, IsPiece, FitsOpen}
+use Rattle.scalar_types.specs.Escapes.{IsNonzero, IsEscapedRun, FitsOpen}
 
 -- what a field with something behind it is, up to its first zero byte
 pub ended-last : (run t : List ℕ) → All IsNonzero run → ended run ++ t ≡ run ++ 0 ∷ 1 ∷ t
@@ -74,14 +74,14 @@ neither_byte bytes run tail all e no_end no_more b = elim (zero_cases run tail b
 
 -- ---- a field through a piece
 
-pub last_begins : (bytes run rest : List ℕ) → IsPiece bytes run true rest → ended run ++ rest ≡ bytes
+pub last_begins : (bytes run rest : List ℕ) → IsEscapedRun bytes run true rest → ended run ++ rest ≡ bytes
 last_begins bytes run rest p = ended-last run rest p.nonzero ∙ sym p.same
 
-pub more_begins : (bytes run rest v t : List ℕ) → IsPiece bytes run false rest → ended v ++ t ≡ rest → ended (run ++ 0 ∷ v) ++ t ≡ bytes
+pub more_begins : (bytes run rest v t : List ℕ) → IsEscapedRun bytes run false rest → ended v ++ t ≡ rest → ended (run ++ 0 ∷ v) ++ t ≡ bytes
 more_begins bytes run rest v t p e = ended-more run v t p.nonzero ∙ ap (λ l. run ++ 0 ∷ 255 ∷ l) e ∙ sym p.same
 
 -- where a field goes on, what follows begins with the field of its other bytes
-pub more_follows : (bytes run rest v t : List ℕ) → IsPiece bytes run false rest → ended v ++ t ≡ bytes
+pub more_follows : (bytes run rest v t : List ℕ) → IsEscapedRun bytes run false rest → ended v ++ t ≡ bytes
     → (w : List ℕ) × (v ≡ run ++ 0 ∷ w) × (ended w ++ t ≡ rest)
 more_follows bytes run rest v t p e = elim (zero_cases run (255 ∷ rest) v t p.nonzero (e ∙ p.same)) [
   | inl d ↦ absurd (other d.end)
@@ -95,7 +95,7 @@ more_follows bytes run rest v t p e = elim (zero_cases run (255 ∷ rest) v t p.
     tails same = cc
 
 -- where a field ends, its bytes are those before the zero
-pub last_follows : (bytes run rest v t : List ℕ) → IsPiece bytes run true rest → ended v ++ t ≡ bytes → v ≡ run
+pub last_follows : (bytes run rest v t : List ℕ) → IsEscapedRun bytes run true rest → ended v ++ t ≡ bytes → v ≡ run
 last_follows bytes run rest v t p e = elim (zero_cases run (1 ∷ rest) v t p.nonzero (e ∙ p.same)) [
   | inl d ↦ d.whole
   | inr d ↦ absurd (other d.next)
@@ -145,29 +145,29 @@ FitsOpen-before false run v p = tt
 abbrev pub IsFollowed : List ℕ → List ℕ → List ℕ → Type 0
 IsFollowed bytes field rest = (v t : List ℕ) → ended v ++ t ≡ rest → ended (field ++ v) ++ t ≡ bytes
 
-pub followed_more : (bytes field rest run after : List ℕ) → IsFollowed bytes field rest → IsPiece rest run false after
+pub followed_more : (bytes field rest run after : List ℕ) → IsFollowed bytes field rest → IsEscapedRun rest run false after
     → IsFollowed bytes ((field ++ run) ++ 0 ∷ []) after
 followed_more bytes field rest run after back p v t e =
     ap (λ l. ended l ++ t) (append_assoc (field ++ run) (0 ∷ []) v ∙ append_assoc field run (0 ∷ v)) ∙ back (run ++ 0 ∷ v) t (more_begins rest run after v t p e)
 
 -- some field begins the rest too
-pub follows_more : (rest run after : List ℕ) → IsPiece rest run false after → BeginsWithSome AlwaysFits ended rest → BeginsWithSome AlwaysFits ended after
+pub follows_more : (rest run after : List ℕ) → IsEscapedRun rest run false after → BeginsWithSome AlwaysFits ended rest → BeginsWithSome AlwaysFits ended after
 follows_more rest run after p b =
     let next = more_follows rest run after b.0 b.1.0 p b.1.1.same in
     (next.0, (b.1.0, record { fit = tt; same = next.2 }))
 
-pub open_more : (is_text : Bool) (rest run after : List ℕ) → IsPiece rest run false after → FitsOpen is_text run
+pub open_more : (is_text : Bool) (rest run after : List ℕ) → IsEscapedRun rest run false after → FitsOpen is_text run
     → (v t : List ℕ) → Begins (FitsOpen is_text) ended after v t → Begins (FitsOpen is_text) ended rest (run ++ 0 ∷ v) t
 open_more is_text rest run after p q v t b = record { fit = FitsOpen-append is_text run v q b.fit; same = more_begins rest run after v t p b.same }
 
-pub open_follows : (is_text : Bool) (rest run after : List ℕ) → IsPiece rest run false after
+pub open_follows : (is_text : Bool) (rest run after : List ℕ) → IsEscapedRun rest run false after
     → BeginsWithSome (FitsOpen is_text) ended rest → BeginsWithSome (FitsOpen is_text) ended after
 open_follows is_text rest run after p b =
     let next = more_follows rest run after b.0 b.1.0 p b.1.1.same in
     (next.0, (b.1.0, record { fit = FitsOpen-behind is_text run next.0 (subst (FitsOpen is_text) next.1 b.1.1.fit); same = next.2 }))
 
 -- a field that begins with a piece has a valid piece
-pub open_piece : (is_text last : Bool) (rest run after : List ℕ) → IsPiece rest run last after → BeginsWithSome (FitsOpen is_text) ended rest → FitsOpen is_text run
+pub open_piece : (is_text last : Bool) (rest run after : List ℕ) → IsEscapedRun rest run last after → BeginsWithSome (FitsOpen is_text) ended rest → FitsOpen is_text run
 open_piece is_text true rest run after p b = subst (FitsOpen is_text) (last_follows rest run after b.0 b.1.0 p b.1.1.same) b.1.1.fit
 open_piece is_text false rest run after p b =
     let next = more_follows rest run after b.0 b.1.0 p b.1.1.same in

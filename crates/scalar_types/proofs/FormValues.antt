@@ -5,7 +5,7 @@ use Rattle.context_model.specs.Varints.{unsigned_varint, signed_varint}
 use Rattle.bag_model.specs.Scalars.{Plain, Truth, Signed, Unsigned, Text, Octets, TruthByte, UnsignedVarint, SignedVarint, FixedBytes, SignedFixedBytes, TextBytes, RawBytes, IsUnsigned, IsSigned, IsOfForm, truth_bytes, fixed_bytes, signed_fixed_bytes, ended, plain_spelling, field_spelling}
 use Rattle.bag_model.proofs.Codes.{code_apart}
 use Rattle.bag_model.proofs.NumberCodes.{ended_code}
-use Rattle.scalar_types.specs.Spelling.{Spells, IsSpelled, AlwaysFits}
+use Rattle.scalar_types.specs.Codec.{Spells, IsSpelled, AlwaysFits}
 use Rattle.scalar_types.specs.Fronts.{Begins, BeginsWithSome}
 use Rattle.scalar_types.specs.Escapes.{FitsOpen}
 

@@ -1,7 +1,7 @@
 -- From what begins some bytes to what is spelled by all of them.
 use Rattle.std.proofs.Common.{◌≡◌, ℕ, List, [], ◌++◌, sym, ap, ◌∙◌}
 use Rattle.std.proofs.lemmas.List.{append-nil}
-use Rattle.scalar_types.specs.Spelling.{Spells, IsSpelled}
+use Rattle.scalar_types.specs.Codec.{Spells, IsSpelled}
 use Rattle.scalar_types.specs.Fronts.{Begins, BeginsWithSome, OneRest}
 
 module _ {V : Type 0} {fits : V → Type 0} {spelling : V → List ℕ} where

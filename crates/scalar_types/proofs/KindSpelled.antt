@@ -1,16 +1,16 @@
 -- What a kind's values spell: the same as the plain values of its word, or of its fields.
 use Rattle.std.proofs.Common.{◌≡◌, ◌↔◌, ℕ, List, Result, Ok, Err, IfOk, sym, refl, subst}
 use Rattle.bag_model.specs.Scalars as model
-use Rattle.bag_model.specs.Scalars.{Word, Form, Plain, form_of, IsOfForm, ArePlainsOf, IsScalarOf, plain_spelling, packed_spelling, spelling}
+use Rattle.bag_model.specs.Scalars.{Word, SpellingForm, Plain, form_of, IsOfForm, ArePlainsOf, IsScalarOf, plain_spelling, packed_spelling, spelling}
 use Rattle.scalar_types.specs.declared.kinds.ScalarKind.{ScalarKind}
 use Rattle.scalar_types.specs.declared.kinds.ScalarKind.TheVariants.{Packed}
 use Rattle.scalar_types.specs.declared.scalars.Scalar.{Scalar}
 use Rattle.scalar_types.specs.declared.scalars.Scalar.TheVariants.{Packed as PackedScalar}
 use Rattle.scalar_types.specs.declared.codec.TakeFault.{TakeFault}
-use Rattle.scalar_types.specs.Spelling.{Spells, IsSpelled}
-use Rattle.scalar_types.specs.KindViews.{IsWord, word_of, kind_of}
-use Rattle.scalar_types.specs.ScalarViews.{IsPlain, plain_of, value_of}
-use Rattle.scalar_types.specs.KindLaws.{scalar_of, value_back}
+use Rattle.scalar_types.specs.Codec.{Spells, IsSpelled}
+use Rattle.scalar_types.specs.KindViews.{IsPlainWord, word_of, kind_of}
+use Rattle.scalar_types.specs.Scalars.{IsPlain, plain_of, value_of}
+use Rattle.scalar_types.specs.KindCodec.{scalar_of, value_back}
 
 -- The value is spelled so as one of the plain kind.
 abbrev pub SpellsKind : model.ScalarKind → List ℕ → Scalar → Type 0
@@ -19,7 +19,7 @@ SpellsKind kind bytes = Spells (λ v. IsScalarOf kind (value_of v)) (λ v. spell
 abbrev pub KindSpelled : model.ScalarKind → List ℕ → Type 0
 KindSpelled kind bytes = IsSpelled (λ v. IsScalarOf kind (value_of v)) (λ v. spelling kind (value_of v)) bytes
 
-word_kind : (kind : ScalarKind) → IsWord kind → kind_of kind ≡ model.ScalarKind.One (word_of kind)
+word_kind : (kind : ScalarKind) → IsPlainWord kind → kind_of kind ≡ model.ScalarKind.One (word_of kind)
 word_kind (Packed words) h = absurd h
 word_kind kind h = refl
 
@@ -46,14 +46,14 @@ word_alone word bytes = (
   λ s. as_word word bytes (value_of s.0) record { fit = s.1.fit; same = s.1.same },
 )
 
-pub word_spelled : (kind : ScalarKind) (f : Form) → IsWord kind → f ≡ form_of (word_of kind) → (bytes : List ℕ)
+pub word_spelled : (kind : ScalarKind) (f : SpellingForm) → IsPlainWord kind → f ≡ form_of (word_of kind) → (bytes : List ℕ)
     → IsSpelled (IsOfForm f) (plain_spelling f) bytes ↔ KindSpelled (kind_of kind) bytes
 word_spelled kind f h e bytes =
     subst (λ g. IsSpelled (IsOfForm g) (plain_spelling g) bytes ↔ KindSpelled (kind_of kind) bytes) (sym e)
     (subst (λ k. IsSpelled (IsOfForm (form_of (word_of kind))) (plain_spelling (form_of (word_of kind))) bytes ↔ KindSpelled k bytes) (sym (word_kind kind h))
     (word_alone (word_of kind) bytes))
 
-word_spells : (kind : ScalarKind) (f : Form) → IsWord kind → f ≡ form_of (word_of kind) → (bytes : List ℕ) (v : Scalar) → IsPlain v
+word_spells : (kind : ScalarKind) (f : SpellingForm) → IsPlainWord kind → f ≡ form_of (word_of kind) → (bytes : List ℕ) (v : Scalar) → IsPlain v
     → Spells (IsOfForm f) (plain_spelling f) bytes (plain_of v) → SpellsKind (kind_of kind) bytes v
 word_spells kind f h e bytes v p s =
     let formed : Spells (IsOfForm (form_of (word_of kind))) (plain_spelling (form_of (word_of kind))) bytes (plain_of v) = subst (λ g. Spells (IsOfForm g) (plain_spelling g) bytes (plain_of v)) e s in
@@ -62,7 +62,7 @@ word_spells kind f h e bytes v p s =
     subst (Spells (IsScalarOf (model.ScalarKind.One (word_of kind))) (spelling (model.ScalarKind.One (word_of kind))) bytes) (sym (plain_value v p)) alone in
     subst (λ k. SpellsKind k bytes v) (sym (word_kind kind h)) record { fit = valued.fit; same = valued.same }
 
-pub word_taken : (kind : ScalarKind) (f : Form) → IsWord kind → f ≡ form_of (word_of kind) → (bytes : List ℕ) (r : Result Scalar TakeFault)
+pub word_taken : (kind : ScalarKind) (f : SpellingForm) → IsPlainWord kind → f ≡ form_of (word_of kind) → (bytes : List ℕ) (r : Result Scalar TakeFault)
     → IfOk r IsPlain → IfOk r (λ v. Spells (IsOfForm f) (plain_spelling f) bytes (plain_of v)) → IfOk r (SpellsKind (kind_of kind) bytes)
 word_taken kind f h e bytes (Ok v) p s = word_spells kind f h e bytes v p s
 word_taken kind f h e bytes (Err fault) p s = tt

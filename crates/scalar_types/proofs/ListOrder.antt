@@ -3,7 +3,7 @@ use Rattle.std.proofs.Common.{◌≡◌, ℕ, zero, suc, List, [], ◌∷◌, le
 use Rattle.std.specs.Cmp.Lexicographic.{slice_cmp}
 use Rattle.bag_model.specs.Scalars.{plain_cmp}
 use Rattle.scalar_types.specs.declared.scalars.Scalar.{Scalar}
-use Rattle.scalar_types.specs.ScalarViews.{plain_of}
+use Rattle.scalar_types.specs.Scalars.{plain_of}
 use Rattle.std.specs.Cmp.{nat_cmp_is}
 use Rattle.std.proofs.lemmas.Bool.Decides.{nat_tests}
 

@@ -1,14 +1,14 @@
 -- The walks over the fields of a struct, in terms of the fields that are left.
 use Rattle.std.proofs.lemmas.Bool.Decides.{nat_tests}
 use Rattle.std.proofs.Common.{◌≡◌, ◌↔◌, ℕ, Bool, IsTrue, ◌==◌, List, [], ◌∷◌, ◌++◌, map, length, sym, refl, ap, ◌∙◌, subst, append_assoc, arith}
-use Rattle.bag_model.specs.Scalars.{Word, Form, Plain, form_of, IsOfForm, ArePlainsOf, field_spelling, packed_spelling}
+use Rattle.bag_model.specs.Scalars.{Word, SpellingForm, Plain, form_of, IsOfForm, ArePlainsOf, field_spelling, packed_spelling}
 use Rattle.bag_model.proofs.Codes.{code_rest}
 use Rattle.bag_model.proofs.SpellingOrder.{field_code}
 use Rattle.scalar_types.specs.declared.kinds.ScalarKind.{ScalarKind}
 use Rattle.scalar_types.specs.declared.scalars.Scalar.{Scalar}
 use Rattle.scalar_types.specs.KindViews.{word_of}
-use Rattle.scalar_types.specs.ScalarViews.{plain_of}
-use Rattle.scalar_types.specs.Spelling.{Spells, IsSpelled}
+use Rattle.scalar_types.specs.Scalars.{plain_of}
+use Rattle.scalar_types.specs.Codec.{Spells, IsSpelled}
 use Rattle.scalar_types.specs.Fronts.{Begins, BeginsWithSome}
 
 -- The values are of the kinds.
@@ -37,11 +37,11 @@ fits-length words vs h = absurd h
 abbrev pub FirstField : ScalarKind → List ℕ → Plain → List ℕ → Type 0
 FirstField kind rest v after = Begins (IsOfForm (form_of (word_of kind))) (field_spelling (form_of (word_of kind))) rest v after
 
-pub first_field : (kind : ScalarKind) (f : Form) → f ≡ form_of (word_of kind) → (rest : List ℕ) (v : Plain) (after : List ℕ)
+pub first_field : (kind : ScalarKind) (f : SpellingForm) → f ≡ form_of (word_of kind) → (rest : List ℕ) (v : Plain) (after : List ℕ)
     → Begins (IsOfForm f) (field_spelling f) rest v after → FirstField kind rest v after
 first_field kind f e rest v after b = subst (λ g. Begins (IsOfForm g) (field_spelling g) rest v after) e b
 
-pub no_first_field : (kind : ScalarKind) (f : Form) → f ≡ form_of (word_of kind) → (kinds : List ScalarKind) (rest : List ℕ)
+pub no_first_field : (kind : ScalarKind) (f : SpellingForm) → f ≡ form_of (word_of kind) → (kinds : List ScalarKind) (rest : List ℕ)
     → (BeginsWithSome (IsOfForm f) (field_spelling f) rest → ⊥) → FieldsSpelled (kind ∷ kinds) rest → ⊥
 no_first_field kind f e kinds rest none s = by s.0 s.1
   where
@@ -73,7 +73,7 @@ fields_less kind kinds rest after v b s = by s.0 s.1
     )
 
 -- a field put behind others, and the fields behind it
-pub fields_put : (kind : ScalarKind) (kinds : List ScalarKind) (value : Scalar) (values : List Scalar) (f : Form) → f ≡ form_of (word_of kind)
+pub fields_put : (kind : ScalarKind) (kinds : List ScalarKind) (value : Scalar) (values : List Scalar) (f : SpellingForm) → f ≡ form_of (word_of kind)
     → (before after all : List ℕ) → after ≡ before ++ field_spelling f (plain_of value)
     → before ++ fields (kind ∷ kinds) (map plain_of (value ∷ values)) ≡ all → after ++ fields kinds (map plain_of values) ≡ all
 fields_put kind kinds value values f e before after all put so_far =

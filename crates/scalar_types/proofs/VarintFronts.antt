@@ -3,7 +3,7 @@ use Rattle.std.proofs.Common.{◌≡◌, ℕ, ℤ, ◌-◌, ◌≤◌, Bool, tru
 use Rattle.std.proofs.Math.Seq.{drop-append_seam}
 use Rattle.std.proofs.lemmas.List.{take_rest, length-append}
 use Rattle.context_model.specs.Varints.{unsigned_varint, signed_varint}
-use Rattle.lex_varint.specs.Fronts.{IsUnsignedAt, IsSignedAt}
+use Rattle.lex_varint.specs.Readings.{IsUnsignedAt, IsSignedAt}
 use Rattle.bag_model.specs.Scalars.{IsUnsigned, IsSigned}
 use Rattle.bag_model.proofs.Codes.{code_apart}
 use Rattle.bag_model.proofs.NumberCodes.{unsigned_code, signed_code, unsigned_wide, signed_wide}

@@ -5,7 +5,7 @@ abbrev pub IsNonzero : ℕ → Type 0
 IsNonzero b = b ≢ 0
 
 -- The bytes up to the first zero byte, whether the field ends there, and what follows the byte behind the zero.
-pub record IsPiece (bytes run : List ℕ) (last : Bool) (rest : List ℕ) : Type 0 where
+pub record IsEscapedRun (bytes run : List ℕ) (last : Bool) (rest : List ℕ) : Type 0 where
   pub nonzero : All IsNonzero run
   pub same : bytes ≡ run ++ 0 ∷ (if last then 1 else 255) ∷ rest
 

@@ -4,9 +4,9 @@ use Rattle.scalar_types.specs.declared.kinds.ScalarKind.{ScalarKind}
 use Rattle.scalar_types.specs.declared.kinds.ScalarKind.TheVariants.{Bool, Int32, Int64, Sint32, Sint64, Uint32, Uint64, Fixed32, Fixed64, Sfixed32, Sfixed64, Str, Bytes, Packed}
 
 -- The kind is a word and no struct.
-abbrev pub IsWord : ScalarKind → Type 0
-IsWord (Packed words) = ⊥
-IsWord _ = Unit {0}
+abbrev pub IsPlainWord : ScalarKind → Type 0
+IsPlainWord (Packed words) = ⊥
+IsPlainWord _ = Unit {0}
 
 -- The word; of a struct, which has none, any.
 abbrev pub word_of : ScalarKind → model.Word

@@ -1,11 +1,11 @@
-pub mod Spelling
+pub mod Codec
 pub mod Fronts
 pub mod KindViews
-pub mod HeldKinds
-pub mod KindFalls
-pub mod ScalarViews
-pub mod ScalarFalls
+pub mod Kinds
+pub mod KindDescent
+pub mod Scalars
+pub mod ScalarDescent
 pub mod Escapes
 pub mod WordCodecs
-pub mod KindLaws
+pub mod KindCodec
 pub mod Words

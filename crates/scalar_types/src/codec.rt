@@ -1,7 +1,7 @@
 //! The trait of a codec, and its laws as calls.
 
 ghost use Rattle.std.specs.Prelude.{◌≡◌, ◌≢◌, ℕ, List, ◌++◌, IfOk, OnOk, OnErr, IsTrue, ◌↔◌};
-ghost use Rattle.scalar_types.specs.Spelling.{Spells, IsSpelled, OneValue};
+ghost use Rattle.scalar_types.specs.Codec.{Spells, IsSpelled, OneValue};
 ghost use Rattle.context_model.specs.Orders.{atom_cmp};
 
 use outside::Memory;

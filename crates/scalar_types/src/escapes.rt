@@ -3,9 +3,9 @@
 
 ghost use Rattle.std.specs.Prelude.{◌≡◌, ℕ, List, ◌++◌, IfOk, OnOk, IfSome, IsNone, IsTrue, ◌↔◌, ◌∷◌, All};
 ghost use Rattle.bag_model.specs.Scalars.{ended};
-ghost use Rattle.scalar_types.specs.Spelling.{AlwaysFits};
+ghost use Rattle.scalar_types.specs.Codec.{AlwaysFits};
 ghost use Rattle.scalar_types.specs.Fronts.{Begins, BeginsWithSome};
-ghost use Rattle.scalar_types.specs.Escapes.{IsNonzero, IsPiece, FitsOpen};
+ghost use Rattle.scalar_types.specs.Escapes.{IsNonzero, IsEscapedRun, FitsOpen};
 
 use crate::codec::TakeFault;
 use outside::Memory;
@@ -36,7 +36,7 @@ fn split_at_zero<'a>(bytes: &'a [u8]) -> Option<(&'a [u8], &'a [u8])>
 
 /// The first part of the field that begins these bytes.
 fn first_piece<'a>(bytes: &'a [u8]) -> Option<Piece<'a>>
-    ensures found { IfSome result (λ piece. IsPiece bytes.now piece.run.now piece.last piece.rest.now) }
+    ensures found { IfSome result (λ piece. IsEscapedRun bytes.now piece.run.now piece.last piece.rest.now) }
     ensures none { IsNone result → ¬ BeginsWithSome AlwaysFits ended bytes.now }
 {
     let (run, tail) = split_at_zero(bytes)?;

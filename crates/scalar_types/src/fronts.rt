@@ -1,7 +1,7 @@
 //! Codecs whose values tell by their bytes where they end.
 
 ghost use Rattle.std.specs.Prelude.{◌≡◌, ℕ, List, IfSome, IsNone};
-ghost use Rattle.scalar_types.specs.Spelling.{Spells, IsSpelled};
+ghost use Rattle.scalar_types.specs.Codec.{Spells, IsSpelled};
 ghost use Rattle.scalar_types.specs.Fronts.{Begins, BeginsWithSome, OneRest};
 
 /// A codec whose values tell by their bytes where they end: no spelling begins another one.

@@ -11,8 +11,8 @@ use std::cmp::Ordering;
 impl Codec for ScalarKind {
     ghost use Rattle.bag_model.specs.Scalars.{IsScalarOf, spelling};
     ghost use Rattle.scalar_types.specs.KindViews.{kind_of};
-    ghost use Rattle.scalar_types.specs.ScalarViews.{value_of};
-    ghost use Rattle.scalar_types.specs.KindLaws.{kind_one};
+    ghost use Rattle.scalar_types.specs.Scalars.{value_of};
+    ghost use Rattle.scalar_types.specs.KindCodec.{kind_one};
 
     type Value = Scalar;
 

@@ -3,7 +3,7 @@
 ghost use Rattle.std.specs.Prelude.{◌≡◌, List, [], ◌∷◌, ◌++◌, length, map, All, IfOk, IfSome, OnOk, OnErr, IsTrue, ◌↔◌, slice_get};
 ghost use Rattle.std.specs.Option.{option_copied, option_map};
 ghost use Rattle.bag_model.specs.Scalars as model;
-ghost use Rattle.scalar_types.specs.KindViews.{IsWord, word_of, kind_of};
+ghost use Rattle.scalar_types.specs.KindViews.{IsPlainWord, word_of, kind_of};
 
 use outside::Memory;
 use std::alloc::Global;
@@ -66,16 +66,16 @@ impl Model for KindList {
     ghost Value = { List Word };
 
     ghost use Rattle.std.specs.Prelude.{map, All};
-    ghost use Rattle.scalar_types.specs.HeldKinds.{kinds_in};
-    ghost use Rattle.scalar_types.specs.KindViews.{IsWord, word_of};
+    ghost use Rattle.scalar_types.specs.Kinds.{kinds_in};
+    ghost use Rattle.scalar_types.specs.KindViews.{IsPlainWord, word_of};
 
     ghost view = { λ list. map word_of (kinds_in list.held) };
 
-    ghost invariant = { λ list. All IsWord (kinds_in list.held) };
+    ghost invariant = { λ list. All IsPlainWord (kinds_in list.held) };
 
     ghost size = { length };
 
-    ghost use Rattle.scalar_types.specs.KindFalls.{held_fall};
+    ghost use Rattle.scalar_types.specs.KindDescent.{held_fall};
     ghost use Rattle.std.proofs.Common.{arith};
 
     ghost size_decreases = { λ list words. omega (arith, held_fall list.held words) };
@@ -108,7 +108,7 @@ impl KindList {
     /// The kind at this place, from 0 on.
     pub fn get(&self, at: usize) -> Option<&ScalarKind>
         ensures word { option_map (λ kind. word_of kind.now) result ≡ slice_get self.now at }
-        ensures plain { IfSome result (λ kind. IsWord kind.now) }
+        ensures plain { IfSome result (λ kind. IsPlainWord kind.now) }
     {
         self.as_slice().get(at)
     }
@@ -116,7 +116,7 @@ impl KindList {
     /// The kinds in order.
     pub fn as_slice(&self) -> &[ScalarKind]
         ensures words { map word_of result.now ≡ self.now }
-        ensures plain { All IsWord result.now }
+        ensures plain { All IsPlainWord result.now }
     {
         match &self.held {
             HeldKinds::Own(kinds) => kinds.as_slice(),
@@ -127,7 +127,7 @@ impl KindList {
     /// Adds a kind that is no struct at the end. Want of memory leaves the list as it was. A list that is shared is copied
     /// first, and isn't shared any more.
     pub fn push(&mut self, kind: ScalarKind) -> Result<(), Memory>
-        requires { IsWord kind }
+        requires { IsPlainWord kind }
         ensures ok { OnOk result (self.new ≡ self.old ++ word_of kind ∷ []) }
         ensures err { OnErr result (self.new ≡ self.old) }
     {
@@ -170,7 +170,7 @@ impl KindList {
 
 /// The same kinds again, none of which is a struct.
 fn copy_words(kinds: &Vec<ScalarKind>) -> Result<Vec<ScalarKind>, Memory>
-    requires { All IsWord kinds.now.items }
+    requires { All IsPlainWord kinds.now.items }
     ensures { IfOk result (λ copied. copied.items ≡ kinds.now.items) }
 {
     let mut copied = Vec::with_capacity(*kinds.allocator(), kinds.len())?;
@@ -193,7 +193,7 @@ impl ScalarKind {
 
     /// The same kind again, where it is no struct.
     fn copy_word(&self) -> ScalarKind
-        requires { IsWord self.now }
+        requires { IsPlainWord self.now }
         ensures { result ≡ self.now }
     {
         match self {

@@ -2,9 +2,9 @@
 
 ghost use Rattle.std.specs.Prelude.{◌≡◌, ℕ, List, ◌++◌, map, All, IfOk, OnOk, IsTrue, ◌↔◌};
 ghost use Rattle.bag_model.specs.Scalars.{ArePlainsOf, packed_spelling};
-ghost use Rattle.scalar_types.specs.Spelling.{Spells, IsSpelled};
-ghost use Rattle.scalar_types.specs.KindViews.{IsWord, word_of};
-ghost use Rattle.scalar_types.specs.ScalarViews.{IsPlain, plain_of};
+ghost use Rattle.scalar_types.specs.Codec.{Spells, IsSpelled};
+ghost use Rattle.scalar_types.specs.KindViews.{IsPlainWord, word_of};
+ghost use Rattle.scalar_types.specs.Scalars.{IsPlain, plain_of};
 
 use crate::codec::TakeFault;
 use crate::kinds::ScalarKind;
@@ -14,7 +14,7 @@ use std::alloc::Global;
 
 /// Whether there is one value for each kind, which fits it.
 pub fn fields_fit(kinds: &[ScalarKind], values: &[Scalar]) -> bool
-    requires words { All IsWord kinds.now }
+    requires words { All IsPlainWord kinds.now }
     requires plain { All IsPlain values.now }
     ensures { IsTrue result ↔ ArePlainsOf (map word_of kinds.now) (map plain_of values.now) }
 {
@@ -31,7 +31,7 @@ pub fn fields_fit(kinds: &[ScalarKind], values: &[Scalar]) -> bool
 
 /// Appends the fields.
 pub fn put_fields(kinds: &[ScalarKind], values: &[Scalar], into: &mut Vec<u8>) -> Result<(), Memory>
-    requires words { All IsWord kinds.now }
+    requires words { All IsPlainWord kinds.now }
     requires plain { All IsPlain values.now }
     requires fits { ArePlainsOf (map word_of kinds.now) (map plain_of values.now) }
     ensures { OnOk result (into.new.items ≡ into.old.items ++ packed_spelling (map word_of kinds.now) (map plain_of values.now)) }
@@ -44,7 +44,7 @@ pub fn put_fields(kinds: &[ScalarKind], values: &[Scalar], into: &mut Vec<u8>) -
 
 /// Whether the bytes are the fields of some values, and nothing more.
 pub fn fields_spelled(kinds: &[ScalarKind], bytes: &[u8]) -> bool
-    requires { All IsWord kinds.now }
+    requires { All IsPlainWord kinds.now }
     ensures { IsTrue result ↔ IsSpelled (ArePlainsOf (map word_of kinds.now)) (packed_spelling (map word_of kinds.now)) bytes.now }
 {
     let mut rest = bytes;
@@ -63,7 +63,7 @@ pub fn take_fields(
     kinds: &[ScalarKind],
     bytes: &[u8],
 ) -> Result<ScalarList, TakeFault>
-    requires { All IsWord kinds.now }
+    requires { All IsPlainWord kinds.now }
     ensures taken { IfOk result (Spells (ArePlainsOf (map word_of kinds.now)) (packed_spelling (map word_of kinds.now)) bytes.now) }
     ensures refused { result ≡ Err TakeFault.NotSpelled
         → ¬ IsSpelled (ArePlainsOf (map word_of kinds.now)) (packed_spelling (map word_of kinds.now)) bytes.now }

@@ -2,7 +2,7 @@
 
 ghost use Rattle.std.specs.Prelude.{◌≡◌, [], ◌∷◌};
 ghost use Rattle.bag_model.specs.Scalars.{truth_bytes};
-ghost use Rattle.scalar_types.specs.Spelling.{AlwaysFits};
+ghost use Rattle.scalar_types.specs.Codec.{AlwaysFits};
 
 use crate::codec::{Codec, TakeFault};
 use crate::fronts::{Front, whole};
@@ -140,7 +140,7 @@ pub struct Utf8;
 
 impl Utf8 {
     ghost use Rattle.std.specs.Prelude.{◌≡◌, IsUtf8, IfOk};
-    ghost use Rattle.scalar_types.specs.Spelling.{Spells, IsSpelled};
+    ghost use Rattle.scalar_types.specs.Codec.{Spells, IsSpelled};
 
     /// The text with these bytes, which aren't copied.
     pub(crate) fn take_owned(&self, bytes: Vec<u8>) -> Result<Text, TakeFault>

@@ -1,7 +1,7 @@
 //! Whether two kinds are the same. Nothing here takes memory.
 
 ghost use Rattle.std.specs.Prelude.{◌≡◌, ◌↔◌, All, IsTrue};
-ghost use Rattle.scalar_types.specs.KindViews.{IsWord};
+ghost use Rattle.scalar_types.specs.KindViews.{IsPlainWord};
 
 use crate::kinds::ScalarKind;
 
@@ -22,7 +22,7 @@ impl ScalarKind {
 
 /// Whether two lists have the same kinds in the same order, none of which is a struct in the first.
 fn are_same_words(ours: &[ScalarKind], theirs: &[ScalarKind]) -> bool
-    requires { All IsWord ours.now }
+    requires { All IsPlainWord ours.now }
     ensures { IsTrue result ↔ (ours.now ≡ theirs.now) }
 {
     if ours.len() != theirs.len() {
@@ -38,7 +38,7 @@ fn are_same_words(ours: &[ScalarKind], theirs: &[ScalarKind]) -> bool
 
 /// Whether the other kind is the same one, which is no struct.
 fn is_same_word(word: &ScalarKind, other: &ScalarKind) -> bool
-    requires { IsWord word.now }
+    requires { IsPlainWord word.now }
     ensures { IsTrue result ↔ (word.now ≡ other.now) }
 {
     match word {

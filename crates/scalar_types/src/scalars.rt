@@ -4,7 +4,7 @@ ghost use Rattle.std.specs.Prelude.{◌≡◌, List, [], ◌∷◌, ◌++◌, le
 ghost use Rattle.std.specs.Option.{option_map};
 ghost use Rattle.std.specs.Cmp.Lexicographic.{slice_cmp};
 ghost use Rattle.bag_model.specs.Scalars.{plain_rank, plain_cmp, scalar_cmp};
-ghost use Rattle.scalar_types.specs.ScalarViews.{IsPlain, plain_of, value_of};
+ghost use Rattle.scalar_types.specs.Scalars.{IsPlain, plain_of, value_of};
 
 use outside::{Memory, Octets, Text};
 use std::alloc::Global;
@@ -43,7 +43,7 @@ impl Model for ScalarList {
     ghost Value = { List Plain };
 
     ghost use Rattle.std.specs.Prelude.{map, All};
-    ghost use Rattle.scalar_types.specs.ScalarViews.{IsPlain, plain_of};
+    ghost use Rattle.scalar_types.specs.Scalars.{IsPlain, plain_of};
 
     ghost view = { λ list. map plain_of list.scalars.items };
 
@@ -51,7 +51,7 @@ impl Model for ScalarList {
 
     ghost size = { length };
 
-    ghost use Rattle.scalar_types.specs.ScalarFalls.{scalars_fall};
+    ghost use Rattle.scalar_types.specs.ScalarDescent.{scalars_fall};
     ghost use Rattle.std.proofs.Common.{arith};
 
     ghost size_decreases = { λ list plain. omega (arith, scalars_fall list.scalars.items plain) };

@@ -2,10 +2,10 @@
 
 ghost use Rattle.std.specs.Prelude.{◌≡◌, ℕ, List, ◌++◌, IfOk, OnOk, OnErr, IfSome, IsNone, IsTrue, ◌↔◌, false};
 ghost use Rattle.bag_model.specs.Scalars.{Plain, form_of, is_open, IsOfForm, plain_spelling, field_spelling};
-ghost use Rattle.scalar_types.specs.Spelling.{Spells, IsSpelled};
+ghost use Rattle.scalar_types.specs.Codec.{Spells, IsSpelled};
 ghost use Rattle.scalar_types.specs.Fronts.{Begins, BeginsWithSome};
-ghost use Rattle.scalar_types.specs.KindViews.{IsWord, word_of};
-ghost use Rattle.scalar_types.specs.ScalarViews.{IsPlain, plain_of};
+ghost use Rattle.scalar_types.specs.KindViews.{IsPlainWord, word_of};
+ghost use Rattle.scalar_types.specs.Scalars.{IsPlain, plain_of};
 ghost use Rattle.scalar_types.specs.WordCodecs.{form};
 
 use crate::codec::{Codec, TakeFault};
@@ -34,7 +34,7 @@ pub enum WordCodec {
 impl ScalarKind {
     /// The codec of a kind that is no struct.
     pub(crate) fn word_codec(&self) -> WordCodec
-        requires { IsWord self.now }
+        requires { IsPlainWord self.now }
         ensures { form result ≡ form_of (word_of self.now) }
     {
         match self {

@@ -3,7 +3,7 @@
 ghost use Rattle.std.specs.Prelude.{◌≡◌, IfSome};
 ghost use Rattle.std.specs.Option.{option_map};
 ghost use Rattle.bag_model.specs.Words.{word_text};
-ghost use Rattle.scalar_types.specs.KindViews.{IsWord, word_of};
+ghost use Rattle.scalar_types.specs.KindViews.{IsPlainWord, word_of};
 ghost use Rattle.scalar_types.specs.Words.{word_named};
 
 use crate::kinds::ScalarKind;
@@ -13,7 +13,7 @@ impl ScalarKind {
     #[tactic(auto, unfolding(crate::specs::Words::word_named))]
     pub fn of_word(text: &str) -> Option<ScalarKind>
         ensures word { option_map word_of result ≡ word_named text.now }
-        ensures plain { IfSome result IsWord }
+        ensures plain { IfSome result IsPlainWord }
     {
         match text {
             "bool" => Some(ScalarKind::Bool),
@@ -35,7 +35,7 @@ impl ScalarKind {
 
     /// The word of a kind that is no struct.
     pub fn word(&self) -> &'static str
-        requires { IsWord self.now }
+        requires { IsPlainWord self.now }
         ensures { result.now ≡ word_text (word_of self.now) }
     {
         match self {

@@ -1,4 +1,4 @@
-pub mod Held
-pub mod HeldLaws
-pub mod Picked
-pub mod PickedLaws
+pub mod SetsAndMaps
+pub mod SetAndMapLaws
+pub mod Picks
+pub mod PickLaws

@@ -10,8 +10,8 @@ use std::cmp::Ordering;
 pub(crate) struct CodecKeys<'a, C: Codec>(pub(crate) &'a C);
 
 impl<C: Codec> Keys for CodecKeys<'_, C> {
-    ghost use Rattle.set_map_types.specs.Held.{value_cmp};
-    ghost use Rattle.set_map_types.specs.HeldLaws.{value_cmp_exact, value_cmp_total};
+    ghost use Rattle.set_map_types.specs.SetsAndMaps.{value_cmp};
+    ghost use Rattle.set_map_types.specs.SetAndMapLaws.{value_cmp_exact, value_cmp_total};
 
     type Key = C::Value;
 

@@ -18,7 +18,7 @@ pub struct Least<C: Codec> {
 }
 
 impl<C: Codec> Model for Least<C> {
-    ghost use Rattle.set_map_types.specs.Picked.{HeldOne, IfThere};
+    ghost use Rattle.set_map_types.specs.Picks.{HeldOne, IfThere};
 
     ghost Value = { HeldOne C C.Value };
 
@@ -55,9 +55,9 @@ impl<C: Codec> Least<C> {
 }
 
 impl<C: Codec> Lattice for Least<C> {
-    ghost use Rattle.set_map_types.specs.HeldLaws.{value_cmp_exact, value_cmp_total};
-    ghost use Rattle.set_map_types.specs.Picked.{IsAbsent, SameCodecOfOne, by_spelling, one_joined, one_proper};
-    ghost use Rattle.set_map_types.specs.PickedLaws.{one_laws};
+    ghost use Rattle.set_map_types.specs.SetAndMapLaws.{value_cmp_exact, value_cmp_total};
+    ghost use Rattle.set_map_types.specs.Picks.{IsAbsent, SameCodecOfOne, by_spelling, one_joined, one_proper};
+    ghost use Rattle.set_map_types.specs.PickLaws.{one_laws};
 
     ghost proper = { one_proper C.fits };
 

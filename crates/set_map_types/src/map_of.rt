@@ -4,7 +4,7 @@ ghost use Rattle.std.specs.Prelude.{◌≡◌, ◌↔◌, List, [], ◌∷◌, l
 ghost use Rattle.std.specs.Option.{option_copied};
 ghost use Rattle.context_model.specs.Orders.{IsIn};
 ghost use Rattle.context_model.specs.KeyedMerge.{Finds, IsUnion, keys_of};
-ghost use Rattle.set_map_types.specs.Held.{Held, map_joined, map_proper};
+ghost use Rattle.set_map_types.specs.SetsAndMaps.{Held, map_joined, map_proper};
 
 use crate::codec_keys::CodecKeys;
 use counter_type::Lattice;
@@ -25,7 +25,7 @@ pub struct MapOf<C: Codec, L: Lattice> {
 }
 
 impl<C: Codec, L: Lattice> Model for MapOf<C, L> {
-    ghost use Rattle.set_map_types.specs.Held.{Held, IsMap};
+    ghost use Rattle.set_map_types.specs.SetsAndMaps.{Held, IsMap};
 
     ghost Value = { Held C (C.Value × L) };
 
@@ -89,8 +89,8 @@ impl<C: Codec, L: Lattice> MapOf<C, L> {
 }
 
 impl<C: Codec, L: Lattice> Lattice for MapOf<C, L> {
-    ghost use Rattle.set_map_types.specs.Held.{HoldsNothing, MapAlike, map_joined, map_proper};
-    ghost use Rattle.set_map_types.specs.HeldLaws.{map_laws};
+    ghost use Rattle.set_map_types.specs.SetsAndMaps.{HoldsNothing, MapAlike, map_joined, map_proper};
+    ghost use Rattle.set_map_types.specs.SetAndMapLaws.{map_laws};
 
     ghost proper = { map_proper C.fits C.spelling L.proper };
 

@@ -4,7 +4,7 @@ ghost use Rattle.std.specs.Prelude.{◌≡◌, ◌↔◌, ◌⊎◌, List, [], �
 ghost use Rattle.std.specs.Option.{option_copied};
 ghost use Rattle.context_model.specs.Orders.{IsIn};
 ghost use Rattle.context_model.specs.Merge.{AllBelow};
-ghost use Rattle.set_map_types.specs.Held.{Held, set_joined, set_proper, value_cmp};
+ghost use Rattle.set_map_types.specs.SetsAndMaps.{Held, set_joined, set_proper, value_cmp};
 
 use crate::codec_keys::CodecKeys;
 use counter_type::Lattice;
@@ -24,7 +24,7 @@ pub struct SetOf<C: Codec> {
 
 impl<C: Codec> Model for SetOf<C> {
     ghost use Rattle.context_model.specs.KeyedMerge.{keys_of};
-    ghost use Rattle.set_map_types.specs.Held.{Held, IsSet};
+    ghost use Rattle.set_map_types.specs.SetsAndMaps.{Held, IsSet};
 
     ghost Value = { Held C C.Value };
 
@@ -97,8 +97,8 @@ impl<C: Codec> SetOf<C> {
 }
 
 impl<C: Codec> Lattice for SetOf<C> {
-    ghost use Rattle.set_map_types.specs.Held.{HoldsNothing, SameCodec, set_joined, set_proper};
-    ghost use Rattle.set_map_types.specs.HeldLaws.{set_laws};
+    ghost use Rattle.set_map_types.specs.SetsAndMaps.{HoldsNothing, SameCodec, set_joined, set_proper};
+    ghost use Rattle.set_map_types.specs.SetAndMapLaws.{set_laws};
 
     ghost proper = { set_proper C.fits C.spelling };
 

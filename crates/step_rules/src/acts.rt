@@ -2,12 +2,12 @@
 
 ghost use Rattle.std.specs.Prelude.{map, IfOk};
 ghost use Rattle.bag_model.specs.Normal.{IsNormalOf};
-ghost use Rattle.bag_value.specs.Plain.{plain};
+ghost use Rattle.bag_value.specs.Vals.{plain};
 ghost use Rattle.field_table.specs.Views.{view_of};
 ghost use Rattle.recorded_graph.specs.Plain.{act_of};
 ghost use Rattle.trace_model.specs.Graphs.{parents_of, IsSoundAct, IsActOf, MayBeWritten};
 ghost use Rattle.trace_model.specs.Runs.{list_at, Gives, IsNormalMerge, IsNormalWrite};
-ghost use Rattle.step_rules.specs.Parents.{AreWithin, ArePlacesOf};
+ghost use Rattle.step_rules.specs.Parents.{AreWithinLists, ArePlacesOf};
 
 use crate::parents::first;
 use atom_list::Context;
@@ -61,7 +61,7 @@ fn joined(
     pool: &[Context],
     places: &[usize],
 ) -> Result<Context, Memory>
-    requires { AreWithin pool.now places.now }
+    requires { AreWithinLists pool.now places.now }
     ensures { IfOk result (IsNormalMerge table.now (view_of view.now) (map (list_at pool.now) places.now)) }
 {
     let merged = merge_alone(alloc, pool, places)?;
@@ -77,7 +77,7 @@ fn joined_beside<R: Threads + Sync>(
     pool: &[Context],
     places: &[usize],
 ) -> Result<Context, Memory>
-    requires { AreWithin pool.now places.now }
+    requires { AreWithinLists pool.now places.now }
     ensures { IfOk result (IsNormalMerge table.now (view_of view.now) (map (list_at pool.now) places.now)) }
 {
     let merged = merge_all(rt, alloc, &Open, pool, places)?;

@@ -2,7 +2,7 @@
 
 ghost use Rattle.std.specs.Prelude.{◌≡◌, ◌<◌, length, map};
 ghost use Rattle.trace_model.specs.Runs.{list_at};
-ghost use Rattle.step_rules.specs.Parents.{AreWithin};
+ghost use Rattle.step_rules.specs.Parents.{AreWithinLists};
 
 use atom_list::Context;
 
@@ -17,7 +17,7 @@ fn at(pool: &[Context], place: usize) -> &Context
 /// The list at the first place.
 pub(crate) fn first<'a>(pool: &'a [Context], places: &[usize]) -> &'a Context
     requires some { 0 < length places.now }
-    requires within { AreWithin pool.now places.now }
+    requires within { AreWithinLists pool.now places.now }
     ensures { result.now ≡ list_at (map (list_at pool.now) places.now) 0 }
 {
     at(pool, places[0])

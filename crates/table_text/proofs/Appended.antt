@@ -5,7 +5,7 @@ use Rattle.std.specs.List.{AllByRecursion}
 use Rattle.bag_model.specs.Shapes.{Shape, Nodes, Field, fields, nodes_from, Taint, Scalar, Set, Counter, Map, Bag, no_node, node}
 use Rattle.bag_model.specs.Tables.{IsShape, AreFields, is_name, levels, levels_under, node_count, nodes_under}
 use Rattle.bag_model.proofs.SlotLaws.{from-fields}
-use Rattle.table_text.specs.OpenBags.{IsBehind}
+use Rattle.table_text.specs.Builder.{IsFieldBehind}
 use Rattle.table_text.specs.Rows.{Row}
 use Rattle.table_text.specs.TableRows.{rows_of, rows_in}
 use Rattle.table_text.proofs.Siblings.{row_at}
@@ -27,7 +27,7 @@ pub is_with : (nodes next : Nodes) (field : Field) → fields next ≡ fields no
 is_with nodes next field e = sym (from-fields next) ∙ ap nodes_from (e ∙ sym (fields_with nodes field)) ∙ from-fields (with_field nodes field)
 
 pub sound_with : (nodes : Nodes) (field : Field) → AreFields nodes → is_name field.name ≡ true → field.number < 2 ^ 16 → IsShape field.shape
-    → AllByRecursion (IsBehind field.name field.number) (fields nodes) → AreFields (with_field nodes field)
+    → AllByRecursion (IsFieldBehind field.name field.number) (fields nodes) → AreFields (with_field nodes field)
 sound_with no_node field sound named numbered shaped behind = (named, numbered, shaped, tt, tt)
 sound_with (node name number shape nodes) field sound named numbered shaped behind = (
   sound.0,

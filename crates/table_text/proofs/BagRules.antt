@@ -11,7 +11,7 @@ use Rattle.field_table.specs.Plain.{nodes_of}
 use Rattle.text_lines.specs.Readings.{IsFirstOf, NoneOf}
 use Rattle.table_text.specs.declared.builder.Builder.{Builder}
 use Rattle.table_text.specs.declared.faults.TableCode.TheVariants.{Order, DuplicateField, TooDeep, TooManySlots}
-use Rattle.table_text.specs.OpenBags.{IsSound, name_of, least_behind, depth_of, rows_so_far, rows_around}
+use Rattle.table_text.specs.Builder.{IsSoundBuilder, name_of, least_behind, depth_of, rows_so_far, rows_around}
 use Rattle.table_text.specs.Rows.{Row}
 use Rattle.table_text.specs.Rules.{siblings, level_at, IsOutOfOrder, Breaks, rules_of_bag}
 use Rattle.table_text.proofs.Building.{around_start}
@@ -24,7 +24,7 @@ pub record IsHere (before : List Row) (depth level : ℕ) (fs : List Field) (cou
   pub level_is : level_at depth before ≡ level
   pub count_is : length before ≡ count
 
-pub here : (builder : Builder) → IsSound builder → IsHere (reverse (rows_so_far builder)) (depth_of builder) builder.bag.level (fields (nodes_of builder.bag.fields)) builder.rows
+pub here : (builder : Builder) → IsSoundBuilder builder → IsHere (reverse (rows_so_far builder)) (depth_of builder) builder.bag.level (fields (nodes_of builder.bag.fields)) builder.rows
 here builder sound =
     let outer = builder.outer.items in
     let base = rows_around 0 outer in

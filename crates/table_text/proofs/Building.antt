@@ -9,7 +9,7 @@ use Rattle.bag_model.specs.Tables.{IsShape, AreFields, is_name, levels, levels_u
 use Rattle.field_table.specs.Plain.{nodes_of, IsIndexed}
 use Rattle.table_text.specs.declared.builder.OpenBag.{OpenBag}
 use Rattle.table_text.specs.declared.builder.OpenField.{OpenField}
-use Rattle.table_text.specs.OpenBags.{IsBag, IsOpen, AreOpen, name_of, least_behind, level_inside, open_row, rows_around, IsBehind}
+use Rattle.table_text.specs.Builder.{IsBag, IsOpenField, AreOpen, name_of, least_behind, level_inside, open_row, rows_around, IsFieldBehind}
 use Rattle.table_text.specs.Names.{HaveNames}
 use Rattle.table_text.specs.Rows.{Row}
 use Rattle.table_text.specs.TableRows.{rows_of}
@@ -52,7 +52,7 @@ noted bag next level head is same names least own =
 -- A field whose line was noted is whole.
 pub whole : (bag next : OpenBag) (level : ℕ) (head field : Field) → IsBag bag level (fields (nodes_of bag.fields) ++ head ∷ []) → head.name ≡ field.name → head.number ≡ field.number
     → fields (nodes_of next.fields) ≡ fields (nodes_of bag.fields) ++ field ∷ [] → IsIndexed next.fields → next.names ≡ bag.names → next.least ≡ bag.least → next.level ≡ bag.level
-    → is_name field.name ≡ true → field.number < 2 ^ 16 → IsShape field.shape → AllByRecursion (IsBehind field.name field.number) (fields (nodes_of bag.fields))
+    → is_name field.name ≡ true → field.number < 2 ^ 16 → IsShape field.shape → AllByRecursion (IsFieldBehind field.name field.number) (fields (nodes_of bag.fields))
     → level + (1 + levels_under field.shape) ≤ MAX_LEVELS → IsBag next level (fields (nodes_of next.fields))
 whole bag next level head field is name number more indexed names least own named numbered shaped behind deep =
     let nodes = nodes_of bag.fields in
@@ -73,16 +73,16 @@ whole bag next level head field is name number more indexed names least own name
 
 -- ---- fields that are open in one another
 
-pub open_push : (level : ℕ) (outer : List OpenField) (last : ℕ) (field : OpenField) → AreOpen level outer last → IsOpen last field
+pub open_push : (level : ℕ) (outer : List OpenField) (last : ℕ) (field : OpenField) → AreOpen level outer last → IsOpenField last field
     → AreOpen level (outer ++ field ∷ []) (level_inside last field)
-open_push level [] last field are is = (subst (λ l. IsOpen l field) are is, ap (λ l. level_inside l field) are)
+open_push level [] last field are is = (subst (λ l. IsOpenField l field) are is, ap (λ l. level_inside l field) are)
 open_push level (first ∷ outer) last field are is = (are.0, open_push (level_inside level first) outer last field are.1 is)
 
 -- The last of them stands in a bag at this level.
 pub record IsLast (level : ℕ) (outer : List OpenField) (last : ℕ) (field : OpenField) : Type 0 where
   pub around : ℕ
   pub rest : AreOpen level outer around
-  pub field_is : IsOpen around field
+  pub field_is : IsOpenField around field
   pub inside : last ≡ level_inside around field
 
 pub open_pop : (level : ℕ) (outer : List OpenField) (last : ℕ) (field : OpenField) → AreOpen level (outer ++ field ∷ []) last → IsLast level outer last field

@@ -10,11 +10,11 @@ use Rattle.bag_model.specs.Shapes.{Shape, Nodes, Field, fields, Taint, Scalar, S
 use Rattle.bag_model.specs.Tables.{IsShape, AreFields, IsTable, is_name, levels, levels_under, node_count, nodes_under}
 use Rattle.text_lines.specs.Lines.{numbered}
 use Rattle.text_lines.specs.Readings.{AllSay}
-use Rattle.table_text.specs.OpenBags.{IsBehind, name_of, least_behind}
+use Rattle.table_text.specs.Builder.{IsFieldBehind, name_of, least_behind}
 use Rattle.table_text.specs.Rows.{Row, SaysRow}
 use Rattle.table_text.specs.Rules.{deepest, ends_in_bag, IsGood, field_lines}
 use Rattle.text_lines.specs.FedLines.{fed_lines}
-use Rattle.table_text.specs.TableFaults.{lines_behind}
+use Rattle.table_text.specs.Reading.{lines_behind}
 use Rattle.table_text.specs.TableRows.{told, told_row, rows_of, rows_in}
 use Rattle.table_text.specs.TableTexts.{fields_text}
 use Rattle.table_text.proofs.Appended.{all_push, with_field, fields_with, rows_with, count_inside}
@@ -71,7 +71,7 @@ below_too depth (row ∷ rows) all = (omega (arith, all.0), below_too depth rows
 
 -- Each of the fields stands behind all of those in front.
 abbrev pub StandBehind : Nodes → List Field → Type 0
-StandBehind front fs = AllByRecursion (λ (field : Field). AllByRecursion (IsBehind field.name field.number) (fields front)) fs
+StandBehind front fs = AllByRecursion (λ (field : Field). AllByRecursion (IsFieldBehind field.name field.number) (fields front)) fs
 
 behind_none : (fs : List Field) → StandBehind no_node fs
 behind_none [] = tt
@@ -81,16 +81,16 @@ behind_more : (front : Nodes) (first : Field) (fs : List Field) → StandBehind 
     → StandBehind (with_field front first) fs
 behind_more front first [] all more = tt
 behind_more front first (f ∷ fs) all more = (
-  subst (AllByRecursion (IsBehind f.name f.number)) (sym (fields_with front first)) (all_push (IsBehind f.name f.number) (fields front) first all.0 more.0),
+  subst (AllByRecursion (IsFieldBehind f.name f.number)) (sym (fields_with front first)) (all_push (IsFieldBehind f.name f.number) (fields front) first all.0 more.0),
   behind_more front first fs all.1 more.1,
 )
 
-least_low : (fs : List Field) (name : List ℕ) (number : ℕ) → AllByRecursion (IsBehind name number) fs → least_behind fs ≤ number
+least_low : (fs : List Field) (name : List ℕ) (number : ℕ) → AllByRecursion (IsFieldBehind name number) fs → least_behind fs ≤ number
 least_low [] name number all = omega arith
 least_low (f ∷ []) name number all = omega (arith, all.0.0)
 least_low (f ∷ g ∷ more) name number all = least_low (g ∷ more) name number all.1
 
-name_new : (fs : List Field) (name : List ℕ) (number : ℕ) → AllByRecursion (IsBehind name number) fs → IsIn name (map name_of fs) → ⊥
+name_new : (fs : List Field) (name : List ℕ) (number : ℕ) → AllByRecursion (IsFieldBehind name number) fs → IsIn name (map name_of fs) → ⊥
 name_new [] name number all i = i
 name_new (f ∷ fs) name number all (inl e) = all.0.1 (sym e)
 name_new (f ∷ fs) name number all (inr i) = name_new fs name number all.1 i
@@ -139,7 +139,7 @@ pub record IsPoint (base : List Row) (depth level : ℕ) : Type 0 where
   pub low : depth ≤ level
 
 one_good : (base : List Row) (depth level : ℕ) (front : Nodes) (first : Field) → IsPoint base depth level → depth ≤ deepest (reverse (base ++ rows_of depth front))
-    → is_name first.name ≡ true → first.number < 2 ^ 16 → IsShape first.shape → AllByRecursion (IsBehind first.name first.number) (fields front)
+    → is_name first.name ≡ true → first.number < 2 ^ 16 → IsShape first.shape → AllByRecursion (IsFieldBehind first.name first.number) (fields front)
     → level + (1 + levels_under first.shape) ≤ MAX_LEVELS → length (base ++ rows_of depth front) < MAX_FIELDS
     → IsGood (reverse (base ++ rows_of depth front)) (row_line (row_at depth first)) (row_at depth first)
 one_good base depth level front first point deep named numbered shaped behind few room =

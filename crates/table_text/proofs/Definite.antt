@@ -5,7 +5,7 @@ use Rattle.text_lines.proofs.ReadingLaws.{first_of_one, first_of_none, first_bad
 use Rattle.table_text.specs.declared.faults.TableCode.{TableCode}
 use Rattle.table_text.specs.Rows.{Row}
 use Rattle.table_text.specs.Rules.{Breaks, rules, IsGood, IsBad, field_lines}
-use Rattle.table_text.specs.TableFaults.{head, lines_behind, IsHeadFault, IsTableFault}
+use Rattle.table_text.specs.Reading.{head, lines_behind, IsHeadFault, IsTableFault}
 use Rattle.table_text.proofs.OneShape.{one_row}
 
 one_bad : (before : List Row) (text : List ℕ) (c d : TableCode) → IsBad before text c → IsBad before text d → c ≡ d

@@ -6,7 +6,7 @@ use Rattle.bag_model.specs.Tables.{IsTable}
 use Rattle.field_table.specs.Plain.{nodes_of}
 use Rattle.table_text.specs.declared.builder.Builder.{Builder}
 use Rattle.table_text.specs.declared.builder.OpenField.{OpenField}
-use Rattle.table_text.specs.OpenBags.{AreOpen, IsSound, level_inside, rows_around, rows_so_far, depth_of}
+use Rattle.table_text.specs.Builder.{AreOpen, IsSoundBuilder, level_inside, rows_around, rows_so_far, depth_of}
 use Rattle.table_text.specs.TableRows.{rows_of}
 use Rattle.table_text.proofs.Appended.{count_rows}
 
@@ -23,7 +23,7 @@ pub rows_finished : (builder : Builder) → depth_of builder ≡ 0 → rows_so_f
 rows_finished builder none = none_around builder.outer.items (nodes_of builder.bag.fields) none
 
 -- Those fields make a table.
-pub table_finished : (builder : Builder) → IsSound builder → depth_of builder ≡ 0 → IsTable (nodes_of builder.bag.fields)
+pub table_finished : (builder : Builder) → IsSoundBuilder builder → depth_of builder ≡ 0 → IsTable (nodes_of builder.bag.fields)
 table_finished builder sound none =
     let nodes = nodes_of builder.bag.fields in
     record {
@@ -38,5 +38,5 @@ open_levels level [] last are = omega (arith, are)
 open_levels level (field ∷ outer) last are = omega (arith, open_levels (level_inside level field) outer last are.1)
 
 -- So there are no more than levels.
-pub few_open : (builder : Builder) → IsSound builder → depth_of builder ≤ MAX_LEVELS
+pub few_open : (builder : Builder) → IsSoundBuilder builder → depth_of builder ≤ MAX_LEVELS
 few_open builder sound = omega (arith, open_levels 0 builder.outer.items builder.bag.level sound.outer, sound.bag.shallow)

@@ -11,7 +11,7 @@ use Rattle.table_text.specs.declared.builder.Builder.{Builder}
 use Rattle.table_text.specs.declared.builder.OpenBag.{OpenBag}
 use Rattle.table_text.specs.declared.builder.OpenField.{OpenField}
 use Rattle.table_text.specs.declared.rows.Row.{Row as CodeRow}
-use Rattle.table_text.specs.OpenBags.{IsSoundRow, IsBag, AreOpen, IsSound, IsFresh, name_of, least_behind, head_of, level_inside, open_row, rows_around, rows_so_far, depth_of, IsBehind}
+use Rattle.table_text.specs.Builder.{IsSoundRow, IsBag, AreOpen, IsSoundBuilder, IsFresh, name_of, least_behind, head_of, level_inside, open_row, rows_around, rows_so_far, depth_of, IsFieldBehind}
 use Rattle.table_text.specs.Names.{HaveNames}
 use Rattle.table_text.specs.Rows.{Row, IsToldShape}
 use Rattle.table_text.specs.Rules.{deepest, ends_in_bag, Breaks, rules_of_bag}
@@ -66,9 +66,9 @@ closed_rows rest field inner next is telling ends =
 -- The same lines, and still sound.
 pub record IsClosed (builder next : Builder) : Type 0 where
   pub rows : rows_so_far next ≡ rows_so_far builder
-  pub sound : IsSound next
+  pub sound : IsSoundBuilder next
 
-pub closing : (builder next : Builder) (field : OpenField) → IsSound builder → builder.outer.items ≡ next.outer.items ++ field ∷ [] → next.rows ≡ builder.rows
+pub closing : (builder next : Builder) (field : OpenField) → IsSoundBuilder builder → builder.outer.items ≡ next.outer.items ++ field ∷ [] → next.rows ≡ builder.rows
     → fields (nodes_of next.bag.fields) ≡ fields (nodes_of field.bag.fields) ++ whole_field (nodes_of builder.bag.fields) field.row ∷ []
     → (IsIndexed field.bag.fields → IsIndexedShape field.row.shape → IsIndexed builder.bag.fields → IsIndexed next.bag.fields) → next.bag.names ≡ field.bag.names → next.bag.least ≡ field.bag.least → next.bag.level ≡ field.bag.level
     → IsClosed builder next
@@ -100,7 +100,7 @@ closing builder next field sound outer rows more indexed names least own =
 -- The lines with one more, still sound, and the innermost bag is the one for the next line.
 pub record IsGrown (builder next : Builder) (row : Row) : Type 0 where
   pub rows : rows_so_far next ≡ rows_so_far builder ++ row ∷ []
-  pub sound : IsSound next
+  pub sound : IsSoundBuilder next
   pub fresh : IsFresh next
 
 fresh_more : (builder next : Builder) (row : Row) (ends : _) → rows_so_far next ≡ rows_so_far builder ++ row ∷ [] → ends_in_bag row.shape ≡ ends
@@ -109,13 +109,13 @@ fresh_more builder next row ends rows is depth =
     ap (λ (l : List Row). deepest (reverse l)) rows ∙ ap deepest (latest (rows_so_far builder) row)
     ∙ ap (λ b. if b then row.depth + 1 else row.depth) is ∙ depth
 
-count_more : (builder next : Builder) (row : Row) → IsSound builder → rows_so_far next ≡ rows_so_far builder ++ row ∷ [] → next.rows ≡ builder.rows + 1 → next.rows ≡ length (rows_so_far next)
+count_more : (builder next : Builder) (row : Row) → IsSoundBuilder builder → rows_so_far next ≡ rows_so_far builder ++ row ∷ [] → next.rows ≡ builder.rows + 1 → next.rows ≡ length (rows_so_far next)
 count_more builder next row sound rows more =
     omega (arith, more, sound.count, ap length rows, length-append (rows_so_far builder) (row ∷ []))
 
 -- What a line says whose field may stand in the innermost bag.
 pub record IsNext (builder : Builder) (row : CodeRow) : Type 0 where
-  pub sound : IsSound builder
+  pub sound : IsSoundBuilder builder
   pub row_is : IsSoundRow row
   pub depth : row.depth ≡ depth_of builder
   pub number : least_behind (fields (nodes_of builder.bag.fields)) ≤ row.number
@@ -137,9 +137,9 @@ module _ (builder : Builder) (row : CodeRow) (bag : OpenBag) (next_row : IsNext 
   bag_noted : IsBag bag builder.bag.level (fields (nodes_of bag.fields) ++ head_of row ∷ [])
   bag_noted = noted builder.bag bag builder.bag.level (head_of row) next_row.sound.bag note.fields_same note.names note.least note.level
 
-  behind : AllByRecursion (IsBehind row.name.now row.number) (fields (nodes_of bag.fields))
+  behind : AllByRecursion (IsFieldBehind row.name.now row.number) (fields (nodes_of bag.fields))
   behind =
-      subst (λ slots. AllByRecursion (IsBehind row.name.now row.number) (fields (nodes_of slots))) (sym note.fields_same)
+      subst (λ slots. AllByRecursion (IsFieldBehind row.name.now row.number) (fields (nodes_of slots))) (sym note.fields_same)
       (may_stand (nodes_of builder.bag.fields) row.name.now row.number next_row.sound.bag.sound next_row.number next_row.name)
 
   -- The line is that of a field with a bag.
@@ -218,7 +218,7 @@ module _ (builder : Builder) (row : CodeRow) (bag : OpenBag) (next_row : IsNext 
       }
 
 -- A line that breaks no rule is the next.
-pub is_next : (builder : Builder) (row : CodeRow) → IsSound builder → IsSoundRow row → row.depth ≡ depth_of builder → NoneOf (Breaks (reverse (rows_so_far builder)) (row_of row)) rules_of_bag → IsNext builder row
+pub is_next : (builder : Builder) (row : CodeRow) → IsSoundBuilder builder → IsSoundRow row → row.depth ≡ depth_of builder → NoneOf (Breaks (reverse (rows_so_far builder)) (row_of row)) rules_of_bag → IsNext builder row
 is_next builder row sound row_is depth good =
     let before = reverse (rows_so_far builder) in
     let fs = fields (nodes_of builder.bag.fields) in

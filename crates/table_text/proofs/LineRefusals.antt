@@ -8,19 +8,19 @@ use Rattle.table_text.specs.declared.faults.TableCode.TheVariants.{Head, Form, D
 use Rattle.table_text.specs.declared.faults.Refusal.{Refusal}
 use Rattle.table_text.specs.declared.faults.Refusal.TheVariants as refusals
 use Rattle.table_text.specs.declared.rows.Row.{Row as CodeRow}
-use Rattle.table_text.specs.FaultNames.{fault_at}
-use Rattle.table_text.specs.OpenBags.{IsSoundRow}
+use Rattle.table_text.specs.Faults.{fault_at}
+use Rattle.table_text.specs.Builder.{IsSoundRow}
 use Rattle.table_text.specs.Rows.{Row, SaysRow}
 use Rattle.table_text.specs.Rules.{deepest, IsGood, field_lines}
 use Rattle.text_lines.specs.FedLines.{fed_lines}
-use Rattle.table_text.specs.TableFaults.{lines_behind, IsRefusalBehind}
-use Rattle.table_text.specs.Views.{row_of, IsUnread, IsRefused, IsAddRefused}
+use Rattle.table_text.specs.Reading.{lines_behind, IsRefusalBehind}
+use Rattle.table_text.specs.Views.{row_of, HasNoRow, IsRefused, IsAddRefused}
 
 pub sound_row : (text : List ℕ) (row : CodeRow) → SaysRow text (row_of row) → IsIndexedShape row.shape → IsSoundRow row
 sound_row text row says indexed = record { named = says.named; numbered = says.numbered; told = says.told; flat = says.flat; indexed = indexed }
 
 -- A line that isn't read is refused: a depth of more than 64 bits is one too great.
-pub unread_refused : (before : List Row) (text : List ℕ) → deepest before < 2 ^ 64 → (refusal : Refusal) → IsUnread text refusal → IsRefused before text refusal
+pub unread_refused : (before : List Row) (text : List ℕ) → deepest before < 2 ^ 64 → (refusal : Refusal) → HasNoRow text refusal → IsRefused before text refusal
 unread_refused before text small (refusals.Code Form) none = inl (none, refl)
 unread_refused before text small (refusals.Code Depth) (row, says, great) = inr (row, says, inl (refl, omega (arith, small, great)))
 unread_refused before text small (refusals.Code Head) none = absurd none

@@ -14,7 +14,7 @@ use Rattle.std.specs.Prelude.{codes}
 use Rattle.table_text.proofs.Depths.{depth_decimal}
 use Rattle.text_lines.proofs.FedLines.{whole, fed_whole}
 use Rattle.text_lines.specs.FedLines.{fed_lines}
-use Rattle.table_text.specs.TableFaults.{lines_behind}
+use Rattle.table_text.specs.Reading.{lines_behind}
 use Rattle.table_text.proofs.Siblings.{latest}
 
 -- The line that is printed for what a line says.

@@ -9,8 +9,8 @@ use Rattle.table_text.specs.declared.faults.TableCode.TheVariants.{Head, Form, D
 use Rattle.table_text.specs.declared.faults.Refusal.TheVariants.{Code}
 use Rattle.table_text.specs.Rows.{Row, IsDepth, SaysRow}
 use Rattle.table_text.specs.TableTexts.{shape_text}
-use Rattle.table_text.specs.Words.{IsFree, IsNumberText, IsNoDepth, IsShapeText, HasNoParts, parts_line}
-use Rattle.table_text.specs.Views.{IsUnread}
+use Rattle.table_text.specs.Words.{IsFree, IsFieldNumberText, IsNoDepth, IsShapeText, HasNoParts, parts_line}
+use Rattle.table_text.specs.Views.{HasNoRow}
 use Rattle.table_text.proofs.Depths.{depth_free, number_free}
 use Rattle.table_text.proofs.Free.{AreSame, same_parts}
 use Rattle.table_text.proofs.NameBytes.{name_free}
@@ -29,7 +29,7 @@ parts_said line d n m s h row says =
     same_parts d n m s says.digits (decimal row.number) row.name (shape_text row.shape) h.0 h.1 h.2
     (depth_free says.digits row.depth says.deep) (number_free row.number says.numbered) (name_free row.name says.named) (sym h.3 ∙ says.is)
 
-pub no_number : (line d n m s : List ℕ) → HasParts line d n m s → ((number : ℕ) → IsNumberText n number → ⊥) → (row : Row) → SaysRow line row → ⊥
+pub no_number : (line d n m s : List ℕ) → HasParts line d n m s → ((number : ℕ) → IsFieldNumberText n number → ⊥) → (row : Row) → SaysRow line row → ⊥
 no_number line d n m s h none row says = none row.number (says.numbered, (parts_said line d n m s h row says).number)
 
 pub no_name : (line d n m s : List ℕ) → HasParts line d n m s → is_name m ≡ false → (row : Row) → SaysRow line row → ⊥
@@ -40,8 +40,8 @@ pub no_told : (line d n m s : List ℕ) → HasParts line d n m s → ((shape : 
 no_told line d n m s h none row says = none row.shape (says.told, says.flat, (parts_said line d n m s h row says).shape)
 
 -- A line whose other parts are well is refused as its depth is.
-pub no_depth : (line d n m s : List ℕ) → HasParts line d n m s → (number : ℕ) (shape : Shape) → IsNumberText n number → is_name m ≡ true → IsShapeText MAPS_MAX s shape
-    → (code : TableCode) → IsNoDepth d code → IsUnread line (Code code)
+pub no_depth : (line d n m s : List ℕ) → HasParts line d n m s → (number : ℕ) (shape : Shape) → IsFieldNumberText n number → is_name m ≡ true → IsShapeText MAPS_MAX s shape
+    → (code : TableCode) → IsNoDepth d code → HasNoRow line (Code code)
 no_depth line d n m s h number shape numbered named told Form none = λ row says.
     none row.depth (subst (λ (text : List ℕ). IsDepth text row.depth) (sym (parts_said line d n m s h row says).depth) says.deep)
 no_depth line d n m s h number shape numbered named told Depth (depth, deep, great) = (

@@ -7,7 +7,7 @@ use Rattle.std.proofs.lemmas.Slice.Eq.{bytes_eq-Decides}
 use Rattle.context_model.specs.Orders.{IsIn}
 use Rattle.bag_model.specs.Shapes.{Nodes, Field, fields, no_node, node}
 use Rattle.bag_model.specs.Tables.{AreFields}
-use Rattle.table_text.specs.OpenBags.{name_of, least_behind, IsBehind}
+use Rattle.table_text.specs.Builder.{name_of, least_behind, IsFieldBehind}
 use Rattle.table_text.specs.Rows.{Row}
 use Rattle.table_text.specs.Rules.{IsOutOfOrder}
 use Rattle.table_text.proofs.Siblings.{row_at}
@@ -116,7 +116,7 @@ numbers_rise name number shape (node n m s nodes) sound =
 
 -- A number that no field behind it reaches, and a name that none has.
 pub may_stand : (nodes : Nodes) (name : List ℕ) (number : ℕ) → AreFields nodes → least_behind (fields nodes) ≤ number → (IsIn name (map name_of (fields nodes)) → ⊥)
-    → AllByRecursion (IsBehind name number) (fields nodes)
+    → AllByRecursion (IsFieldBehind name number) (fields nodes)
 may_stand no_node name number sound most new = tt
 may_stand (node n m s nodes) name number sound most new = (
   (omega (arith, most, numbers_rise n m s nodes sound), λ e. new (inl (sym e))),

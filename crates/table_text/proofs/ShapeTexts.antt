@@ -13,13 +13,13 @@ use Rattle.bag_model.specs.Scalars as scalars
 use Rattle.bag_model.specs.Scalars.{Word, Boolean, Int32, Int64, Sint32, Sint64, Uint32, Uint64, Fixed32, Fixed64, Sfixed32, Sfixed64, Str, Bytes}
 use Rattle.bag_model.specs.Shapes.{Shape, Taint, Scalar, Set, Counter, Map, Bag}
 use Rattle.bag_model.specs.Words.{word_text}
-use Rattle.decimal_text.specs.Answers.{Answers}
+use Rattle.decimal_text.specs.Answers.{IsSomeOf}
 use Rattle.scalar_types.specs.declared.kinds.ScalarKind as code
 use Rattle.scalar_types.specs.declared.kinds.ScalarKind.TheVariants as kinds
-use Rattle.scalar_types.specs.KindViews.{IsWord, word_of, kind_of}
+use Rattle.scalar_types.specs.KindViews.{IsPlainWord, word_of, kind_of}
 use Rattle.table_text.specs.TableTexts.{kind_text, pick_word, shape_text}
-use Rattle.table_text.specs.Words.{IsFree, AreWords, IsKindText, IsShapeText, word_named}
-use Rattle.table_text.specs.ShapeReads.{IsBareText, IsMapBehind}
+use Rattle.table_text.specs.Words.{IsFree, AreScalarWords, IsKindText, IsShapeText, word_named}
+use Rattle.table_text.specs.Shapes.{IsBareText, IsMapBehind}
 use Rattle.table_text.proofs.Free.{free_there, same_cut, unsnoc, pieces, pieces_joined}
 use Rattle.table_text.proofs.WordReads.{word_is, no_word}
 
@@ -79,7 +79,7 @@ unopened Str rest e = omega (arith, heads _ 40 _ rest e)
 unopened Bytes rest e = omega (arith, heads _ 40 _ rest e)
 
 -- A kind that is no struct is its word.
-pub kind_word : (kind : code.ScalarKind) → IsWord kind → kind_of kind ≡ scalars.ScalarKind.One (word_of kind)
+pub kind_word : (kind : code.ScalarKind) → IsPlainWord kind → kind_of kind ≡ scalars.ScalarKind.One (word_of kind)
 kind_word (kinds.Packed words) is = absurd is
 kind_word kinds.Bool is = refl
 kind_word kinds.Int32 is = refl
@@ -110,7 +110,7 @@ some_texts [] some = absurd (some refl)
 some_texts (word ∷ words) some = omega arith
 
 -- The words of a text are its pieces.
-pub pieces_are : (text : List ℕ) (words : List Word) → AreWords text words → pieces 44 text ≡ map word_text words
+pub pieces_are : (text : List ℕ) (words : List Word) → AreScalarWords text words → pieces 44 text ≡ map word_text words
 pieces_are text words h = ap (pieces 44) h.1 ∙ pieces_joined 44 (map word_text words) (some_texts words h.0) (texts_free words)
 
 word_at : (words : List Word) (k : ℕ) (piece : List ℕ) → k < length (map word_text words) → piece ≡ get_or (map word_text words) k piece → (word : Word) × (piece ≡ word_text word)
@@ -120,7 +120,7 @@ word_at (word ∷ words) (suc k) piece within is = word_at words k piece (omega 
 
 -- A text with a piece that is no word isn't that of words.
 pub not_words : (text : List ℕ) (k : ℕ) (piece : List ℕ) → (k < length (pieces 44 text)) × (piece ≡ get_or (pieces 44 text) k piece)
-    → word_named piece ≡ None → (words : List Word) → AreWords text words → ⊥
+    → word_named piece ≡ None → (words : List Word) → AreScalarWords text words → ⊥
 not_words text k piece turn none words h =
     let same = pieces_are text words h in
     let found = word_at words k piece (omega (arith, ap length same, turn.0)) (turn.1 ∙ ap (λ (l : List (List ℕ)). get_or l k piece) same) in
@@ -132,7 +132,7 @@ one_more words every k word so_far turn =
     ap (λ (l : List (List ℕ)). l ++ word ∷ []) so_far ∙ ap (λ (w : List ℕ). take k every ++ w ∷ []) turn.1 ∙ sym (take_more every k word turn.0)
 
 -- All pieces were read as words.
-pub whole_words : (text : List ℕ) (words : List Word) (k : ℕ) → map word_text words ≡ take k (pieces 44 text) → k ≡ length (pieces 44 text) → AreWords text words
+pub whole_words : (text : List ℕ) (words : List Word) (k : ℕ) → map word_text words ≡ take k (pieces 44 text) → k ≡ length (pieces 44 text) → AreScalarWords text words
 whole_words text words k so_far all =
     let same : map word_text words ≡ pieces 44 text = so_far ∙ take_all k (pieces 44 text) (omega (arith, all)) in
     let some = length-slice_split (λ byte. byte == 44) text in (
@@ -143,7 +143,7 @@ whole_words text words k so_far all =
 -- ---- kinds
 
 pub kind_in_default : (text : List ℕ) (read : Option code.ScalarKind) → ((inner : List ℕ) → text ≡ 40 ∷ (inner ++ 41 ∷ []) → ⊥)
-    → option_map word_of read ≡ word_named text → IfSome read IsWord → Answers (IsKindText text) (option_map kind_of read)
+    → option_map word_of read ≡ word_named text → IfSome read IsPlainWord → IsSomeOf (IsKindText text) (option_map kind_of read)
 kind_in_default text None bare is plain = none
   where
     none : (kind : scalars.ScalarKind) → IsKindText text kind → ⊥
@@ -152,7 +152,7 @@ kind_in_default text None bare is plain = none
 kind_in_default text (Some kind) bare is plain =
     subst (IsKindText text) (sym (kind_word kind plain)) (tt, read_text text kind is)
 
-pub kind_none : (text inner : List ℕ) → text ≡ 40 ∷ (inner ++ 41 ∷ []) → ((words : List Word) → AreWords inner words → ⊥) → (kind : scalars.ScalarKind) → IsKindText text kind → ⊥
+pub kind_none : (text inner : List ℕ) → text ≡ 40 ∷ (inner ++ 41 ∷ []) → ((words : List Word) → AreScalarWords inner words → ⊥) → (kind : scalars.ScalarKind) → IsKindText text kind → ⊥
 kind_none text inner opened none (scalars.ScalarKind.One word) h = unopened word (inner ++ 41 ∷ []) (sym h.1 ∙ opened)
 kind_none text inner opened none (scalars.ScalarKind.Packed words) h =
     let joined = join_with_byte 44 (map word_text words) in
@@ -211,7 +211,7 @@ no_kind maps text word rest free cut a none shape h = by shape (behind maps text
     by (Bag nodes) p = p
 
 pub map_answers : (maps : ℕ) (text word rest : List ℕ) → IsFree 32 word → text ≡ word ++ 32 ∷ rest → bytes_eq word (codes "map") ≡ true
-    → (read : Option Shape) → Answers (IsMapBehind maps rest) read → Answers (IsShapeText maps text) read
+    → (read : Option Shape) → IsSomeOf (IsMapBehind maps rest) read → IsSomeOf (IsShapeText maps text) read
 map_answers maps text word rest free cut is (Some (Map key value)) h =
     (h.0, h.1, cut ∙ ap (λ (w : List ℕ). w ++ 32 ∷ rest) ((bytes_eq-Decides word (codes "map")).0 is) ∙ ap (λ (r : List ℕ). codes "map " ++ r) h.2)
 map_answers maps text word rest free cut is (Some Taint) h = absurd h
@@ -233,7 +233,7 @@ map_answers maps text word rest free cut is None none = λ shape h. by shape (be
     by Counter p = p
     by (Bag nodes) p = p
 
-pub bare_answers : (maps : ℕ) (text : List ℕ) → IsFree 32 text → (read : Option Shape) → Answers (IsBareText text) read → Answers (IsShapeText maps text) read
+pub bare_answers : (maps : ℕ) (text : List ℕ) → IsFree 32 text → (read : Option Shape) → IsSomeOf (IsBareText text) read → IsSomeOf (IsShapeText maps text) read
 bare_answers maps text free (Some Taint) h = (h.0, omega arith, h.1)
 bare_answers maps text free (Some Counter) h = (h.0, omega arith, h.1)
 bare_answers maps text free (Some (Bag nodes)) h = (h.0, omega arith, h.1)
@@ -289,7 +289,7 @@ map_no_value maps text word rest free cut none (Scalar pick kind) h = h
 map_no_value maps text word rest free cut none (Set kind) h = h
 map_no_value maps text word rest free cut none (Bag nodes) h = h
 
-pub map_some : (maps : ℕ) (text word rest : List ℕ) → text ≡ word ++ 32 ∷ rest → (key : code.ScalarKind) (value : Shape) → 0 < maps → IsWord key → word ≡ word_text (word_of key)
+pub map_some : (maps : ℕ) (text word rest : List ℕ) → text ≡ word ++ 32 ∷ rest → (key : code.ScalarKind) (value : Shape) → 0 < maps → IsPlainWord key → word ≡ word_text (word_of key)
     → IsShapeText (maps - 1) rest value → IsMapBehind maps text (Map (kind_of key) value)
 map_some maps text word rest cut key value some plain is h =
     let few = h.1 in
@@ -305,6 +305,6 @@ none_named text read none is = sym is ∙ ap (option_map word_of) none
 
 -- What was read behind `map` is what the text says.
 pub map_read : {S E : Type 0} (maps : ℕ) (text word rest : List ℕ) → IsFree 32 word → text ≡ word ++ 32 ∷ rest → bytes_eq word (codes "map") ≡ true → (shape_of : S → Shape)
-    → (result : Result (Option S) E) → IfOk result (λ read. Answers (IsMapBehind maps rest) (option_map shape_of read)) → IfOk result (λ read. Answers (IsShapeText maps text) (option_map shape_of read))
+    → (result : Result (Option S) E) → IfOk result (λ read. IsSomeOf (IsMapBehind maps rest) (option_map shape_of read)) → IfOk result (λ read. IsSomeOf (IsShapeText maps text) (option_map shape_of read))
 map_read maps text word rest free cut is shape_of (Ok read) h = map_answers maps text word rest free cut is (option_map shape_of read) h
 map_read maps text word rest free cut is shape_of (Err e) h = tt

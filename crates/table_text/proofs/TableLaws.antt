@@ -6,7 +6,7 @@ use Rattle.text_lines.specs.Readings.{AllSay, IsFirstBad}
 use Rattle.text_lines.proofs.ReadingLaws.{all_say_one, good_not_bad}
 use Rattle.table_text.specs.declared.faults.TableCode.{TableCode}
 use Rattle.table_text.specs.Rules.{field_lines}
-use Rattle.table_text.specs.TableFaults.{lines_behind, IsTableFault}
+use Rattle.table_text.specs.Reading.{lines_behind, IsTableFault}
 use Rattle.table_text.specs.TableRows.{rows_of}
 use Rattle.table_text.specs.TableTexts.{fields_text, table_text}
 use Rattle.table_text.proofs.Complete.{table_says}

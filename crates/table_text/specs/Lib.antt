@@ -2,10 +2,10 @@ pub mod TableTexts
 pub mod Rows
 pub mod TableRows
 pub mod Names
-pub mod OpenBags
+pub mod Builder
 pub mod Words
-pub mod ShapeReads
+pub mod Shapes
 pub mod Rules
-pub mod TableFaults
-pub mod FaultNames
+pub mod Reading
+pub mod Faults
 pub mod Views

@@ -14,11 +14,11 @@ abbrev pub row_of : CodeRow → Row
 row_of row = record { depth = row.depth; name = row.name.now; number = row.number; shape = shape_of row.shape }
 
 -- The line has no form, or a depth of more than 64 bits, or memory is wanting for it.
-abbrev pub IsUnread : List ℕ → Refusal → Type 0
-IsUnread text (Code Form) = (row : Row) → SaysRow text row → ⊥
-IsUnread text (Code Depth) = (row : Row) × SaysRow text row × (2 ^ 64 ≤ row.depth)
-IsUnread text (Code other) = ⊥
-IsUnread text Memory = Unit {0}
+abbrev pub HasNoRow : List ℕ → Refusal → Type 0
+HasNoRow text (Code Form) = (row : Row) → SaysRow text row → ⊥
+HasNoRow text (Code Depth) = (row : Row) × SaysRow text row × (2 ^ 64 ≤ row.depth)
+HasNoRow text (Code other) = ⊥
+HasNoRow text Memory = Unit {0}
 
 -- The line is refused behind these lines: it is bad, or memory is wanting for it.
 abbrev pub IsRefused : List Row → List ℕ → Refusal → Type 0

@@ -33,8 +33,8 @@ unfoldable pub word_named : List ℕ → Option Word
 word_named text = word_among text scalar_words
 
 -- The text is that of this number, which has 16 bits.
-abbrev pub IsNumberText : List ℕ → ℕ → Type 0
-IsNumberText text number = (number < 2 ^ 16) × (text ≡ decimal number)
+abbrev pub IsFieldNumberText : List ℕ → ℕ → Type 0
+IsFieldNumberText text number = (number < 2 ^ 16) × (text ≡ decimal number)
 
 -- The text is no depth, or that of one of more than 64 bits.
 abbrev pub IsNoDepth : List ℕ → TableCode → Type 0
@@ -43,8 +43,8 @@ IsNoDepth text Depth = (depth : ℕ) × IsDepth text depth × (2 ^ 64 ≤ depth)
 IsNoDepth text other = ⊥
 
 -- The text is scalar words with commas, at least one.
-abbrev pub AreWords : List ℕ → List Word → Type 0
-AreWords text words = (words ≢ []) × (text ≡ join_with_byte 44 (map word_text words))
+abbrev pub AreScalarWords : List ℕ → List Word → Type 0
+AreScalarWords text words = (words ≢ []) × (text ≡ join_with_byte 44 (map word_text words))
 
 -- The text is that of this kind.
 abbrev pub IsKindText : List ℕ → scalars.ScalarKind → Type 0

@@ -12,7 +12,7 @@ ghost use Rattle.table_text.specs.Rows.{IsToldShape, map_count};
 ghost use Rattle.table_text.specs.Rules.{ends_in_bag, rules, rules_of_bag, Breaks};
 ghost use Rattle.table_text.specs.TableRows.{filled, rows_of};
 ghost use Rattle.table_text.specs.Views.{row_of, IsAddRefused};
-ghost use Rattle.table_text.specs.OpenBags.{IsSoundRow, IsSound, IsFresh, depth_of, rows_so_far};
+ghost use Rattle.table_text.specs.Builder.{IsSoundRow, IsSoundBuilder, IsFresh, depth_of, rows_so_far};
 
 use crate::MAPS_MAX;
 use crate::faults::{Refusal, TableCode};
@@ -144,7 +144,7 @@ impl<'a> Builder<'a> {
     /// No line said a field yet.
     pub(crate) fn new(alloc: Global) -> Builder<'a>
         ensures rows { rows_so_far result ≡ [] }
-        ensures sound { IsSound result }
+        ensures sound { IsSoundBuilder result }
         ensures fresh { IsFresh result }
     {
         Builder {
@@ -156,10 +156,10 @@ impl<'a> Builder<'a> {
 
     /// The same with the innermost bag closed.
     fn closed(self, alloc: Global) -> Result<Builder<'a>, Memory>
-        requires sound { IsSound self }
+        requires sound { IsSoundBuilder self }
         requires inner { 0 < depth_of self }
         ensures rows { IfOk result (λ closed. rows_so_far closed ≡ rows_so_far self.entry) }
-        ensures sound { IfOk result IsSound }
+        ensures sound { IfOk result IsSoundBuilder }
         ensures depth { IfOk result (λ closed. depth_of closed + 1 ≡ depth_of self.entry) }
     {
         let Builder {
@@ -181,10 +181,10 @@ impl<'a> Builder<'a> {
 
     /// The same with all bags closed whose fields are deeper.
     fn closed_to(self, alloc: Global, depth: usize) -> Result<Builder<'a>, Memory>
-        requires sound { IsSound self }
+        requires sound { IsSoundBuilder self }
         requires depth { depth ≤ depth_of self }
         ensures rows { IfOk result (λ closed. rows_so_far closed ≡ rows_so_far self.entry) }
-        ensures sound { IfOk result IsSound }
+        ensures sound { IfOk result IsSoundBuilder }
         ensures depth { IfOk result (λ closed. depth_of closed ≡ depth) }
     {
         let mut builder = self;
@@ -196,7 +196,7 @@ impl<'a> Builder<'a> {
 
     /// Whether the innermost bag may have a field more as a line says it.
     fn check(&self, row: &Row<'_>) -> Result<(), TableCode>
-        requires sound { IsSound self.now }
+        requires sound { IsSoundBuilder self.now }
         requires row { IsSoundRow row.now }
         requires depth { row.now.depth ≡ depth_of self.now }
         ensures ok { OnOk result (NoneOf (Breaks (reverse (rows_so_far self.now)) (row_of row.now)) rules_of_bag) }
@@ -219,12 +219,12 @@ impl<'a> Builder<'a> {
 
     /// The same with a field that the innermost bag may have.
     fn with_row(self, alloc: Global, row: Row<'a>) -> Result<Builder<'a>, Memory>
-        requires sound { IsSound self }
+        requires sound { IsSoundBuilder self }
         requires row { IsSoundRow row }
         requires depth { row.depth ≡ depth_of self }
         requires good { NoneOf (Breaks (reverse (rows_so_far self)) (row_of row)) rules_of_bag }
         ensures rows { IfOk result (λ next. rows_so_far next ≡ rows_so_far self.entry ++ row_of row.entry ∷ []) }
-        ensures sound { IfOk result IsSound }
+        ensures sound { IfOk result IsSoundBuilder }
         ensures fresh { IfOk result IsFresh }
     {
         let Builder {
@@ -253,12 +253,12 @@ impl<'a> Builder<'a> {
 
     /// The same with the field that the next line says.
     pub(crate) fn add(self, alloc: Global, row: Row<'a>) -> Result<Builder<'a>, Refusal>
-        requires sound { IsSound self }
+        requires sound { IsSoundBuilder self }
         requires fresh { IsFresh self }
         requires row { IsSoundRow row }
         ensures good { OnOk result (NoneOf (Breaks (reverse (rows_so_far self.entry)) (row_of row.entry)) rules) }
         ensures rows { IfOk result (λ next. rows_so_far next ≡ rows_so_far self.entry ++ row_of row.entry ∷ []) }
-        ensures sound { IfOk result IsSound }
+        ensures sound { IfOk result IsSoundBuilder }
         ensures fresh { IfOk result IsFresh }
         ensures err { IfErr result (IsAddRefused (reverse (rows_so_far self.entry)) (row_of row.entry)) }
     {
@@ -273,7 +273,7 @@ impl<'a> Builder<'a> {
 
     /// The table of the fields that all lines said.
     pub(crate) fn into_table(self, alloc: Global) -> Result<Table, Memory>
-        requires sound { IsSound self }
+        requires sound { IsSoundBuilder self }
         ensures { IfOk result (λ table. rows_of 0 table ≡ rows_so_far self.entry) }
     {
         let Builder { bag, .. } = self.closed_to(alloc, 0)?;

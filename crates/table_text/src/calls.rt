@@ -1,7 +1,7 @@
 //! The calls of a table by which it is printed and read.
 
 ghost use Rattle.std.specs.Prelude.{◌≡◌, ℕ, List, IfOk, IfErr};
-ghost use Rattle.table_text.specs.TableFaults.{IsRefusalOf};
+ghost use Rattle.table_text.specs.Reading.{IsRefusalOf};
 
 use crate::faults::TableFault;
 use crate::printing::print_table;

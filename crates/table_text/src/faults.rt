@@ -1,7 +1,7 @@
 //! Why a text is no table's.
 
 ghost use Rattle.std.specs.Prelude.{◌≡◌};
-ghost use Rattle.table_text.specs.FaultNames.{fault_at};
+ghost use Rattle.table_text.specs.Faults.{fault_at};
 
 use outside::Memory;
 use std::fmt;
@@ -92,7 +92,7 @@ impl From<Memory> for TableFault {
 
 impl fmt::Display for TableCode {
     ghost use Rattle.std.specs.Prelude.{Some};
-    ghost use Rattle.table_text.specs.FaultNames.{table_code_name};
+    ghost use Rattle.table_text.specs.Faults.{table_code_name};
 
     ghost output = { λ code. Some (table_code_name code) };
 

@@ -6,7 +6,7 @@ ghost use Rattle.bag_model.specs.Tables.{IsTable};
 ghost use Rattle.text_lines.specs.Readings.{IsDefinite};
 ghost use Rattle.table_text.specs.declared.faults.TableCode.{TableCode};
 ghost use Rattle.table_text.specs.Rules.{field_lines};
-ghost use Rattle.table_text.specs.TableFaults.{IsTableFault};
+ghost use Rattle.table_text.specs.Reading.{IsTableFault};
 ghost use Rattle.table_text.specs.TableTexts.{table_text};
 
 /// A line says one field or has one fault, never both.

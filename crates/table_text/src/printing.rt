@@ -7,7 +7,7 @@ ghost use Rattle.bag_model.specs.declared.TheConstants.{MAX_LEVELS};
 ghost use Rattle.bag_model.specs.Tables.{levels, levels_under};
 ghost use Rattle.bag_model.specs.Words.{word_text};
 ghost use Rattle.field_table.specs.Plain.{shape_of, field_of, nodes_of};
-ghost use Rattle.scalar_types.specs.KindViews.{IsWord, word_of, kind_of};
+ghost use Rattle.scalar_types.specs.KindViews.{IsPlainWord, word_of, kind_of};
 ghost use Rattle.table_text.specs.TableTexts.{kind_text, shape_text, field_line, fields_text, bag_text, table_text};
 
 use field_table::{Shape, Slot, Slots, Table};
@@ -141,7 +141,7 @@ fn put_struct(kinds: &KindList, into: &mut Vec<u8>) -> Result<(), Memory>
 
 /// The word of a kind that is no struct.
 fn word_name(kind: &ScalarKind) -> &'static str
-    requires { IsWord kind.now }
+    requires { IsPlainWord kind.now }
     ensures { result.now ≡ word_text (word_of kind.now) }
 {
     match kind {

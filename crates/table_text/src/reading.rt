@@ -4,8 +4,8 @@ ghost use Rattle.std.specs.Prelude.{◌≡◌, ◌≢◌, ◌<◌, ◌++◌, [],
 ghost use Rattle.text_lines.specs.Readings.{AllSay};
 ghost use Rattle.table_text.specs.Rows.{Row as SaidRow};
 ghost use Rattle.table_text.specs.Rules.{IsGood, field_lines};
-ghost use Rattle.table_text.specs.OpenBags.{IsSound, IsFresh, rows_so_far};
-ghost use Rattle.table_text.specs.TableFaults.{head, lines_behind, IsHeadFault, IsRefusalOf, IsRefusalBehind};
+ghost use Rattle.table_text.specs.Builder.{IsSoundBuilder, IsFresh, rows_so_far};
+ghost use Rattle.table_text.specs.Reading.{head, lines_behind, IsHeadFault, IsRefusalOf, IsRefusalBehind};
 ghost use Rattle.table_text.specs.TableTexts.{table_text};
 ghost use Rattle.table_text.specs.Views.{IsRefused};
 
@@ -31,11 +31,11 @@ fn head_code(text: &[u8]) -> TableCode
 impl<'a> Builder<'a> {
     /// The fields so far, with that which the next line says.
     fn read_line(self, alloc: Global, line: &'a [u8]) -> Result<Builder<'a>, Refusal>
-        requires sound { IsSound self }
+        requires sound { IsSoundBuilder self }
         requires fresh { IsFresh self }
         ensures rows { IfOk result (λ next. (row : SaidRow) × IsGood (reverse (rows_so_far self.entry)) line.now row
             × (rows_so_far next ≡ rows_so_far self.entry ++ row ∷ [])) }
-        ensures sound { IfOk result IsSound }
+        ensures sound { IfOk result IsSoundBuilder }
         ensures fresh { IfOk result IsFresh }
         ensures err { IfErr result (IsRefused (reverse (rows_so_far self.entry)) line.now) }
     {
@@ -47,7 +47,7 @@ impl<'a> Builder<'a> {
 /// What the lines behind the first say.
 fn read_lines(alloc: Global, text: &[u8]) -> Result<Builder<'_>, TableFault>
     ensures rows { IfOk result (λ read. AllSay field_lines [] (lines_behind text.now) (rows_so_far read)) }
-    ensures sound { IfOk result IsSound }
+    ensures sound { IfOk result IsSoundBuilder }
     ensures err { IfErr result (IsRefusalBehind text.now) }
 {
     let mut builder = Builder::new(alloc);

@@ -2,11 +2,11 @@
 
 ghost use Rattle.std.specs.Prelude.{◌≡◌, ◌≢◌, ◌++◌, ◌∷◌, [], ℕ, List, IfOk, IfSome, MatchOption};
 ghost use Rattle.std.specs.Option.{option_map};
-ghost use Rattle.decimal_text.specs.Answers.{Answers};
+ghost use Rattle.decimal_text.specs.Answers.{IsSomeOf};
 ghost use Rattle.field_table.specs.Plain.{shape_of, IsIndexedShape};
 ghost use Rattle.scalar_types.specs.KindViews.{kind_of};
-ghost use Rattle.table_text.specs.Words.{AreWords, IsKindText, IsShapeText};
-ghost use Rattle.table_text.specs.ShapeReads.{IsBareText, IsMapBehind};
+ghost use Rattle.table_text.specs.Words.{AreScalarWords, IsKindText, IsShapeText};
+ghost use Rattle.table_text.specs.Shapes.{IsBareText, IsMapBehind};
 
 use crate::words::{cut_word, is, read_word};
 use field_table::{Shape, Slots};
@@ -16,7 +16,7 @@ use std::alloc::Global;
 
 /// The kinds that scalar words with commas between them say.
 fn read_words(alloc: Global, text: &[u8]) -> Result<Option<KindList>, Memory>
-    ensures { IfOk result (λ read. Answers (AreWords text.now) read) }
+    ensures { IfOk result (λ read. IsSomeOf (AreScalarWords text.now) read) }
 {
     let mut kinds = KindList::new(alloc);
     for word in text.split(|byte| *byte == b',') {
@@ -41,7 +41,7 @@ fn in_parentheses(text: &[u8]) -> Option<&[u8]>
 
 /// The kind that a text says: a scalar word, or those of a struct between parentheses.
 fn read_kind(alloc: Global, text: &[u8]) -> Result<Option<ScalarKind>, Memory>
-    ensures { IfOk result (λ read. Answers (IsKindText text.now) (option_map kind_of read)) }
+    ensures { IfOk result (λ read. IsSomeOf (IsKindText text.now) (option_map kind_of read)) }
 {
     let Some(words) = in_parentheses(text) else {
         return Ok(read_word(text));
@@ -54,7 +54,7 @@ fn read_kind(alloc: Global, text: &[u8]) -> Result<Option<ScalarKind>, Memory>
 
 /// The shape that one word says.
 fn read_bare(alloc: Global, text: &[u8]) -> Option<Shape>
-    ensures shape { Answers (IsBareText text.now) (option_map shape_of result) }
+    ensures shape { IsSomeOf (IsBareText text.now) (option_map shape_of result) }
     ensures indexed { IfSome result IsIndexedShape }
 {
     if is(text, "taint") {
@@ -72,7 +72,7 @@ fn read_bare(alloc: Global, text: &[u8]) -> Option<Shape>
 #[cycle(shape)]
 pub(crate) fn read_shape(alloc: Global, text: &[u8], maps: usize) -> Result<Option<Shape>, Memory>
     ensures shape { IfOk result (λ read.
-        Answers (IsShapeText maps text.now) (option_map shape_of read)) }
+        IsSomeOf (IsShapeText maps text.now) (option_map shape_of read)) }
     ensures indexed { IfOk result (λ read. IfSome read IsIndexedShape) }
 {
     let Some((word, rest)) = cut_word(text) else {
@@ -99,7 +99,7 @@ pub(crate) fn read_shape(alloc: Global, text: &[u8], maps: usize) -> Result<Opti
 #[cycle(shape)]
 fn read_map(alloc: Global, text: &[u8], maps: usize) -> Result<Option<Shape>, Memory>
     ensures shape { IfOk result (λ read.
-        Answers (IsMapBehind maps text.now) (option_map shape_of read)) }
+        IsSomeOf (IsMapBehind maps text.now) (option_map shape_of read)) }
     ensures indexed { IfOk result (λ read. IfSome read IsIndexedShape) }
 {
     if maps == 0 {

@@ -6,10 +6,10 @@ ghost use Rattle.std.specs.List.{list_all, list_any};
 ghost use Rattle.std.specs.Option.{option_map};
 ghost use Rattle.std.specs.Str.{bytes_eq};
 ghost use Rattle.bag_model.specs.Words.{is_letter, is_word, is_name, reserved_words};
-ghost use Rattle.decimal_text.specs.Answers.{Answers};
-ghost use Rattle.scalar_types.specs.KindViews.{IsWord, word_of};
+ghost use Rattle.decimal_text.specs.Answers.{IsSomeOf};
+ghost use Rattle.scalar_types.specs.KindViews.{IsPlainWord, word_of};
 ghost use Rattle.table_text.specs.Rows.{IsDepth};
-ghost use Rattle.table_text.specs.Words.{IsFree, IsNumberText, IsNoDepth, keywords, word_named};
+ghost use Rattle.table_text.specs.Words.{IsFree, IsFieldNumberText, IsNoDepth, keywords, word_named};
 
 use crate::faults::TableCode;
 use decimal_text::read_decimal;
@@ -47,7 +47,7 @@ pub(crate) fn is(text: &[u8], word: &str) -> bool
 #[tactic(auto, unfolding(crate::specs::Words::word_named))]
 pub(crate) fn read_word(text: &[u8]) -> Option<ScalarKind>
     ensures word { option_map word_of result ≡ word_named text.now }
-    ensures plain { IfSome result IsWord }
+    ensures plain { IfSome result IsPlainWord }
 {
     if is(text, "bool") {
         Some(ScalarKind::Bool)
@@ -153,7 +153,7 @@ pub(crate) fn read_name(text: &[u8]) -> Option<&str>
 
 /// The number of 16 bits that a text is.
 pub(crate) fn read_number(text: &[u8]) -> Option<u16>
-    ensures { Answers (IsNumberText text.now) result }
+    ensures { IsSomeOf (IsFieldNumberText text.now) result }
 {
     let number = read_decimal(text)?;
     if number > u64::from(u16::MAX) {

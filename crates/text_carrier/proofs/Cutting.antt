@@ -9,7 +9,7 @@ use Rattle.std.proofs.lemmas.List.Folds.{concat-append}
 use Rattle.std.proofs.lemmas.List.FromFn.{map-range_with_len_more}
 use Rattle.std.proofs.lemmas.Nat.{div-add-mod'}
 use Rattle.text_carrier.specs.Pieces.{piece_line}
-use Rattle.text_carrier.specs.Carried.{piece_at, piece_count, text_of}
+use Rattle.text_carrier.specs.Carrying.{piece_at, piece_count, text_of}
 
 -- ---- how many pieces
 

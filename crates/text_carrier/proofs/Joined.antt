@@ -19,7 +19,7 @@ use Rattle.text_carrier.specs.declared.faults.Refusal.TheVariants as refusals
 use Rattle.text_carrier.specs.declared.pieces.Pieces.{Pieces}
 use Rattle.text_carrier.specs.Pieces.{Piece}
 use Rattle.text_carrier.specs.Rules.{piece_lines}
-use Rattle.text_carrier.specs.Collected.{AreWhole, Collects, SaySome}
+use Rattle.text_carrier.specs.Collecting.{AreWhole, Collects, SaySome}
 use Rattle.text_carrier.specs.Views.{AreTextsOf, IsData, IsDecoded, IsJoinFault, IsLineFault, IsOrderFault, IsRefused, Keeps, all_bytes, data_bytes, fault_at}
 use Rattle.text_carrier.proofs.Standard.{decoded_bytes}
 

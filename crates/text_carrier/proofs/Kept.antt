@@ -18,7 +18,7 @@ use Rattle.text_lines.specs.Readings.{NoneOf}
 use Rattle.text_carrier.specs.declared.pieces.Pieces.{Pieces}
 use Rattle.text_carrier.specs.Pieces.{Piece, data_text}
 use Rattle.text_carrier.specs.Rules.{Breaks, IsOtherCount, rules}
-use Rattle.text_carrier.specs.Collected.{count_of}
+use Rattle.text_carrier.specs.Collecting.{count_of}
 use Rattle.text_carrier.specs.Views.{first_count, IsTextAt, Keeps}
 
 -- Texts that can't differ are the same.

@@ -12,7 +12,7 @@ use Rattle.std.proofs.lemmas.List.Splits.{slice_split_at, length-slice_split}
 use Rattle.std.proofs.lemmas.Str.Parse.{digit_from_value}
 use Rattle.text_lines.specs.Lines.{is_skipped, kept, lines_of, numbered}
 use Rattle.text_carrier.specs.Pieces.{data_text, line_of}
-use Rattle.text_carrier.specs.Carried.{text_of}
+use Rattle.text_carrier.specs.Carrying.{text_of}
 use Rattle.text_carrier.proofs.Spaces.{small}
 use Rattle.text_carrier.proofs.Standard.{IsPlain, data_plain}
 

@@ -16,7 +16,7 @@ use Rattle.text_carrier.specs.declared.faults.CarryFault.{CarryFault}
 use Rattle.text_carrier.specs.declared.faults.CarryFault.TheVariants.{At, NoLine, Missing, TooManyBytes, Memory}
 use Rattle.text_carrier.specs.Pieces.{Piece, data_text}
 use Rattle.text_carrier.specs.Rules.{IsGood, piece_lines}
-use Rattle.text_carrier.specs.Collected.{AreWhole, Collects, IsFirstMissing, SaySome}
+use Rattle.text_carrier.specs.Collecting.{AreWhole, Collects, IsFirstMissing, SaySome}
 use Rattle.text_carrier.proofs.Definite.{is_definite}
 use Rattle.text_carrier.proofs.Kept.{same_text}
 use Rattle.text_carrier.proofs.Standard.{one_data}

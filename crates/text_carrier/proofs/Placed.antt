@@ -14,7 +14,7 @@ use Rattle.base64.specs.GeneralPurpose.{IsBytes}
 use Rattle.text_lines.specs.Lines.{numbered}
 use Rattle.text_lines.specs.Readings.{AllSay}
 use Rattle.text_carrier.specs.Pieces.{Piece, data_text}
-use Rattle.text_carrier.specs.Carried.{AreSome, IsCarried, carried_lines, piece_at, piece_count}
+use Rattle.text_carrier.specs.Carrying.{AreSome, IsCarried, carried_lines, piece_at, piece_count}
 use Rattle.text_carrier.specs.Rules.{HasForm, IsGood, IsOtherCount, piece_lines}
 use Rattle.text_carrier.proofs.Cutting.{few_pieces, line_at, part_at}
 use Rattle.text_carrier.proofs.Definite.{one_form}

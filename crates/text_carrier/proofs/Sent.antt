@@ -9,9 +9,9 @@ use Rattle.text_lines.specs.Lines.{Line, lines_of}
 use Rattle.text_lines.specs.Readings.{AllSay}
 use Rattle.text_carrier.specs.declared.faults.CarryFault.TheVariants.{Missing}
 use Rattle.text_carrier.specs.Pieces.{Piece}
-use Rattle.text_carrier.specs.Carried.{AreAll, AreSome, IsCarried, IsFirstLost, carried_lines, piece_at, piece_count, text_of}
+use Rattle.text_carrier.specs.Carrying.{AreAll, AreSome, IsCarried, IsFirstLost, carried_lines, piece_at, piece_count, text_of}
 use Rattle.text_carrier.specs.Rules.{piece_lines}
-use Rattle.text_carrier.specs.Collected.{AreWhole, Collects, count_of}
+use Rattle.text_carrier.specs.Collecting.{AreWhole, Collects, count_of}
 use Rattle.text_carrier.proofs.Cutting.{all_parts, line_at, part_at}
 use Rattle.text_carrier.proofs.LineBytes.{lines_of_sent}
 use Rattle.text_carrier.proofs.Placed.{all_say, among, are_lines, contains_cases, contains_map, is_place, line_place, piece_place, place_line, places_of}

@@ -7,7 +7,7 @@ use Rattle.std.proofs.lemmas.Fmt.{decimal_is_IsNumeral}
 use Rattle.std.proofs.lemmas.List.Elements.{All-nil, All-cons, All-head, All-tail}
 use Rattle.std.proofs.lemmas.Str.Parse.{digit_from_value}
 use Rattle.text_carrier.specs.Rules.{HasNoSpace, HasForm}
-use Rattle.text_carrier.specs.Views.{AreWords, four_words}
+use Rattle.text_carrier.specs.Views.{AreLineWords, four_words}
 
 -- The byte is no space.
 abbrev IsNoSpace : ℕ → Type 0
@@ -58,10 +58,10 @@ number_no_space n h = digits_plain (decimal n) (decimal_is_IsNumeral n (small n 
 pub behind_first : (text rest place count word : List ℕ) → rest ≡ drop 2 text → text ≡ four_words place count word → rest ≡ place ++ 32 ∷ (count ++ 32 ∷ word)
 behind_first text rest place count word cut is = cut ∙ ap (λ (l : List ℕ). drop 2 l) is
 
-pub no_second : (text rest : List ℕ) → rest ≡ drop 2 text → HasNoSpace rest → (p c w : List ℕ) → AreWords text p c w → ⊥
+pub no_second : (text rest : List ℕ) → rest ≡ drop 2 text → HasNoSpace rest → (p c w : List ℕ) → AreLineWords text p c w → ⊥
 no_second text rest cut none p c w are = no_space_there rest p (c ++ 32 ∷ w) none (behind_first text rest p c w cut are.is)
 
-pub no_third : (text rest place more : List ℕ) → rest ≡ drop 2 text → HasNoSpace place → rest ≡ place ++ 32 ∷ more → HasNoSpace more → (p c w : List ℕ) → AreWords text p c w → ⊥
+pub no_third : (text rest place more : List ℕ) → rest ≡ drop 2 text → HasNoSpace place → rest ≡ place ++ 32 ∷ more → HasNoSpace more → (p c w : List ℕ) → AreLineWords text p c w → ⊥
 no_third text rest place more cut free then none p c w are =
     let one = same_cut place p more (c ++ 32 ∷ w) free are.place_whole (sym then ∙ behind_first text rest p c w cut are.is) in
     no_space_there more c w none one.1
@@ -73,19 +73,19 @@ pub record AreSame (place count word p c w : List ℕ) : Type 0 where
   pub word_is : word ≡ w
 
 pub same_words : (text rest place more count word : List ℕ) → rest ≡ drop 2 text → HasNoSpace place → rest ≡ place ++ 32 ∷ more → HasNoSpace count → more ≡ count ++ 32 ∷ word
-    → (p c w : List ℕ) → AreWords text p c w → AreSame place count word p c w
+    → (p c w : List ℕ) → AreLineWords text p c w → AreSame place count word p c w
 same_words text rest place more count word cut free then own last p c w are =
     let one = same_cut place p more (c ++ 32 ∷ w) free are.place_whole (sym then ∙ behind_first text rest p c w cut are.is) in
     let two = same_cut count c word w own are.count_whole (sym last ∙ one.1) in
     record { place_is = one.0; count_is = two.0; word_is = two.1 }
 
-pub one_words : (text place count word p c w : List ℕ) → AreWords text place count word → AreWords text p c w → AreSame place count word p c w
+pub one_words : (text place count word p c w : List ℕ) → AreLineWords text place count word → AreLineWords text p c w → AreSame place count word p c w
 one_words text place count word p c w are other =
     let rest = place ++ 32 ∷ (count ++ 32 ∷ word) in
     same_words text rest place (count ++ 32 ∷ word) count word (sym (ap (λ (l : List ℕ). drop 2 l) are.is)) are.place_whole refl are.count_whole refl p c w other
 
 -- A line that has the form has words.
-pub form_words : (text : List ℕ) (place count : ℕ) (word : List ℕ) → HasForm text place count word → AreWords text (decimal place) (decimal count) word
+pub form_words : (text : List ℕ) (place count : ℕ) (word : List ℕ) → HasForm text place count word → AreLineWords text (decimal place) (decimal count) word
 form_words text place count word form = record {
   place_whole = number_no_space place form.place_few;
   count_whole = number_no_space count form.count_few;

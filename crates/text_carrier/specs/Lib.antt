@@ -1,5 +1,5 @@
 pub mod Pieces
-pub mod Carried
+pub mod Carrying
 pub mod Rules
-pub mod Collected
+pub mod Collecting
 pub mod Views

@@ -22,7 +22,7 @@ use Rattle.text_carrier.specs.declared.faults.Refusal.TheVariants.{Code, Memory}
 use Rattle.text_carrier.specs.declared.pieces.Pieces.{Pieces}
 use Rattle.text_carrier.specs.Pieces.{Piece, data_text}
 use Rattle.text_carrier.specs.Rules.{HasNoSpace, Breaks, rules, IsBad, piece_lines}
-use Rattle.text_carrier.specs.Collected.{HasPlace, IsFirstMissing, count_of}
+use Rattle.text_carrier.specs.Collecting.{HasPlace, IsFirstMissing, count_of}
 
 -- The name of a rule, as it is printed.
 abbrev pub code_name : CarryCode → List ℕ
@@ -42,7 +42,7 @@ abbrev pub four_words : List ℕ → List ℕ → List ℕ → List ℕ
 four_words place count word = join_with_byte 32 (codes "p" ∷ place ∷ count ∷ word ∷ [])
 
 -- The words of a line; none of them has a space, and the last isn't empty.
-pub record AreWords (text place count word : List ℕ) : Type 0 where
+pub record AreLineWords (text place count word : List ℕ) : Type 0 where
   pub place_whole : HasNoSpace place
   pub count_whole : HasNoSpace count
   pub word_some : 0 < length word
@@ -51,11 +51,11 @@ pub record AreWords (text place count word : List ℕ) : Type 0 where
 
 -- The line has no such words.
 abbrev pub HasNoWords : List ℕ → Type 0
-HasNoWords text = (place count word : List ℕ) → AreWords text place count word → ⊥
+HasNoWords text = (place count word : List ℕ) → AreLineWords text place count word → ⊥
 
 -- The text is that of a number with at most seven digits.
-abbrev pub IsNumberText : List ℕ → ℕ → Type 0
-IsNumberText text number = (number < 10 ^ 7) × (text ≡ decimal number)
+abbrev pub IsPieceNumberText : List ℕ → ℕ → Type 0
+IsPieceNumberText text number = (number < 10 ^ 7) × (text ≡ decimal number)
 
 -- A line that has the form is refused behind these pieces: it breaks this rule first, or memory is wanting for it.
 abbrev pub IsPieceRefused : List Piece → ℕ → ℕ → List ℕ → Refusal → Type 0

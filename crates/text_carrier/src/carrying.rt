@@ -1,7 +1,7 @@
 //! The lines of the pieces of some bytes.
 
 ghost use Rattle.std.specs.Prelude.{◌≡◌, ◌≤◌, ◌++◌, ◌∷◌, [], length, IfOk, OnOk, string_bytes};
-ghost use Rattle.text_carrier.specs.Carried.{carried_text};
+ghost use Rattle.text_carrier.specs.Carrying.{carried_text};
 ghost use Rattle.text_carrier.specs.Pieces.{line_of, data_text};
 
 use crate::{CARRIED_MAX, WIDTH_MAX, WIDTH_MIN};

@@ -6,7 +6,7 @@ ghost use Rattle.text_lines.specs.Lines as spec;
 ghost use Rattle.text_lines.specs.Readings.{AllSay};
 ghost use Rattle.text_carrier.specs.Pieces.{Piece};
 ghost use Rattle.text_carrier.specs.Rules.{piece_lines};
-ghost use Rattle.text_carrier.specs.Collected.{Collects};
+ghost use Rattle.text_carrier.specs.Collecting.{Collects};
 ghost use Rattle.text_carrier.specs.Views.{Keeps, IsData, IsLineFault, IsJoinFault, all_bytes};
 
 use crate::CARRIED_MAX;

@@ -7,8 +7,8 @@ ghost use Rattle.base64.specs.GeneralPurpose.{IsConsistent, IsStrict, encode_of}
 ghost use Rattle.text_lines.specs.Lines.{lines_of};
 ghost use Rattle.text_lines.specs.Readings.{IsDefinite};
 ghost use Rattle.text_carrier.specs.declared.faults.CarryFault.TheVariants as faults;
-ghost use Rattle.text_carrier.specs.Carried.{AreAll, AreSome, IsCarried, IsFirstLost, carried_lines, text_of};
-ghost use Rattle.text_carrier.specs.Collected.{CollectOneWay, Collects};
+ghost use Rattle.text_carrier.specs.Carrying.{AreAll, AreSome, IsCarried, IsFirstLost, carried_lines, text_of};
+ghost use Rattle.text_carrier.specs.Collecting.{CollectOneWay, Collects};
 ghost use Rattle.text_carrier.specs.Rules.{piece_lines};
 
 /// An encoding of the standard alphabet with padding decodes to its bytes, and nothing else decodes; none of its bytes is

@@ -1,9 +1,9 @@
 //! What a line says, before the rules are asked.
 
 ghost use Rattle.std.specs.Prelude.{◌≡◌, ◌≢◌, ◌<◌, ◌++◌, ◌∷◌, ℕ, length, slice_index, IsTrue, ◌↔◌, None, IfSome, MatchOption};
-ghost use Rattle.decimal_text.specs.Answers.{Answers};
+ghost use Rattle.decimal_text.specs.Answers.{IsSomeOf};
 ghost use Rattle.text_carrier.specs.Rules.{HasForm, HasNoForm, HasNoSpace};
-ghost use Rattle.text_carrier.specs.Views.{AreWords, HasNoWords, IsNumberText};
+ghost use Rattle.text_carrier.specs.Views.{AreLineWords, HasNoWords, IsPieceNumberText};
 
 use decimal_text::read_decimal;
 use memchr::memchr;
@@ -57,7 +57,7 @@ fn is_word(text: &[u8]) -> bool
 /// The words of a line that begins with `p`.
 fn cut_words(text: &[u8]) -> Option<LineWords<'_>>
     ensures { MatchOption result (HasNoWords text.now)
-        (λ words. AreWords text.now words.place.now words.count.now words.word.now) }
+        (λ words. AreLineWords text.now words.place.now words.count.now words.word.now) }
 {
     let rest = text.strip_prefix(b"p ")?;
     let (place, rest) = cut_word(rest)?;
@@ -70,7 +70,7 @@ fn cut_words(text: &[u8]) -> Option<LineWords<'_>>
 
 /// The number of at most seven digits that a text is.
 fn read_number(text: &[u8]) -> Option<u64>
-    ensures { Answers (IsNumberText text.now) result }
+    ensures { IsSomeOf (IsPieceNumberText text.now) result }
 {
     let number = read_decimal(text)?;
     if number >= NUMBER_END {

@@ -5,10 +5,10 @@ use Rattle.std.specs.declared.vec.Vec.{Vec}
 use Rattle.std.specs.List.{Contains, slice_get}
 use Rattle.std.proofs.lemmas.List.{length-map, get_or-map}
 use Rattle.std.proofs.lemmas.Option.{slice_get-get_or, slice_get_within, get_or_from_slice_get, slice_get_read}
-use Rattle.topological_order.specs.Graphs.{Graph, graph_of, row_of, HasEdge, IsClosed, Reaches, by_edge, by_walk, ReachesOrIs}
+use Rattle.topological_order.specs.Graphs.{EdgeLists, graph_of, row_of, HasEdge, IsClosed, LeadsTo, by_edge, by_walk, ReachesOrIs}
 
 -- An element of a row is an edge.
-pub has_edge : (graph : Graph) (node edge to : ℕ) → node < length graph → slice_get (row_of graph node) edge ≡ Some to → HasEdge graph node to
+pub has_edge : (graph : EdgeLists) (node edge to : ℕ) → node < length graph → slice_get (row_of graph node) edge ≡ Some to → HasEdge graph node to
 has_edge graph node edge to l is =
     let row = row_of graph node in
     record {
@@ -18,7 +18,7 @@ has_edge graph node edge to l is =
     }
 
 -- An edge is an element of a row.
-pub edge_at : (graph : Graph) (node to : ℕ) → HasEdge graph node to
+pub edge_at : (graph : EdgeLists) (node to : ℕ) → HasEdge graph node to
     → (edge : ℕ) × (edge < length (row_of graph node)) × (slice_get (row_of graph node) edge ≡ Some to)
 edge_at graph node to h =
     let same : row_of graph node ≡ h.row = get_or_from_slice_get graph node h.row [] h.is in
@@ -27,13 +27,13 @@ edge_at graph node to h =
     subst P (sym same) there
 
 -- The row of a node has each node to which its edges lead.
-pub edge_row : (graph : Graph) (node to : ℕ) → HasEdge graph node to → Contains (row_of graph node) to
+pub edge_row : (graph : EdgeLists) (node to : ℕ) → HasEdge graph node to → Contains (row_of graph node) to
 edge_row graph node to h =
     let P : List ℕ → Type 0 = λ row. Contains row to in
     subst P (sym (get_or_from_slice_get graph node h.row [] h.is)) h.leads
 
 -- What the row of a node has is an edge.
-pub row_edge : (graph : Graph) (node to : ℕ) → node < length graph → Contains (row_of graph node) to → HasEdge graph node to
+pub row_edge : (graph : EdgeLists) (node to : ℕ) → node < length graph → Contains (row_of graph node) to → HasEdge graph node to
 row_edge graph node to l c = record { row = row_of graph node; is = slice_get-get_or graph node [] l; leads = c }
 
 -- The row that the code reads.
@@ -49,11 +49,11 @@ edge_read rows node edge item items l is same m =
     ap (λ row. slice_get row edge) (row_read rows node item items l is same) ∙ slice_get-get_or items edge 0 m
 
 -- An edge begins at a node.
-pub from_within : (graph : Graph) (node to : ℕ) → HasEdge graph node to → node < length graph
+pub from_within : (graph : EdgeLists) (node to : ℕ) → HasEdge graph node to → node < length graph
 from_within graph node to h = slice_get_within graph node h.row h.is
 
 -- An edge leads to a node.
-pub to_within : (graph : Graph) (node edge to : ℕ) → IsClosed graph → node < length graph
+pub to_within : (graph : EdgeLists) (node edge to : ℕ) → IsClosed graph → node < length graph
     → slice_get (row_of graph node) edge ≡ Some to → to < length graph
 to_within graph node edge to whole l is =
     let row = row_of graph node in
@@ -71,23 +71,23 @@ row_small (v ∷ rows) zero = omega (arith, v.ok.0, v.ok.1, v.small)
 row_small (v ∷ rows) (suc node) = row_small rows node
 
 -- One walk behind another.
-pub reach_join : (graph : Graph) (from over to : ℕ) → Reaches graph from over → Reaches graph over to → Reaches graph from to
+pub reach_join : (graph : EdgeLists) (from over to : ℕ) → LeadsTo graph from over → LeadsTo graph over to → LeadsTo graph from to
 reach_join graph _ _ to (by_edge from over e) r = by_walk from over to e r
 reach_join graph _ _ to (by_walk from next over e s) r = by_walk from next to e (reach_join graph next over to s r)
 
 -- A walk over an edge at its end.
-pub reach_on : (graph : Graph) (from last to : ℕ) → ReachesOrIs graph from last → HasEdge graph last to → Reaches graph from to
+pub reach_on : (graph : EdgeLists) (from last to : ℕ) → ReachesOrIs graph from last → HasEdge graph last to → LeadsTo graph from to
 reach_on graph from last to (inl same) e = let P : ℕ → Type 0 = λ x. HasEdge graph x to in by_edge from to (subst P (sym same) e)
 reach_on graph from last to (inr r) e = reach_join graph from last to r (by_edge last to e)
 
 -- Equal nodes reach the same.
-pub reach_same : (graph : Graph) (a b c d : ℕ) → a ≡ c → b ≡ d → Reaches graph c d → Reaches graph a b
+pub reach_same : (graph : EdgeLists) (a b c d : ℕ) → a ≡ c → b ≡ d → LeadsTo graph c d → LeadsTo graph a b
 reach_same graph a b c d p q r =
-    let P : ℕ → Type 0 = λ x. Reaches graph x b in
-    let Q : ℕ → Type 0 = λ y. Reaches graph c y in
+    let P : ℕ → Type 0 = λ x. LeadsTo graph x b in
+    let Q : ℕ → Type 0 = λ y. LeadsTo graph c y in
     subst P (sym p) (subst Q (sym q) r)
 
 -- A walk begins at a node.
-pub reach_within : (graph : Graph) (from to : ℕ) → Reaches graph from to → from < length graph
+pub reach_within : (graph : EdgeLists) (from to : ℕ) → LeadsTo graph from to → from < length graph
 reach_within graph _ _ (by_edge from to e) = from_within graph from to e
 reach_within graph _ _ (by_walk from next to e r) = from_within graph from next e

@@ -6,8 +6,8 @@ use Rattle.std.proofs.lemmas.List.{get_or_past}
 use Rattle.std.proofs.lemmas.List.Sums.{sum_by-set}
 use Rattle.topological_order.specs.declared.walk.Mark.{Mark}
 use Rattle.topological_order.specs.declared.walk.Mark.TheVariants.{New, Open, Done}
-use Rattle.topological_order.specs.Graphs.{Graph, row_of}
-use Rattle.topological_order.specs.Walks.{mark_of, is_new, edges_left}
+use Rattle.topological_order.specs.Graphs.{EdgeLists, row_of}
+use Rattle.topological_order.specs.Walk.{mark_of, is_new, edges_left}
 
 -- A mark is one of three.
 pub mark_kinds : (mark : Mark) → (mark ≡ New) ⊎ ((mark ≡ Open) ⊎ (mark ≡ Done))
@@ -64,7 +64,7 @@ none_new (Open ∷ marks) none = none_new marks (λ n l. none (suc n) (omega ari
 none_new (Done ∷ marks) none = none_new marks (λ n l. none (suc n) (omega arith))
 
 -- One edge fewer is left.
-pub edges_less : (graph : Graph) (followed : List ℕ) (node : ℕ) → length followed ≡ length graph → node < length graph
+pub edges_less : (graph : EdgeLists) (followed : List ℕ) (node : ℕ) → length followed ≡ length graph → node < length graph
     → get_or followed node 0 < length (row_of graph node)
     → edges_left graph followed ≡ edges_left graph (set followed node (get_or followed node 0 + 1)) + 1
 edges_less [] followed node e l less = absurd (omega arith)

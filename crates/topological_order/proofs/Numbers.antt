@@ -6,9 +6,9 @@ use Rattle.std.proofs.lemmas.List.{length-set, take_more, drop_at, get_or_defaul
 use Rattle.std.proofs.lemmas.Option.{slice_get_within}
 use Rattle.std.proofs.lemmas.List.Elements.{Contains-append_left, Contains-push, Contains-push_cases, Contains-append_cases}
 use Rattle.topological_order.specs.declared.walk.Mark.TheVariants.{New, Done}
-use Rattle.topological_order.specs.Graphs.{Graph, HasEdge}
+use Rattle.topological_order.specs.Graphs.{EdgeLists, HasEdge}
 use Rattle.topological_order.specs.Components.{IsTurned, AreNumbered, IsNumbered}
-use Rattle.topological_order.specs.Walks.{Trail, mark_of, IsAtRest, IsBegun, IsWalkedFrom, IsFinishingOrder}
+use Rattle.topological_order.specs.Walk.{Trail, mark_of, IsAtRest, IsBegun, IsWalkedFrom, IsFinishingOrder}
 use Rattle.topological_order.proofs.Lists.{got}
 use Rattle.topological_order.proofs.Edges.{from_within}
 use Rattle.topological_order.proofs.Marks.{marked_within}
@@ -40,7 +40,7 @@ numbered_more nodes component at before now l within h =
 
 -- A walk at rest over the turned graph has met the nodes of the order from that place on. The nodes that it has met are
 -- numbered: no edge leads to a greater number.
-pub record IsNumberedTo (graph : Graph) (order : List ℕ) (at : ℕ) (s : Trail) (numbers : List ℕ) : Type 0 where
+pub record IsNumberedTo (graph : EdgeLists) (order : List ℕ) (at : ℕ) (s : Trail) (numbers : List ℕ) : Type 0 where
   pub turned : IsTurned graph s.graph
   pub rests : IsAtRest s
   pub all : length numbers ≡ length graph
@@ -53,7 +53,7 @@ pub part_of : (s t : Trail) (root : ℕ) (f : IsWalkedFrom s t root) → f.part 
 part_of s t root f = sym (ap (drop (length s.order)) f.order ∙ drop_at s.order f.part (length s.order) refl)
 
 -- The nodes of a component have numbers.
-pub numbers_within : (graph : Graph) (order : List ℕ) (at root : ℕ) (s t : Trail) (part numbers : List ℕ)
+pub numbers_within : (graph : EdgeLists) (order : List ℕ) (at root : ℕ) (s t : Trail) (part numbers : List ℕ)
     → IsNumberedTo graph order at s numbers → IsWalkedFrom s t root → part ≡ drop (length s.order) t.order
     → (k d : ℕ) → k < length part → get_or part k d < length numbers
 numbers_within graph order at root s t part numbers h f end k d l =
@@ -65,7 +65,7 @@ numbers_within graph order at root s t part numbers h f end k d l =
     omega (arith, f.walk.all_marked, ap (λ g. length g) f.graph, h.turned.nodes, h.all)
 
 -- A walk that has met no node has numbered none.
-pub numbered_begun : (graph : Graph) (order : List ℕ) (s : Trail) (numbers : List ℕ) → IsTurned graph s.graph → IsBegun s
+pub numbered_begun : (graph : EdgeLists) (order : List ℕ) (s : Trail) (numbers : List ℕ) → IsTurned graph s.graph → IsBegun s
     → length numbers ≡ length graph → IsNumberedTo graph order (length order) s numbers
 numbered_begun graph order s numbers turned b all = record {
   turned = turned;
@@ -77,7 +77,7 @@ numbered_begun graph order s numbers turned b all = record {
 }
 
 -- One more component is numbered.
-pub component_numbered : (graph : Graph) (order : List ℕ) (at root : ℕ) (s t : Trail) (part numbers after : List ℕ)
+pub component_numbered : (graph : EdgeLists) (order : List ℕ) (at root : ℕ) (s t : Trail) (part numbers after : List ℕ)
     → IsNumberedTo graph order (at + 1) s numbers → slice_get order at ≡ Some root → IsWalkedFrom s t root → length t.path ≡ 0
     → part ≡ drop (length s.order) t.order → AreNumbered part (length s.order) numbers after → IsNumberedTo graph order at t after
 component_numbered graph order at root s t part numbers after h is f none end a =
@@ -93,7 +93,7 @@ component_numbered graph order at root s t part numbers after h is f none end a 
       | inl before ↦ inr (h.rests.walk.all_done node before)
       | inr here ↦ inl here
     ] in
-    let Q : Graph → Type 0 = IsTurned graph in
+    let Q : EdgeLists → Type 0 = IsTurned graph in
     record {
       turned = subst Q (sym f.graph) h.turned;
       rests = rests;
@@ -111,7 +111,7 @@ component_numbered graph order at root s t part numbers after h is f none end a 
                   | inr was ↦ omega (arith, a.here from c, old to was, h.low to was)
                 ]
             | inr was ↦
-                let R : Graph → Type 0 = λ g. HasEdge g from to in
+                let R : EdgeLists → Type 0 = λ g. HasEdge g from to in
                 let before : HasEdge s.graph from to = subst R f.graph e in
                 let next = rest_done s to h.rests (rest_closed s from to h.rests (λ new. (cc)) before) in
                 omega (arith, old from was, old to next, h.falls from to was before)
@@ -126,7 +126,7 @@ component_numbered graph order at root s t part numbers after h is f none end a 
     }
 
 -- In the end all components are numbered.
-pub all_numbered : (graph : Graph) (order : List ℕ) (s : Trail) (numbers : List ℕ) → IsFinishingOrder graph order
+pub all_numbered : (graph : EdgeLists) (order : List ℕ) (s : Trail) (numbers : List ℕ) → IsFinishingOrder graph order
     → IsNumberedTo graph order 0 s numbers → IsNumbered graph numbers
 all_numbered graph order s numbers o h = record {
   all = h.all;

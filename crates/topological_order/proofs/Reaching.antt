@@ -6,27 +6,27 @@ use Rattle.std.specs.List.{slice_get}
 use Rattle.std.proofs.lemmas.Bool.{cases_eq}
 use Rattle.topological_order.specs.declared.walk.Walk.{Walk}
 use Rattle.topological_order.specs.declared.walk.Mark.TheVariants.{New}
-use Rattle.topological_order.specs.Graphs.{Graph, graph_of, row_of, HasEdge, Reaches, by_edge, by_walk, ReachesOrIs}
+use Rattle.topological_order.specs.Graphs.{EdgeLists, graph_of, row_of, HasEdge, LeadsTo, by_edge, by_walk, ReachesOrIs}
 use Rattle.topological_order.specs.Components.{IsNumbered}
 use Rattle.topological_order.specs.Cycles.{Stays}
-use Rattle.topological_order.specs.Walks.{trail_of, mark_of, IsAtRest, IsWalkedFrom}
+use Rattle.topological_order.specs.Walk.{trail_of, mark_of, IsAtRest, IsWalkedFrom}
 use Rattle.topological_order.proofs.Edges.{edge_at}
 use Rattle.topological_order.proofs.Marks.{mark_kinds}
 use Rattle.topological_order.proofs.Walking.{rest_reached}
 
 -- The number of what is reached is no lesser.
-numbers_rise : (graph : Graph) (numbers : List ℕ) (from to : ℕ) → IsNumbered graph numbers → Reaches graph from to
+numbers_rise : (graph : EdgeLists) (numbers : List ℕ) (from to : ℕ) → IsNumbered graph numbers → LeadsTo graph from to
     → get_or numbers from 0 ≤ get_or numbers to 0
 numbers_rise graph numbers _ _ h (by_edge from to e) = h.rises from to e
 numbers_rise graph numbers _ _ h (by_walk from next to e r) = omega (arith, h.rises from next e, numbers_rise graph numbers next to h r)
 
 -- A walk has a first edge.
-first_edge : (graph : Graph) (from to : ℕ) → Reaches graph from to → (next : ℕ) × HasEdge graph from next × ((next ≡ to) ⊎ Reaches graph next to)
+first_edge : (graph : EdgeLists) (from to : ℕ) → LeadsTo graph from to → (next : ℕ) × HasEdge graph from next × ((next ≡ to) ⊎ LeadsTo graph next to)
 first_edge graph _ _ (by_edge from to e) = (to, e, inl refl)
 first_edge graph _ _ (by_walk from next to e r) = (next, e, inr r)
 
 -- A node that reaches itself has an edge to a node of its number.
-pub cyclic_stays : (graph : Graph) (numbers : List ℕ) (node : ℕ) → IsNumbered graph numbers → Reaches graph node node
+pub cyclic_stays : (graph : EdgeLists) (numbers : List ℕ) (node : ℕ) → IsNumbered graph numbers → LeadsTo graph node node
     → (to : ℕ) × HasEdge graph node to × (get_or numbers to 0 ≡ get_or numbers node 0)
 cyclic_stays graph numbers node h r =
     let f = first_edge graph node node r in (
@@ -43,7 +43,7 @@ pub record IsFrom (graph : List (Vec ℕ Global)) (node edge : ℕ) (walk : Walk
   pub same : graph_of walk.graph.now ≡ graph_of graph
   pub rests : IsAtRest (trail_of walk)
   pub met : (k next : ℕ) → k < edge → slice_get (row_of (graph_of graph) node) k ≡ Some next → mark_of walk.marks.items next ≡ New → ⊥
-  pub reached : (to : ℕ) → (mark_of walk.marks.items to ≡ New → ⊥) → Reaches (graph_of graph) node to
+  pub reached : (to : ℕ) → (mark_of walk.marks.items to ≡ New → ⊥) → LeadsTo (graph_of graph) node to
 
 -- One more edge of the node was followed to its end.
 pub from_more : (graph : List (Vec ℕ Global)) (node edge next : ℕ) (walk after : Walk) → IsFrom graph node edge walk
@@ -61,7 +61,7 @@ from_more graph node edge next walk after h is e f none = record {
   ];
   reached = λ to now. elim (mark_kinds (mark_of walk.marks.items to)) [
     | inl new ↦
-        let P : Graph → Type 0 = λ g. ReachesOrIs g next to in
+        let P : EdgeLists → Type 0 = λ g. ReachesOrIs g next to in
         let there : ReachesOrIs (graph_of graph) next to = subst P h.same (f.reached to new now) in
         elim there [
           | inl one ↦ let Q : ℕ → Type 0 = HasEdge (graph_of graph) node in by_edge node to (subst Q one e)
@@ -74,18 +74,18 @@ from_more graph node edge next walk after h is e f none = record {
 
 -- Where all edges of the node were followed to their end, what it reaches was met.
 pub from_all : (graph : List (Vec ℕ Global)) (node edge to : ℕ) (walk : Walk) → IsFrom graph node edge walk
-    → length (row_of (graph_of graph) node) ≤ edge → Reaches (graph_of graph) node to → mark_of walk.marks.items to ≡ New → ⊥
+    → length (row_of (graph_of graph) node) ≤ edge → LeadsTo (graph_of graph) node to → mark_of walk.marks.items to ≡ New → ⊥
 from_all graph node edge to walk h all r =
     let f = first_edge (graph_of graph) node to r in
     let k = edge_at (graph_of graph) node f.0 f.1 in
     let met = h.met k.0 f.0 (omega (arith, k.1)) k.2 in
     elim f.2 [
       | inl is ↦ λ new. met (ap (mark_of walk.marks.items) is ∙ new)
-      | inr rest ↦ let P : Graph → Type 0 = λ g. Reaches g f.0 to in rest_reached (trail_of walk) f.0 to h.rests met (subst P (sym h.same) rest)
+      | inr rest ↦ let P : EdgeLists → Type 0 = λ g. LeadsTo g f.0 to in rest_reached (trail_of walk) f.0 to h.rests met (subst P (sym h.same) rest)
     ]
 
 -- A node with no edge to a node of its number doesn't reach itself.
-pub leaves : (graph : Graph) (numbers : List ℕ) (node : ℕ) (stays : Bool) → IsNumbered graph numbers → Stays graph numbers node stays
-    → stays ≡ false → Reaches graph node node → ⊥
+pub leaves : (graph : EdgeLists) (numbers : List ℕ) (node : ℕ) (stays : Bool) → IsNumbered graph numbers → Stays graph numbers node stays
+    → stays ≡ false → LeadsTo graph node node → ⊥
 leaves graph numbers node true h all is r = (cc)
 leaves graph numbers node false h none is r = let f = cyclic_stays graph numbers node h r in none f.0 f.1 f.2

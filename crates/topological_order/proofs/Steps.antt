@@ -5,16 +5,16 @@ use Rattle.std.proofs.lemmas.List.{length-set, length_push, get_or_push, get_or_
 use Rattle.std.proofs.lemmas.List.Elements.{Contains-append_left, Contains-push, Contains-push_cases}
 use Rattle.std.proofs.lemmas.Option.{slice_get_within, slice_get-get_or, get_or_from_slice_get}
 use Rattle.std.proofs.lemmas.Bool.{cases_lt, cases_eq, cases_Bool}
-use Rattle.topological_order.specs.Graphs.{row_of, HasEdge, Reaches, by_edge}
+use Rattle.topological_order.specs.Graphs.{row_of, HasEdge, LeadsTo, by_edge}
 use Rattle.topological_order.specs.declared.walk.Mark.TheVariants.{New, Open, Done}
-use Rattle.topological_order.specs.Walks.{Trail, mark_of, is_new, opened, met, counted, left, IsWalk, IsTop, IsAtEdge, IsAtEnd, Follows}
+use Rattle.topological_order.specs.Walk.{Trail, mark_of, is_new, opened, met, counted, left, IsGraphWalk, IsTop, IsAtEdge, IsAtEnd, Follows}
 use Rattle.topological_order.proofs.Lists.{top_split, at_place, place_of, none_past}
 use Rattle.topological_order.proofs.Edges.{has_edge, edge_at, to_within, reach_on, reach_same}
 use Rattle.topological_order.proofs.Marks.{mark_kinds, new_mark, mark_set, mark_other, mark_cases, marked_within, new_count_open, new_count_done, edges_less}
 
 -- A new node that the whole path reaches is put on it.
-pub opened_walk : (s : Trail) (node : ℕ) → IsWalk s → node < length s.graph → mark_of s.marks node ≡ New
-    → ((i : ℕ) → i < length s.path → Reaches s.graph (get_or s.path i 0) node) → IsWalk (opened s node)
+pub opened_walk : (s : Trail) (node : ℕ) → IsGraphWalk s → node < length s.graph → mark_of s.marks node ≡ New
+    → ((i : ℕ) → i < length s.path → LeadsTo s.graph (get_or s.path i 0) node) → IsGraphWalk (opened s node)
 opened_walk s node w within fresh reach =
     let end = length s.path in
     let all = s.path ++ node ∷ [] in
@@ -56,8 +56,8 @@ opened_walk s node w within fresh reach =
     }
 
 -- One more edge is followed, to a node that was met.
-pub counted_walk : (s : Trail) (node to : ℕ) → IsWalk s → node < length s.graph
-    → slice_get (row_of s.graph node) (get_or s.followed node 0) ≡ Some to → (mark_of s.marks to ≡ New → ⊥) → IsWalk (counted s node)
+pub counted_walk : (s : Trail) (node to : ℕ) → IsGraphWalk s → node < length s.graph
+    → slice_get (row_of s.graph node) (get_or s.followed node 0) ≡ Some to → (mark_of s.marks to ≡ New → ⊥) → IsGraphWalk (counted s node)
 counted_walk s node to w within edge met =
     let count = get_or s.followed node 0 in
     let now = set s.followed node (count + 1) in
@@ -101,7 +101,7 @@ counted_walk s node to w within edge met =
     }
 
 -- The node to which an edge of the last node leads stands in the order, or reaches that node.
-led : (s : Trail) (node next : ℕ) → IsAtEnd s node → HasEdge s.graph node next → Contains s.order next ⊎ Reaches s.graph next node
+led : (s : Trail) (node next : ℕ) → IsAtEnd s node → HasEdge s.graph node next → Contains s.order next ⊎ LeadsTo s.graph next node
 led s node next a e =
     let w = a.walk in
     let end = length s.path - 1 in
@@ -125,7 +125,7 @@ led s node next a e =
     ]
 
 -- The last node on the path, whose edges were all followed, is done.
-pub left_walk : (s : Trail) (node : ℕ) → IsAtEnd s node → IsWalk (left s node)
+pub left_walk : (s : Trail) (node : ℕ) → IsAtEnd s node → IsGraphWalk (left s node)
 left_walk s node a =
     let w = a.walk in
     let end = length s.path - 1 in
@@ -170,7 +170,7 @@ left_walk s node a =
       meets = λ n edge to l is new. elim (mark_cases s.marks node to Done New inside new) [ inl e ↦ (cc (e.1)) | inr o ↦ w.meets n edge to l is o.1 ];
       counted = omega (arith, w.counted, new_count_done s.marks node inside opened_now, length_push s.order node);
       behind = λ place n next is e.
-          let P : List ℕ → Type 0 = λ l. Contains l next ⊎ Reaches s.graph next n in
+          let P : List ℕ → Type 0 = λ l. Contains l next ⊎ LeadsTo s.graph next n in
           let within : place < length after = slice_get_within after place n is in
           let long : length after ≡ length s.order + 1 = length_push s.order node in
           let all : get_or after place n ≡ n = get_or_from_slice_get after place n n is in
@@ -181,7 +181,7 @@ left_walk s node a =
                 subst P (sym (take-append-le place s.order (node ∷ []) (omega arith))) (w.behind place n next was e)
             | inr here ↦
                 let is : node ≡ n = sym (get_or_push s.order node n place (omega arith)) ∙ all in
-                let Q : ℕ → Type 0 = λ x. HasEdge s.graph x next → Contains s.order next ⊎ Reaches s.graph next x in
+                let Q : ℕ → Type 0 = λ x. HasEdge s.graph x next → Contains s.order next ⊎ LeadsTo s.graph next x in
                 subst P (sym (take_at s.order (node ∷ []) place (omega arith))) (subst Q is (led s node next a) e)
           ];
     }
@@ -191,10 +191,10 @@ pub record IsHere (s : Trail) (node : ℕ) : Type 0 where
   pub is_open : mark_of s.marks node ≡ Open
   pub marked : node < length s.marks
   pub within : node < length s.graph
-  pub reached : (i : ℕ) → i < length s.path → (get_or s.path i 0 ≡ node) ⊎ Reaches s.graph (get_or s.path i 0) node
+  pub reached : (i : ℕ) → i < length s.path → (get_or s.path i 0 ≡ node) ⊎ LeadsTo s.graph (get_or s.path i 0) node
 
 -- The last node on the path is open, and all of the path reaches it.
-pub is_here : (s : Trail) (node : ℕ) → IsWalk s → IsTop s node → IsHere s node
+pub is_here : (s : Trail) (node : ℕ) → IsGraphWalk s → IsTop s node → IsHere s node
 is_here s node w top =
     let end = length s.path - 1 in
     let some : end < length s.path = slice_get_within s.path end node top in
@@ -225,7 +225,7 @@ met_follows s node to a =
     elim (cases_Bool (is_new (mark_of s.marks to))) [
       | inl new ↦
           let fresh : mark_of s.marks to ≡ New = new_mark (mark_of s.marks to) new in
-          let reach : (i : ℕ) → i < length s.path → Reaches s.graph (get_or s.path i 0) to = λ i l. reach_on s.graph _ node to (h.reached i l) edge in
+          let reach : (i : ℕ) → i < length s.path → LeadsTo s.graph (get_or s.path i 0) to = λ i l. reach_on s.graph _ node to (h.reached i l) edge in
           let same : opened s to ≡ met s to = ap (λ b. if b then opened s to else s) (sym new) in
           let there : P (opened s to) = record {
             graph = refl;

@@ -4,12 +4,12 @@ use Rattle.std.specs.List.{Contains}
 use Rattle.std.proofs.lemmas.Bool.{cases_eq, cases_lt}
 use Rattle.std.proofs.lemmas.List.{length-set, length_push, take_more, get_or_append_left, get_or_push}
 use Rattle.std.proofs.lemmas.List.Elements.{Contains-append_left, Contains-push, Contains-push_cases}
-use Rattle.topological_order.specs.Graphs.{Graph, row_of, HasEdge, IsClosed}
+use Rattle.topological_order.specs.Graphs.{EdgeLists, row_of, HasEdge, IsClosed}
 use Rattle.topological_order.specs.Components.{IsTurned, IsTurnedAt}
 use Rattle.topological_order.proofs.Edges.{edge_row, row_edge, from_within}
 
 -- One more edge is turned round.
-pub turned_more : (before graph : Graph) (from at : ℕ) (row : List ℕ) → from < length before → at < length row → get_or row at 0 < length before
+pub turned_more : (before graph : EdgeLists) (from at : ℕ) (row : List ℕ) → from < length before → at < length row → get_or row at 0 < length before
     → IsTurnedAt before graph from (take at row)
     → IsTurnedAt before (set graph (get_or row at 0) (row_of graph (get_or row at 0) ++ from ∷ [])) from (take (at + 1) row)
 turned_more before graph from at row f l within h =
@@ -58,12 +58,12 @@ turned_more before graph from at row f l within h =
     }
 
 -- A graph with so many nodes, and no edge.
-pub record IsBlank (graph : Graph) (nodes : ℕ) : Type 0 where
+pub record IsBlank (graph : EdgeLists) (nodes : ℕ) : Type 0 where
   pub all : length graph ≡ nodes
   pub empty : (node : ℕ) (d : List ℕ) → node < length graph → length (get_or graph node d) ≡ 0
 
 -- One more node without edges.
-pub blank_more : (graph : Graph) (nodes : ℕ) (row : List ℕ) → length row ≡ 0 → IsBlank graph nodes → IsBlank (graph ++ row ∷ []) (nodes + 1)
+pub blank_more : (graph : EdgeLists) (nodes : ℕ) (row : List ℕ) → length row ≡ 0 → IsBlank graph nodes → IsBlank (graph ++ row ∷ []) (nodes + 1)
 blank_more graph nodes row none h =
     let long : length (graph ++ row ∷ []) ≡ length graph + 1 = length_push graph row in
     record {
@@ -75,13 +75,13 @@ blank_more graph nodes row none h =
     }
 
 -- The edges of the nodes below that one are turned round.
-pub record IsTurnedTo (graph turned : Graph) (from : ℕ) : Type 0 where
+pub record IsTurnedTo (graph turned : EdgeLists) (from : ℕ) : Type 0 where
   pub nodes : length turned ≡ length graph
   pub closed : IsClosed turned
   pub edges : (node to : ℕ) → node < from → HasEdge graph node to → HasEdge turned to node
 
 -- No edge is turned round yet.
-pub turned_none : (graph turned : Graph) (nodes : ℕ) → nodes ≡ length graph → IsBlank turned nodes → IsTurnedTo graph turned 0
+pub turned_none : (graph turned : EdgeLists) (nodes : ℕ) → nodes ≡ length graph → IsBlank turned nodes → IsTurnedTo graph turned 0
 turned_none graph turned nodes all h = record {
   nodes = h.all ∙ all;
   closed = λ i d m j e n. absurd (omega (arith, h.empty i d m));
@@ -89,7 +89,7 @@ turned_none graph turned nodes all h = record {
 }
 
 -- The edges of one more node are turned round.
-pub turned_next : (graph turned after : Graph) (from : ℕ) (row : List ℕ) → row_of graph from ≡ row → IsTurnedTo graph turned from
+pub turned_next : (graph turned after : EdgeLists) (from : ℕ) (row : List ℕ) → row_of graph from ≡ row → IsTurnedTo graph turned from
     → IsTurnedAt turned after from row → IsTurnedTo graph after (from + 1)
 turned_next graph turned after from row is h t = record {
   nodes = t.nodes ∙ h.nodes;
@@ -105,7 +105,7 @@ turned_next graph turned after from row is h t = record {
 }
 
 -- In the end all edges are turned round.
-pub turned_all : (graph turned : Graph) (from : ℕ) → length graph ≤ from → IsTurnedTo graph turned from → IsTurned graph turned
+pub turned_all : (graph turned : EdgeLists) (from : ℕ) → length graph ≤ from → IsTurnedTo graph turned from → IsTurned graph turned
 turned_all graph turned from all h = record {
   nodes = h.nodes;
   closed = h.closed;

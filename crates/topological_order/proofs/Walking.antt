@@ -8,9 +8,9 @@ use Rattle.std.proofs.lemmas.Option.{slice_get_within, get_or_from_slice_get}
 use Rattle.std.specs.declared.alloc.Global.{Global}
 use Rattle.std.specs.declared.vec.Vec.{Vec}
 use Rattle.topological_order.specs.declared.walk.Walk.{Walk}
-use Rattle.topological_order.specs.Graphs.{Graph, graph_of, HasEdge, Reaches, by_edge, by_walk, ReachesOrIs}
+use Rattle.topological_order.specs.Graphs.{EdgeLists, graph_of, HasEdge, LeadsTo, by_edge, by_walk, ReachesOrIs}
 use Rattle.topological_order.specs.declared.walk.Mark.TheVariants.{New, Open, Done}
-use Rattle.topological_order.specs.Walks.{Trail, trail_of, mark_of, is_new, opened, met, IsAtRest, Follows, IsWalkedFrom, IsFinishingOrder}
+use Rattle.topological_order.specs.Walk.{Trail, trail_of, mark_of, is_new, opened, met, IsAtRest, Follows, IsWalkedFrom, IsFinishingOrder}
 use Rattle.topological_order.proofs.Edges.{edge_at, reach_on, graph_length}
 use Rattle.topological_order.proofs.Marks.{mark_kinds, marked_within, new_mark, mark_set, mark_other, mark_cases, none_new}
 use Rattle.topological_order.proofs.Steps.{opened_walk}
@@ -36,7 +36,7 @@ rest_closed s node next r met e new =
     r.walk.meets node k.0 next (omega (arith, k.1)) k.2 new
 
 -- What is reached from a node that was met was met, at rest.
-pub rest_reached : (s : Trail) (from to : ℕ) → IsAtRest s → (mark_of s.marks from ≡ New → ⊥) → Reaches s.graph from to → mark_of s.marks to ≡ New → ⊥
+pub rest_reached : (s : Trail) (from to : ℕ) → IsAtRest s → (mark_of s.marks from ≡ New → ⊥) → LeadsTo s.graph from to → mark_of s.marks to ≡ New → ⊥
 rest_reached s _ _ r met (by_edge from to e) = rest_closed s from to r met e
 rest_reached s _ _ r met (by_walk from next to e rest) = rest_reached s next to r (rest_closed s from next r met e) rest
 
@@ -115,7 +115,7 @@ walk_more s t u root r h f =
             let l = f.led n new now in
             let from : ReachesOrIs s.graph root l.from = h.reached l.from (was_new s t root l.from r h l.is_open)
             (λ still. let opened_now = l.is_open in (cc)) in
-            let P : Graph → Type 0 = λ g. HasEdge g l.from n in
+            let P : EdgeLists → Type 0 = λ g. HasEdge g l.from n in
             inr (reach_on s.graph root l.from n from (subst P h.graph l.edge))
         | inr (inl op) ↦ h.reached n is (λ new. (cc))
         | inr (inr done) ↦ h.reached n is (λ new. (cc))
@@ -151,7 +151,7 @@ all_finished graph walk root h all =
     let w = h.rests.walk in
     let long : length s.graph ≡ length graph = ap (λ g. length g) h.same ∙ graph_length graph in
     let met : (node : ℕ) → node < length s.graph → mark_of s.marks node ≡ New → ⊥ = λ node l. h.met node (omega arith) in
-    let P : Graph → Type 0 = λ g. IsFinishingOrder g s.order in
+    let P : EdgeLists → Type 0 = λ g. IsFinishingOrder g s.order in
     let there : P s.graph = record {
       nodes = λ place node is.
           let done = w.all_done node (place, slice_get_within s.order place node is, get_or_from_slice_get s.order place node node is) in

@@ -4,33 +4,33 @@ use Rattle.std.specs.declared.vec.Vec.{Vec}
 use Rattle.std.specs.declared.alloc.Global.{Global}
 
 -- For each node, numbered from 0 on, the nodes to which its edges lead.
-abbrev pub Graph : Type 0
-Graph = List (List ℕ)
+abbrev pub EdgeLists : Type 0
+EdgeLists = List (List ℕ)
 
 -- The graph that the code has.
-abbrev pub graph_of : List (Vec ℕ Global) → Graph
+abbrev pub graph_of : List (Vec ℕ Global) → EdgeLists
 graph_of rows = map (λ row. row.items) rows
 
 -- The nodes to which a node's edges lead.
-abbrev pub row_of : Graph → ℕ → List ℕ
+abbrev pub row_of : EdgeLists → ℕ → List ℕ
 row_of graph node = slice_index_or graph node []
 
 -- There is an edge from the one node to the other.
-pub record HasEdge (graph : Graph) (from to : ℕ) : Type 0 where
+pub record HasEdge (graph : EdgeLists) (from to : ℕ) : Type 0 where
   pub row : List ℕ
   pub is : slice_get graph from ≡ Some row
   pub leads : Contains row to
 
 -- Each edge leads to a node.
-abbrev pub IsClosed : Graph → Type 0
+abbrev pub IsClosed : EdgeLists → Type 0
 IsClosed graph = All (All (λ to. to < length graph)) graph
 
 -- Along one edge or several the one node is reached from the other.
-pub data Reaches (graph : Graph) : ℕ → ℕ → Type 0 where
-  by_edge : (from to : ℕ) → HasEdge graph from to → Reaches graph from to
-  by_walk : (from next to : ℕ) → HasEdge graph from next → Reaches graph next to
-      → Reaches graph from to
+pub data LeadsTo (graph : EdgeLists) : ℕ → ℕ → Type 0 where
+  by_edge : (from to : ℕ) → HasEdge graph from to → LeadsTo graph from to
+  by_walk : (from next to : ℕ) → HasEdge graph from next → LeadsTo graph next to
+      → LeadsTo graph from to
 
 -- The one node is the other, or reaches it.
-abbrev pub ReachesOrIs : Graph → ℕ → ℕ → Type 0
-ReachesOrIs graph from to = (from ≡ to) ⊎ Reaches graph from to
+abbrev pub ReachesOrIs : EdgeLists → ℕ → ℕ → Type 0
+ReachesOrIs graph from to = (from ≡ to) ⊎ LeadsTo graph from to

@@ -2,6 +2,6 @@
 pub mod Graphs
 pub mod Orders
 -- What contracts of the crate's own functions cite besides.
-pub mod Walks
+pub mod Walk
 pub mod Components
 pub mod Cycles

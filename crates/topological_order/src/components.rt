@@ -4,7 +4,7 @@
 ghost use Rattle.std.specs.Prelude.{◌≡◌, ◌<◌, All, IfOk, OnOk, length};
 ghost use Rattle.topological_order.specs.Graphs.{graph_of, IsClosed};
 ghost use Rattle.topological_order.specs.Components.{IsTurned, IsTurnedAt, IsNumbered, AreNumbered};
-ghost use Rattle.topological_order.specs.Walks.{IsFinishingOrder};
+ghost use Rattle.topological_order.specs.Walk.{IsFinishingOrder};
 
 use crate::walk::Walk;
 use outside::Memory;

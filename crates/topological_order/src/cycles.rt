@@ -1,9 +1,9 @@
 //! The first node of a graph that reaches itself.
 
 ghost use Rattle.std.specs.Prelude.{◌≡◌, ℕ, ◌<◌, ◌↔◌, IfOk, IsTrue, length, slice_index};
-ghost use Rattle.topological_order.specs.Graphs.{graph_of, IsClosed, HasEdge, Reaches};
+ghost use Rattle.topological_order.specs.Graphs.{graph_of, IsClosed, HasEdge, LeadsTo};
 ghost use Rattle.topological_order.specs.Components.{IsNumbered};
-ghost use Rattle.topological_order.specs.Cycles.{Stays, IsFirst};
+ghost use Rattle.topological_order.specs.Cycles.{Stays, IsFirstInCycle};
 
 use crate::walk::Walk;
 use outside::Memory;
@@ -28,7 +28,7 @@ fn stays(graph: &[Vec<usize>], numbers: &[usize], node: usize) -> bool
 fn reaches_itself(alloc: Global, graph: &[Vec<usize>], node: usize) -> Result<bool, Memory>
     requires closed { IsClosed (graph_of graph.now) }
     requires node { node < length graph.now }
-    ensures { IfOk result (λ yes. IsTrue yes ↔ Reaches (graph_of graph.now) node node) }
+    ensures { IfOk result (λ yes. IsTrue yes ↔ LeadsTo (graph_of graph.now) node node) }
 {
     let mut walk = Walk::new(alloc, graph)?;
     for next in &graph[node] {
@@ -46,7 +46,7 @@ pub(crate) fn first_cyclic(
 ) -> Result<Option<usize>, Memory>
     requires closed { IsClosed (graph_of graph.now) }
     requires numbers { IsNumbered (graph_of graph.now) numbers.now }
-    ensures { IfOk result (IsFirst (graph_of graph.now)) }
+    ensures { IfOk result (IsFirstInCycle (graph_of graph.now)) }
 {
     for node in 0..graph.len() {
         if stays(graph, numbers, node) && reaches_itself(alloc, graph, node)? {

@@ -2,7 +2,7 @@
 
 ghost use Rattle.std.specs.Prelude.{◌≡◌, ℕ, ◌-◌, ◌<◌, IsTrue, Some, length, OnOk, IfOk, slice_get};
 ghost use Rattle.topological_order.specs.Graphs.{graph_of, row_of, IsClosed};
-ghost use Rattle.topological_order.specs.Walks.{mark_of, is_new, trail_of, opened, met, IsWalk, IsBegun, IsAtEdge, IsAtEnd, IsAtRest, Follows, IsWalkedFrom, IsFinishingOrder};
+ghost use Rattle.topological_order.specs.Walk.{mark_of, is_new, trail_of, opened, met, IsGraphWalk, IsBegun, IsAtEdge, IsAtEnd, IsAtRest, Follows, IsWalkedFrom, IsFinishingOrder};
 
 use outside::Memory;
 use std::alloc::Global;
@@ -104,7 +104,7 @@ impl<'a> Walk<'a> {
 
     /// Goes one step on from the last node on the path.
     fn step(&mut self, node: usize) -> Result<(), Memory>
-        requires walk { IsWalk (trail_of self.old) }
+        requires walk { IsGraphWalk (trail_of self.old) }
         requires top { slice_get self.old.path.items (length self.old.path.items - 1) ≡ Some node }
         ensures { OnOk result (Follows (trail_of self.old) (trail_of self.new)) }
     {

@@ -1,7 +1,7 @@
 //! The words of scalars: their spellings, their texts, and what each refuses.
 
 ghost use Rattle.std.specs.Prelude.{IfOk};
-ghost use Rattle.scalar_types.specs.ScalarViews.{IsPlain};
+ghost use Rattle.scalar_types.specs.Scalars.{IsPlain};
 
 use crate::spellings::{refuses_all, rises, spells};
 use outside::{Memory, Octets, Text};

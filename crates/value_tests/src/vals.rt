@@ -1,7 +1,7 @@
 //! What no clause says: that joins and copies of values of every shape succeed with ample memory.
 
 ghost use Rattle.bag_model.specs.Joins.{Alike};
-ghost use Rattle.bag_value.specs.Plain.{plain};
+ghost use Rattle.bag_value.specs.Vals.{plain};
 
 use bag_value::laws::values_of_one_shape_are_joined;
 use bag_value::{Entries, Entry, Val, Vals};

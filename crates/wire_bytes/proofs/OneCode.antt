@@ -4,7 +4,7 @@ use Rattle.context_model.specs.ByteCodes.{ByteCode as PlainCode}
 use Rattle.context_model.specs.ByteCodes as plain
 use Rattle.wire_bytes.specs.declared.contexts.ByteCode.{ByteCode}
 use Rattle.wire_bytes.specs.declared.contexts.ByteCode.TheVariants.{CutLength, BadCount, AtomTooLong, LongForm, CutBody, BadPrefix, BadIndex, LevelJump, OutOfOrder}
-use Rattle.wire_bytes.specs.Codes.{byte_code_of}
+use Rattle.wire_bytes.specs.Reading.{byte_code_of}
 
 code_back : PlainCode → ByteCode
 code_back plain.ByteCode.CutLength = CutLength

@@ -21,7 +21,7 @@ use Rattle.wire_bytes.specs.declared.reading.WireFault.{WireFault}
 use Rattle.wire_bytes.specs.declared.reading.WireFault.TheVariants.{At, Memory}
 use Rattle.wire_bytes.specs.declared.contexts.ContextFault.{ContextFault}
 use Rattle.wire_bytes.specs.declared.contexts.ContextFault.TheVariants as contexts
-use Rattle.wire_bytes.specs.Codes.{code_of, byte_code_of, IsFaultOf, IsContextFaultOf, ReadsAny, ReadsAnyContext, StopsAt, ReadsUpTo}
+use Rattle.wire_bytes.specs.Reading.{code_of, byte_code_of, IsFaultOf, IsContextFaultOf, ReadsAny, ReadsAnyContext, StopsAt, ReadsUpTo}
 
 -- ---- what was read
 

@@ -1,4 +1,4 @@
-pub mod Codes
+pub mod Reading
 pub use Rattle.context_model.specs.Framing
 pub use Rattle.context_model.specs.WireFault
 pub use Rattle.context_model.specs.ContextFault

@@ -2,7 +2,7 @@
 
 ghost use Rattle.std.specs.Prelude.{◌≡◌, List, ℕ, IfOk, IfErr};
 ghost use Rattle.context_model.specs.ContextFault.{IsContextOf, HasOneContext};
-ghost use Rattle.wire_bytes.specs.Codes.{IsContextFaultOf, ReadsAnyContext};
+ghost use Rattle.wire_bytes.specs.Reading.{IsContextFaultOf, ReadsAnyContext};
 
 use crate::reading::{FrontList, WireCode, WireFault, read_front};
 use crate::writing::frames_before;
@@ -47,7 +47,7 @@ pub enum ContextFault {
 impl fmt::Display for ByteCode {
     ghost use Rattle.std.specs.Prelude.{Some};
     ghost use Rattle.context_model.specs.ByteCodes.{code_name};
-    ghost use Rattle.wire_bytes.specs.Codes.{byte_code_of};
+    ghost use Rattle.wire_bytes.specs.Reading.{byte_code_of};
 
     ghost output = { λ code. Some (code_name (byte_code_of code)) };
 
@@ -68,7 +68,7 @@ impl fmt::Display for ByteCode {
 
 impl From<WireCode> for ByteCode {
     ghost use Rattle.std.specs.Prelude.{◌≡◌};
-    ghost use Rattle.wire_bytes.specs.Codes.{code_of, byte_code_of};
+    ghost use Rattle.wire_bytes.specs.Reading.{code_of, byte_code_of};
 
     ghost from_gives = { λ wire code. byte_code_of code ≡ code_of wire };
 
@@ -85,8 +85,8 @@ impl From<WireCode> for ByteCode {
 
 impl From<ShapeFault> for ByteCode {
     ghost use Rattle.std.specs.Prelude.{◌≡◌};
-    ghost use Rattle.atom_list.specs.Codes.{code_of as shape_code_of};
-    ghost use Rattle.wire_bytes.specs.Codes.{byte_code_of};
+    ghost use Rattle.atom_list.specs.Contexts.{code_of as shape_code_of};
+    ghost use Rattle.wire_bytes.specs.Reading.{byte_code_of};
 
     ghost from_gives = { λ shape code. byte_code_of code ≡ shape_code_of shape };
 
@@ -112,7 +112,7 @@ impl From<Memory> for ContextFault {
 }
 
 impl From<WireFault> for ContextFault {
-    ghost use Rattle.wire_bytes.specs.Codes.{SaysFault};
+    ghost use Rattle.wire_bytes.specs.Reading.{SaysFault};
 
     ghost from_gives = { SaysFault };
 

@@ -4,7 +4,7 @@ ghost use Rattle.std.specs.Prelude.{◌≡◌, ◌≤◌, length, drop, None, So
 ghost use Rattle.context_model.specs.declared.Form.TheVariants.{Two};
 ghost use Rattle.context_model.specs.Framing.{form_of, head_len};
 ghost use Rattle.context_model.specs.WireFault.{head_code};
-ghost use Rattle.wire_bytes.specs.Codes.{code_of};
+ghost use Rattle.wire_bytes.specs.Reading.{code_of};
 
 use crate::reading::WireCode;
 use context_model::Form;

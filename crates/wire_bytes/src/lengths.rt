@@ -5,7 +5,7 @@ ghost use Rattle.context_model.specs.declared.Form.TheVariants.{Two};
 ghost use Rattle.context_model.specs.Framing.{base_128};
 ghost use Rattle.context_model.specs.Varints.{IsUnsignedAt};
 ghost use Rattle.context_model.specs.WireFault.{wire_code, IsUnframed};
-ghost use Rattle.wire_bytes.specs.Codes.{code_of};
+ghost use Rattle.wire_bytes.specs.Reading.{code_of};
 
 use crate::reading::WireCode;
 use context_model::LENGTH_MAX;

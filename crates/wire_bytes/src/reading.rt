@@ -6,7 +6,7 @@ ghost use Rattle.context_model.specs.Atoms.{AreAtoms};
 ghost use Rattle.context_model.specs.Framing.{base_128, length_code, most, form_of, AreWithin, IsBytesOf};
 ghost use Rattle.context_model.specs.WireFault.{wire_code, IsUnframed, ReadsOneWay};
 ghost use Rattle.atom_list.specs.Scan.{with_part};
-ghost use Rattle.wire_bytes.specs.Codes.{code_of, IsFaultOf, IsHeadFaultOf, ReadsAny, ReadsUpTo, StopsAt};
+ghost use Rattle.wire_bytes.specs.Reading.{code_of, IsFaultOf, IsHeadFaultOf, ReadsAny, ReadsUpTo, StopsAt};
 
 use crate::heads::{check_head, form_of, without_head};
 use crate::lengths::{front_length, front_varint};
@@ -43,7 +43,7 @@ pub enum WireFault {
 impl fmt::Display for WireCode {
     ghost use Rattle.std.specs.Prelude.{Some};
     ghost use Rattle.context_model.specs.ByteCodes.{code_name};
-    ghost use Rattle.wire_bytes.specs.Codes.{code_of};
+    ghost use Rattle.wire_bytes.specs.Reading.{code_of};
 
     ghost output = { λ code. Some (code_name (code_of code)) };
 

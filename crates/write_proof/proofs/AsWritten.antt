@@ -18,8 +18,8 @@ use Rattle.text_lines.specs.Lines.{numbered}
 use Rattle.text_lines.specs.Readings.{AllSay, NoneOf}
 use Rattle.text_lines.proofs.FedLines.{fed_line}
 use Rattle.trace_model.specs.Graphs.{Graph}
-use Rattle.write_proof.specs.Lines.{Entry, Why, ValueText, Reach, Uses, IsSound, entry_text, entry_line}
-use Rattle.write_proof.specs.LineRules.{last_of, MayFollow, IsNoMore, HasParent, IsWrite, BreaksAlone, rules_alone, certificate_lines}
+use Rattle.write_proof.specs.Entries.{Entry, Why, ValueText, Reach, Uses, IsSound, entry_text, entry_line}
+use Rattle.write_proof.specs.LineRules.{last_of, MayFollow, IsNoMore, HasParent, IsWriteStep, BreaksAlone, rules_alone, certificate_lines}
 use Rattle.write_proof.specs.WholeRules.{reached, used}
 use Rattle.write_proof.specs.Certificates.{entries_of}
 use Rattle.write_proof.proofs.Feeds.{IsFed, decimal_fed, path_fed}
@@ -134,7 +134,7 @@ abbrev pub IsPair : Graph → ℕ → ℕ → ℕ → Type 0
 IsPair graph n w child = (w < n) × HasParent graph child w × IsNumber w × IsNumber child
 
 abbrev pub IsUse : Graph → ℕ → ℕ → Type 0
-IsUse graph n w = (w ≤ n) × IsWrite graph w × IsNumber w
+IsUse graph n w = (w ≤ n) × IsWriteStep graph w × IsNumber w
 
 module _ (table : Nodes) (graph : Graph) (n : ℕ) (path : List ℕ) where
   uses_stand : (front : List Entry) (steps : List ℕ) → AllByRecursion (IsUse graph n) steps → Rises nat_cmp steps → AllByRecursion (λ w. IsBeforeUse w (last_of (Why n path ∷ front))) steps

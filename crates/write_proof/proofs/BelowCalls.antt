@@ -16,8 +16,8 @@ use Rattle.bag_model.specs.Scalars.{ScalarKind, ScalarValue, IsScalarOf}
 use Rattle.bag_model.specs.Shapes.{Shape, Nodes, no_node, node}
 use Rattle.bag_model.specs.Values.{Value, Entries, Values, Set, Counter, Map, Bag, no_entry, entry, no_value, value, pairs, values_list, size_of, size_of_entries, size_of_values, IsOfShape, AreOfShapes}
 use Rattle.bag_model.proofs.OfShape.{Alike-shape, Proper-shape}
-use Rattle.scalar_types.specs.KindLaws.{scalar_of, scalar_back}
-use Rattle.scalar_types.specs.ScalarViews.{value_of}
+use Rattle.scalar_types.specs.KindCodec.{scalar_of, scalar_back}
+use Rattle.scalar_types.specs.Scalars.{value_of}
 use Rattle.scalar_types.specs.declared.scalars.Scalar.{Scalar}
 use Rattle.write_proof.specs.Belows.{AreOfOne, AreOfOneBag}
 use Rattle.write_proof.proofs.BelowKinds.{set_below, set_within, counter_below, counter_within, map_below, map_within}

@@ -26,12 +26,12 @@ use Rattle.trace_model.specs.Truth.{Reaches, itself, through, IsTruthAt}
 use Rattle.trace_model.proofs.ContributedLaws.{least_alike, least_one, truths_are_contributed}
 use Rattle.trace_model.proofs.FaithfulLaws.{runs_are_faithful}
 use Rattle.trace_model.proofs.ReachLaws.{reaches_on}
-use Rattle.write_proof.specs.Lines.{Entry, Why, ValueText, Reach, Uses}
+use Rattle.write_proof.specs.Entries.{Entry, Why, ValueText, Reach, Uses}
 use Rattle.write_proof.specs.LineRules.{HasParent, BringsValues}
 use Rattle.write_proof.specs.WholeRules.{used, IsListed, SpeaksOf, StepContributes, IsOfSteps, IsJoinOfUsed, Applies, AppliesSomewhere, rules_over_all}
 use Rattle.write_proof.specs.declared.verdicts.VerifyCode.TheVariants as codes
 use Rattle.write_proof.specs.Verdicts.{IsAccepted}
-use Rattle.write_proof.specs.Certificates.{IsLeastChild, IsOfEarlier, AreUsed, entries_of, IsCertificate, CertificatesVerify}
+use Rattle.write_proof.specs.Certificates.{IsLeastChild, IsOfEarlier, AreUsedSteps, entries_of, IsCertificate, CertificatesVerify}
 use Rattle.write_proof.proofs.Decided.{coded_same, in_or_not, same_number}
 use Rattle.write_proof.proofs.Contributing.{step_shape, join_some}
 use Rattle.write_proof.proofs.Feeds.{IsFed, value_fed}
@@ -99,7 +99,7 @@ module _ (table : Nodes) (graph : Graph) (recorded : IsRecorded table graph) (sl
             (λ x c. (c.0, in_earlier c.0 w steps c.1 c.2, c.3)) j.1,
       )
 
-  module _ (n : ℕ) (steps : List ℕ) (uses : AreUsed graph n slot at steps) (v : Value) (least : IsLeastAbove at.shape (IsContributed graph n slot at) v) where
+  module _ (n : ℕ) (steps : List ℕ) (uses : AreUsedSteps graph n slot at steps) (v : Value) (least : IsLeastAbove at.shape (IsContributed graph n slot at) v) where
     contributed : (w : ℕ) (x : Value) → Reaches graph w n → StepContributes graph slot at w x → IsContributed graph n slot at x
     contributed w x r c = record { from = w; step = c.0; there = c.1; reaches = r; does = c.2 }
 

@@ -16,9 +16,9 @@ use Rattle.bag_model.specs.Values.{Value, bottom, IsOfShape}
 use Rattle.bag_model.proofs.BelowLaws.{below-bottom}
 use Rattle.bag_model.proofs.OfShape.{Alike-shape}
 use Rattle.bag_value.specs.declared.vals.Val.{Val}
-use Rattle.bag_value.specs.Plain.{plain, val_of}
-use Rattle.bag_value.specs.PlainLaws.{plain_back}
-use Rattle.bag_decode.specs.SlotWalks.{SaysAt}
+use Rattle.bag_value.specs.Vals.{plain, val_of}
+use Rattle.bag_value.specs.ValLaws.{plain_back}
+use Rattle.bag_decode.specs.Slots.{SaysAt}
 use Rattle.recorded_graph.specs.Plain.{act_of, step_of}
 use Rattle.recorded_graph.specs.declared.steps.Act.{Act}
 use Rattle.recorded_graph.specs.declared.steps.Act.TheVariants.{Start, Recv, Set, Branch, Forward, Trim, Join}
@@ -29,7 +29,7 @@ use Rattle.write_proof.specs.Belows.{AreOfOne}
 use Rattle.write_proof.specs.Contributions.{ContributesAt}
 use Rattle.write_proof.specs.Joins.{IsJoinAt}
 use Rattle.write_proof.specs.declared.verdicts.VerifyCode.TheVariants as codes
-use Rattle.write_proof.specs.Lines.{Entry}
+use Rattle.write_proof.specs.Entries.{Entry}
 use Rattle.write_proof.specs.WholeRules.{SpeaksOf, StepContributes, IsOfSteps, Applies, used}
 use Rattle.write_proof.proofs.BelowCalls.{place_some, place_within}
 use Rattle.write_proof.proofs.FirstCalls.{speaks_one}

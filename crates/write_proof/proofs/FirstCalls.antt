@@ -7,7 +7,7 @@ use Rattle.bag_model.specs.Slots.{SlotAt}
 use Rattle.trace_model.specs.Graphs.{Graph}
 use Rattle.write_proof.specs.declared.verdicts.VerifyCode.{VerifyCode}
 use Rattle.write_proof.specs.declared.entries.Entry as lines
-use Rattle.write_proof.specs.Lines.{Entry, Why, ValueText, Reach, Uses}
+use Rattle.write_proof.specs.Entries.{Entry, Why, ValueText, Reach, Uses}
 use Rattle.write_proof.specs.WholeRules.{SpeaksOf, Applies, AppliesAt, AppliesSomewhere, IsFirstLine}
 use Rattle.write_proof.specs.Views.{entry_of}
 use Rattle.write_proof.proofs.BelowCalls.{place_within, map_place}

@@ -14,10 +14,10 @@ use Rattle.std.proofs.lemmas.Str.Parse.{digit_from_value}
 use Rattle.bag_model.specs.Slots.{dotted}
 use Rattle.bag_model.specs.Words.{is_letter}
 use Rattle.graph_lines.specs.Forms.{IsNumber, IsName, IsPath, HasNoSpace}
-use Rattle.graph_lines.specs.Taken.{IsCut}
+use Rattle.graph_lines.specs.Reading.{IsCut}
 use Rattle.graph_lines.proofs.Decimals.{same_number, number_no_space}
 use Rattle.graph_lines.proofs.Separated.{same_cut}
-use Rattle.write_proof.specs.Lines.{Entry, Why, ValueText, Reach, Uses, IsSound, entry_text, HasForm}
+use Rattle.write_proof.specs.Entries.{Entry, Why, ValueText, Reach, Uses, IsSound, entry_text, HasForm}
 use Rattle.write_proof.specs.Views.{IsOfWords, IsInWords}
 
 -- ---- a line says one entry

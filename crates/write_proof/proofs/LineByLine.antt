@@ -8,7 +8,7 @@ use Rattle.text_lines.proofs.ReadingLaws.{all_say_more, next_bad}
 use Rattle.trace_model.specs.Graphs.{Graph}
 use Rattle.write_proof.specs.declared.verdicts.VerifyCode.{VerifyCode}
 use Rattle.write_proof.specs.declared.verdicts.VerifyCode.TheVariants.{Form}
-use Rattle.write_proof.specs.Lines.{Entry, HasForm, lines_in}
+use Rattle.write_proof.specs.Entries.{Entry, HasForm, lines_in}
 use Rattle.write_proof.specs.LineRules.{MayFollow, last_of, IsGood, IsBad, certificate_lines}
 use Rattle.write_proof.proofs.Forms.{one_form}
 

@@ -5,7 +5,7 @@ use Rattle.context_model.specs.Orders.{IsIn}
 use Rattle.bag_model.proofs.Finite.{in_append, in_append_first, in_append_second}
 use Rattle.write_proof.specs.declared.entries.Entry as code
 use Rattle.write_proof.specs.declared.entries.Entry.TheVariants as variants
-use Rattle.write_proof.specs.Lines.{Entry, Why, ValueText, Reach, Uses}
+use Rattle.write_proof.specs.Entries.{Entry, Why, ValueText, Reach, Uses}
 use Rattle.write_proof.specs.Marks.{IsMarked, AreMarksOf}
 use Rattle.write_proof.specs.WholeRules.{reached, used}
 use Rattle.write_proof.specs.Views.{entry_of}

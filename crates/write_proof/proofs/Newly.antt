@@ -16,10 +16,10 @@ use Rattle.trace_model.specs.Contributions.{IsLeastAbove}
 use Rattle.trace_model.specs.Graphs.{Graph, IsRecorded}
 use Rattle.trace_model.specs.Truth.{Reaches, itself}
 use Rattle.trace_model.proofs.ContributedLaws.{least_alike, least_one}
-use Rattle.write_proof.specs.Certificates.{AreReachPairs, IsOfEarlier, IsNews, AreUsed}
+use Rattle.write_proof.specs.Certificates.{AreReachPairs, IsOfEarlier, IsNews, AreUsedSteps}
 use Rattle.write_proof.specs.Contributions.{ContributesAt}
-use Rattle.write_proof.specs.LineRules.{BringsValues, IsWrite}
-use Rattle.write_proof.specs.News.{UsesValue, ArePartsAt, IsNext, AreNewsOf}
+use Rattle.write_proof.specs.LineRules.{BringsValues, IsWriteStep}
+use Rattle.write_proof.specs.News.{UsesValue, ArePartsAt, IsUsedNext, AreNewsOf}
 use Rattle.write_proof.specs.Together.{IsSaidBy, AreOfOneShape, IsJoinOfAll}
 use Rattle.write_proof.specs.WholeRules.{StepContributes, IsOfSteps}
 use Rattle.write_proof.proofs.BelowCalls.{place_some}
@@ -61,7 +61,7 @@ module _ (table : Nodes) (graph : Graph) (recorded : IsRecorded table graph) (sl
   Parts steps parts = (joined : Value) × IsJoinOfAll at.shape parts joined × Joined steps joined
 
   pub next_used : (w : ℕ) (own : Value) (parts next : List Value) (before steps : List ℕ) → StepContributes graph slot at w own → Parts before parts → UsesValue w own before parts steps next
-      → IsNext graph slot at w before steps
+      → IsUsedNext graph slot at w before steps
   next_used w own parts next before steps c j uses = record { own = own; contributes = c; joined = j.0; join = j.2; is = by uses }
     where
       together : IsSaidBy own parts ↔ IsValueBelow own j.0
@@ -82,7 +82,7 @@ module _ (table : Nodes) (graph : Graph) (recorded : IsRecorded table graph) (sl
   pub none_parts : Parts [] []
   none_parts = (bottom at.shape, none_together at.shape, join_none table slot at there graph recorded)
 
-  pub next_nothing : (w : ℕ) (parts : List Value) (steps : List ℕ) → StepContributes graph slot at w (bottom at.shape) → Parts steps parts → IsNext graph slot at w steps steps
+  pub next_nothing : (w : ℕ) (parts : List Value) (steps : List ℕ) → StepContributes graph slot at w (bottom at.shape) → Parts steps parts → IsUsedNext graph slot at w steps steps
   next_nothing w parts steps c j = record { own = bottom at.shape; contributes = c; joined = j.0; join = j.2; is = inr (below-bottom at.shape j.0 (j.2).of_shape, refl) }
 
   -- ---- news
@@ -116,14 +116,14 @@ module _ (table : Nodes) (graph : Graph) (recorded : IsRecorded table graph) (sl
     join_earlier joined j = least_alike at.shape (IsOfSteps graph slot at before) (IsOfEarlier graph slot at before w) joined all_earlier (λ x e. (e.0, e.1, e.3)) j
 
     -- What contributes more than a join brings values.
-    writes : (own joined : Value) → StepContributes graph slot at w own → Joined before joined → (IsValueBelow own joined → ⊥) → IsWrite graph w
+    writes : (own joined : Value) → StepContributes graph slot at w own → Joined before joined → (IsValueBelow own joined → ⊥) → IsWriteStep graph w
     writes own joined c j more = by (brings_or_bottom slot at (c.0).act own c.2)
       where
-        by : BringsValues (c.0).act ⊎ (own ≡ bottom at.shape) → IsWrite graph w
+        by : BringsValues (c.0).act ⊎ (own ≡ bottom at.shape) → IsWriteStep graph w
         by (inl b) = (c.0, c.1, b)
         by (inr none) = absurd (more (subst (λ x. IsValueBelow x joined) (sym none) (below-bottom at.shape joined j.of_shape)))
 
-  pub news_more : (seen before steps : List ℕ) (w : ℕ) → AreNewsOf graph slot at seen before → ((v : ℕ) → IsIn v seen → v < w) → IsNext graph slot at w before steps → AreNewsOf graph slot at (seen ++ w ∷ []) steps
+  pub news_more : (seen before steps : List ℕ) (w : ℕ) → AreNewsOf graph slot at seen before → ((v : ℕ) → IsIn v seen → v < w) → IsUsedNext graph slot at w before steps → AreNewsOf graph slot at (seen ++ w ∷ []) steps
   news_more seen before steps w news below n = by n.is
     where
       less_than : (v : ℕ) → IsIn v before → v < w
@@ -142,7 +142,7 @@ module _ (table : Nodes) (graph : Graph) (recorded : IsRecorded table graph) (sl
         all = λ v. ((λ i. let own = (news.all v).0 i in (push_before v w seen own.0, own.1, own.2)), back v);
       }
         where
-          back : (v : ℕ) → IsIn v (seen ++ w ∷ []) × IsWrite graph v × IsNews graph slot at before v → IsIn v before
+          back : (v : ℕ) → IsIn v (seen ++ w ∷ []) × IsWriteStep graph v × IsNews graph slot at before v → IsIn v before
           back v m = elim (in_push v w seen m.0) [
             | inl i ↦ (news.all v).1 (i, m.1, m.2)
             | inr e ↦ absurd (no_news under (subst (IsNews graph slot at before) e m.2))
@@ -163,17 +163,17 @@ module _ (table : Nodes) (graph : Graph) (recorded : IsRecorded table graph) (sl
           itself_news : IsNews graph slot at (before ++ w ∷ []) w
           itself_news = later w (omega arith) (record { own = n.own; contributes = n.contributes; joined = n.joined; join = join_earlier w before less_than n.joined n.join; more = more })
 
-          front : (v : ℕ) → IsIn v (before ++ w ∷ []) → IsIn v (seen ++ w ∷ []) × IsWrite graph v × IsNews graph slot at (before ++ w ∷ []) v
+          front : (v : ℕ) → IsIn v (before ++ w ∷ []) → IsIn v (seen ++ w ∷ []) × IsWriteStep graph v × IsNews graph slot at (before ++ w ∷ []) v
           front v i = elim (in_push v w before i) [
             | inl j ↦ (let own = (news.all v).0 j in let l = below v own.0 in (push_before v w seen own.0, own.1, later v (omega (arith, l)) own.2))
             | inr e ↦ (
               push_last v w seen e,
-              subst (IsWrite graph) (sym e) (writes w before less_than n.own n.joined n.contributes n.join more),
+              subst (IsWriteStep graph) (sym e) (writes w before less_than n.own n.joined n.contributes n.join more),
               subst (IsNews graph slot at (before ++ w ∷ [])) (sym e) itself_news,
             )
           ]
 
-          back : (v : ℕ) → IsIn v (seen ++ w ∷ []) × IsWrite graph v × IsNews graph slot at (before ++ w ∷ []) v → IsIn v (before ++ w ∷ [])
+          back : (v : ℕ) → IsIn v (seen ++ w ∷ []) × IsWriteStep graph v × IsNews graph slot at (before ++ w ∷ []) v → IsIn v (before ++ w ∷ [])
           back v m = elim (in_push v w seen m.0) [
             | inl i ↦ (let l = below v i in push_before v w before ((news.all v).1 (i, m.1, sooner v (omega (arith, l)) m.2)))
             | inr e ↦ push_last v w before e
@@ -183,19 +183,19 @@ module _ (table : Nodes) (graph : Graph) (recorded : IsRecorded table graph) (sl
       by (inl m) = subst (AreNewsOf graph slot at (seen ++ w ∷ [])) (sym m.1) (used m.0)
       by (inr m) = subst (AreNewsOf graph slot at (seen ++ w ∷ [])) (sym m.1) (unused m.0)
 
-  pub news_taken : (ks : List ℕ) (i : ℕ) (before steps : List ℕ) → Rises nat_cmp ks → i < length ks → AreNewsOf graph slot at (take i ks) before → IsNext graph slot at (get_or ks i 0) before steps
+  pub news_taken : (ks : List ℕ) (i : ℕ) (before steps : List ℕ) → Rises nat_cmp ks → i < length ks → AreNewsOf graph slot at (take i ks) before → IsUsedNext graph slot at (get_or ks i 0) before steps
       → AreNewsOf graph slot at (take (i + 1) ks) steps
   news_taken ks i before steps rises l news next =
       subst (λ seen. AreNewsOf graph slot at seen steps) (sym (take_more ks i 0 l)) (news_more (take i ks) before steps (get_or ks i 0) news (λ v j. taken_less ks i v rises l j) next)
 
   -- All steps on the way are seen.
-  pub news_used : (n : ℕ) (pairs : List (ℕ × ℕ)) (steps : List ℕ) → AreReachPairs graph n pairs → AreNewsOf graph slot at (keys_of pairs ++ n ∷ []) steps → AreUsed graph n slot at steps
+  pub news_used : (n : ℕ) (pairs : List (ℕ × ℕ)) (steps : List ℕ) → AreReachPairs graph n pairs → AreNewsOf graph slot at (keys_of pairs ++ n ∷ []) steps → AreUsedSteps graph n slot at steps
   news_used n pairs steps reach news = record { rises = news.rises; all = λ w. (front w, back w) }
     where
-      front : (w : ℕ) → IsIn w steps → Reaches graph w n × IsWrite graph w × IsNews graph slot at steps w
+      front : (w : ℕ) → IsIn w steps → Reaches graph w n × IsWriteStep graph w × IsNews graph slot at steps w
       front w i = let own = (news.all w).0 i in (elim (in_push w n (keys_of pairs) own.0) [ inl j ↦ ((reach.all w).0 j).1 | inr e ↦ subst (λ v. Reaches graph v n) (sym e) itself ], own.1, own.2)
 
-      back : (w : ℕ) → Reaches graph w n × IsWrite graph w × IsNews graph slot at steps w → IsIn w steps
+      back : (w : ℕ) → Reaches graph w n × IsWriteStep graph w × IsNews graph slot at steps w → IsIn w steps
       back w m = (news.all w).1 (elim (same_number w n) [ inl e ↦ push_last w n (keys_of pairs) e | inr other ↦ push_before w n (keys_of pairs) ((reach.all w).1 (other, m.0)) ], m.1, m.2)
 
 -- What a step contributes is of the shape of the parts.

@@ -12,10 +12,10 @@ use Rattle.trace_model.specs.Graphs.{Graph}
 use Rattle.write_proof.specs.declared.verdicts.VerifyCode.{VerifyCode}
 use Rattle.write_proof.specs.declared.verdicts.Verified.{Verified}
 use Rattle.write_proof.specs.declared.verdicts.Verified.TheVariants.{Yes, No}
-use Rattle.write_proof.specs.Lines.{Entry, Why, lines_in}
+use Rattle.write_proof.specs.Entries.{Entry, Why, lines_in}
 use Rattle.write_proof.specs.LineRules.{BreaksAlone, rules_alone, IsGood, IsBad, certificate_lines}
 use Rattle.write_proof.specs.WholeRules.{AppliesSomewhere, IsFirstLine, rules_over_all}
-use Rattle.write_proof.specs.Verdicts.{SaysAll, IsAbout, IsRead, IsCutShort, IsAccepted, IsRejected, IsVerdictOf, VerdictsAreOne}
+use Rattle.write_proof.specs.Verdicts.{SaysAll, IsAbout, IsCertificateRead, IsCutShort, IsAccepted, IsRejected, IsVerdictOf, VerdictsAreOne}
 use Rattle.write_proof.proofs.Forms.{one_form}
 
 -- ---- lines
@@ -68,7 +68,7 @@ module _ (table : Nodes) (graph : Graph) (certificate : List ℕ) (is_table : Is
           by f g = name_paths_differ table slot other f.0 g.0 is_table f.1 g.1 (f.2 ∙ way ∙ sym g.2)
 
   -- what holds of what is read holds of it as it is read again
-  read_again : (F : List Entry → ℕ → SlotAt → Type 0) (said others : List Entry) (slot other : ℕ) (at there : SlotAt) → IsRead table graph certificate said slot at → IsRead table graph certificate others other there
+  read_again : (F : List Entry → ℕ → SlotAt → Type 0) (said others : List Entry) (slot other : ℕ) (at there : SlotAt) → IsCertificateRead table graph certificate said slot at → IsCertificateRead table graph certificate others other there
       → F said slot at → F others other there
   read_again F said others slot other at there p q f =
       let same : said ≡ others = one_reading said others p.all q.all in

@@ -7,7 +7,7 @@ use Rattle.text_lines.specs.Lines.{Line}
 use Rattle.text_lines.specs.Readings.{AllSay}
 use Rattle.trace_model.specs.Graphs.{Graph, Step, parents_of}
 use Rattle.trace_model.proofs.ReachLaws.{one_step}
-use Rattle.write_proof.specs.Lines.{Entry, Why, ValueText, Reach, Uses}
+use Rattle.write_proof.specs.Entries.{Entry, Why, ValueText, Reach, Uses}
 use Rattle.write_proof.specs.LineRules.{step_of, MayFollow, HasParent, IsGood, certificate_lines}
 use Rattle.write_proof.specs.WholeRules.{reached, used, IsListed}
 use Rattle.write_proof.proofs.Decided.{same_number, in_or_not}

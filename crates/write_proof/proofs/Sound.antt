@@ -14,10 +14,10 @@ use Rattle.trace_model.specs.Contributions.{IsContributed, IsLeastAbove}
 use Rattle.trace_model.specs.Graphs.{Graph, IsRecorded}
 use Rattle.trace_model.specs.Truth.{Reaches, itself, through}
 use Rattle.trace_model.proofs.ContributedLaws.{truths_are_contributed}
-use Rattle.write_proof.specs.Lines.{Entry, Why, ValueText, Reach, Uses, lines_in}
+use Rattle.write_proof.specs.Entries.{Entry, Why, ValueText, Reach, Uses, lines_in}
 use Rattle.write_proof.specs.LineRules.{step_of, HasParent}
 use Rattle.write_proof.specs.WholeRules.{reached, used, IsListed, SpeaksOf, StepContributes, IsJoinOfUsed, AppliesSomewhere, rules_over_all}
-use Rattle.write_proof.specs.Verdicts.{IsAbout, IsRead, IsAccepted, TellsTruth}
+use Rattle.write_proof.specs.Verdicts.{IsAbout, IsCertificateRead, IsAccepted, TellsTruth}
 use Rattle.write_proof.proofs.Decided.{surely, coded_same, same_text, in_or_not}
 use Rattle.write_proof.proofs.Contributing.{join_some}
 use Rattle.write_proof.proofs.Said.{parent_or_not, listed_or_not, reached_at, used_at, said_at, Begins, begins}
@@ -29,7 +29,7 @@ get_less (y ∷ xs) zero x e = omega arith
 get_less (y ∷ xs) (suc i) x e = let l = get_less xs i x e in omega arith
 
 module _ (table : Nodes) (graph : Graph) (recorded : IsRecorded table graph) (certificate : List ℕ) (said : List Entry) (slot : ℕ) (at : SlotAt)
-    (read : IsRead table graph certificate said slot at) (none : NoneOf (AppliesSomewhere graph slot at said) rules_over_all) where
+    (read : IsCertificateRead table graph certificate said slot at) (none : NoneOf (AppliesSomewhere graph slot at said) rules_over_all) where
   first : Begins said
   first = begins table graph _ said read.all read.enough
 
@@ -140,7 +140,7 @@ abbrev the_entries : ℕ → List ℕ → List ℕ → List Entry → List Entry
 the_entries n path text more = Why n path ∷ ValueText text ∷ more
 
 begun_told : (table : Nodes) (graph : Graph) (certificate : List ℕ) → IsRecorded table graph → (n : ℕ) (path text : List ℕ) (more : List Entry) (slot : ℕ) (at : SlotAt)
-    → IsRead table graph certificate (Why n path ∷ ValueText text ∷ more) slot at → NoneOf (AppliesSomewhere graph slot at (Why n path ∷ ValueText text ∷ more)) rules_over_all
+    → IsCertificateRead table graph certificate (Why n path ∷ ValueText text ∷ more) slot at → NoneOf (AppliesSomewhere graph slot at (Why n path ∷ ValueText text ∷ more)) rules_over_all
     → TellsTruth table graph certificate
 begun_told table graph certificate recorded n path text more slot at read none = record {
   n = n;
@@ -173,8 +173,8 @@ begun_told table graph certificate recorded n path text more slot at read none =
 pub accepted_tells_truth : (table : Nodes) (graph : Graph) (certificate : List ℕ) → IsRecorded table graph → IsAccepted table graph certificate → TellsTruth table graph certificate
 accepted_tells_truth table graph certificate recorded a = by a.0 a.1 a.2 a.3 a.4
   where
-    by : (said : List Entry) (slot : ℕ) (at : SlotAt) → IsRead table graph certificate said slot at → NoneOf (AppliesSomewhere graph slot at said) rules_over_all → TellsTruth table graph certificate
+    by : (said : List Entry) (slot : ℕ) (at : SlotAt) → IsCertificateRead table graph certificate said slot at → NoneOf (AppliesSomewhere graph slot at said) rules_over_all → TellsTruth table graph certificate
     by said slot at read none =
         let b = begins table graph (lines_in certificate) said read.all read.enough in
-        begun_told table graph certificate recorded b.n b.path b.text b.more slot at (subst (λ l. IsRead table graph certificate l slot at) b.is read)
+        begun_told table graph certificate recorded b.n b.path b.text b.more slot at (subst (λ l. IsCertificateRead table graph certificate l slot at) b.is read)
         (subst (λ l. NoneOf (AppliesSomewhere graph slot at l) rules_over_all) b.is none)

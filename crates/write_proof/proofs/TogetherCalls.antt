@@ -20,11 +20,11 @@ use Rattle.bag_model.proofs.BelowLaws.{below-onwards, below-first, below-second,
 use Rattle.bag_model.proofs.FirstLaws.{first-idem}
 use Rattle.bag_model.proofs.OfShape.{Alike-shape, Proper-shape, IsOfShape-join}
 use Rattle.bag_model.proofs.ScalarOrder.{scalar_total, pick_total}
-use Rattle.scalar_types.specs.ScalarViews.{value_of}
+use Rattle.scalar_types.specs.Scalars.{value_of}
 use Rattle.bag_value.specs.declared.vals.Val.{Val}
 use Rattle.bag_value.specs.declared.vals.Val.TheVariants as code
-use Rattle.bag_value.specs.Plain.{plain, val_of}
-use Rattle.bag_value.specs.PlainLaws.{plain_back}
+use Rattle.bag_value.specs.Vals.{plain, val_of}
+use Rattle.bag_value.specs.ValLaws.{plain_back}
 use Rattle.trace_model.proofs.ContributedLaws.{least_alike}
 use Rattle.write_proof.specs.Belows.{AreOfOne}
 use Rattle.write_proof.specs.Together.{Saying, TaintOn, StaysBeside, HasElement, CountsTo, HasKey, OfKey, OfField, Says, IsSaid, IsSaidBy, IsAtKey, IsOfField, AreOfOneShape, IsJoinOfAll, HaveOneJoin, values_of}

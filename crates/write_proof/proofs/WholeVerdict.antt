@@ -27,10 +27,10 @@ use Rattle.write_proof.specs.declared.entries.Entry as kinds
 use Rattle.write_proof.specs.declared.entries.Entry.TheVariants as variants
 use Rattle.write_proof.specs.Checker.{BeginWith}
 use Rattle.write_proof.specs.FirstLines.{FindsLine}
-use Rattle.write_proof.specs.Lines.{Entry, Why, ValueText, Reach, Uses, lines_in}
-use Rattle.write_proof.specs.LineRules.{last_of, HasParent, BringsValues, IsWrite, MayFollow, certificate_lines}
+use Rattle.write_proof.specs.Entries.{Entry, Why, ValueText, Reach, Uses, lines_in}
+use Rattle.write_proof.specs.LineRules.{last_of, HasParent, BringsValues, IsWriteStep, MayFollow, certificate_lines}
 use Rattle.write_proof.specs.WholeRules.{reached, used, IsJoinOfUsed, Applies, AppliesSomewhere, IsFirstLine}
-use Rattle.write_proof.specs.Verdicts.{SaysAll, IsRead, IsVerdictOf, TellsTruth}
+use Rattle.write_proof.specs.Verdicts.{SaysAll, IsCertificateRead, IsVerdictOf, TellsTruth}
 use Rattle.write_proof.specs.Views.{entry_of}
 use Rattle.write_proof.proofs.BelowCalls.{place_within}
 use Rattle.write_proof.proofs.MarkCalls.{first_entry}
@@ -53,10 +53,10 @@ brings_or_not (model.Act.Join parents) = inr (λ b. b)
 some_step : (a b : model.Step) → Some a ≡ Some b → a ≡ b
 some_step a b e = cc e
 
-write_or_not : (graph : Graph) (w : ℕ) → IsWrite graph w ⊎ (IsWrite graph w → ⊥)
+write_or_not : (graph : Graph) (w : ℕ) → IsWriteStep graph w ⊎ (IsWriteStep graph w → ⊥)
 write_or_not graph w = by (slice_get graph.steps w) refl
   where
-    by : (found : Option model.Step) → slice_get graph.steps w ≡ found → IsWrite graph w ⊎ (IsWrite graph w → ⊥)
+    by : (found : Option model.Step) → slice_get graph.steps w ≡ found → IsWriteStep graph w ⊎ (IsWriteStep graph w → ⊥)
     by None e = inr (λ p. let clash : None ≡ Some p.0 = sym e ∙ p.1 in cc)
     by (Some step) e = elim (brings_or_not step.act) [
       | inl b ↦ inl (step, e, b)
@@ -79,7 +79,7 @@ module _ (table : Nodes) (graph : Graph) (certificate : List ℕ) (said : List E
   used_within w i =
       let s = used_at said w i in
       let g = said_at table graph [] (lines_in certificate) said all s.0 (Uses w) s.1 in
-      let p : IsWrite graph w = surely (write_or_not graph w) (((((((g.2).2).1).1).1).1).0) in
+      let p : IsWriteStep graph w = surely (write_or_not graph w) (((((((g.2).2).1).1).1).1).0) in
       place_within p.0 graph.steps w p.1
 
   pub path_known : (path text : List ℕ) → BeginWith said path text → FindsSlot table path None → ⊥
@@ -87,7 +87,7 @@ module _ (table : Nodes) (graph : Graph) (certificate : List ℕ) (said : List E
       let g = said_at table graph [] (lines_in certificate) said all 0 (Why b.0 path) (ap (λ l. slice_get l 0) b.2) in
       ((((g.2).2).1).0)
 
-  pub read_of : (path text : List ℕ) (slot : ℕ) → BeginWith said path text → FindsSlot table path (Some slot) → (at : SlotAt) × IsRead table graph certificate said slot at
+  pub read_of : (path text : List ℕ) (slot : ℕ) → BeginWith said path text → FindsSlot table path (Some slot) → (at : SlotAt) × IsCertificateRead table graph certificate said slot at
   read_of path text slot b f = (
     f.0,
     record {
@@ -164,7 +164,7 @@ module _ (table : Nodes) (graph : Graph) where
 some_text : (a b : List ℕ) → Some (ValueText a) ≡ Some (ValueText b) → a ≡ b
 some_text a b e = cc e
 
-module _ (table : Nodes) (graph : Graph) (certificate : List ℕ) (said : List Entry) (slot : ℕ) (at : SlotAt) (read : IsRead table graph certificate said slot at) where
+module _ (table : Nodes) (graph : Graph) (certificate : List ℕ) (said : List Entry) (slot : ℕ) (at : SlotAt) (read : IsCertificateRead table graph certificate said slot at) where
   pub has_slot : HasSlot table slot at
   has_slot = (read.about).4
 
@@ -270,7 +270,7 @@ pub text_is : (a b : List ℕ) (answer : Bool) → answer ≡ not (bytes_eq a b)
 text_is a b answer is same = (bytes_eq-Decides a b).0 (not_false (bytes_eq a b) (sym is ∙ same))
 
 pub verdicts_so : (table : Nodes) (graph : Graph) (said : List Entry) (slot : ℕ) (path text : List ℕ) (result : Result Verified Memory) → BeginWith said path text → FindsSlot table path (Some slot)
-    → IfOk result (λ verdict. (certificate : List ℕ) (at : SlotAt) → IsRead table graph certificate said slot at → IsVerdictOf table graph certificate verdict)
+    → IfOk result (λ verdict. (certificate : List ℕ) (at : SlotAt) → IsCertificateRead table graph certificate said slot at → IsVerdictOf table graph certificate verdict)
     → IfOk result (λ verdict. (certificate : List ℕ) → SaysAll table graph certificate said → IsVerdictOf table graph certificate verdict)
 verdicts_so table graph said slot path text (Ok verdict) b f told = λ certificate all. let r = read_of table graph certificate said all path text slot b f in told certificate r.0 r.1
 verdicts_so table graph said slot path text (Err e) b f told = tt

@@ -19,8 +19,8 @@ use Rattle.trace_model.specs.Graphs.{Graph}
 use Rattle.trace_model.specs.Runs.{Lists, list_at}
 use Rattle.trace_model.specs.Truth.{Reaches}
 use Rattle.write_proof.specs.declared.verdicts.Verified.TheVariants.{Yes}
-use Rattle.write_proof.specs.Lines.{Entry, Why, ValueText, Reach, Uses, entry_line}
-use Rattle.write_proof.specs.LineRules.{HasParent, IsWrite}
+use Rattle.write_proof.specs.Entries.{Entry, Why, ValueText, Reach, Uses, entry_line}
+use Rattle.write_proof.specs.LineRules.{HasParent, IsWriteStep}
 use Rattle.write_proof.specs.WholeRules.{StepContributes}
 use Rattle.write_proof.specs.Verdicts.{IsVerdictOf}
 
@@ -49,9 +49,9 @@ pub record IsNews (graph : Graph) (slot : ℕ) (at : SlotAt) (steps : List ℕ) 
   pub more : IsValueBelow own joined → ⊥
 
 -- The steps that are used, in order: those on the way to n that bring values and are news behind the used ones before them.
-pub record AreUsed (graph : Graph) (n slot : ℕ) (at : SlotAt) (steps : List ℕ) : Type 0 where
+pub record AreUsedSteps (graph : Graph) (n slot : ℕ) (at : SlotAt) (steps : List ℕ) : Type 0 where
   pub rises : Rises nat_cmp steps
-  pub all : (w : ℕ) → IsIn w steps ↔ (Reaches graph w n × IsWrite graph w × IsNews graph slot at steps w)
+  pub all : (w : ℕ) → IsIn w steps ↔ (Reaches graph w n × IsWriteStep graph w × IsNews graph slot at steps w)
 
 -- The entries of a certificate: its step and path, the value's text, the steps that reach with their children, and the steps that are used.
 abbrev pub entries_of : ℕ → List ℕ → List ℕ → List (ℕ × ℕ) → List ℕ → List Entry
@@ -66,7 +66,7 @@ pub record IsCertificate (table : Nodes) (graph : Graph) (lists : Lists) (n slot
   pub pairs : List (ℕ × ℕ)
   pub reach : AreReachPairs graph n pairs
   pub steps : List ℕ
-  pub uses : AreUsed graph n slot at steps
+  pub uses : AreUsedSteps graph n slot at steps
   pub is : text ≡ flat_map entry_line (entries_of n (name_path at) (value_text at.shape value) pairs steps)
 
 -- The slot is ended in the list of step n.

@@ -1,6 +1,6 @@
 -- How the entries of a certificate begin.
 use Rattle.std.specs.Prelude.{◌≡◌, ℕ, List, ◌∷◌}
-use Rattle.write_proof.specs.Lines.{Entry, Why, ValueText}
+use Rattle.write_proof.specs.Entries.{Entry, Why, ValueText}
 
 -- They begin with a step and this path, and with the value's text.
 abbrev pub BeginWith : List Entry → List ℕ → List ℕ → Type 0

@@ -5,7 +5,7 @@ use Rattle.bag_model.specs.Slots.{SlotAt}
 use Rattle.bag_model.specs.SlotValues.{HasSlot}
 use Rattle.bag_model.specs.Values as model
 use Rattle.bag_model.specs.Values.{bottom}
-use Rattle.bag_value.specs.Plain.{plain}
+use Rattle.bag_value.specs.Vals.{plain}
 use Rattle.trace_model.specs.Graphs.{Graph}
 use Rattle.write_proof.specs.declared.contributions.Contribution.{Contribution}
 use Rattle.write_proof.specs.declared.contributions.Contribution.TheVariants.{Nothing, Written, Received}

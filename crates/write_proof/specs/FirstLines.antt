@@ -3,7 +3,7 @@ use Rattle.std.specs.Prelude.{ℕ, List, Option, Some, None}
 use Rattle.bag_model.specs.Slots.{SlotAt}
 use Rattle.trace_model.specs.Graphs.{Graph}
 use Rattle.write_proof.specs.declared.verdicts.VerifyCode.{VerifyCode}
-use Rattle.write_proof.specs.Lines.{Entry}
+use Rattle.write_proof.specs.Entries.{Entry}
 use Rattle.write_proof.specs.LineRules.{HasParent}
 use Rattle.write_proof.specs.WholeRules.{SpeaksOf, AppliesSomewhere, IsFirstLine}
 

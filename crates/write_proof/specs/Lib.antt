@@ -1,5 +1,5 @@
-pub mod Names
-pub mod Lines
+pub mod CodeNames
+pub mod Entries
 pub mod LineRules
 pub mod WholeRules
 pub mod Verdicts

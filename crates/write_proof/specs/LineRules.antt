@@ -8,7 +8,7 @@ use Rattle.trace_model.specs.Graphs as model
 use Rattle.trace_model.specs.Graphs.{Act, Graph, parents_of, HasStep}
 use Rattle.write_proof.specs.declared.verdicts.VerifyCode.{VerifyCode}
 use Rattle.write_proof.specs.declared.verdicts.VerifyCode.TheVariants.{Form, StepRange, NoSuchPath, Order, NotParent, NotWrite}
-use Rattle.write_proof.specs.Lines.{Entry, Why, ValueText, Reach, Uses, HasForm}
+use Rattle.write_proof.specs.Entries.{Entry, Why, ValueText, Reach, Uses, HasForm}
 
 -- The last of some entries, if there is one.
 abbrev pub last_of : List Entry → Option Entry
@@ -53,8 +53,8 @@ BringsValues (model.Act.Trim parent budget) = ⊥
 BringsValues (model.Act.Join parents) = ⊥
 
 -- Step w is a write, or receives a list.
-abbrev pub IsWrite : Graph → ℕ → Type 0
-IsWrite graph w = (step : model.Step) × HasStep graph w step × BringsValues step.act
+abbrev pub IsWriteStep : Graph → ℕ → Type 0
+IsWriteStep graph w = (step : model.Step) × HasStep graph w step × BringsValues step.act
 
 -- Behind other entries one breaks the rule of this code. The step must be one of the graph and the path that of a slot; the steps of one kind rise, and
 -- are less than the certificate's step, or for a used one no greater; a child has the step as a parent, and a used step brings values.
@@ -64,7 +64,7 @@ BreaksAlone table graph earlier (Why n path) NoSuchPath = FindsSlot table path N
 BreaksAlone table graph earlier (Reach w child) Order = IsNoMore (last_of earlier) (Reach w child) ⊎ (step_of earlier ≤ w)
 BreaksAlone table graph earlier (Reach w child) NotParent = HasParent graph child w → ⊥
 BreaksAlone table graph earlier (Uses w) Order = IsNoMore (last_of earlier) (Uses w) ⊎ (step_of earlier < w)
-BreaksAlone table graph earlier (Uses w) NotWrite = IsWrite graph w → ⊥
+BreaksAlone table graph earlier (Uses w) NotWrite = IsWriteStep graph w → ⊥
 BreaksAlone table graph earlier entry code = ⊥
 
 -- These rules, in the order in which they count.

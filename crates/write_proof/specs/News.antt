@@ -10,7 +10,7 @@ use Rattle.bag_model.specs.Values.{Value}
 use Rattle.trace_model.specs.Contributions.{IsLeastAbove}
 use Rattle.trace_model.specs.Graphs.{Graph}
 use Rattle.write_proof.specs.Certificates.{IsNews}
-use Rattle.write_proof.specs.LineRules.{IsWrite}
+use Rattle.write_proof.specs.LineRules.{IsWriteStep}
 use Rattle.write_proof.specs.Together.{IsSaidBy, HaveOneJoin, IsJoinOfAll}
 use Rattle.write_proof.specs.WholeRules.{StepContributes, IsOfSteps}
 
@@ -26,7 +26,7 @@ ArePartsAt table graph slot steps parts = (at : SlotAt) → HasSlot table slot a
     → (joined : Value) × IsJoinOfAll at.shape parts joined × IsLeastAbove at.shape (IsOfSteps graph slot at steps) joined
 
 -- Step w is used next, exactly where it contributes more than the join of what the steps before it contribute.
-pub record IsNext (graph : Graph) (slot : ℕ) (at : SlotAt) (w : ℕ) (before steps : List ℕ) : Type 0 where
+pub record IsUsedNext (graph : Graph) (slot : ℕ) (at : SlotAt) (w : ℕ) (before steps : List ℕ) : Type 0 where
   pub own : Value
   pub contributes : StepContributes graph slot at w own
   pub joined : Value
@@ -35,12 +35,12 @@ pub record IsNext (graph : Graph) (slot : ℕ) (at : SlotAt) (w : ℕ) (before s
 
 -- The same, at the slot with this place of the table.
 abbrev pub IsNextAt : Nodes → Graph → ℕ → ℕ → List ℕ → List ℕ → Type 0
-IsNextAt table graph slot w before steps = (at : SlotAt) → HasSlot table slot at → IsNext graph slot at w before steps
+IsNextAt table graph slot w before steps = (at : SlotAt) → HasSlot table slot at → IsUsedNext graph slot at w before steps
 
 -- Of the steps that were seen these say something that the used ones before them don't say.
 pub record AreNewsOf (graph : Graph) (slot : ℕ) (at : SlotAt) (seen steps : List ℕ) : Type 0 where
   pub rises : Rises nat_cmp steps
-  pub all : (w : ℕ) → IsIn w steps ↔ (IsIn w seen × IsWrite graph w × IsNews graph slot at steps w)
+  pub all : (w : ℕ) → IsIn w steps ↔ (IsIn w seen × IsWriteStep graph w × IsNews graph slot at steps w)
 
 -- The same, at the slot with this place of the table.
 abbrev pub AreNewsAt : Nodes → Graph → ℕ → List ℕ → List ℕ → Type 0

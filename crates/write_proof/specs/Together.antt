@@ -9,7 +9,7 @@ use Rattle.bag_model.specs.Scalars.{ScalarValue, pick_cmp}
 use Rattle.bag_model.specs.Shapes.{Shape}
 use Rattle.bag_model.specs.Values.{Value, Entries, Values, Taint, Scalar, Set, Counter, Map, Bag, pairs, values_list, IsOfShape}
 use Rattle.bag_value.specs.declared.vals.Val.{Val}
-use Rattle.bag_value.specs.Plain.{plain}
+use Rattle.bag_value.specs.Vals.{plain}
 use Rattle.trace_model.specs.Contributions.{IsLeastAbove}
 
 -- One thing that a value can say: that a taint is on, that a scalar stays beside this one, that a set has an element, that a writer's count is at least this, that

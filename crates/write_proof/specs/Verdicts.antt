@@ -14,7 +14,7 @@ use Rattle.write_proof.specs.declared.verdicts.VerifyCode.{VerifyCode}
 use Rattle.write_proof.specs.declared.verdicts.VerifyCode.TheVariants.{Form}
 use Rattle.write_proof.specs.declared.verdicts.Verified.{Verified}
 use Rattle.write_proof.specs.declared.verdicts.Verified.TheVariants.{Yes, No}
-use Rattle.write_proof.specs.Lines.{Entry, Why, ValueText, lines_in}
+use Rattle.write_proof.specs.Entries.{Entry, Why, ValueText, lines_in}
 use Rattle.write_proof.specs.LineRules.{certificate_lines}
 use Rattle.write_proof.specs.WholeRules.{IsListed, AppliesSomewhere, IsFirstLine, rules_over_all}
 
@@ -28,7 +28,7 @@ IsAbout table said slot at =
     (n : ℕ) × (path : List ℕ) × (slice_get said 0 ≡ Some (Why n path)) × FindsSlot table path (Some slot) × HasSlot table slot at
 
 -- No line is bad by itself, and the lines say these entries about this slot, the first two among them.
-pub record IsRead (table : Nodes) (graph : Graph) (certificate : List ℕ) (said : List Entry) (slot : ℕ) (at : SlotAt) : Type 0 where
+pub record IsCertificateRead (table : Nodes) (graph : Graph) (certificate : List ℕ) (said : List Entry) (slot : ℕ) (at : SlotAt) : Type 0 where
   pub all : SaysAll table graph certificate said
   pub enough : 2 ≤ length said
   pub about : IsAbout table said slot at
@@ -41,13 +41,13 @@ IsCutShort table graph certificate line code =
 -- No rule over all lines applies.
 abbrev pub IsAccepted : Nodes → Graph → List ℕ → Type 0
 IsAccepted table graph certificate =
-    (said : List Entry) × (slot : ℕ) × (at : SlotAt) × IsRead table graph certificate said slot at
+    (said : List Entry) × (slot : ℕ) × (at : SlotAt) × IsCertificateRead table graph certificate said slot at
     × NoneOf (AppliesSomewhere graph slot at said) rules_over_all
 
 -- This is the first rule over all lines that applies, and the line is the first to which it does.
 abbrev pub IsRejected : Nodes → Graph → List ℕ → ℕ → VerifyCode → Type 0
 IsRejected table graph certificate line code =
-    (said : List Entry) × (slot : ℕ) × (at : SlotAt) × IsRead table graph certificate said slot at
+    (said : List Entry) × (slot : ℕ) × (at : SlotAt) × IsCertificateRead table graph certificate said slot at
     × IsFirstOf (AppliesSomewhere graph slot at said) rules_over_all code × IsFirstLine graph slot at said code line
 
 -- The verdict on a certificate: no where a line is bad by itself, the first of them, or where a rule over all lines applies; else yes.

@@ -4,8 +4,8 @@ use Rattle.std.specs.Fmt.{decimal}
 use Rattle.graph_lines.specs.Forms.{IsNumber, IsPath}
 use Rattle.write_proof.specs.declared.entries.Entry.{Entry}
 use Rattle.write_proof.specs.declared.entries.Entry.TheVariants.{Why, Value, Reach, Uses}
-use Rattle.write_proof.specs.Lines as lines
-use Rattle.write_proof.specs.Lines.{IsSound, entry_text}
+use Rattle.write_proof.specs.Entries as lines
+use Rattle.write_proof.specs.Entries.{IsSound, entry_text}
 
 -- What the code's entry says.
 abbrev pub entry_of : Entry → lines.Entry

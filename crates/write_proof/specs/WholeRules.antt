@@ -11,7 +11,7 @@ use Rattle.trace_model.specs.Graphs as model
 use Rattle.trace_model.specs.Graphs.{Graph, HasStep}
 use Rattle.write_proof.specs.declared.verdicts.VerifyCode.{VerifyCode}
 use Rattle.write_proof.specs.declared.verdicts.VerifyCode.TheVariants as codes
-use Rattle.write_proof.specs.Lines.{Entry, Why, ValueText, Reach, Uses}
+use Rattle.write_proof.specs.Entries.{Entry, Why, ValueText, Reach, Uses}
 use Rattle.write_proof.specs.LineRules.{step_of, HasParent}
 
 -- The steps of the lines that name a step that reaches.

@@ -10,8 +10,8 @@ ghost use Rattle.bag_model.specs.Joins.{Alike, IsValueBelow, Proper, join_values
 ghost use Rattle.bag_model.specs.Scalars.{ScalarValue, pick_cmp};
 ghost use Rattle.bag_model.specs.Values as model;
 ghost use Rattle.scalar_types.specs.KindViews.{kind_of};
-ghost use Rattle.scalar_types.specs.ScalarViews.{value_of};
-ghost use Rattle.bag_value.specs.Plain.{plain};
+ghost use Rattle.scalar_types.specs.Scalars.{value_of};
+ghost use Rattle.bag_value.specs.Vals.{plain};
 ghost use Rattle.write_proof.specs.Belows.{AreOfOne, AreOfOneBag};
 
 use bag_value::{Entries, ScalarSet, Val, Vals};

@@ -9,8 +9,8 @@ ghost use Rattle.bag_model.specs.Typed.{AreTyped};
 ghost use Rattle.trace_model.specs.Graphs.{IsOfTable};
 ghost use Rattle.trace_model.specs.Runs.{IsRun};
 ghost use Rattle.write_proof.specs.Certificates.{AddsText, AddsValue, AddsWhy, IsCertificate, IsEndedAt};
-ghost use Rattle.write_proof.specs.Lines as lines;
-ghost use Rattle.write_proof.specs.Lines.{entry_line};
+ghost use Rattle.write_proof.specs.Entries as lines;
+ghost use Rattle.write_proof.specs.Entries.{entry_line};
 ghost use Rattle.write_proof.specs.Reaching.{pairs_of};
 ghost use Rattle.write_proof.specs.Verdicts.{IsVerdictOf};
 

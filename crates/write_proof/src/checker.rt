@@ -3,7 +3,7 @@
 ghost use Rattle.std.specs.Prelude.{◌≡◌, ℕ, List, map, Ok, IfOk, MatchOption};
 ghost use Rattle.bag_model.specs.Slots.{SlotAt};
 ghost use Rattle.trace_model.specs.Graphs.{IsOfTable};
-ghost use Rattle.write_proof.specs.Verdicts.{IsRead, IsVerdictOf, SaysAll, TellsTruth};
+ghost use Rattle.write_proof.specs.Verdicts.{IsCertificateRead, IsVerdictOf, SaysAll, TellsTruth};
 ghost use Rattle.write_proof.specs.Checker.{BeginWith};
 ghost use Rattle.write_proof.specs.Views.{entry_of};
 
@@ -53,9 +53,9 @@ fn check_together(
     text: &[u8],
 ) -> Result<Verified, Memory>
     requires table { IsOfTable table.now graph.now }
-    requires read { (certificate : List ℕ) × (at : SlotAt) × IsRead table.now graph.now certificate (map entry_of entries.now) slot at }
+    requires read { (certificate : List ℕ) × (at : SlotAt) × IsCertificateRead table.now graph.now certificate (map entry_of entries.now) slot at }
     requires text { (path : List ℕ) × BeginWith (map entry_of entries.now) path text.now }
-    ensures { IfOk result (λ verdict. (certificate : List ℕ) (at : SlotAt) → IsRead table.now graph.now certificate (map entry_of entries.now) slot at
+    ensures { IfOk result (λ verdict. (certificate : List ℕ) (at : SlotAt) → IsCertificateRead table.now graph.now certificate (map entry_of entries.now) slot at
         → IsVerdictOf table.now graph.now certificate verdict) }
 {
     // The proof learns here that both are sound.

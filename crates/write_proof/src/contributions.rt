@@ -4,7 +4,7 @@ ghost use Rattle.std.specs.Prelude.{◌≡◌, ◌<◌, length, IfOk, MatchOptio
 ghost use Rattle.bag_model.specs.Shapes as shapes;
 ghost use Rattle.bag_model.specs.Slots.{slots_of};
 ghost use Rattle.bag_model.specs.Values.{bottom};
-ghost use Rattle.bag_value.specs.Plain.{plain};
+ghost use Rattle.bag_value.specs.Vals.{plain};
 ghost use Rattle.trace_model.specs.Graphs.{IsOfTable};
 ghost use Rattle.write_proof.specs.Contributions.{ContributesAt, contributed};
 

@@ -1,10 +1,10 @@
 //! What the lines of a certificate say.
 
 ghost use Rattle.std.specs.Prelude.{◌≡◌, ◌≢◌, ◌++◌, [], ◌∷◌, ℕ, List, codes, MatchOption};
-ghost use Rattle.decimal_text.specs.Answers.{Answers};
-ghost use Rattle.graph_lines.specs.Taken.{IsNumberText};
-ghost use Rattle.write_proof.specs.Lines as plain;
-ghost use Rattle.write_proof.specs.Lines.{HasForm};
+ghost use Rattle.decimal_text.specs.Answers.{IsSomeOf};
+ghost use Rattle.graph_lines.specs.Reading.{IsNumberText};
+ghost use Rattle.write_proof.specs.Entries as plain;
+ghost use Rattle.write_proof.specs.Entries.{HasForm};
 ghost use Rattle.write_proof.specs.Views.{IsWhyText, IsReachText, IsInWords, entry_of};
 
 use graph_lines::{cut_word, is_path, read_number, take_number};

@@ -6,7 +6,7 @@ ghost use Rattle.bag_model.specs.Slots.{SlotAt, slots_of};
 ghost use Rattle.bag_model.specs.SlotValues.{HasSlot};
 ghost use Rattle.bag_model.specs.Values as model;
 ghost use Rattle.bag_model.specs.Values.{IsOfShape};
-ghost use Rattle.bag_value.specs.Plain.{plain};
+ghost use Rattle.bag_value.specs.Vals.{plain};
 ghost use Rattle.context_model.specs.Orders.{IsIn};
 ghost use Rattle.trace_model.specs.Graphs as graphs;
 ghost use Rattle.trace_model.specs.Graphs.{IsOfTable};

@@ -4,7 +4,7 @@ ghost use Rattle.std.specs.Prelude.{ℕ, ◌<◌, length, IfOk};
 ghost use Rattle.context_model.specs.Orders.{IsIn};
 ghost use Rattle.bag_model.specs.Slots.{slots_of};
 ghost use Rattle.bag_model.specs.Tables.{IsTable};
-ghost use Rattle.bag_value.specs.Plain.{plain};
+ghost use Rattle.bag_value.specs.Vals.{plain};
 ghost use Rattle.trace_model.specs.Graphs.{IsGraph, IsOfTable};
 ghost use Rattle.write_proof.specs.Joins.{IsJoinAt};
 

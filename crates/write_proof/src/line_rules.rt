@@ -3,7 +3,7 @@
 ghost use Rattle.std.specs.Prelude.{◌≡◌, ◌↔◌, ◌<◌, length, map, IsTrue, IfOk, IfErr, OnOk};
 ghost use Rattle.std.specs.Option.{option_map};
 ghost use Rattle.text_lines.specs.Readings.{IsFirstOf, NoneOf};
-ghost use Rattle.write_proof.specs.LineRules.{BreaksAlone, HasParent, IsNoMore, IsWrite, MayFollow, last_of, rules_alone, step_of};
+ghost use Rattle.write_proof.specs.LineRules.{BreaksAlone, HasParent, IsNoMore, IsWriteStep, MayFollow, last_of, rules_alone, step_of};
 ghost use Rattle.write_proof.specs.Views.{entry_of};
 
 use crate::entries::Entry;
@@ -67,7 +67,7 @@ fn has_parent(graph: &Graph, child: u64, step: u64) -> bool
 
 /// Whether the step is a write, or receives a context.
 fn is_write(graph: &Graph, step: u64) -> bool
-    ensures { IsTrue result ↔ IsWrite graph.now step }
+    ensures { IsTrue result ↔ IsWriteStep graph.now step }
 {
     step < graph.steps() as u64
         && matches!(

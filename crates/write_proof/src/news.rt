@@ -4,7 +4,7 @@ ghost use Rattle.std.specs.Prelude.{◌↔◌, ◌∷◌, ◌<◌, ℕ, length, 
 ghost use Rattle.std.specs.Ordering.{nat_cmp};
 ghost use Rattle.context_model.specs.Orders.{IsIn, Rises};
 ghost use Rattle.bag_model.specs.Slots.{slots_of};
-ghost use Rattle.bag_value.specs.Plain.{plain};
+ghost use Rattle.bag_value.specs.Vals.{plain};
 ghost use Rattle.trace_model.specs.Graphs.{IsOfTable};
 ghost use Rattle.write_proof.specs.News.{ArePartsAt, AreNewsAt, IsNextAt, UsesValue};
 ghost use Rattle.write_proof.specs.Together.{AreOfOneShape, HaveOneJoin, IsSaidBy};

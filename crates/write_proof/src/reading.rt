@@ -3,7 +3,7 @@
 ghost use Rattle.std.specs.Prelude.{map, IfOk, IfErr, MatchResult};
 ghost use Rattle.text_lines.specs.Readings.{IsFirstBad};
 ghost use Rattle.write_proof.specs.LineRules.{IsBad, IsGood, certificate_lines};
-ghost use Rattle.write_proof.specs.Lines.{lines_in};
+ghost use Rattle.write_proof.specs.Entries.{lines_in};
 ghost use Rattle.write_proof.specs.Verdicts.{SaysAll};
 ghost use Rattle.write_proof.specs.Views.{entry_of};
 

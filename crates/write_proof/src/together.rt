@@ -6,8 +6,8 @@ ghost use Rattle.context_model.specs.Orders.{IsIn};
 ghost use Rattle.bag_model.specs.Joins.{IsBottom, IsValueBelow, Proper};
 ghost use Rattle.bag_model.specs.Scalars.{ScalarKind, ScalarValue, IsScalarOf};
 ghost use Rattle.bag_model.specs.Values as model;
-ghost use Rattle.scalar_types.specs.ScalarViews.{value_of};
-ghost use Rattle.bag_value.specs.Plain.{plain};
+ghost use Rattle.scalar_types.specs.Scalars.{value_of};
+ghost use Rattle.bag_value.specs.Vals.{plain};
 ghost use Rattle.write_proof.specs.Together.{AreOfOneShape, IsAtKey, IsOfField, IsSaid, IsSaidBy, Says, values_of};
 ghost use Rattle.write_proof.specs.Together as says;
 

@@ -40,7 +40,7 @@ pub enum Verified {
 
 impl fmt::Display for VerifyCode {
     ghost use Rattle.std.specs.Prelude.{Some};
-    ghost use Rattle.write_proof.specs.Names.{code_name};
+    ghost use Rattle.write_proof.specs.CodeNames.{code_name};
 
     ghost output = { λ code. Some (code_name code) };
 

@@ -13,10 +13,10 @@ use Rattle.std.proofs.lemmas.Str.Parse.{digit_from_value}
 use Rattle.hex.specs.Hex.{decode_of, is_hex_digit}
 use Rattle.hex.proofs.HexLemmas.{decode_of-ok, decode_of-same}
 use Rattle.bag_model.specs.Scalars as scalars
-use Rattle.bag_model.specs.Scalars.{Word, Plain, Truth, Signed, Unsigned, Text, Octets, Form, TruthByte, UnsignedVarint, SignedVarint, FixedBytes, SignedFixedBytes, TextBytes, RawBytes, IsOfForm, IsPlainOf, form_of, plain_rank}
+use Rattle.bag_model.specs.Scalars.{Word, Plain, Truth, Signed, Unsigned, Text, Octets, SpellingForm, TruthByte, UnsignedVarint, SignedVarint, FixedBytes, SignedFixedBytes, TextBytes, RawBytes, IsOfForm, IsPlainOf, form_of, plain_rank}
 use Rattle.report_text.specs.ScalarTexts.{truth_text}
 use Rattle.write_text.specs.Literals.{IsPlainText}
-use Rattle.write_text.specs.Taken.{is_stop, IsInside, IsEnd, Begins}
+use Rattle.write_text.specs.Ends.{is_stop, IsNoStop, IsEnd, BeginsWithOne}
 use Rattle.write_text.proofs.Decimals.{no_minus}
 use Rattle.write_text.proofs.Quoted.{InsideThen, inside_apart}
 
@@ -35,14 +35,14 @@ stop_is byte e =
       | inr w ↦ (elim w [ inl h ↦ inr (inl (eqb-true byte 58 h)) | inr h ↦ inr (inr (eqb-true byte 41 h)) ])
     ]
 
-digit_inside : (byte : ℕ) → 48 ≤ byte → byte ≤ 57 → IsInside byte
+digit_inside : (byte : ℕ) → 48 ≤ byte → byte ≤ 57 → IsNoStop byte
 digit_inside byte low high =
     false_from_ne_true (is_stop byte) (λ e. elim (stop_is byte e) [
       | inl h ↦ omega (arith, h)
       | inr w ↦ (elim w [ inl h ↦ omega (arith, h) | inr h ↦ omega (arith, h) ])
     ])
 
-hex_inside : (byte : ℕ) → is_hex_digit byte ≡ true → IsInside byte
+hex_inside : (byte : ℕ) → is_hex_digit byte ≡ true → IsNoStop byte
 hex_inside byte digit =
     false_from_ne_true (is_stop byte) (λ e. elim (stop_is byte e) [
       | inl h ↦ (let computed : false ≡ true = sym (ap is_hex_digit h) ∙ digit in cc computed)
@@ -53,7 +53,7 @@ hex_inside byte digit =
     ])
 
 abbrev pub AreInside : List ℕ → Type 0
-AreInside bytes = AllByRecursion IsInside bytes
+AreInside bytes = AllByRecursion IsNoStop bytes
 
 digits_inside : (bytes : List ℕ) → AllDigits 10 bytes → AreInside bytes
 digits_inside [] all = tt
@@ -114,7 +114,7 @@ signed_one (negsuc m) (negsuc n) f g e =
 
 -- ---- values of one word
 
-abbrev pub form_rank : Form → ℕ
+abbrev pub form_rank : SpellingForm → ℕ
 form_rank TruthByte = 0
 form_rank (UnsignedVarint wide) = 2
 form_rank (SignedVarint wide) = 1
@@ -123,7 +123,7 @@ form_rank (SignedFixedBytes wide) = 1
 form_rank TextBytes = 3
 form_rank RawBytes = 4
 
-pub rank_is : (form : Form) (v : Plain) → IsOfForm form v → plain_rank v ≡ form_rank form
+pub rank_is : (form : SpellingForm) (v : Plain) → IsOfForm form v → plain_rank v ≡ form_rank form
 rank_is TruthByte (Truth b) p = refl
 rank_is (UnsignedVarint wide) (Unsigned n) p = refl
 rank_is (SignedVarint wide) (Signed z) p = refl
@@ -137,7 +137,7 @@ rank_is _ _ p = absurd p
 pub one_rank : (word : Word) (v w : Plain) → IsPlainOf word v → IsPlainOf word w → plain_rank v ≡ plain_rank w
 one_rank word v w p q = rank_is (form_of word) v p ∙ sym (rank_is (form_of word) w q)
 
-pub signed_fits : (form : Form) (z : ℤ) → IsOfForm form (Signed z) → FitsSigned w64 z
+pub signed_fits : (form : SpellingForm) (z : ℤ) → IsOfForm form (Signed z) → FitsSigned w64 z
 signed_fits (SignedVarint false) (pos n) p = record { sfits = omega (arith, ints) }
 signed_fits (SignedVarint false) (negsuc n) p = record { sfits = omega (arith, ints) }
 signed_fits (SignedVarint true) z p = p
@@ -146,7 +146,7 @@ signed_fits (SignedFixedBytes false) (negsuc n) p = record { sfits = omega (arit
 signed_fits (SignedFixedBytes true) z p = p
 signed_fits _ z p = absurd p
 
-pub unsigned_fits : (form : Form) (n : ℕ) → IsOfForm form (Unsigned n) → n < 2 ^ 64
+pub unsigned_fits : (form : SpellingForm) (n : ℕ) → IsOfForm form (Unsigned n) → n < 2 ^ 64
 unsigned_fits (UnsignedVarint false) n p = omega arith
 unsigned_fits (UnsignedVarint true) n p = p
 unsigned_fits (FixedBytes false) n p = omega arith
@@ -163,7 +163,7 @@ pub string_then : (bytes front rest text : List ℕ) → IsPlainText (Text bytes
 string_then bytes front rest text p e =
     ((p.0 ++ 34 ∷ []) ++ rest, e ∙ ap (λ l. l ++ rest) p.2, (p.0, p.1, refl))
 
-pub word_apart : (word : Word) (v w : Plain) (text s r : List ℕ) → Begins (IsWordText word v) text s → Begins (IsWordText word w) text r → (v ≡ w) × (s ≡ r)
+pub word_apart : (word : Word) (v w : Plain) (text s r : List ℕ) → BeginsWithOne (IsWordText word v) text s → BeginsWithOne (IsWordText word w) text r → (v ≡ w) × (s ≡ r)
 word_apart word (Truth a) (Truth b) text s r p q =
     let cut = fronts_apart (truth_text a) (truth_text b) text s r (truth_inside a) (truth_inside b) (p.same ∙ ap (λ l. l ++ s) p.fact.1) (q.same ∙ ap (λ l. l ++ r) q.fact.1) p.end q.end in
     (ap Truth (truth_one a b cut.0), cut.1)

@@ -6,7 +6,7 @@ use Rattle.std.specs.Str.Parse.{AllDigits}
 use Rattle.std.proofs.lemmas.Str.Parse.{digit_from_value}
 use Rattle.std.proofs.lemmas.Int.{ints}
 use Rattle.std.proofs.lemmas.Fmt.{decimal_injective, decimal_is_IsNumeral}
-use Rattle.decimal_text.specs.Answers.{Answers}
+use Rattle.decimal_text.specs.Answers.{IsSomeOf}
 use Rattle.write_text.proofs.Answered.{answers_same}
 
 pub no_minus : (n : ℕ) (rest : List ℕ) → n < 2 ^ 64 → decimal n ≡ 45 ∷ rest → ⊥
@@ -31,7 +31,7 @@ no_negative text digits e none z q =
     let b = behind_minus text digits e z q in none (suc b.0) (b.2, omega (arith, b.3))
 
 pub negative_is : (text digits : List ℕ) (size : ℕ) (answer : Option ℤ) → text ≡ 45 ∷ digits → digits ≡ decimal size → size < 2 ^ 64
-    → Answers (λ z. (below : ℕ) × (size ≡ suc below) × (z ≡ negsuc below) × (below < 2 ^ 63)) answer → Answers (SaysSigned text) answer
+    → IsSomeOf (λ z. (below : ℕ) × (size ≡ suc below) × (z ≡ negsuc below) × (below < 2 ^ 63)) answer → IsSomeOf (SaysSigned text) answer
 negative_is text digits size answer e d small h =
     answers_same (λ z. (below : ℕ) × (size ≡ suc below) × (z ≡ negsuc below) × (below < 2 ^ 63)) (SaysSigned text) answer
     (λ z p. subst (SaysSigned text) (sym p.2) (e ∙ ap (λ (l : List ℕ). 45 ∷ l) (d ∙ ap decimal p.1), record { sfits = omega (arith, ints, p.3) }))
@@ -48,7 +48,7 @@ pub no_positive : (text : List ℕ) → ((rest : List ℕ) → text ≡ 45 ∷ r
 no_positive text bare none z q = let w = without_minus text bare z q in none w.0 (w.2, omega (arith, w.3))
 
 pub positive_is : (text : List ℕ) (size : ℕ) (answer : Option ℤ) → ((rest : List ℕ) → text ≡ 45 ∷ rest → ⊥) → text ≡ decimal size → size < 2 ^ 64
-    → Answers (λ z. (z ≡ pos size) × (size < 2 ^ 63)) answer → Answers (SaysSigned text) answer
+    → IsSomeOf (λ z. (z ≡ pos size) × (size < 2 ^ 63)) answer → IsSomeOf (SaysSigned text) answer
 positive_is text size answer none d small h =
     answers_same (λ z. (z ≡ pos size) × (size < 2 ^ 63)) (SaysSigned text) answer
     (λ z p. subst (SaysSigned text) (sym p.0) (d, record { sfits = omega (arith, ints, p.1) }))

@@ -10,13 +10,13 @@ use Rattle.bag_model.specs.Tables.{AreFields, IsShape}
 use Rattle.bag_model.specs.Values.{Value, Values, Scalar, Set, Counter, Map, Bag, no_entry, entry, value, bottom, bottoms, IsOfShape, AreOfShapes}
 use Rattle.bag_model.proofs.OfShape.{IsOfShape-bottom, AreOfShapes-bottom}
 use Rattle.write_text.specs.Literals.{IsLiteral, IsWriter}
-use Rattle.write_text.specs.Taken.{Begins}
+use Rattle.write_text.specs.Ends.{BeginsWithOne}
 use Rattle.write_text.specs.Writes.{IsWrite, AreWritten}
 use Rattle.write_text.proofs.Unique.{one_literal, literal_apart, writer_apart}
 use Rattle.write_text.proofs.Bags.{names_apart, written_name}
 
 -- A literal or a writer with a colon behind it.
-before_colon : (holds : List ℕ → Type 0) (text first rest : List ℕ) → holds first → text ≡ first ++ codes ":" ++ rest → Begins holds text (58 ∷ rest)
+before_colon : (holds : List ℕ → Type 0) (text first rest : List ℕ) → holds first → text ≡ first ++ codes ":" ++ rest → BeginsWithOne holds text (58 ∷ rest)
 before_colon holds text first rest p e = record { front = first; fact = p; same = e ∙ append_assoc first (58 ∷ []) rest; end = refl }
 
 same_behind : (s r : List ℕ) → 58 ∷ s ≡ 58 ∷ r → s ≡ r

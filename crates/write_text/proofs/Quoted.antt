@@ -3,8 +3,8 @@ use Rattle.std.proofs.Common.{◌≡◌, ◌⊎◌, ℕ, Option, ◌<◌, ◌≤
 use Rattle.std.specs.Prelude.{IsTrue}
 use Rattle.std.proofs.lemmas.List.{append-nil}
 use Rattle.report_text.specs.ScalarTexts.{is_marked}
-use Rattle.write_text.specs.Literals.{AreDigitsOf, SaysEscaped, SaysByte, SaysBytes}
-use Rattle.write_text.specs.Taken.{Takes}
+use Rattle.write_text.specs.Literals.{AreDigitsOf, SaysEscaped, SaysByte, SpellsBytes}
+use Rattle.write_text.specs.Ends.{TakesFront}
 use Rattle.write_text.proofs.Answered.{takes_same}
 
 -- A text that says a byte behind a backslash, and the rest behind it.
@@ -108,7 +108,7 @@ byte_no_quote byte rest behind text p e =
 
 -- The text says these bytes, and a quotation mark and the rest stand behind them.
 abbrev pub InsideThen : List ℕ → List ℕ → List ℕ → Type 0
-InsideThen bytes rest text = (inside : List ℕ) × SaysBytes bytes inside × (text ≡ inside ++ codes "\"" ++ rest)
+InsideThen bytes rest text = (inside : List ℕ) × SpellsBytes bytes inside × (text ≡ inside ++ codes "\"" ++ rest)
 
 -- It begins with the first byte, or with the quotation mark where there is no byte.
 pub inside_none : (rest text : List ℕ) → InsideThen [] rest text → text ≡ 34 ∷ rest
@@ -215,8 +215,8 @@ x_digits byte rest text tail e p =
 
 -- Behind a backslash, the digits behind an x.
 pub escaped_digits : (text tail : List ℕ) (taken : Option (ℕ × List ℕ)) → text ≡ 120 ∷ tail
-    → Takes (λ byte rest. (high low : ℕ) × AreDigitsOf byte high low × (tail ≡ high ∷ low ∷ rest)) taken
-    → Takes (λ byte rest. (escaped : List ℕ) × SaysEscaped byte escaped × (text ≡ escaped ++ rest)) taken
+    → TakesFront (λ byte rest. (high low : ℕ) × AreDigitsOf byte high low × (tail ≡ high ∷ low ∷ rest)) taken
+    → TakesFront (λ byte rest. (escaped : List ℕ) × SaysEscaped byte escaped × (text ≡ escaped ++ rest)) taken
 escaped_digits text tail taken e t =
     takes_same (λ (byte : ℕ) (rest : List ℕ). (high low : ℕ) × AreDigitsOf byte high low × (tail ≡ high ∷ low ∷ rest))
     (λ (byte : ℕ) (rest : List ℕ). (escaped : List ℕ) × SaysEscaped byte escaped × (text ≡ escaped ++ rest)) taken
@@ -245,8 +245,8 @@ behind_it byte rest text tail e p =
 
 -- A backslash, and a byte behind it.
 pub byte_escaped : (text tail : List ℕ) (taken : Option (ℕ × List ℕ)) → text ≡ 92 ∷ tail
-    → Takes (λ byte rest. (escaped : List ℕ) × SaysEscaped byte escaped × (tail ≡ escaped ++ rest)) taken
-    → Takes (λ byte rest. (first : List ℕ) × SaysByte byte first × (text ≡ first ++ rest)) taken
+    → TakesFront (λ byte rest. (escaped : List ℕ) × SaysEscaped byte escaped × (tail ≡ escaped ++ rest)) taken
+    → TakesFront (λ byte rest. (first : List ℕ) × SaysByte byte first × (text ≡ first ++ rest)) taken
 byte_escaped text tail taken e t =
     takes_same (λ (byte : ℕ) (rest : List ℕ). (escaped : List ℕ) × SaysEscaped byte escaped × (tail ≡ escaped ++ rest))
     (λ (byte : ℕ) (rest : List ℕ). (first : List ℕ) × SaysByte byte first × (text ≡ first ++ rest)) taken

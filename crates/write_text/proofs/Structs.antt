@@ -5,7 +5,7 @@ use Rattle.std.proofs.lemmas.List.{append-nil, append_cancel_left}
 use Rattle.bag_model.specs.Scalars.{Word, Plain, IsPlainOf, ArePlainsOf}
 use Rattle.report_text.specs.Commas.{comma_before, comma_joined}
 use Rattle.write_text.specs.Literals.{IsPlainText, ArePlainTexts}
-use Rattle.write_text.specs.Taken.{IsEnd, Begins}
+use Rattle.write_text.specs.Ends.{IsEnd, BeginsWithOne}
 use Rattle.write_text.proofs.Apart.{IsWordText, word_apart}
 
 -- The text says the fields of these words, of which the first has so many fields before it, and the closing parenthesis
@@ -24,7 +24,7 @@ then_end at [] vs rest text p = subst IsEnd (sym p.1) refl
 then_end at (word ∷ words) vs rest text p = subst IsEnd (sym (p.6 ∙ ap (λ l. l ++ (p.2 ++ p.3)) (comma_more at))) refl
 
 begins : (at : ℕ) (words : List Word) (more : List Plain) (rest behind front : List ℕ) (word : Word) (v : Plain) → IsWordText word v front
-    → FieldsThen (suc at) words more rest behind → Begins (IsWordText word v) (front ++ behind) behind
+    → FieldsThen (suc at) words more rest behind → BeginsWithOne (IsWordText word v) (front ++ behind) behind
 begins at words more rest behind front word v is p = record { front = front; fact = is; same = refl; end = then_end at words more rest behind p }
 
 pub fields_apart : (at : ℕ) (words : List Word) (vs ws : List Plain) (s r text : List ℕ) → FieldsThen at words vs s text → FieldsThen at words ws r text → (vs ≡ ws) × (s ≡ r)
@@ -137,7 +137,7 @@ pub record IsNext (words : List Word) (at : ℕ) (v : Plain) (left behind : List
   pub words_are : drop at words ≡ word ∷ drop (suc at) words
   pub front : List ℕ
   pub comma : left ≡ comma_before at ++ front
-  pub begins : Begins (IsWordText word v) front behind
+  pub begins : BeginsWithOne (IsWordText word v) front behind
 
 next_text : (words : List Word) (at : ℕ) (v : Plain) (left behind : List ℕ) (next : IsNext words at v left behind) → left ≡ comma_before at ++ (next.begins.front ++ behind)
 next_text words at v left behind next = next.comma ∙ ap (λ l. comma_before at ++ l) next.begins.same
@@ -164,7 +164,7 @@ on_next words at done left whole v behind next on vs rest p =
 
 -- Where the comma is missing, or no literal stands behind it, the whole says nothing.
 pub on_nowhere : (words : List Word) (at : ℕ) (done : List Plain) (left whole : List ℕ) (word : Word) → drop at words ≡ word ∷ drop (suc at) words
-    → FieldsOn words at done left whole → ((v : Plain) (front behind : List ℕ) → left ≡ comma_before at ++ front → Begins (IsWordText word v) front behind → ⊥)
+    → FieldsOn words at done left whole → ((v : Plain) (front behind : List ℕ) → left ≡ comma_before at ++ front → BeginsWithOne (IsWordText word v) front behind → ⊥)
     → (vs : List Plain) (rest : List ℕ) → FieldsThen 0 words vs rest whole → ⊥
 on_nowhere words at done left whole word words_are on none vs rest p =
     let q = on vs rest p in

@@ -6,7 +6,7 @@ use Rattle.bag_model.specs.Scalars as scalars
 use Rattle.bag_model.specs.Scalars.{ScalarKind, ScalarValue, Text, Octets, IsScalarOf}
 use Rattle.report_text.specs.Commas.{comma_joined}
 use Rattle.write_text.specs.Literals.{IsScalarText, IsLiteral, IsWriter}
-use Rattle.write_text.specs.Taken.{Begins}
+use Rattle.write_text.specs.Ends.{BeginsWithOne}
 use Rattle.write_text.proofs.Apart.{word_apart}
 use Rattle.write_text.proofs.Structs.{FieldsThen, texts_then, fields_apart}
 
@@ -24,7 +24,7 @@ struct_then words vs front rest text p e =
       texts_then words vs texts rest ((comma_joined texts ++ 41 ∷ []) ++ rest) p.0 p.1.1 (append_assoc (comma_joined texts) (41 ∷ []) rest),
     )
 
-pub scalar_apart : (kind : ScalarKind) (v w : ScalarValue) (text s r : List ℕ) → Begins (SaysScalar kind v) text s → Begins (SaysScalar kind w) text r → (v ≡ w) × (s ≡ r)
+pub scalar_apart : (kind : ScalarKind) (v w : ScalarValue) (text s r : List ℕ) → BeginsWithOne (SaysScalar kind v) text s → BeginsWithOne (SaysScalar kind w) text r → (v ≡ w) × (s ≡ r)
 scalar_apart (ScalarKind.One word) (ScalarValue.One v) (ScalarValue.One w) text s r p q =
     let same = word_apart word v w text s r (record { front = p.front; fact = p.fact; same = p.same; end = p.end }) (record { front = q.front; fact = q.fact; same = q.same; end = q.end }) in
     (ap ScalarValue.One same.0, same.1)
@@ -41,17 +41,17 @@ scalar_apart (ScalarKind.Packed words) (ScalarValue.One v) w text s r p q = absu
 scalar_apart (ScalarKind.Packed words) (ScalarValue.Packed vs) (ScalarValue.One w) text s r p q = absurd q.fact.0
 
 -- Of a literal the text says the scalar.
-pub literal_says : (form : WireForm) (kind : ScalarKind) (v : ScalarValue) (text rest : List ℕ) → Begins (IsLiteral form kind v) text rest → Begins (SaysScalar kind v) text rest
+pub literal_says : (form : WireForm) (kind : ScalarKind) (v : ScalarValue) (text rest : List ℕ) → BeginsWithOne (IsLiteral form kind v) text rest → BeginsWithOne (SaysScalar kind v) text rest
 literal_says form kind v text rest p = record { front = p.front; fact = (p.fact.0, p.fact.2); same = p.same; end = p.end }
 
-pub literal_apart : (form : WireForm) (kind : ScalarKind) (v w : ScalarValue) (text s r : List ℕ) → Begins (IsLiteral form kind v) text s → Begins (IsLiteral form kind w) text r → (v ≡ w) × (s ≡ r)
+pub literal_apart : (form : WireForm) (kind : ScalarKind) (v w : ScalarValue) (text s r : List ℕ) → BeginsWithOne (IsLiteral form kind v) text s → BeginsWithOne (IsLiteral form kind w) text r → (v ≡ w) × (s ≡ r)
 literal_apart form kind v w text s r p q = scalar_apart kind v w text s r (literal_says form kind v text s p) (literal_says form kind w text r q)
 
 -- A whole text as one that begins with a literal.
-pub whole_begins : (holds : List ℕ → Type 0) (text : List ℕ) → holds text → Begins holds text []
+pub whole_begins : (holds : List ℕ → Type 0) (text : List ℕ) → holds text → BeginsWithOne holds text []
 whole_begins holds text p = record { front = text; fact = p; same = sym (append-nil text); end = tt }
 
-pub begins_whole : (holds : List ℕ → Type 0) (text : List ℕ) → Begins holds text [] → holds text
+pub begins_whole : (holds : List ℕ → Type 0) (text : List ℕ) → BeginsWithOne holds text [] → holds text
 begins_whole holds text p = subst holds (sym (append-nil p.front) ∙ sym p.same) p.fact
 
 pub one_literal : (form : WireForm) (kind : ScalarKind) (v w : ScalarValue) (text : List ℕ) → IsLiteral form kind v text → IsLiteral form kind w text → v ≡ w
@@ -72,8 +72,8 @@ abbrev pub octets_of : List ℕ → ScalarValue
 octets_of bytes = ScalarValue.One (Octets bytes)
 
 -- A writer's literal is a string's or a byte string's.
-pub writer_cases : (form : WireForm) (bytes text rest : List ℕ) → Begins (IsWriter form bytes) text rest
-    → Begins (IsLiteral form string_kind (text_of bytes)) text rest ⊎ Begins (IsLiteral form bytes_kind (octets_of bytes)) text rest
+pub writer_cases : (form : WireForm) (bytes text rest : List ℕ) → BeginsWithOne (IsWriter form bytes) text rest
+    → BeginsWithOne (IsLiteral form string_kind (text_of bytes)) text rest ⊎ BeginsWithOne (IsLiteral form bytes_kind (octets_of bytes)) text rest
 writer_cases form bytes text rest p =
     elim p.fact [
       | inl w ↦ inl (record { front = p.front; fact = w; same = p.same; end = p.end })
@@ -81,10 +81,10 @@ writer_cases form bytes text rest p =
     ]
 
 -- A string begins with a quotation mark, and a byte string with a zero.
-pub string_first : (form : WireForm) (bytes text rest : List ℕ) → Begins (IsLiteral form string_kind (text_of bytes)) text rest → (tail : List ℕ) × (text ≡ 34 ∷ tail)
+pub string_first : (form : WireForm) (bytes text rest : List ℕ) → BeginsWithOne (IsLiteral form string_kind (text_of bytes)) text rest → (tail : List ℕ) × (text ≡ 34 ∷ tail)
 string_first form bytes text rest p = let inside = p.fact.2 in ((inside.0 ++ 34 ∷ []) ++ rest, p.same ∙ ap (λ l. l ++ rest) inside.2)
 
-pub octets_first : (form : WireForm) (bytes text rest : List ℕ) → Begins (IsLiteral form bytes_kind (octets_of bytes)) text rest → (tail : List ℕ) × (text ≡ 48 ∷ tail)
+pub octets_first : (form : WireForm) (bytes text rest : List ℕ) → BeginsWithOne (IsLiteral form bytes_kind (octets_of bytes)) text rest → (tail : List ℕ) × (text ≡ 48 ∷ tail)
 octets_first form bytes text rest p = let digits = p.fact.2 in ((120 ∷ digits.0) ++ rest, p.same ∙ ap (λ l. l ++ rest) digits.1)
 
 first_apart : (text s r : List ℕ) → text ≡ 34 ∷ s → text ≡ 48 ∷ r → ⊥
@@ -94,7 +94,7 @@ bytes_in : ScalarValue → List ℕ
 bytes_in (ScalarValue.One v) = scalars.plain_bytes v
 bytes_in (ScalarValue.Packed vs) = []
 
-pub writer_apart : (form : WireForm) (a b text s r : List ℕ) → Begins (IsWriter form a) text s → Begins (IsWriter form b) text r → (a ≡ b) × (s ≡ r)
+pub writer_apart : (form : WireForm) (a b text s r : List ℕ) → BeginsWithOne (IsWriter form a) text s → BeginsWithOne (IsWriter form b) text r → (a ≡ b) × (s ≡ r)
 unfolding bytes_in
 writer_apart form a b text s r p q =
     elim (writer_cases form a text s p) [

@@ -10,7 +10,7 @@ use Rattle.bag_model.specs.Tables.{AreFields}
 use Rattle.bag_model.specs.Values as values
 use Rattle.bag_model.specs.Values.{Value, Values, Entries, no_entry, entry, pairs}
 use Rattle.write_text.specs.Literals.{IsLiteral, IsWriter}
-use Rattle.write_text.specs.Taken.{Begins}
+use Rattle.write_text.specs.Ends.{BeginsWithOne}
 use Rattle.write_text.specs.Writes.{IsWrite, AreWritten, one_at, IsFirstNamed, HasNoEquals}
 use Rattle.write_text.proofs.Unique.{literal_apart, whole_begins, writer_apart}
 use Rattle.write_text.proofs.Bags.{Names, names_apart, first_one, written_at, written_back, written_name, IsWrittenAt}
@@ -20,17 +20,17 @@ same_tail first text s r e h = let two : first ∷ s ≡ first ∷ r = sym e ∙
 
 -- ---- whole literals
 
-pub no_literal : (form : WireForm) (kind : ScalarKind) (text : List ℕ) → ((v : ScalarValue) (rest : List ℕ) → Begins (IsLiteral form kind v) text rest → ⊥) → (v : ScalarValue) → IsLiteral form kind v text → ⊥
+pub no_literal : (form : WireForm) (kind : ScalarKind) (text : List ℕ) → ((v : ScalarValue) (rest : List ℕ) → BeginsWithOne (IsLiteral form kind v) text rest → ⊥) → (v : ScalarValue) → IsLiteral form kind v text → ⊥
 no_literal form kind text none v p = none v [] (whole_begins (IsLiteral form kind v) text p)
 
-pub no_more_literal : (form : WireForm) (kind : ScalarKind) (text : List ℕ) (own : ScalarValue) (behind : List ℕ) → Begins (IsLiteral form kind own) text behind → (behind ≡ [] → ⊥)
+pub no_more_literal : (form : WireForm) (kind : ScalarKind) (text : List ℕ) (own : ScalarValue) (behind : List ℕ) → BeginsWithOne (IsLiteral form kind own) text behind → (behind ≡ [] → ⊥)
     → (v : ScalarValue) → IsLiteral form kind v text → ⊥
 no_more_literal form kind text own behind here none v p =
     none (literal_apart form kind own v text behind [] here (whole_begins (IsLiteral form kind v) text p)).1
 
 -- ---- counts
 
-pub count_is : (form : WireForm) (writer text rest digits : List ℕ) (count : ℕ) → Begins (IsWriter form writer) text rest → rest ≡ 58 ∷ digits → digits ≡ decimal count → count < 2 ^ 64
+pub count_is : (form : WireForm) (writer text rest digits : List ℕ) (count : ℕ) → BeginsWithOne (IsWriter form writer) text rest → rest ≡ 58 ∷ digits → digits ≡ decimal count → count < 2 ^ 64
     → IsWrite form shapes.Shape.Counter (values.Value.Counter ((writer, count) ∷ [])) text
 count_is form writer text rest digits count p e d small = (
   writer,
@@ -42,27 +42,27 @@ count_is form writer text rest digits count p e d small = (
   refl,
 )
 
-pub no_count : (form : WireForm) (text : List ℕ) → ((writer : List ℕ) (count : ℕ) → Begins (IsWriter form writer) text (58 ∷ decimal count) → count < 2 ^ 64 → ⊥)
+pub no_count : (form : WireForm) (text : List ℕ) → ((writer : List ℕ) (count : ℕ) → BeginsWithOne (IsWriter form writer) text (58 ∷ decimal count) → count < 2 ^ 64 → ⊥)
     → (counts : List (List ℕ × ℕ)) → IsWrite form shapes.Shape.Counter (values.Value.Counter counts) text → ⊥
 no_count form text none counts p =
     none p.0 p.1 (record { front = p.2; fact = p.3; same = p.5 ∙ append_assoc p.2 (58 ∷ []) (decimal p.1); end = refl }) p.4
 
-pub no_count_writer : (form : WireForm) (text : List ℕ) → ((writer rest : List ℕ) → Begins (IsWriter form writer) text rest → ⊥) → (counts : List (List ℕ × ℕ)) → IsWrite form shapes.Shape.Counter (values.Value.Counter counts) text → ⊥
+pub no_count_writer : (form : WireForm) (text : List ℕ) → ((writer rest : List ℕ) → BeginsWithOne (IsWriter form writer) text rest → ⊥) → (counts : List (List ℕ × ℕ)) → IsWrite form shapes.Shape.Counter (values.Value.Counter counts) text → ⊥
 no_count_writer form text none = no_count form text (λ writer count p small. none writer (58 ∷ decimal count) p)
 
-pub no_count_colon : (form : WireForm) (text own rest : List ℕ) → Begins (IsWriter form own) text rest → ((digits : List ℕ) → rest ≡ 58 ∷ digits → ⊥)
+pub no_count_colon : (form : WireForm) (text own rest : List ℕ) → BeginsWithOne (IsWriter form own) text rest → ((digits : List ℕ) → rest ≡ 58 ∷ digits → ⊥)
     → (counts : List (List ℕ × ℕ)) → IsWrite form shapes.Shape.Counter (values.Value.Counter counts) text → ⊥
 no_count_colon form text own rest here none =
     no_count form text (λ writer count p small. none (decimal count) (writer_apart form own writer text rest (58 ∷ decimal count) here p).1)
 
-pub no_count_number : (form : WireForm) (text own rest digits : List ℕ) → Begins (IsWriter form own) text rest → rest ≡ 58 ∷ digits → ((count : ℕ) → (digits ≡ decimal count) × (count < 2 ^ 64) → ⊥)
+pub no_count_number : (form : WireForm) (text own rest digits : List ℕ) → BeginsWithOne (IsWriter form own) text rest → rest ≡ 58 ∷ digits → ((count : ℕ) → (digits ≡ decimal count) × (count < 2 ^ 64) → ⊥)
     → (counts : List (List ℕ × ℕ)) → IsWrite form shapes.Shape.Counter (values.Value.Counter counts) text → ⊥
 no_count_number form text own rest digits here e none =
     no_count form text (λ writer count p small. none count (same_tail 58 rest digits (decimal count) e (writer_apart form own writer text rest (58 ∷ decimal count) here p).1, small))
 
 -- ---- keys
 
-pub entry_is : (form : WireForm) (kind : ScalarKind) (shape : Shape) (key : ScalarValue) (v : Value) (text rest behind : List ℕ) → Begins (IsLiteral form kind key) text rest → rest ≡ 58 ∷ behind → IsWrite form shape v behind
+pub entry_is : (form : WireForm) (kind : ScalarKind) (shape : Shape) (key : ScalarValue) (v : Value) (text rest behind : List ℕ) → BeginsWithOne (IsLiteral form kind key) text rest → rest ≡ 58 ∷ behind → IsWrite form shape v behind
     → IsWrite form (shapes.Shape.Map kind shape) (values.Value.Map (entry key v no_entry)) text
 entry_is form kind shape key v text rest behind p e write = (
   key,
@@ -76,21 +76,21 @@ entry_is form kind shape key v text rest behind p e write = (
 )
 
 pub no_key : (form : WireForm) (kind : ScalarKind) (shape : Shape) (text : List ℕ)
-    → ((key : ScalarValue) (v : Value) (behind : List ℕ) → Begins (IsLiteral form kind key) text (58 ∷ behind) → IsWrite form shape v behind → ⊥)
+    → ((key : ScalarValue) (v : Value) (behind : List ℕ) → BeginsWithOne (IsLiteral form kind key) text (58 ∷ behind) → IsWrite form shape v behind → ⊥)
     → (es : Entries) → IsWrite form (shapes.Shape.Map kind shape) (values.Value.Map es) text → ⊥
 no_key form kind shape text none es p =
     none p.0 p.1 p.3 (record { front = p.2; fact = p.4; same = p.6 ∙ append_assoc p.2 (58 ∷ []) p.3; end = refl }) p.5
 
-pub no_key_literal : (form : WireForm) (kind : ScalarKind) (shape : Shape) (text : List ℕ) → ((key : ScalarValue) (rest : List ℕ) → Begins (IsLiteral form kind key) text rest → ⊥)
+pub no_key_literal : (form : WireForm) (kind : ScalarKind) (shape : Shape) (text : List ℕ) → ((key : ScalarValue) (rest : List ℕ) → BeginsWithOne (IsLiteral form kind key) text rest → ⊥)
     → (es : Entries) → IsWrite form (shapes.Shape.Map kind shape) (values.Value.Map es) text → ⊥
 no_key_literal form kind shape text none = no_key form kind shape text (λ key v behind p write. none key (58 ∷ behind) p)
 
-pub no_key_colon : (form : WireForm) (kind : ScalarKind) (shape : Shape) (text : List ℕ) (own : ScalarValue) (rest : List ℕ) → Begins (IsLiteral form kind own) text rest → ((behind : List ℕ) → rest ≡ 58 ∷ behind → ⊥)
+pub no_key_colon : (form : WireForm) (kind : ScalarKind) (shape : Shape) (text : List ℕ) (own : ScalarValue) (rest : List ℕ) → BeginsWithOne (IsLiteral form kind own) text rest → ((behind : List ℕ) → rest ≡ 58 ∷ behind → ⊥)
     → (es : Entries) → IsWrite form (shapes.Shape.Map kind shape) (values.Value.Map es) text → ⊥
 no_key_colon form kind shape text own rest here none =
     no_key form kind shape text (λ key v behind p write. none behind (literal_apart form kind own key text rest (58 ∷ behind) here p).1)
 
-pub no_key_value : (form : WireForm) (kind : ScalarKind) (shape : Shape) (text : List ℕ) (own : ScalarValue) (rest left : List ℕ) → Begins (IsLiteral form kind own) text rest → rest ≡ 58 ∷ left
+pub no_key_value : (form : WireForm) (kind : ScalarKind) (shape : Shape) (text : List ℕ) (own : ScalarValue) (rest left : List ℕ) → BeginsWithOne (IsLiteral form kind own) text rest → rest ≡ 58 ∷ left
     → ((v : Value) → IsWrite form shape v left → ⊥) → (es : Entries) → IsWrite form (shapes.Shape.Map kind shape) (values.Value.Map es) text → ⊥
 no_key_value form kind shape text own rest left here e none =
     no_key form kind shape text (λ key v behind p write. none v (subst (IsWrite form shape v) (sym (same_tail 58 rest left behind e (literal_apart form kind own key text rest (58 ∷ behind) here p).1)) write))

@@ -5,14 +5,14 @@ use Rattle.std.specs.Int.{w64}
 use Rattle.std.proofs.lemmas.Fmt.{decimal_injective}
 use Rattle.hex.specs.Hex.{decode_of}
 use Rattle.bag_model.specs.Scalars as scalars
-use Rattle.bag_model.specs.Scalars.{Word, Plain, Signed, Unsigned, Octets, Form, IsOfForm, IsPlainOf, IsScalarOf, form_of}
+use Rattle.bag_model.specs.Scalars.{Word, Plain, Signed, Unsigned, Octets, SpellingForm, IsOfForm, IsPlainOf, IsScalarOf, form_of}
 use Rattle.scalar_types.specs.declared.kinds.ScalarKind.{ScalarKind}
 use Rattle.scalar_types.specs.declared.kinds.ScalarKind.TheVariants as kinds
-use Rattle.scalar_types.specs.KindViews.{IsWord, kind_of, word_of}
+use Rattle.scalar_types.specs.KindViews.{IsPlainWord, kind_of, word_of}
 use Rattle.write_text.specs.Literals.{HasSign, HasNoSign}
 use Rattle.write_text.proofs.Apart.{IsWordText, signed_fits, signed_one, unsigned_fits}
 
-pub word_kind : (kind : ScalarKind) → IsWord kind → kind_of kind ≡ scalars.ScalarKind.One (word_of kind)
+pub word_kind : (kind : ScalarKind) → IsPlainWord kind → kind_of kind ≡ scalars.ScalarKind.One (word_of kind)
 word_kind kinds.Bool h = refl
 word_kind kinds.Int32 h = refl
 word_kind kinds.Int64 h = refl
@@ -28,33 +28,33 @@ word_kind kinds.Str h = refl
 word_kind kinds.Bytes h = refl
 word_kind (kinds.Packed words) h = absurd h
 
-pub fits_word : (kind : ScalarKind) → IsWord kind → (v : Plain) → IsPlainOf (word_of kind) v → IsScalarOf (kind_of kind) (scalars.ScalarValue.One v)
+pub fits_word : (kind : ScalarKind) → IsPlainWord kind → (v : Plain) → IsPlainOf (word_of kind) v → IsScalarOf (kind_of kind) (scalars.ScalarValue.One v)
 fits_word kind h v p = subst (λ (k : scalars.ScalarKind). IsScalarOf k (scalars.ScalarValue.One v)) (sym (word_kind kind h)) p
 
 -- A value of a word with a sign is a number with a sign.
-signed_only : (form : Form) (wide : Bool) (v : Plain) → (form ≡ scalars.Form.SignedVarint wide) ⊎ (form ≡ scalars.Form.SignedFixedBytes wide) → IsOfForm form v
+signed_only : (form : SpellingForm) (wide : Bool) (v : Plain) → (form ≡ scalars.SpellingForm.SignedVarint wide) ⊎ (form ≡ scalars.SpellingForm.SignedFixedBytes wide) → IsOfForm form v
     → (z : ℤ) × (v ≡ Signed z)
 signed_only form wide v is p =
     elim is [ inl e ↦ varint wide v (subst (λ f. IsOfForm f v) e p) | inr e ↦ fixed wide v (subst (λ f. IsOfForm f v) e p) ]
   where
-    varint : (wide : Bool) (v : Plain) → IsOfForm (scalars.Form.SignedVarint wide) v → (z : ℤ) × (v ≡ Signed z)
+    varint : (wide : Bool) (v : Plain) → IsOfForm (scalars.SpellingForm.SignedVarint wide) v → (z : ℤ) × (v ≡ Signed z)
     varint wide (Signed z) p = (z, refl)
     varint wide _ p = absurd p
 
-    fixed : (wide : Bool) (v : Plain) → IsOfForm (scalars.Form.SignedFixedBytes wide) v → (z : ℤ) × (v ≡ Signed z)
+    fixed : (wide : Bool) (v : Plain) → IsOfForm (scalars.SpellingForm.SignedFixedBytes wide) v → (z : ℤ) × (v ≡ Signed z)
     fixed wide (Signed z) p = (z, refl)
     fixed wide _ p = absurd p
 
-unsigned_only : (form : Form) (wide : Bool) (v : Plain) → (form ≡ scalars.Form.UnsignedVarint wide) ⊎ (form ≡ scalars.Form.FixedBytes wide) → IsOfForm form v
+unsigned_only : (form : SpellingForm) (wide : Bool) (v : Plain) → (form ≡ scalars.SpellingForm.UnsignedVarint wide) ⊎ (form ≡ scalars.SpellingForm.FixedBytes wide) → IsOfForm form v
     → (n : ℕ) × (v ≡ Unsigned n)
 unsigned_only form wide v is p =
     elim is [ inl e ↦ varint wide v (subst (λ f. IsOfForm f v) e p) | inr e ↦ fixed wide v (subst (λ f. IsOfForm f v) e p) ]
   where
-    varint : (wide : Bool) (v : Plain) → IsOfForm (scalars.Form.UnsignedVarint wide) v → (n : ℕ) × (v ≡ Unsigned n)
+    varint : (wide : Bool) (v : Plain) → IsOfForm (scalars.SpellingForm.UnsignedVarint wide) v → (n : ℕ) × (v ≡ Unsigned n)
     varint wide (Unsigned n) p = (n, refl)
     varint wide _ p = absurd p
 
-    fixed : (wide : Bool) (v : Plain) → IsOfForm (scalars.Form.FixedBytes wide) v → (n : ℕ) × (v ≡ Unsigned n)
+    fixed : (wide : Bool) (v : Plain) → IsOfForm (scalars.SpellingForm.FixedBytes wide) v → (n : ℕ) × (v ≡ Unsigned n)
     fixed wide (Unsigned n) p = (n, refl)
     fixed wide _ p = absurd p
 

@@ -1,3 +1,3 @@
-pub mod Taken
+pub mod Ends
 pub mod Literals
 pub mod Writes

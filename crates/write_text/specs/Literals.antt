@@ -28,10 +28,10 @@ SaysByte byte text =
     ⊎ ((escaped : List ℕ) × SaysEscaped byte escaped × (text ≡ codes "\\" ++ escaped))
 
 -- The text says these bytes of a string, one after another.
-abbrev pub SaysBytes : List ℕ → List ℕ → Type 0
-SaysBytes [] text = text ≡ []
-SaysBytes (byte ∷ bytes) text =
-    (first rest : List ℕ) × SaysByte byte first × SaysBytes bytes rest × (text ≡ first ++ rest)
+abbrev pub SpellsBytes : List ℕ → List ℕ → Type 0
+SpellsBytes [] text = text ≡ []
+SpellsBytes (byte ∷ bytes) text =
+    (first rest : List ℕ) × SaysByte byte first × SpellsBytes bytes rest × (text ≡ first ++ rest)
 
 -- The text says this value of a word, whatever the word: the word of a truth value, a number in decimal with a minus
 -- before one below zero, a string between quotation marks, or bytes as digits of either case behind `0x`.
@@ -40,7 +40,7 @@ IsPlainText (Truth truth) text = text ≡ truth_text truth
 IsPlainText (Signed number) text = text ≡ signed_decimal number
 IsPlainText (Unsigned number) text = text ≡ decimal number
 IsPlainText (Text bytes) text =
-    (inside : List ℕ) × SaysBytes bytes inside × (text ≡ codes "\"" ++ inside ++ codes "\"")
+    (inside : List ℕ) × SpellsBytes bytes inside × (text ≡ codes "\"" ++ inside ++ codes "\"")
 IsPlainText (Octets bytes) text = (digits : List ℕ) × (text ≡ codes "0x" ++ digits) × (decode_of digits ≡ Ok bytes)
 
 -- Each text says its value.

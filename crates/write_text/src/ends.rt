@@ -2,12 +2,12 @@
 
 ghost use Rattle.std.specs.Prelude.{◌≡◌, ◌∷◌, ◌++◌, ◌↔◌, All, IsTrue};
 ghost use Rattle.std.specs.Option.{option_map};
-ghost use Rattle.decimal_text.specs.Answers.{Answers};
-ghost use Rattle.write_text.specs.Taken.{is_stop, IsEnd, IsInside};
+ghost use Rattle.decimal_text.specs.Answers.{IsSomeOf};
+ghost use Rattle.write_text.specs.Ends.{is_stop, IsEnd, IsNoStop};
 
 /// The text behind this byte; none where the text doesn't begin with it.
 pub(crate) fn behind(byte: u8, text: &[u8]) -> Option<&[u8]>
-    ensures { Answers (λ rest. text.now ≡ byte ∷ rest) (option_map (λ rest. rest.now) result) }
+    ensures { IsSomeOf (λ rest. text.now ≡ byte ∷ rest) (option_map (λ rest. rest.now) result) }
 {
     match text {
         [first, rest @ ..] if *first == byte => Some(rest),
@@ -35,7 +35,7 @@ pub(crate) fn is_end(rest: &[u8]) -> bool
 /// The bytes before the first one at which a literal ends, and the rest.
 pub(crate) fn split_at_stop(text: &[u8]) -> (&[u8], &[u8])
     ensures same { text.now ≡ result.0.now ++ result.1.now }
-    ensures front { All IsInside result.0.now }
+    ensures front { All IsNoStop result.0.now }
     ensures end { IsEnd result.1.now }
 {
     match text.iter().position(|byte| is_stop(*byte)) {

@@ -4,12 +4,12 @@ ghost use Rattle.std.specs.Prelude.{◌≡◌, ℕ, ◌≤◌, ◌++◌, List, c
 ghost use Rattle.std.specs.Option.{option_map};
 ghost use Rattle.bag_model.specs.Scalars as scalars;
 ghost use Rattle.bag_model.specs.Scalars.{IsPlainOf, IsScalarOf, ArePlainsOf, plain_bytes, spelling};
-ghost use Rattle.scalar_types.specs.KindViews.{IsWord, kind_of, word_of};
-ghost use Rattle.scalar_types.specs.ScalarViews.{IsPlain, plain_of, value_of};
-ghost use Rattle.decimal_text.specs.Answers.{Answers};
+ghost use Rattle.scalar_types.specs.KindViews.{IsPlainWord, kind_of, word_of};
+ghost use Rattle.scalar_types.specs.Scalars.{IsPlain, plain_of, value_of};
+ghost use Rattle.decimal_text.specs.Answers.{IsSomeOf};
 ghost use Rattle.report_text.specs.Commas.{comma_before, comma_joined};
 ghost use Rattle.write_text.specs.Literals.{ArePlainTexts, HasNoSign, HasSign, IsLiteral, IsPlainText, IsScalarText, IsWriter, most_payload};
-ghost use Rattle.write_text.specs.Taken.{Begins, Takes};
+ghost use Rattle.write_text.specs.Ends.{BeginsWithOne, TakesFront};
 
 use crate::ends::{behind, is_end, split_at_stop};
 use crate::numbers::{read_octets, read_signed, read_truth};
@@ -22,9 +22,9 @@ use std::alloc::Global;
 
 /// The number of a word with a sign.
 fn signed_of(word: &ScalarKind, text: &[u8]) -> Option<Scalar>
-    requires word { IsWord word.now }
+    requires word { IsPlainWord word.now }
     requires sign { HasSign (word_of word.now) }
-    ensures value { Answers (λ v. IsPlainOf (word_of word.now) v × IsPlainText v text.now) (option_map plain_of result) }
+    ensures value { IsSomeOf (λ v. IsPlainOf (word_of word.now) v × IsPlainText v text.now) (option_map plain_of result) }
     ensures plain { IfSome result IsPlain }
 {
     let scalar = Scalar::Signed(read_signed(text)?);
@@ -37,9 +37,9 @@ fn signed_of(word: &ScalarKind, text: &[u8]) -> Option<Scalar>
 
 /// The number of a word without a sign.
 fn unsigned_of(word: &ScalarKind, text: &[u8]) -> Option<Scalar>
-    requires word { IsWord word.now }
+    requires word { IsPlainWord word.now }
     requires no_sign { HasNoSign (word_of word.now) }
-    ensures value { Answers (λ v. IsPlainOf (word_of word.now) v × IsPlainText v text.now) (option_map plain_of result) }
+    ensures value { IsSomeOf (λ v. IsPlainOf (word_of word.now) v × IsPlainText v text.now) (option_map plain_of result) }
     ensures plain { IfSome result IsPlain }
 {
     let scalar = Scalar::Unsigned(read_decimal(text)?);
@@ -52,9 +52,9 @@ fn unsigned_of(word: &ScalarKind, text: &[u8]) -> Option<Scalar>
 
 /// The value of a word that is no string's, as the whole text says it.
 fn read_word(alloc: Global, word: &ScalarKind, text: &[u8]) -> Result<Option<Scalar>, Memory>
-    requires word { IsWord word.now }
+    requires word { IsPlainWord word.now }
     requires no_string { word_of word.now ≡ scalars.Word.Str → ⊥ }
-    ensures value { IfOk result (λ read. Answers (λ v. IsPlainOf (word_of word.now) v × IsPlainText v text.now)
+    ensures value { IfOk result (λ read. IsSomeOf (λ v. IsPlainOf (word_of word.now) v × IsPlainText v text.now)
         (option_map plain_of read)) }
     ensures plain { IfOk result (λ read. IfSome read IsPlain) }
 {
@@ -83,9 +83,9 @@ fn take_word<'a>(
     word: &ScalarKind,
     text: &'a [u8],
 ) -> Result<Option<(Scalar, &'a [u8])>, Memory>
-    requires { IsWord word.now }
+    requires { IsPlainWord word.now }
     ensures value { IfOk result (λ taken.
-        Takes (λ v rest. Begins (λ front. IsPlainOf (word_of word.now) v × IsPlainText v front) text.now rest)
+        TakesFront (λ v rest. BeginsWithOne (λ front. IsPlainOf (word_of word.now) v × IsPlainText v front) text.now rest)
         (option_map (λ taken. (plain_of taken.0, taken.1.now)) taken)) }
     ensures plain { IfOk result (λ taken. IfSome taken (λ taken. IsPlain taken.0)) }
 {
@@ -104,7 +104,7 @@ fn take_word<'a>(
 
 /// The text behind the comma before the field that has `at` fields before it: there is none before the first.
 fn without_comma(at: usize, text: &[u8]) -> Option<&[u8]>
-    ensures { Answers (λ rest. text.now ≡ comma_before at ++ rest) (option_map (λ rest. rest.now) result) }
+    ensures { IsSomeOf (λ rest. text.now ≡ comma_before at ++ rest) (option_map (λ rest. rest.now) result) }
 {
     match text {
         _ if at == 0 => Some(text),
@@ -120,8 +120,8 @@ fn take_fields<'a>(
     kinds: &[ScalarKind],
     text: &'a [u8],
 ) -> Result<Option<(ScalarList, &'a [u8])>, Memory>
-    requires { All IsWord kinds.now }
-    ensures { IfOk result (λ taken. Takes (λ vs rest. (texts : List (List ℕ)) × ArePlainsOf (map word_of kinds.now) vs
+    requires { All IsPlainWord kinds.now }
+    ensures { IfOk result (λ taken. TakesFront (λ vs rest. (texts : List (List ℕ)) × ArePlainsOf (map word_of kinds.now) vs
         × ArePlainTexts vs texts × (text.now ≡ comma_joined texts ++ codes ")" ++ rest))
         (option_map (λ taken. (taken.0, taken.1.now)) taken)) }
 {
@@ -149,8 +149,8 @@ fn take_struct<'a>(
     kinds: &[ScalarKind],
     text: &'a [u8],
 ) -> Result<Option<(ScalarList, &'a [u8])>, Memory>
-    requires { All IsWord kinds.now }
-    ensures { IfOk result (λ taken. Takes (λ vs rest. Begins (λ front. ArePlainsOf (map word_of kinds.now) vs
+    requires { All IsPlainWord kinds.now }
+    ensures { IfOk result (λ taken. TakesFront (λ vs rest. BeginsWithOne (λ front. ArePlainsOf (map word_of kinds.now) vs
         × IsScalarText (scalars.ScalarValue.Packed vs) front) text.now rest)
         (option_map (λ taken. (taken.0, taken.1.now)) taken)) }
 {
@@ -174,7 +174,7 @@ fn take_scalar<'a>(
     text: &'a [u8],
 ) -> Result<Option<(Scalar, &'a [u8])>, Memory>
     ensures { IfOk result (λ taken.
-        Takes (λ v rest. Begins (λ front. IsScalarOf (kind_of kind.now) v × IsScalarText v front) text.now rest)
+        TakesFront (λ v rest. BeginsWithOne (λ front. IsScalarOf (kind_of kind.now) v × IsScalarText v front) text.now rest)
         (option_map (λ taken. (value_of taken.0, taken.1.now)) taken)) }
 {
     if let ScalarKind::Packed(kinds) = kind {
@@ -216,7 +216,7 @@ pub(crate) fn take_literal<'a>(
     kind: &ScalarKind,
     text: &'a [u8],
 ) -> Result<Option<(Scalar, &'a [u8])>, Memory>
-    ensures { IfOk result (λ taken. Takes (λ v rest. Begins (IsLiteral form (kind_of kind.now) v) text.now rest)
+    ensures { IfOk result (λ taken. TakesFront (λ v rest. BeginsWithOne (IsLiteral form (kind_of kind.now) v) text.now rest)
         (option_map (λ taken. (value_of taken.0, taken.1.now)) taken)) }
 {
     let Some((scalar, rest)) = take_scalar(alloc, kind, text)? else {
@@ -237,7 +237,7 @@ pub(crate) fn read_literal(
     kind: &ScalarKind,
     text: &[u8],
 ) -> Result<Option<Scalar>, Memory>
-    ensures { IfOk result (λ read. Answers (λ v. IsLiteral form (kind_of kind.now) v text.now) (option_map value_of read)) }
+    ensures { IfOk result (λ read. IsSomeOf (λ v. IsLiteral form (kind_of kind.now) v text.now) (option_map value_of read)) }
 {
     let Some((scalar, rest)) = take_literal(alloc, form, kind, text)? else {
         return Ok(None);
@@ -266,7 +266,7 @@ pub(crate) fn take_writer(
     form: Form,
     text: &[u8],
 ) -> Result<Option<(Octets, &[u8])>, Memory>
-    ensures { IfOk result (λ taken. Takes (λ bytes rest. Begins (IsWriter form bytes) text.now rest)
+    ensures { IfOk result (λ taken. TakesFront (λ bytes rest. BeginsWithOne (IsWriter form bytes) text.now rest)
         (option_map (λ taken. (taken.0, taken.1.now)) taken)) }
 {
     if let Some((writer, rest)) = take_literal(alloc, form, &ScalarKind::Str, text)? {

@@ -4,7 +4,7 @@ ghost use Rattle.std.specs.Prelude.{◌≡◌, ℕ, ◌^◌, ◌<◌, ◌++◌, 
 ghost use Rattle.std.specs.Fmt.{signed_decimal};
 ghost use Rattle.std.specs.Int.{w64};
 ghost use Rattle.hex.specs.Hex.{decode_of};
-ghost use Rattle.decimal_text.specs.Answers.{Answers};
+ghost use Rattle.decimal_text.specs.Answers.{IsSomeOf};
 ghost use Rattle.report_text.specs.ScalarTexts.{truth_text};
 
 use crate::ends::behind;
@@ -15,7 +15,7 @@ use std::alloc::Global;
 
 /// The truth value of a word.
 pub(crate) fn read_truth(text: &[u8]) -> Option<bool>
-    ensures { Answers (λ truth. text.now ≡ truth_text truth) result }
+    ensures { IsSomeOf (λ truth. text.now ≡ truth_text truth) result }
 {
     match text {
         b"true" => Some(true),
@@ -26,7 +26,7 @@ pub(crate) fn read_truth(text: &[u8]) -> Option<bool>
 
 /// The number below zero of this size; none for 0, and where it has more than 64 bits with its sign.
 fn negated(size: u64) -> Option<i64>
-    ensures { Answers (λ number. (below : ℕ) × (size ≡ suc below) × (number ≡ negsuc below) × (below < 2 ^ 63)) result }
+    ensures { IsSomeOf (λ number. (below : ℕ) × (size ≡ suc below) × (number ≡ negsuc below) × (below < 2 ^ 63)) result }
 {
     let below = size.checked_sub(1)?;
     match i64::try_from(below) {
@@ -37,7 +37,7 @@ fn negated(size: u64) -> Option<i64>
 
 /// The number itself; none where it has more than 64 bits with a sign.
 fn not_negated(size: u64) -> Option<i64>
-    ensures { Answers (λ number. (number ≡ pos size) × (size < 2 ^ 63)) result }
+    ensures { IsSomeOf (λ number. (number ≡ pos size) × (size < 2 ^ 63)) result }
 {
     match i64::try_from(size) {
         Ok(number) => Some(number),
@@ -47,7 +47,7 @@ fn not_negated(size: u64) -> Option<i64>
 
 /// A number with a minus before it where it is below zero.
 pub(crate) fn read_signed(text: &[u8]) -> Option<i64>
-    ensures { Answers (λ number. (text.now ≡ signed_decimal number) × FitsSigned w64 number) result }
+    ensures { IsSomeOf (λ number. (text.now ≡ signed_decimal number) × FitsSigned w64 number) result }
 {
     match behind(b'-', text) {
         Some(digits) => {
@@ -67,7 +67,7 @@ pub(crate) fn read_signed(text: &[u8]) -> Option<i64>
 
 /// A byte string as digits.
 pub(crate) fn read_octets(alloc: Global, text: &[u8]) -> Result<Option<Octets>, Memory>
-    ensures { IfOk result (Answers (λ bytes. (digits : List ℕ) × (text.now ≡ codes "0x" ++ digits) × (decode_of digits ≡ Ok bytes))) }
+    ensures { IfOk result (IsSomeOf (λ bytes. (digits : List ℕ) × (text.now ≡ codes "0x" ++ digits) × (decode_of digits ≡ Ok bytes))) }
 {
     let [b'0', b'x', digits @ ..] = text else {
         return Ok(None);

@@ -3,10 +3,10 @@
 ghost use Rattle.std.specs.Prelude.{◌≡◌, ℕ, ◌++◌, ◌∷◌, List, codes, IfOk, IsUtf8};
 ghost use Rattle.std.specs.Option.{option_map};
 ghost use Rattle.bag_model.specs.Scalars as scalars;
-ghost use Rattle.decimal_text.specs.Answers.{Answers};
+ghost use Rattle.decimal_text.specs.Answers.{IsSomeOf};
 ghost use Rattle.report_text.specs.ScalarTexts.{is_marked};
-ghost use Rattle.write_text.specs.Literals.{AreDigitsOf, IsPlainText, SaysByte, SaysBytes, SaysEscaped};
-ghost use Rattle.write_text.specs.Taken.{Begins, Takes};
+ghost use Rattle.write_text.specs.Literals.{AreDigitsOf, IsPlainText, SaysByte, SpellsBytes, SaysEscaped};
+ghost use Rattle.write_text.specs.Ends.{BeginsWithOne, TakesFront};
 
 use crate::ends::{behind, is_end};
 use outside::{Memory, Text};
@@ -21,7 +21,7 @@ fn is_marked(byte: u8) -> bool
 
 /// The byte below 128 that two digits say.
 fn byte_of(high: u8, low: u8) -> Option<u8>
-    ensures { Answers (λ byte. AreDigitsOf byte high low) result }
+    ensures { IsSomeOf (λ byte. AreDigitsOf byte high low) result }
 {
     let high = char::from(high).to_digit(8)?;
     let low = char::from(low).to_digit(16)?;
@@ -30,7 +30,7 @@ fn byte_of(high: u8, low: u8) -> Option<u8>
 
 /// The byte that two digits say, and the rest.
 fn take_digits(text: &[u8]) -> Option<(u8, &[u8])>
-    ensures { Takes (λ byte rest. (high low : ℕ) × AreDigitsOf byte high low × (text.now ≡ high ∷ low ∷ rest))
+    ensures { TakesFront (λ byte rest. (high low : ℕ) × AreDigitsOf byte high low × (text.now ≡ high ∷ low ∷ rest))
         (option_map (λ taken. (taken.0, taken.1.now)) result) }
 {
     match text {
@@ -41,7 +41,7 @@ fn take_digits(text: &[u8]) -> Option<(u8, &[u8])>
 
 /// The byte that stands behind a backslash, and the rest.
 fn take_escaped(text: &[u8]) -> Option<(u8, &[u8])>
-    ensures { Takes (λ byte rest. (escaped : List ℕ) × SaysEscaped byte escaped × (text.now ≡ escaped ++ rest))
+    ensures { TakesFront (λ byte rest. (escaped : List ℕ) × SaysEscaped byte escaped × (text.now ≡ escaped ++ rest))
         (option_map (λ taken. (taken.0, taken.1.now)) result) }
 {
     let (first, rest) = text.split_first()?;
@@ -57,7 +57,7 @@ fn take_escaped(text: &[u8]) -> Option<(u8, &[u8])>
 
 /// The first byte of what stands inside a string, and the rest.
 fn take_byte(text: &[u8]) -> Option<(u8, &[u8])>
-    ensures { Takes (λ byte rest. (first : List ℕ) × SaysByte byte first × (text.now ≡ first ++ rest))
+    ensures { TakesFront (λ byte rest. (first : List ℕ) × SaysByte byte first × (text.now ≡ first ++ rest))
         (option_map (λ taken. (taken.0, taken.1.now)) result) }
 {
     let (first, rest) = text.split_first()?;
@@ -77,7 +77,7 @@ fn take_byte(text: &[u8]) -> Option<(u8, &[u8])>
 /// The bytes of what stands inside a string, and what follows the quotation mark behind it.
 fn take_bytes(alloc: Global, text: &[u8]) -> Result<Option<(Vec<u8>, &[u8])>, Memory>
     ensures { IfOk result (λ taken.
-        Takes (λ bytes rest. (inside : List ℕ) × SaysBytes bytes inside × (text.now ≡ inside ++ codes "\"" ++ rest))
+        TakesFront (λ bytes rest. (inside : List ℕ) × SpellsBytes bytes inside × (text.now ≡ inside ++ codes "\"" ++ rest))
         (option_map (λ taken. (taken.0.items, taken.1.now)) taken)) }
 {
     let mut bytes = Vec::new(alloc);
@@ -95,7 +95,7 @@ fn take_bytes(alloc: Global, text: &[u8]) -> Result<Option<(Vec<u8>, &[u8])>, Me
 /// The string that the text begins with, and the rest.
 pub(crate) fn take_string(alloc: Global, text: &[u8]) -> Result<Option<(Text, &[u8])>, Memory>
     ensures { IfOk result (λ taken.
-        Takes (λ bytes rest. Begins (λ front. IsUtf8 bytes × IsPlainText (scalars.Plain.Text bytes) front) text.now rest)
+        TakesFront (λ bytes rest. BeginsWithOne (λ front. IsUtf8 bytes × IsPlainText (scalars.Plain.Text bytes) front) text.now rest)
         (option_map (λ taken. (taken.0, taken.1.now)) taken)) }
 {
     let Some(inside) = behind(b'"', text) else {

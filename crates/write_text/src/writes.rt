@@ -6,12 +6,12 @@ ghost use Rattle.bag_model.specs.Shapes as shapes;
 ghost use Rattle.bag_model.specs.Tables.{AreFields, IsShape};
 ghost use Rattle.bag_model.specs.Values as values;
 ghost use Rattle.bag_model.specs.Values.{bottom, values_list};
-ghost use Rattle.bag_value.specs.Plain.{plain};
-ghost use Rattle.decimal_text.specs.Answers.{Answers};
+ghost use Rattle.bag_value.specs.Vals.{plain};
+ghost use Rattle.decimal_text.specs.Answers.{IsSomeOf};
 ghost use Rattle.field_table.specs.Plain.{shape_of, nodes_of};
 ghost use Rattle.scalar_types.specs.KindViews.{kind_of};
-ghost use Rattle.scalar_types.specs.ScalarViews.{value_of};
-ghost use Rattle.write_text.specs.Taken.{Takes};
+ghost use Rattle.scalar_types.specs.Scalars.{value_of};
+ghost use Rattle.write_text.specs.Ends.{TakesFront};
 ghost use Rattle.write_text.specs.Writes.{HasNoEquals, IsFirstNamed, IsWrite, one_at};
 
 use crate::ends::behind;
@@ -37,7 +37,7 @@ pub fn read_write(
     text: &[u8],
 ) -> Result<Option<Val>, Memory>
     requires { IsShape (shape_of shape.now) }
-    ensures { IfOk result (λ read. Answers (λ v. IsWrite form (shape_of shape.now) v text.now) (option_map plain read)) }
+    ensures { IfOk result (λ read. IsSomeOf (λ v. IsWrite form (shape_of shape.now) v text.now) (option_map plain read)) }
 {
     match shape {
         Shape::Taint => Ok(read_mark(text)),
@@ -78,7 +78,7 @@ fn read_entry(
     text: &[u8],
 ) -> Result<Option<Entries>, Memory>
     requires { IsShape (shape_of shape.now) }
-    ensures { IfOk result (λ read. Answers
+    ensures { IfOk result (λ read. IsSomeOf
         (λ es. IsWrite form (shapes.Shape.Map (kind_of kind.now) (shape_of shape.now)) (values.Value.Map es) text.now) read) }
 {
     let Some((key, rest)) = take_literal(alloc, form, kind, text)? else {
@@ -104,7 +104,7 @@ fn read_field(
     text: &[u8],
 ) -> Result<Option<Vals>, Memory>
     requires { AreFields (nodes_of fields.now) }
-    ensures { IfOk result (λ read. Answers
+    ensures { IfOk result (λ read. IsSomeOf
         (λ vs. IsWrite form (shapes.Shape.Bag (nodes_of fields.now)) (values.Value.Bag vs) text.now) read) }
 {
     let Some((name, rest)) = split_name(text) else {
@@ -122,7 +122,7 @@ fn read_field(
 
 /// A taint that is put on.
 fn read_mark(text: &[u8]) -> Option<Val>
-    ensures { Answers (λ v. (v ≡ values.Value.Taint true) × (text.now ≡ codes "on")) (option_map plain result) }
+    ensures { IsSomeOf (λ v. (v ≡ values.Value.Taint true) × (text.now ≡ codes "on")) (option_map plain result) }
 {
     match text {
         b"on" => Some(Val::Taint(true)),
@@ -137,7 +137,7 @@ fn read_element(
     kind: &ScalarKind,
     text: &[u8],
 ) -> Result<Option<ScalarSet>, Memory>
-    ensures { IfOk result (λ read. Answers (λ v. IsWrite form (shapes.Shape.Set (kind_of kind.now)) v text.now)
+    ensures { IfOk result (λ read. IsSomeOf (λ v. IsWrite form (shapes.Shape.Set (kind_of kind.now)) v text.now)
         (option_map (λ set. values.Value.Set (kind_of set.codec) (map value_of set.items)) read)) }
 {
     match read_literal(alloc, form, kind, text)? {
@@ -148,7 +148,7 @@ fn read_element(
 
 /// The count of one writer.
 fn read_count(alloc: Global, form: Form, text: &[u8]) -> Result<Option<Counts>, Memory>
-    ensures { IfOk result (λ read. Answers (λ counts. IsWrite form shapes.Shape.Counter (values.Value.Counter counts) text.now) read) }
+    ensures { IfOk result (λ read. IsSomeOf (λ counts. IsWrite form shapes.Shape.Counter (values.Value.Counter counts) text.now) read) }
 {
     let Some((writer, rest)) = take_writer(alloc, form, text)? else {
         return Ok(None);
@@ -164,7 +164,7 @@ fn read_count(alloc: Global, form: Form, text: &[u8]) -> Result<Option<Counts>, 
 
 /// The name between the dot that the text begins with and the first equals sign, and what follows that.
 fn split_name(text: &[u8]) -> Option<(&[u8], &[u8])>
-    ensures { Takes (λ name rest. (text.now ≡ codes "." ++ name ++ codes "=" ++ rest) × HasNoEquals name)
+    ensures { TakesFront (λ name rest. (text.now ≡ codes "." ++ name ++ codes "=" ++ rest) × HasNoEquals name)
         (option_map (λ split. (split.0.now, split.1.now)) result) }
 {
     let [b'.', named @ ..] = text else {

@@ -1,5 +1,5 @@
 use Rattle.std.proofs.Common.{◌∙◌, sym, length}
-use Rattle.lex_varint.specs.Fronts.{IsUnsignedAt}
+use Rattle.lex_varint.specs.Readings.{IsUnsignedAt}
 use Rattle.atom_kinds.proofs.Numbers.{whole_front, front_whole, ok_from, none_from, count_of}
 use Rattle.atom_kinds.proofs.whole_number.Goals as goal
 

@@ -5,8 +5,8 @@ use Rattle.bag_model.specs.Joins.{AlikeEntries, Proper, AreProper}
 use Rattle.bag_model.specs.Scalars.{scalar_cmp}
 use Rattle.bag_model.specs.Values as model
 use Rattle.bag_model.specs.Values.{size_of_entries, size_of_values}
-use Rattle.scalar_types.specs.ScalarViews.{value_of}
-use Rattle.bag_value.specs.Plain.{plain_values, plain_entries}
+use Rattle.scalar_types.specs.Scalars.{value_of}
+use Rattle.bag_value.specs.Vals.{plain_values, plain_entries}
 use Rattle.bag_value.proofs.Joining.{entries_alike, entries_whole, entries_proper, entry_falls, within_second, values_alike, values_step, values_whole, values_proper, value_falls}
 use Rattle.bag_value.proofs.+join.Goals as goal
 use Rattle.bag_value.proofs.+join.Goals.{lists::Entries::joined-then-loop-i-test+else-j-theirs, lists::Entries::joined-else-loop-i-test}

@@ -1,7 +1,7 @@
 use Rattle.std.proofs.Common.{◌≡◌, ◌+◌, ◌-◌, ◌*◌, ◌≤◌, ◌++◌, length, map, drop}
 use Rattle.bag_model.specs.Joins.{AreAlike}
 use Rattle.bag_model.specs.Values.{size_of, size_of_entries, size_of_values}
-use Rattle.bag_value.specs.Plain.{plain, plain_values, pair_of}
+use Rattle.bag_value.specs.Vals.{plain, plain_values, pair_of}
 use Rattle.bag_value.proofs.Joining.{rest_merged, rest_joined}
 use Rattle.bag_value.proofs.+join.Given as goal
 

@@ -1,6 +1,6 @@
 use Rattle.std.proofs.Common.{◌≡◌, ℕ, ◌+◌, ◌-◌, ◌*◌, ◌<◌, ◌^◌, Bool, true, false, cond, [], ◌∷◌, get_or, refl, ap, sym, arith}
 use Rattle.context_model.specs.Varints.{complement}
-use Rattle.lex_varint.specs.Fronts.{turned}
+use Rattle.lex_varint.specs.Readings.{turned}
 use Rattle.lex_varint.proofs.Numbers.{room_more, high_more, low_more}
 use Rattle.lex_varint.proofs.number_behind.Goals as goal
 

@@ -1,6 +1,6 @@
 use Rattle.std.proofs.Common.{◌≡◌, ◌/◌, ◌^◌, take}
 use Rattle.context_model.specs.Varints.{big_endian}
-use Rattle.lex_varint.specs.Fronts.{turned}
+use Rattle.lex_varint.specs.Readings.{turned}
 use Rattle.lex_varint.proofs.number_behind.Given as goal
 
 abbrev pub invariant-loop-byte : goal.invariant-loop-byte

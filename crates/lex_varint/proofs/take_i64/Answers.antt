@@ -1,6 +1,6 @@
 use Rattle.std.proofs.Common.{◌≡◌, ◌<◌, ◌≤◌, ◌+◌, ◌-◌, ◌*◌, ◌^◌, pos, take, get_or, ltb, length, nat_abs, Ok, Err, to_z, of_z, to_z-of_z, w64, sym, ap, ◌∙◌, subst, arith}
 use Rattle.std.proofs.lemmas.List.{length-take-le}
-use Rattle.lex_varint.specs.Fronts.{with_sign}
+use Rattle.lex_varint.specs.Readings.{with_sign}
 use Rattle.lex_varint.specs.declared.VarintFault.TheVariants.{Cut, LongForm, OutOfRange}
 use Rattle.lex_varint.proofs.Puts.{table}
 use Rattle.lex_varint.proofs.UnsignedFronts.{byte_first}

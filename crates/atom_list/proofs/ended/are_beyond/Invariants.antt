@@ -1,6 +1,6 @@
 use Rattle.std.proofs.Common.{◌↔◌, map, drop}
 use Rattle.context_model.specs.Ended.{field_path, IsBeyond}
-use Rattle.atom_list.specs.Open.{atom_at}
+use Rattle.atom_list.specs.OpenPlaces.{atom_at}
 use Rattle.atom_list.proofs.ended.are_beyond.Given as goal
 
 abbrev pub invariant-loop-level : goal.invariant-loop-level

@@ -2,7 +2,7 @@ use Rattle.std.proofs.Common.{◌≡◌, ◌+◌, length, get_or, sym, ◌∙◌
 use Rattle.std.proofs.lemmas.Option.{get_or_from_slice_get}
 use Rattle.context_model.specs.declared.Form.TheVariants.{One}
 use Rattle.context_model.specs.Framing.{frame}
-use Rattle.atom_list.specs.Starts.{atom_at, IsRow}
+use Rattle.atom_list.specs.Starts.{atom_at, IsFrameRow}
 use Rattle.atom_list.proofs.Rows.{row_none, row_more}
 use Rattle.atom_list.proofs.starts.row_of.Goals as goal
 
@@ -23,4 +23,4 @@ loop-count-preserved c =
 pub returns-clause-row : goal.returns-clause-row
 returns-clause-row c =
     let all : c.loop-count.count ≡ length c.args.starts.now = omega arith in
-    subst (λ n. IsRow c.args.bytes.now c.args.starts.now n c.loop-count.end) all c.loop-count.invariant
+    subst (λ n. IsFrameRow c.args.bytes.now c.args.starts.now n c.loop-count.end) all c.loop-count.invariant

@@ -3,7 +3,7 @@ use Rattle.std.specs.List.{slice_get}
 use Rattle.std.specs.Option.{option_map}
 use Rattle.bag_model.specs.Shapes.{fields}
 use Rattle.bag_model.specs.Values.{values_list}
-use Rattle.bag_value.specs.Plain.{plain}
+use Rattle.bag_value.specs.Vals.{plain}
 use Rattle.field_table.specs.Plain.{nodes_of}
 use Rattle.bag_scan.proofs.FieldGets.{field_at, field_smaller, field_there, opened}
 use Rattle.bag_codec.proofs.Parts.{both_ways, each_at, each_length, each_turn, each_whole, some_there}

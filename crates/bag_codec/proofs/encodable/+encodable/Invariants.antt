@@ -3,7 +3,7 @@ use Rattle.context_model.specs.KeyedMerge.{EachPair}
 use Rattle.bag_model.specs.Shapes.{fields}
 use Rattle.bag_model.specs.Sizes.{shape_size, nodes_size}
 use Rattle.bag_model.specs.Values.{pairs, values_list}
-use Rattle.bag_value.specs.Plain.{pair_of}
+use Rattle.bag_value.specs.Vals.{pair_of}
 use Rattle.field_table.specs.Plain.{nodes_of, shape_of}
 use Rattle.scalar_types.specs.KindViews.{kind_of}
 use Rattle.bag_codec.specs.Encodable.{AreEncodable}

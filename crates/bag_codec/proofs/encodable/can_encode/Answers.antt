@@ -1,11 +1,11 @@
 use Rattle.std.proofs.Common.{[], sym, ap, subst}
-use Rattle.bag_encode.specs.BagValues.{bag_values}
+use Rattle.bag_encode.specs.Encoding.{bag_values}
 use Rattle.bag_model.specs.Encodings.{FitsAtoms}
 use Rattle.bag_model.specs.Joins.{Proper}
 use Rattle.bag_model.specs.Shapes as shapes
 use Rattle.bag_model.specs.Shapes.{Nodes}
 use Rattle.bag_model.specs.Values.{Value, IsOfShape}
-use Rattle.bag_value.specs.Plain.{plain}
+use Rattle.bag_value.specs.Vals.{plain}
 use Rattle.bag_codec.specs.Encodable.{AreEncodable}
 use Rattle.bag_codec.proofs.Layouts.{each_by_parts, layouts_fit, of_shapes}
 use Rattle.bag_codec.proofs.encodable.can_encode.Goals as goal

@@ -1,7 +1,7 @@
 use Rattle.std.proofs.Common.{rules, sym, ap, ◌∙◌}
 use Rattle.std.specs.Option.{option_copied}
 use Rattle.scalar_types.specs.KindViews.{kind_of}
-use Rattle.scalar_types.specs.ScalarViews.{value_of}
+use Rattle.scalar_types.specs.Scalars.{value_of}
 use Rattle.bag_codec.specs.Encodable.{FitsAtom}
 use Rattle.bag_codec.proofs.Parts.{all_at, all_turn, both_ways}
 use Rattle.bag_codec.proofs.encodable.elements_fit.Goals as goal

@@ -1,7 +1,7 @@
 use Rattle.std.proofs.Common.{◌↔◌, map, drop}
 use Rattle.std.specs.List.{AllByRecursion}
 use Rattle.scalar_types.specs.KindViews.{kind_of}
-use Rattle.scalar_types.specs.ScalarViews.{value_of}
+use Rattle.scalar_types.specs.Scalars.{value_of}
 use Rattle.bag_codec.specs.Encodable.{FitsAtom}
 use Rattle.bag_codec.proofs.encodable.elements_fit.Given as goal
 

@@ -1,5 +1,5 @@
 use Rattle.std.proofs.Common.{sym, ap, ◌∙◌}
-use Rattle.scalar_types.specs.KindLaws.{kind_back, kind_from}
+use Rattle.scalar_types.specs.KindCodec.{kind_back, kind_from}
 use Rattle.scalar_types.specs.KindViews.{kind_of}
 use Rattle.bag_codec.proofs.encodable.names_kind.Goals as goal
 

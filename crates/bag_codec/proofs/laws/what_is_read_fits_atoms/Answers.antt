@@ -1,7 +1,7 @@
 use Rattle.std.proofs.Common.{[]}
 use Rattle.context_model.specs.Ended.{field_path}
 use Rattle.context_model.specs.Orders.{Path}
-use Rattle.bag_encode.specs.BagValues.{bag_values}
+use Rattle.bag_encode.specs.Encoding.{bag_values}
 use Rattle.bag_model.specs.Encodings.{FitsAtoms}
 use Rattle.bag_model.specs.Readings.{PathsOf, Reads}
 use Rattle.bag_model.specs.Shapes as shapes

@@ -3,7 +3,7 @@ use Rattle.std.proofs.lemmas.List.{length-map}
 use Rattle.context_model.proofs.MergeSteps.{drop-place}
 use Rattle.scalar_types.proofs.PackedSteps.{Fit, fits-length}
 use Rattle.scalar_types.specs.KindViews.{word_of}
-use Rattle.scalar_types.specs.ScalarViews.{plain_of}
+use Rattle.scalar_types.specs.Scalars.{plain_of}
 use Rattle.scalar_types.specs.declared.kinds.ScalarKind.{ScalarKind}
 use Rattle.scalar_types.specs.declared.scalars.Scalar.{Scalar}
 use Rattle.bag_codec.proofs.Rooms.{field, packed, packed-more}

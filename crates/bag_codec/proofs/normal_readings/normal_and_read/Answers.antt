@@ -1,8 +1,8 @@
 use Rattle.std.proofs.Common.{List, sym, ap, ◌∙◌, subst}
 use Rattle.context_model.specs.Atoms.{Atom}
 use Rattle.bag_model.specs.Normal.{IsNormalOf}
-use Rattle.bag_value.specs.Plain.{plain, val_of}
-use Rattle.bag_value.specs.PlainLaws.{val_back}
+use Rattle.bag_value.specs.Vals.{plain, val_of}
+use Rattle.bag_value.specs.ValLaws.{val_back}
 use Rattle.field_table.specs.Views.{view_of}
 use Rattle.bag_codec.proofs.Said.{Says, normal_says, says_one}
 use Rattle.bag_codec.proofs.normal_readings.normal_and_read.Goals as goal

@@ -1,7 +1,7 @@
 use Rattle.std.proofs.Common.{sym, ap, ◌∙◌, subst}
-use Rattle.bag_encode.specs.BagValues.{bag_values}
-use Rattle.bag_value.specs.Plain.{plain, val_of}
-use Rattle.bag_value.specs.PlainLaws.{val_back}
+use Rattle.bag_encode.specs.Encoding.{bag_values}
+use Rattle.bag_value.specs.Vals.{plain, val_of}
+use Rattle.bag_value.specs.ValLaws.{val_back}
 use Rattle.bag_codec.proofs.Said.{Says, encoding_says, encoding_typed, says_one}
 use Rattle.bag_codec.proofs.readings.encode_and_read.Goals as goal
 

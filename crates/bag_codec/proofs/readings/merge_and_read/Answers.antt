@@ -3,8 +3,8 @@ use Rattle.bag_model.specs.Joins.{join}
 use Rattle.bag_model.specs.Readings.{PathsOf}
 use Rattle.bag_model.specs.Shapes as shapes
 use Rattle.bag_model.proofs.OfShape.{Reads-shape}
-use Rattle.bag_value.specs.Plain.{plain, val_of}
-use Rattle.bag_value.specs.PlainLaws.{val_back}
+use Rattle.bag_value.specs.Vals.{plain, val_of}
+use Rattle.bag_value.specs.ValLaws.{val_back}
 use Rattle.bag_codec.proofs.Said.{Says, says_join, says_one}
 use Rattle.bag_codec.proofs.readings.merge_and_read.Goals as goal
 

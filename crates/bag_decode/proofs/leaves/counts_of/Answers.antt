@@ -1,7 +1,7 @@
 use Rattle.std.proofs.Common.{sym, subst}
 use Rattle.context_model.specs.Paths.{path_before}
 use Rattle.bag_model.specs.Readings.{PathsOf, datum_path}
-use Rattle.bag_walks.specs.Gathered.{GathersCounts}
+use Rattle.bag_walks.specs.Gathering.{GathersCounts}
 use Rattle.bag_decode.proofs.KeyTurns.{key_behind, key_path_is, key_stands, key_stays, writer_below, counts_turn, counts_end}
 use Rattle.bag_decode.proofs.leaves.counts_of.Goals as goal
 

@@ -1,7 +1,7 @@
 use Rattle.std.proofs.Common.{◌-◌, length}
 use Rattle.context_model.specs.Paths.{path_before}
 use Rattle.bag_walks.specs.Parts.{StaysBelow}
-use Rattle.bag_walks.specs.Gathered.{GathersCounts}
+use Rattle.bag_walks.specs.Gathering.{GathersCounts}
 use Rattle.bag_decode.proofs.leaves.counts_of.Given as goal
 
 abbrev pub invariant-keys : goal.invariant-keys

@@ -3,7 +3,7 @@ use Rattle.context_model.specs.Paths.{atom_at, path_before}
 use Rattle.bag_model.specs.Typed.{IsSpelling}
 use Rattle.bag_walks.proofs.Gathering.{stays_reads, none_stays, stays_there}
 use Rattle.scalar_types.specs.KindViews.{kind_of}
-use Rattle.scalar_types.specs.ScalarViews.{value_of}
+use Rattle.scalar_types.specs.Scalars.{value_of}
 use Rattle.bag_decode.proofs.Known.{datum_is, datum_stands}
 use Rattle.bag_decode.proofs.leaves.scalar_that_stays.Goals as goal
 

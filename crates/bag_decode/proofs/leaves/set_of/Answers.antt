@@ -3,13 +3,13 @@ use Rattle.context_model.specs.Merge.{AllBelow}
 use Rattle.context_model.specs.Paths.{atom_at, path_before}
 use Rattle.bag_model.specs.Scalars.{scalar_cmp, spelling}
 use Rattle.bag_model.specs.Typed.{IsSpelling}
-use Rattle.bag_walks.specs.Gathered.{GathersData, IsDatumAt}
+use Rattle.bag_walks.specs.Gathering.{GathersData, IsDatumAt}
 use Rattle.bag_walks.proofs.Sets.{data_below, data_more, data_other, set_reads}
 use Rattle.scalar_types.specs.KindViews.{kind_of}
-use Rattle.scalar_types.specs.ScalarViews.{value_of}
+use Rattle.scalar_types.specs.Scalars.{value_of}
 use Rattle.scalar_types.specs.declared.kinds.ScalarKind.{ScalarKind}
 use Rattle.scalar_types.specs.declared.scalars.Scalar.{Scalar}
-use Rattle.set_map_types.specs.Held.{Held, value_cmp}
+use Rattle.set_map_types.specs.SetsAndMaps.{Held, value_cmp}
 use Rattle.bag_decode.proofs.Fields.{map_push}
 use Rattle.bag_decode.proofs.Known.{below_codec, datum_is, datum_stands, no_header_front}
 use Rattle.bag_decode.proofs.leaves.set_of.Goals as goal

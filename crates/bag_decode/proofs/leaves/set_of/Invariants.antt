@@ -1,7 +1,7 @@
 use Rattle.std.proofs.Common.{◌≡◌, map}
-use Rattle.bag_walks.specs.Gathered.{GathersData}
+use Rattle.bag_walks.specs.Gathering.{GathersData}
 use Rattle.scalar_types.specs.KindViews.{kind_of}
-use Rattle.scalar_types.specs.ScalarViews.{value_of}
+use Rattle.scalar_types.specs.Scalars.{value_of}
 use Rattle.bag_decode.proofs.leaves.set_of.Given as goal
 
 abbrev pub invariant-loop-at : goal.invariant-loop-at

@@ -1,9 +1,9 @@
 use Rattle.std.proofs.Common.{◌≡◌, length, sym, ap, ◌∙◌}
 use Rattle.bag_model.specs.Values.{bottom}
-use Rattle.bag_value.specs.Plain.{plain}
+use Rattle.bag_value.specs.Vals.{plain}
 use Rattle.bag_value.specs.declared.vals.Val.{Val}
 use Rattle.field_table.specs.Plain.{shape_of}
-use Rattle.bag_decode.specs.SlotWalks.{SaysAt}
+use Rattle.bag_decode.specs.Slots.{SaysAt}
 use Rattle.bag_decode.proofs.SlotCalls.{bottom_says, call_fits, if_ok_so}
 use Rattle.bag_decode.proofs.slots.value_at.Goals as goal
 

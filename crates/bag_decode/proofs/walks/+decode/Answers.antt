@@ -11,16 +11,16 @@ use Rattle.bag_model.specs.Values.{values_list, pairs}
 use Rattle.bag_model.proofs.PathLaws.{is_field}
 use Rattle.bag_walks.proofs.Absent.{Reads-bare}
 use Rattle.bag_walks.specs.Parts.{IsBehind}
-use Rattle.bag_walks.specs.Gathered.{GathersEntries}
-use Rattle.bag_scan.specs.Found.{IsFoundBehind, IsMissing}
+use Rattle.bag_walks.specs.Gathering.{GathersEntries}
+use Rattle.bag_scan.specs.Searches.{IsFoundBehind, IsMissing}
 use Rattle.bag_scan.proofs.FieldGets.{field_at, field_smaller, opened}
 use Rattle.bag_scan.proofs.FieldTurns.{IsBefore, level_few, field_behind, field_path, field_level, field_passed, field_bare, field_missed}
-use Rattle.bag_value.specs.Plain.{plain}
+use Rattle.bag_value.specs.Vals.{plain}
 use Rattle.field_table.specs.Plain.{shape_of, nodes_of}
 use Rattle.field_table.proofs.Held.{levels_there}
 use Rattle.field_table.proofs.Shown.{counter_shown}
 use Rattle.scalar_types.specs.KindViews.{kind_of}
-use Rattle.scalar_types.specs.ScalarViews.{value_of}
+use Rattle.scalar_types.specs.Scalars.{value_of}
 use Rattle.bag_decode.proofs.Fields.{EachReads, each_reads_more, each_reads_whole, typed_there}
 use Rattle.bag_decode.proofs.KeyTurns.{key_behind, key_level, key_path_is, key_stands, key_below, next_stays, entries_turn, entries_end}
 use Rattle.bag_decode.proofs.walks.+decode.Goals as goal

@@ -5,7 +5,7 @@ use Rattle.bag_model.specs.Shapes.{fields}
 use Rattle.bag_model.specs.Sizes.{shape_size, nodes_size}
 use Rattle.bag_model.specs.Values.{values_list, pairs}
 use Rattle.bag_walks.specs.Parts.{StaysBelow}
-use Rattle.bag_walks.specs.Gathered.{GathersEntries}
+use Rattle.bag_walks.specs.Gathering.{GathersEntries}
 use Rattle.bag_scan.proofs.FieldTurns.{IsBefore}
 use Rattle.field_table.specs.Plain.{shape_of, nodes_of}
 use Rattle.scalar_types.specs.KindViews.{kind_of}

@@ -4,9 +4,9 @@ use Rattle.bag_model.specs.Encodings.{IsEncoding, FitsAtoms}
 use Rattle.bag_model.specs.Shapes as shapes
 use Rattle.bag_model.specs.Values.{Values, AreOfShapes, IsOfShape}
 use Rattle.field_table.specs.Plain.{nodes_of}
-use Rattle.bag_value.specs.Plain.{plain}
-use Rattle.bag_encode.specs.BagValues.{bag_values}
-use Rattle.bag_encode.specs.Trees.{field_atoms}
+use Rattle.bag_value.specs.Vals.{plain}
+use Rattle.bag_encode.specs.Encoding.{bag_values}
+use Rattle.bag_encode.specs.Values.{field_atoms}
 use Rattle.bag_encode.proofs.EncodingLaws.{IsEncoding-atoms, AreAtoms-fit}
 use Rattle.bag_encode.proofs.encoding.encode.Goals as goal
 

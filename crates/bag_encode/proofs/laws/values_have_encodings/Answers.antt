@@ -1,4 +1,4 @@
-use Rattle.bag_encode.specs.Trees.{field_atoms}
+use Rattle.bag_encode.specs.Values.{field_atoms}
 use Rattle.bag_encode.proofs.EncodingLaws.{IsEncoding-atoms}
 use Rattle.bag_encode.proofs.laws.values_have_encodings.Goals as goal
 

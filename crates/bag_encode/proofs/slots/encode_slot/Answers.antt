@@ -1,8 +1,8 @@
 use Rattle.std.proofs.Common.{◌≡◌, ◌++◌, ap, ◌∙◌, sym, subst}
 use Rattle.bag_model.specs.Encodings.{IsEncoding}
 use Rattle.bag_model.specs.SlotValues.{only}
-use Rattle.bag_value.specs.Plain.{plain}
-use Rattle.bag_encode.specs.Trees.{field_atoms}
+use Rattle.bag_value.specs.Vals.{plain}
+use Rattle.bag_encode.specs.Values.{field_atoms}
 use Rattle.bag_encode.proofs.EncodingLaws.{IsEncoding-atoms, AreAtoms-fit}
 use Rattle.bag_encode.proofs.SlotSteps.{only_shaped}
 use Rattle.bag_encode.proofs.slots.encode_slot.Goals as goal

@@ -3,9 +3,9 @@ use Rattle.std.proofs.lemmas.Result.{on_ok_weaker}
 use Rattle.context_model.specs.Atoms.{AreAtoms}
 use Rattle.context_model.specs.Ended.{field_path}
 use Rattle.bag_model.specs.Joins.{IsBottom}
-use Rattle.bag_value.specs.Plain.{plain}
+use Rattle.bag_value.specs.Vals.{plain}
 use Rattle.field_table.specs.Plain.{shape_of}
-use Rattle.bag_encode.specs.Trees.{atoms_of}
+use Rattle.bag_encode.specs.Values.{atoms_of}
 use Rattle.bag_encode.proofs.FieldSteps.{AreAtoms-back}
 use Rattle.bag_encode.proofs.SlotSteps.{bottom_slot, IsWritten, slot_written}
 use Rattle.bag_encode.proofs.slots.put_slot.Goals as goal

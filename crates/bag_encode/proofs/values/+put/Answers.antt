@@ -19,8 +19,8 @@ use Rattle.field_table.specs.Plain.{field_of, nodes_of, shape_of}
 use Rattle.bag_model.proofs.SizeLaws.{size_at}
 use Rattle.field_table.proofs.Held.{field_is, levels_there}
 use Rattle.field_table.proofs.Shown.{map_shown}
-use Rattle.bag_value.specs.Plain.{plain, pair_of}
-use Rattle.bag_encode.specs.Trees.{atoms_of, field_atoms, one_field_atoms, key_header}
+use Rattle.bag_value.specs.Vals.{plain, pair_of}
+use Rattle.bag_encode.specs.Values.{atoms_of, field_atoms, one_field_atoms, key_header}
 use Rattle.bag_encode.proofs.EntrySteps.{entry_is, entry_turn, entries_atoms}
 use Rattle.bag_encode.proofs.FieldSteps.{bottom_atoms, said_atoms, value_for, some_there, field_turn, shapes_turn, AreAtoms-front, nodes_from_place, values_from_place, nodes_end}
 use Rattle.bag_encode.proofs.Steps.{IsOnWay, IsOnWay-more}

@@ -3,8 +3,8 @@ use Rattle.bag_model.specs.Sizes.{shape_size, nodes_size}
 use Rattle.bag_model.specs.Values.{AreOfShapes, pairs}
 use Rattle.scalar_types.specs.KindViews.{kind_of}
 use Rattle.field_table.specs.Plain.{field_of, nodes_of, shape_of}
-use Rattle.bag_value.specs.Plain.{pair_of}
-use Rattle.bag_encode.specs.Trees.{field_atoms}
+use Rattle.bag_value.specs.Vals.{pair_of}
+use Rattle.bag_encode.specs.Values.{field_atoms}
 use Rattle.bag_encode.proofs.EntrySteps.{entries_atoms}
 use Rattle.bag_encode.proofs.FieldSteps.{nodes_from_place, values_from_place}
 use Rattle.bag_encode.proofs.Steps.{IsOnWay}

@@ -7,7 +7,7 @@ use Rattle.context_model.specs.Kinds.Kind.{Datum, Keyed}
 use Rattle.context_model.specs.Varints.{unsigned_varint}
 use Rattle.bag_model.specs.Shapes as shapes
 use Rattle.bag_model.specs.Values as values
-use Rattle.bag_encode.specs.Trees.{atoms_of}
+use Rattle.bag_encode.specs.Values.{atoms_of}
 use Rattle.bag_encode.proofs.Steps.{IsOnWay, IsOnWay-more, dropped}
 use Rattle.bag_encode.proofs.values.put_counts.Goals as goal
 

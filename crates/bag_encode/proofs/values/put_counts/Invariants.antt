@@ -1,7 +1,7 @@
 use Rattle.std.proofs.Common.{◌++◌, drop}
 use Rattle.bag_model.specs.Shapes as shapes
 use Rattle.bag_model.specs.Values as values
-use Rattle.bag_encode.specs.Trees.{atoms_of}
+use Rattle.bag_encode.specs.Values.{atoms_of}
 use Rattle.bag_encode.proofs.Steps.{IsOnWay}
 use Rattle.bag_encode.proofs.values.put_counts.Given as goal
 

@@ -4,9 +4,9 @@ use Rattle.std.specs.Option.{option_copied}
 use Rattle.context_model.specs.Atoms.{Atom, AreAtoms}
 use Rattle.bag_model.specs.Scalars.{ScalarKind, IsScalarOf}
 use Rattle.scalar_types.specs.KindViews.{kind_of}
-use Rattle.scalar_types.specs.ScalarViews.{value_of}
+use Rattle.scalar_types.specs.Scalars.{value_of}
 use Rattle.scalar_types.specs.declared.scalars.Scalar.{Scalar}
-use Rattle.bag_encode.specs.Trees.{atoms, bare, trees_by, scalar_datum}
+use Rattle.bag_encode.specs.Values.{atoms, bare, trees_by, scalar_datum}
 use Rattle.bag_encode.proofs.Steps.{IsOnWay, IsOnWay-more, all_at, dropped}
 use Rattle.bag_encode.proofs.values.put_set.Goals as goal
 

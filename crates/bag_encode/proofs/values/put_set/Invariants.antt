@@ -1,8 +1,8 @@
 use Rattle.std.proofs.Common.{◌++◌, map, drop}
-use Rattle.bag_encode.specs.Trees.{atoms, bare, trees_by, scalar_datum}
+use Rattle.bag_encode.specs.Values.{atoms, bare, trees_by, scalar_datum}
 use Rattle.bag_encode.proofs.Steps.{IsOnWay}
 use Rattle.scalar_types.specs.KindViews.{kind_of}
-use Rattle.scalar_types.specs.ScalarViews.{value_of}
+use Rattle.scalar_types.specs.Scalars.{value_of}
 use Rattle.bag_encode.proofs.values.put_set.Given as goal
 
 abbrev pub invariant-loop-at : goal.invariant-loop-at

@@ -1,5 +1,5 @@
 use Rattle.std.proofs.Common.{◌≡◌, ◌+◌, List, ℕ, refl, sym, ap, subst, arith}
-use Rattle.bag_normal.specs.Gone.{RisesTo, Adds, IsDatumBetween}
+use Rattle.bag_normal.specs.Data.{RisesUpTo, AddsPlaces, IsDatumBetween}
 use Rattle.bag_normal.proofs.Places.{rises_on, rises_more, data_more, data_other}
 use Rattle.bag_normal.proofs.data.add_data.Goals as goal
 use Rattle.bag_normal.proofs.data.add_data.Goals.{then-is_datum+in_ok-push, else-is_datum}
@@ -11,7 +11,7 @@ loop-at-preserved c =
     let at = c.loop-at.at in
     let before = c.args.gone.now.items in
     let held = c.loop-at.gone.items in
-    let Kept = λ (gone : List ℕ). record { rises : RisesTo gone (at + 1); adds : Adds (IsDatumBetween list from (at + 1)) before gone } in
+    let Kept = λ (gone : List ℕ). record { rises : RisesUpTo gone (at + 1); adds : AddsPlaces (IsDatumBetween list from (at + 1)) before gone } in
     elim c.if-is_datum.branch [
       | then-is_datum+in_ok-push w ↦ rw (ap (λ v. v.items) w.gone-is) (subst Kept (sym w.in_ok-push.ensures.items) (record {
         rises = rises_more held at c.loop-at.invariant.rises;
@@ -26,9 +26,9 @@ loop-at-preserved c =
 pub returns-clause-rises : goal.returns-clause-rises
 returns-clause-rises c =
     let same : c.loop-at.at ≡ c.args.to = omega (arith, c.loop-at-test.false, c.loop-at.auto.at-end c.requires.order) in
-    subst (RisesTo c.loop-at.gone.items) same c.loop-at.invariant.rises
+    subst (RisesUpTo c.loop-at.gone.items) same c.loop-at.invariant.rises
 
 pub returns-clause-adds : goal.returns-clause-adds
 returns-clause-adds c =
     let same : c.loop-at.at ≡ c.args.to = omega (arith, c.loop-at-test.false, c.loop-at.auto.at-end c.requires.order) in
-    subst (λ to. Adds (IsDatumBetween c.args.list.now c.args.from to) c.args.gone.now.items c.loop-at.gone.items) same c.loop-at.invariant.adds
+    subst (λ to. AddsPlaces (IsDatumBetween c.args.list.now c.args.from to) c.args.gone.now.items c.loop-at.gone.items) same c.loop-at.invariant.adds

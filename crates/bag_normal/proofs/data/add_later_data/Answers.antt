@@ -1,9 +1,9 @@
 use Rattle.std.proofs.Common.{◌+◌, Some, arith}
 use Rattle.context_model.specs.Paths.{path_before}
 use Rattle.bag_model.specs.Normal.{LeastDatum}
-use Rattle.bag_walks.specs.Gathered.{IsFirstDatum}
-use Rattle.bag_normal.specs.Gone.{IsDatumBetween}
-use Rattle.bag_normal.specs.Superseded.{GivesWayAt}
+use Rattle.bag_walks.specs.Gathering.{IsFirstDatum}
+use Rattle.bag_normal.specs.Data.{IsDatumBetween}
+use Rattle.bag_normal.specs.Known.{GivesWayAt}
 use Rattle.bag_normal.proofs.Places.{rises_on, adds_none, adds_same}
 use Rattle.bag_normal.proofs.DataParts.{later_give_way, none_give_way}
 use Rattle.bag_normal.proofs.data.add_later_data.Goals as goal

@@ -12,9 +12,9 @@ use Rattle.field_table.proofs.Held.{levels_there, field_is}
 use Rattle.bag_model.proofs.SizeLaws.{size_at}
 use Rattle.bag_scan.proofs.FieldGets.{opened}
 use Rattle.field_table.proofs.Shown.{scalar_shown, greatest_shown, counter_shown, map_shown}
-use Rattle.bag_normal.specs.Gone.{Adds}
+use Rattle.bag_normal.specs.Data.{AddsPlaces}
 use Rattle.bag_normal.specs.Headers.{IsFieldFound}
-use Rattle.bag_normal.specs.Superseded.{GivesWayAt, IsSupersededIn, HoldsAtKey}
+use Rattle.bag_normal.specs.Known.{GivesWayAt, IsSupersededIn, HoldsAtKey}
 use Rattle.bag_normal.proofs.Places.{rises_on, adds_same, on_ok}
 use Rattle.bag_normal.proofs.Below.{scalar_is, counter_is, map_is, bag_is, InField, key_superseded, node_superseded}
 use Rattle.bag_normal.proofs.FieldHeaders.{field_behind, field_level, field_on, fields_more, fields_all, HoldsAtField, no_field_at_end}
@@ -39,7 +39,7 @@ add_field-returns-in_ok-to-in-Scalar-clause-adds t c =
     let q = path_before list c.args.from in
     let kind = c.in-Scalar.field-0 in
     let shown : shape_of c.args.shape.now ≡ model.Shape.Scalar Least (kind_of kind) = ap shape_of c.in-Scalar.is ∙ (scalar_shown kind).0 in
-    subst (λ (shape : model.Shape). Adds (IsSupersededIn shape list q) c.args.gone.now.items c.add_other_data.new.gone.items) (sym shown)
+    subst (λ (shape : model.Shape). AddsPlaces (IsSupersededIn shape list q) c.args.gone.now.items c.add_other_data.new.gone.items) (sym shown)
     (adds_same (GivesWayAt LeastDatum list q) (IsSupersededIn (model.Shape.Scalar Least (kind_of kind)) list q) c.args.gone.now.items c.add_other_data.new.gone.items
     (scalar_is Least (kind_of kind) list q) c.in_ok-to-in-Scalar.ensures.adds)
 
@@ -53,7 +53,7 @@ add_field-returns-in_ok-to-in-Greatest-clause-adds t c =
     let q = path_before list c.args.from in
     let kind = c.in-Greatest.field-0 in
     let shown : shape_of c.args.shape.now ≡ model.Shape.Scalar Greatest (kind_of kind) = ap shape_of c.in-Greatest.is ∙ (greatest_shown kind).0 in
-    subst (λ (shape : model.Shape). Adds (IsSupersededIn shape list q) c.args.gone.now.items c.add_other_data-in-Greatest.new.gone.items) (sym shown)
+    subst (λ (shape : model.Shape). AddsPlaces (IsSupersededIn shape list q) c.args.gone.now.items c.add_other_data-in-Greatest.new.gone.items) (sym shown)
     (adds_same (GivesWayAt GreatestDatum list q) (IsSupersededIn (model.Shape.Scalar Greatest (kind_of kind)) list q) c.args.gone.now.items c.add_other_data-in-Greatest.new.gone.items
     (scalar_is Greatest (kind_of kind) list q) c.in_ok-to-in-Greatest.ensures.adds)
 
@@ -63,8 +63,8 @@ add_field-returns-in-Counter-clause-adds t c =
     let q = path_before list c.args.from in
     let after = c.add_counts.new.gone.items in
     let shown : shape_of c.args.shape.now ≡ model.Shape.Counter = ap shape_of c.in-Counter.is ∙ counter_shown.0 in
-    let added = λ (a : Adds (HoldsAtKey (GivesWayAt GreatestDatum list) q) c.args.gone.now.items after).
-    subst (λ (shape : model.Shape). Adds (IsSupersededIn shape list q) c.args.gone.now.items after) (sym shown)
+    let added = λ (a : AddsPlaces (HoldsAtKey (GivesWayAt GreatestDatum list) q) c.args.gone.now.items after).
+    subst (λ (shape : model.Shape). AddsPlaces (IsSupersededIn shape list q) c.args.gone.now.items after) (sym shown)
     (adds_same (HoldsAtKey (GivesWayAt GreatestDatum list) q) (IsSupersededIn model.Shape.Counter list q) c.args.gone.now.items after (counter_is list q) a) in
     on_ok c.add_counts.result added c.add_counts.ensures.adds
 
@@ -77,8 +77,8 @@ add_field-returns-in-Map-clause-adds t c =
     let value = shape_of c.deref.result.now in
     let shown : shape_of c.args.shape.now ≡ model.Shape.Map (kind_of key) value =
     ap shape_of c.in-Map.is ∙ map_shown key c.in-Map.value ∙ ap (λ s. model.Shape.Map (kind_of key) (shape_of s)) (sym c.deref.ensures) in
-    let added = λ (a : Adds (HoldsAtKey (IsSupersededIn value list) q) c.args.gone.now.items after).
-    subst (λ (shape : model.Shape). Adds (IsSupersededIn shape list q) c.args.gone.now.items after) (sym shown)
+    let added = λ (a : AddsPlaces (HoldsAtKey (IsSupersededIn value list) q) c.args.gone.now.items after).
+    subst (λ (shape : model.Shape). AddsPlaces (IsSupersededIn shape list q) c.args.gone.now.items after) (sym shown)
     (adds_same (HoldsAtKey (IsSupersededIn value list) q) (IsSupersededIn (model.Shape.Map (kind_of key) value) list q) c.args.gone.now.items after (map_is (kind_of key) value list q) a) in
     on_ok c.add_values.result added c.add_values.ensures.adds
 

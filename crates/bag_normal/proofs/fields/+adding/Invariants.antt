@@ -2,8 +2,8 @@ use Rattle.std.proofs.Common.{◌+◌, ◌-◌, length}
 use Rattle.context_model.specs.Paths.{path_before}
 use Rattle.bag_model.specs.Sizes.{shape_size, nodes_size}
 use Rattle.field_table.specs.Plain.{nodes_of, shape_of}
-use Rattle.bag_normal.specs.Gone.{RisesTo}
-use Rattle.bag_normal.specs.Superseded.{IsSupersededIn}
+use Rattle.bag_normal.specs.Data.{RisesUpTo}
+use Rattle.bag_normal.specs.Known.{IsSupersededIn}
 use Rattle.bag_normal.proofs.Below.{InField}
 use Rattle.bag_normal.proofs.FieldHeaders.{AddsFields}
 use Rattle.bag_normal.proofs.Keys.{AddsKeys}
@@ -21,7 +21,7 @@ decreases-add_fields l = nodes_size (nodes_of l.fields.now)
 
 abbrev pub invariant-add_values-keys : goal.invariant-add_values-keys
 invariant-add_values-keys l = record {
-  rises : RisesTo l.gone.items l.place;
+  rises : RisesUpTo l.gone.items l.place;
   keys : AddsKeys (IsSupersededIn (shape_of l.shape) l.list) l.list (path_before l.list l.fn.from) l.fn.from l.place l.fn.gone.items l.gone.items;
 }
 
@@ -30,7 +30,7 @@ decreases-add_values-keys l = length l.list - l.place
 
 abbrev pub invariant-add_fields-headers : goal.invariant-add_fields-headers
 invariant-add_fields-headers l = record {
-  rises : RisesTo l.gone.items l.place;
+  rises : RisesUpTo l.gone.items l.place;
   fields : AddsFields (nodes_of l.fields) (InField l.list) l.list (path_before l.list l.fn.from) l.level l.fn.from l.place l.fn.gone.items l.gone.items;
 }
 

@@ -2,7 +2,7 @@ use Rattle.std.proofs.Common.{◌+◌, arith}
 use Rattle.context_model.specs.Paths.{path_before}
 use Rattle.bag_model.specs.Normal.{GreatestDatum}
 use Rattle.bag_walks.proofs.Inside.{no_header_stays}
-use Rattle.bag_normal.specs.Superseded.{GivesWayAt}
+use Rattle.bag_normal.specs.Known.{GivesWayAt}
 use Rattle.bag_normal.proofs.Places.{rises_on}
 use Rattle.bag_normal.proofs.Below.{key_gives_way}
 use Rattle.bag_normal.proofs.Keys.{key_behind, place_on, keys_more, keys_all, stop_on, no_key_at_end}

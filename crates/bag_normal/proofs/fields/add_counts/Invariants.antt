@@ -1,14 +1,14 @@
 use Rattle.std.proofs.Common.{◌-◌, length}
 use Rattle.context_model.specs.Paths.{path_before}
 use Rattle.bag_model.specs.Normal.{GreatestDatum}
-use Rattle.bag_normal.specs.Gone.{RisesTo}
-use Rattle.bag_normal.specs.Superseded.{GivesWayAt}
+use Rattle.bag_normal.specs.Data.{RisesUpTo}
+use Rattle.bag_normal.specs.Known.{GivesWayAt}
 use Rattle.bag_normal.proofs.Keys.{AddsKeys}
 use Rattle.bag_normal.proofs.fields.add_counts.Given as goal
 
 abbrev pub invariant-writers : goal.invariant-writers
 invariant-writers l = record {
-  rises : RisesTo l.gone.items l.place;
+  rises : RisesUpTo l.gone.items l.place;
   keys : AddsKeys (GivesWayAt GreatestDatum l.list) l.list (path_before l.list l.fn.from) l.fn.from l.place l.fn.gone.items l.gone.items;
 }
 

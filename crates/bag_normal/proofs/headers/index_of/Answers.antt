@@ -3,7 +3,7 @@ use Rattle.context_model.specs.Atoms.{Atom}
 use Rattle.context_model.specs.Kinds.{atom_of, IsKind}
 use Rattle.context_model.specs.Kinds.{Kind as PlainKind}
 use Rattle.context_model.specs.Kinds.Kind.{Marker as PlainMarker, Datum as PlainDatum, Indexed as PlainIndexed, Keyed as PlainKeyed}
-use Rattle.atom_kinds.specs.Told.{outer_kind, TellsKind}
+use Rattle.atom_kinds.specs.Kinds.{outer_kind, TellsKind}
 use Rattle.atom_kinds.specs.declared.Kind.{Kind}
 use Rattle.atom_kinds.specs.declared.Kind.TheVariants.{Marker, Datum, Indexed, Keyed}
 use Rattle.atom_kinds.specs.declared.KindFault.{KindFault}

@@ -11,13 +11,13 @@ use Rattle.field_table.specs.declared.shapes.Slot.{Slot}
 use Rattle.field_table.specs.Plain.{field_of, nodes_of, shape_of}
 use Rattle.field_table.specs.Views.{view_of}
 use Rattle.field_table.proofs.Held.{field_is, levels_there, no_bag, start_next}
-use Rattle.bag_normal.specs.Gone.{Adds}
+use Rattle.bag_normal.specs.Data.{AddsPlaces}
 use Rattle.bag_normal.specs.Headers.{IsFieldFound}
-use Rattle.bag_normal.specs.Superseded.{IsKnownSuperseded}
+use Rattle.bag_normal.specs.Known.{IsKnownSuperseded}
 use Rattle.bag_normal.proofs.FieldHeaders.{HoldsAtField, field_behind, field_level, field_on, fields_more, fields_all, no_field_at_end}
 use Rattle.bag_normal.proofs.Places.{rises_on, adds_none, adds_same, on_ok}
 use Rattle.bag_normal.proofs.SlotTurns.{KnownInField, known_below, known_slot, unknown_slot, known_bag}
-use Rattle.bag_normal.specs.Superseded.{IsSupersededIn}
+use Rattle.bag_normal.specs.Known.{IsSupersededIn}
 use Rattle.bag_normal.proofs.known.+known.Goals as goal
 
 -- ---- a field, by its shape
@@ -103,8 +103,8 @@ add_known_fields-headers-preserved t c =
     let i = c.in-Ok.at in
     let found = found_open nodes list c.args.level c.headers.place i c.in-Ok.field.now c.in-Ok.behind c.in-Ok.ensures.found in
     let R = KnownInField view c.args.before nodes list in
-    let added : Adds (R i f (path_before list c.in-Ok.behind)) c.headers.gone.items c.add_known.new.gone.items =
-    subst (λ n. Adds (IsKnownSuperseded view (c.args.before + n) f.shape list (path_before list c.in-Ok.behind)) c.headers.gone.items c.add_known.new.gone.items) c.slots_before.ensures c.in_ok-place-in-Ok.ensures.adds in
+    let added : AddsPlaces (R i f (path_before list c.in-Ok.behind)) c.headers.gone.items c.add_known.new.gone.items =
+    subst (λ n. AddsPlaces (IsKnownSuperseded view (c.args.before + n) f.shape list (path_before list c.in-Ok.behind)) c.headers.gone.items c.add_known.new.gone.items) c.slots_before.ensures c.in_ok-place-in-Ok.ensures.adds in
     record {
       rises = c.in_ok-place-in-Ok.ensures.rises;
       fields = fields_more nodes R list q c.args.level c.args.from c.headers.place c.requires.level c.requires.ready.fields c.requires.room c.requires.behind c.args.gone.now.items c.headers.gone.items

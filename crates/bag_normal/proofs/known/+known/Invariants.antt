@@ -3,7 +3,7 @@ use Rattle.context_model.specs.Paths.{path_before}
 use Rattle.bag_model.specs.Sizes.{shape_size, nodes_size}
 use Rattle.field_table.specs.Plain.{nodes_of, shape_of}
 use Rattle.field_table.specs.Views.{view_of}
-use Rattle.bag_normal.specs.Gone.{RisesTo}
+use Rattle.bag_normal.specs.Data.{RisesUpTo}
 use Rattle.bag_normal.proofs.FieldHeaders.{AddsFields}
 use Rattle.bag_normal.proofs.SlotTurns.{KnownInField}
 use Rattle.bag_normal.proofs.known.+known.Given as goal
@@ -16,7 +16,7 @@ decreases-add_known_fields l = nodes_size (nodes_of l.fields.now)
 
 abbrev pub invariant-add_known_fields-headers : goal.invariant-add_known_fields-headers
 invariant-add_known_fields-headers l = record {
-  rises : RisesTo l.gone.items l.place;
+  rises : RisesUpTo l.gone.items l.place;
   fields : AddsFields (nodes_of l.fields) (KnownInField (view_of l.view) l.before (nodes_of l.fields) l.list) l.list (path_before l.list l.fn.from) l.level l.fn.from l.place l.fn.gone.items l.gone.items;
 }
 

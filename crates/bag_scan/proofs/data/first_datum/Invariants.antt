@@ -1,5 +1,5 @@
 use Rattle.std.proofs.Common.{None}
-use Rattle.bag_walks.specs.Gathered.{IsFirstDatum}
+use Rattle.bag_walks.specs.Gathering.{IsFirstDatum}
 use Rattle.bag_scan.proofs.data.first_datum.Given as goal
 
 abbrev pub invariant-loop-at : goal.invariant-loop-at

@@ -1,5 +1,5 @@
 use Rattle.std.proofs.Common.{◌≡◌, ◌+◌, sym, subst, refl, arith}
-use Rattle.bag_walks.specs.Gathered.{IsLastDatum}
+use Rattle.bag_walks.specs.Gathering.{IsLastDatum}
 use Rattle.bag_scan.proofs.DataPlaces.{last_stays, last_here}
 use Rattle.bag_scan.proofs.data.last_datum.Goals as goal
 use Rattle.bag_scan.proofs.data.last_datum.Goals.{then-is_datum, else-is_datum}

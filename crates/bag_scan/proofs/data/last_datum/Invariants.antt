@@ -1,4 +1,4 @@
-use Rattle.bag_walks.specs.Gathered.{IsLastDatum}
+use Rattle.bag_walks.specs.Gathering.{IsLastDatum}
 use Rattle.bag_scan.proofs.data.last_datum.Given as goal
 
 abbrev pub invariant-loop-at : goal.invariant-loop-at

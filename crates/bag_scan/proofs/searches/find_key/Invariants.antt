@@ -1,4 +1,4 @@
-use Rattle.bag_scan.specs.Found.{PassesNoKey}
+use Rattle.bag_scan.specs.Searches.{PassesNoKey}
 use Rattle.bag_scan.proofs.searches.find_key.Given as goal
 
 abbrev pub invariant-loop-at : goal.invariant-loop-at

@@ -8,7 +8,7 @@ use Rattle.field_table.proofs.Held.{own_slot, no_bag, levels_there}
 use Rattle.bag_walks.specs.Parts.{IsBehind, IsSegment}
 use Rattle.bag_walks.proofs.EachSlot.{adds-none}
 use Rattle.bag_walks.proofs.Turns.{segment_whole}
-use Rattle.bag_scan.specs.Found.{IsFoundBehind, IsMissing}
+use Rattle.bag_scan.specs.Searches.{IsFoundBehind, IsMissing}
 use Rattle.bag_scan.specs.declared.spans.Span.{Span}
 use Rattle.bag_model.proofs.PathLaws.{is_field}
 use Rattle.bag_model.specs.Readings.{node_path}

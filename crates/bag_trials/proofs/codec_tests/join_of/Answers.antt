@@ -1,7 +1,7 @@
 use Rattle.std.proofs.Common.{rules, sym, subst}
 use Rattle.bag_model.specs.Shapes as shapes
 use Rattle.bag_model.specs.Joins.{Alike}
-use Rattle.bag_value.specs.Plain.{plain}
+use Rattle.bag_value.specs.Vals.{plain}
 use Rattle.bag_trials.proofs.codec_tests.join_of.Goals as goal
 
 pub join-requires : goal.join-requires

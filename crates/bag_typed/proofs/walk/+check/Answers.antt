@@ -8,7 +8,7 @@ use Rattle.field_table.specs.Plain.{nodes_of, shape_of}
 use Rattle.field_table.proofs.Held.{levels_there}
 use Rattle.field_table.proofs.Shown.{taint_shown, scalar_shown, greatest_shown, set_shown}
 use Rattle.scalar_types.specs.KindViews.{kind_of}
-use Rattle.bag_typed.specs.Faults.{HasNone, IsFirstOf}
+use Rattle.bag_typed.specs.Walk.{HasNone, IsFirstOfPaths}
 use Rattle.bag_typed.proofs.Data.{not_both}
 use Rattle.bag_typed.proofs.Fields.{ClearsFields, plain_slot, slot_there, fields_end, field_turn, field_missing}
 use Rattle.bag_typed.proofs.Keys.{OfSomeKey, key_end, key_turn}
@@ -31,7 +31,7 @@ check_field-returns-in-Taint-clause-fault t c =
     let list = c.args.list.now in
     let q = path_before list c.args.from in
     let shown = ap shape_of c.in-Taint.is ∙ taint_shown.0 in
-    subst (λ (shape : model.Shape). IfErr c.check_data.result (IsFirstOf list (Misspells shape q))) (sym shown) c.check_data.ensures.fault
+    subst (λ (shape : model.Shape). IfErr c.check_data.result (IsFirstOfPaths list (Misspells shape q))) (sym shown) c.check_data.ensures.fault
 
 pub check_field-returns-in-Scalar-clause-typed : goal.check_field-returns-in-Scalar-clause-typed
 check_field-returns-in-Scalar-clause-typed t c =
@@ -45,7 +45,7 @@ check_field-returns-in-Scalar-clause-fault t c =
     let list = c.args.list.now in
     let q = path_before list c.args.from in
     let shown = ap shape_of c.in-Scalar.is ∙ (scalar_shown c.in-Scalar.kind).0 in
-    subst (λ (shape : model.Shape). IfErr c.check_data-in-Scalar.result (IsFirstOf list (Misspells shape q))) (sym shown) c.check_data-in-Scalar.ensures.fault
+    subst (λ (shape : model.Shape). IfErr c.check_data-in-Scalar.result (IsFirstOfPaths list (Misspells shape q))) (sym shown) c.check_data-in-Scalar.ensures.fault
 
 pub check_field-returns-in-Greatest-clause-typed : goal.check_field-returns-in-Greatest-clause-typed
 check_field-returns-in-Greatest-clause-typed t c =
@@ -59,7 +59,7 @@ check_field-returns-in-Greatest-clause-fault t c =
     let list = c.args.list.now in
     let q = path_before list c.args.from in
     let shown = ap shape_of c.in-Greatest.is ∙ (greatest_shown c.in-Greatest.kind).0 in
-    subst (λ (shape : model.Shape). IfErr c.check_data-in-Greatest.result (IsFirstOf list (Misspells shape q))) (sym shown) c.check_data-in-Greatest.ensures.fault
+    subst (λ (shape : model.Shape). IfErr c.check_data-in-Greatest.result (IsFirstOfPaths list (Misspells shape q))) (sym shown) c.check_data-in-Greatest.ensures.fault
 
 pub check_field-returns-in-Set-clause-typed : goal.check_field-returns-in-Set-clause-typed
 check_field-returns-in-Set-clause-typed t c =
@@ -73,7 +73,7 @@ check_field-returns-in-Set-clause-fault t c =
     let list = c.args.list.now in
     let q = path_before list c.args.from in
     let shown = ap shape_of c.in-Set.is ∙ (set_shown c.in-Set.kind).0 in
-    subst (λ (shape : model.Shape). IfErr c.check_data-in-Set.result (IsFirstOf list (Misspells shape q))) (sym shown) c.check_data-in-Set.ensures.fault
+    subst (λ (shape : model.Shape). IfErr c.check_data-in-Set.result (IsFirstOfPaths list (Misspells shape q))) (sym shown) c.check_data-in-Set.ensures.fault
 
 -- ---- the entries of a map
 
@@ -112,8 +112,8 @@ check_entries-returns-in_err-place-in-Ok-clause-fault t c =
     let first = c.in_err-place-in-Ok.field-0.0 in
     let bytes : c.rest.result.now ≡ turn.key = c.rest.ensures ∙ ap (λ a. drop 1 a) c.atom.ensures ∙ turn.rest in
     let spelled = subst (IsSpelling kind) bytes ((spelling_told kind c.rest.result.now).0 (c.spelled.ensures.0 c.if-not-spelled.false)) in
-    let own = entry_fault kind value list q turn.key first spelled (subst (λ p. IsFirstOf list (Misspells value p) first) turn.behind.path c.in_err-place-in-Ok.ensures.fault) in
-    let fault : IsFirstOf list (Misspells (model.Shape.Map kind value) q) first =
+    let own = entry_fault kind value list q turn.key first spelled (subst (λ p. IsFirstOfPaths list (Misspells value p) first) turn.behind.path c.in_err-place-in-Ok.ensures.fault) in
+    let fault : IsFirstOfPaths list (Misspells (model.Shape.Map kind value) q) first =
     first_alike list (OfSomeKey (of_key kind value q)) (Misspells (model.Shape.Map kind value) q) first (from_key kind value q) (to_key kind value q) (turn.fault first own) in
     search rules
 

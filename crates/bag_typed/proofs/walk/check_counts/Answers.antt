@@ -2,7 +2,7 @@ use Rattle.std.proofs.Common.{subst, rules}
 use Rattle.context_model.specs.Paths.{path_before}
 use Rattle.bag_model.specs.Shapes.{Counter}
 use Rattle.bag_model.specs.Typed.{IsCount, Misspells}
-use Rattle.bag_typed.specs.Faults.{HasNone, IsFirstOf, IsWrongDatum}
+use Rattle.bag_typed.specs.Walk.{HasNone, IsFirstOfPaths, IsWrongDatum}
 use Rattle.bag_typed.proofs.Keys.{OfSomeKey, key_end, key_turn}
 use Rattle.bag_typed.proofs.Shapes.{none_alike, first_alike, of_writer, writer_under, from_writer, to_writer}
 use Rattle.bag_typed.proofs.walk.check_counts.Goals as goal
@@ -22,8 +22,8 @@ returns-in_err-place-in-Ok-clause-fault c =
     let first = c.in_err-place-in-Ok.field-0.0 in
     let turn = key_turn (of_writer q) list q c.args.from c.args.level c.requires.level c.requires.behind c.requires.room (writer_under q)
     c.loop-at.place c.loop-at.invariant c.in-Ok.at c.in-Ok.ensures.found in
-    let own = subst (λ p. IsFirstOf list (IsWrongDatum IsCount p) first) turn.behind.path c.in_err-place-in-Ok.ensures.fault in
-    let fault : IsFirstOf list (Misspells Counter q) first =
+    let own = subst (λ p. IsFirstOfPaths list (IsWrongDatum IsCount p) first) turn.behind.path c.in_err-place-in-Ok.ensures.fault in
+    let fault : IsFirstOfPaths list (Misspells Counter q) first =
     first_alike list (OfSomeKey (of_writer q)) (Misspells Counter q) first (from_writer q) (to_writer q) (turn.fault first own) in
     search rules
 

@@ -1,6 +1,6 @@
 use Rattle.std.proofs.Common.{[], subst}
 use Rattle.bag_model.specs.Typed.{SomeMisspells}
-use Rattle.bag_typed.specs.Faults.{HasNone}
+use Rattle.bag_typed.specs.Walk.{HasNone}
 use Rattle.bag_typed.proofs.Fields.{typed_from}
 use Rattle.bag_typed.proofs.walk.check_typed.Goals as goal
 

@@ -1,7 +1,7 @@
 use Rattle.std.proofs.Common.{ℕ, List, inr, refl, subst}
 use Rattle.baggage_cli.specs.Checking.{VerdictUnder}
 use Rattle.baggage_cli.specs.Outcomes.{outcome_of}
-use Rattle.baggage_cli.specs.Reading.{Reads}
+use Rattle.baggage_cli.specs.Reading.{ReadsAll}
 use Rattle.baggage_cli.specs.Scene.{change}
 use Rattle.baggage_cli.proofs.Checked.{unbrought}
 use Rattle.baggage_cli.proofs.checking.check_under.Goals as goal
@@ -20,5 +20,5 @@ returns g c =
     inr (
       c.in_ok-certificate.certificate.items,
       c.in_ok-certificate.ensures,
-      subst (λ (text : List ℕ). Reads (VerdictUnder c.args.table.now text) source came) c.as_slice.ensures.value c.check_source.ensures,
+      subst (λ (text : List ℕ). ReadsAll (VerdictUnder c.args.table.now text) source came) c.as_slice.ensures.value c.check_source.ensures,
     )

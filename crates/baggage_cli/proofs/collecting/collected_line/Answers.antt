@@ -1,5 +1,5 @@
 use Rattle.std.proofs.Common.{inr, subst}
-use Rattle.wire_bytes.specs.Codes.{IsContextFaultOf}
+use Rattle.wire_bytes.specs.Reading.{IsContextFaultOf}
 use Rattle.baggage_cli.proofs.collecting.collected_line.Goals as goal
 
 pub returns-in-Err-At : goal.returns-in-Err-At

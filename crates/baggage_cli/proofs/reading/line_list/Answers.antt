@@ -1,7 +1,7 @@
 use Rattle.std.proofs.Common.{◌≤◌, sym, ◌∙◌, ap, subst}
 use Rattle.context_model.specs.Framing.{form_of, least_budget}
 use Rattle.text_lines.specs.Lines.{line_value}
-use Rattle.wire_bytes.specs.Codes.{IsFaultOf, code_of}
+use Rattle.wire_bytes.specs.Reading.{IsFaultOf, code_of}
 use Rattle.baggage_cli.specs.declared.refusals.InputFault.TheVariants.{Bytes}
 use Rattle.baggage_cli.specs.declared.refusals.Refusal.TheVariants.{Input}
 use Rattle.baggage_cli.specs.Reading.{RefusesLine, cut_lines}

@@ -1,7 +1,7 @@
 use Rattle.std.proofs.Common.{inr, ℕ, Option, Some, None, Err, refl, ap, subst, ◌∙◌}
 use Rattle.std.specs.Global.{Vec}
 use Rattle.std.specs.Option.{option_map}
-use Rattle.outside.specs.Told.{Fetches}
+use Rattle.outside.specs.Transfers.{Fetches}
 use Rattle.baggage_cli.specs.Outcomes.{outcome_of}
 use Rattle.baggage_cli.specs.Scene.{change}
 use Rattle.baggage_cli.proofs.Brought.{wanting_brought, brings_found, brings_nothing, brings_failed}

@@ -1,5 +1,5 @@
 use Rattle.std.proofs.Common.{◌≡◌, List, subst, sym}
-use Rattle.bdl_check.specs.Definitions.{IsTableIn, IsFaultIn, IsTableOf}
+use Rattle.bdl_check.specs.Compiler.{IsTableIn, IsFaultIn, IsTableOf}
 use Rattle.bdl_load.specs.Loading.{Holding}
 use Rattle.bdl_check.specs.Faults.{RefusesFor}
 use Rattle.bdl_check.specs.Refusals.{IsAnswerOf}

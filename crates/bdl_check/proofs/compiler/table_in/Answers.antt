@@ -1,7 +1,7 @@
 use Rattle.std.proofs.Common.{List, sym, subst}
 use Rattle.std.proofs.lemmas.Result.{IfErr-weaker}
 use Rattle.bdl_check.specs.Declarations.{Placed, AreSpelled}
-use Rattle.bdl_check.specs.Definitions.{IsFaultIn}
+use Rattle.bdl_check.specs.Compiler.{IsFaultIn}
 use Rattle.bdl_check.specs.Faults.{RefusesFor}
 use Rattle.bdl_check.specs.Tables.{IsUntabled}
 use Rattle.bdl_check.proofs.Compiling.{all_spelled, sound_files, untabled_files}

@@ -1,6 +1,6 @@
 use Rattle.std.proofs.Common.{◌≡◌, ◌≤◌, take}
 use Rattle.bdl_lexer.specs.declared.TheConstants.{MAX_NUMBER}
-use Rattle.bdl_lexer.specs.Pieces.{value_of}
+use Rattle.bdl_lexer.specs.Scan.{value_of}
 use Rattle.bdl_lexer.proofs.scan.number_of.Given as goal
 
 abbrev pub invariant-loop-digit : goal.invariant-loop-digit

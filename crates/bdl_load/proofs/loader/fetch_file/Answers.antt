@@ -3,7 +3,7 @@ use Rattle.bdl_load.specs.declared.faults.DefFault.{DefFault}
 use Rattle.bdl_load.specs.declared.faults.Fault.{Fault}
 use Rattle.bdl_load.specs.Loader.{IsBroken}
 use Rattle.bdl_load.specs.Loading.{loaded_as}
-use Rattle.bdl_load.specs.Sources.{IsFaultOfSource}
+use Rattle.bdl_load.specs.Source.{IsFaultOfSource}
 use Rattle.bdl_load.proofs.Exits.{exit_err}
 use Rattle.bdl_load.proofs.Fetched.{says_held, breaks_held}
 use Rattle.bdl_load.proofs.Taking.{blames_so}

@@ -1,5 +1,5 @@
 use Rattle.bdl_load.specs.Faults.{found}
-use Rattle.bdl_load.specs.Sources.{lexical}
+use Rattle.bdl_load.specs.Source.{lexical}
 use Rattle.bdl_load.proofs.SourceFaults.{blames_source}
 use Rattle.bdl_load.proofs.source.lexical.Goals as goal
 

@@ -2,7 +2,7 @@ use Rattle.std.proofs.Common.{refl}
 use Rattle.bdl_load.specs.declared.faults.DefCode.TheVariants.{DefTooLong}
 use Rattle.bdl_load.specs.declared.faults.TheConstants.{FIRST_SPOT}
 use Rattle.bdl_load.specs.Faults.{found}
-use Rattle.bdl_load.specs.Sources.{too_long}
+use Rattle.bdl_load.specs.Source.{too_long}
 use Rattle.bdl_load.proofs.SourceFaults.{blames_source}
 use Rattle.bdl_load.proofs.source.read_source.Goals as goal
 

@@ -1,5 +1,5 @@
 use Rattle.bdl_load.specs.Faults.{found}
-use Rattle.bdl_load.specs.Sources.{syntactic}
+use Rattle.bdl_load.specs.Source.{syntactic}
 use Rattle.bdl_load.proofs.SourceFaults.{blames_source}
 use Rattle.bdl_load.proofs.source.syntactic.Goals as goal
 

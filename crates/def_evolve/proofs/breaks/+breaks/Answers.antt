@@ -7,7 +7,7 @@ use Rattle.field_table.specs.Plain.{nodes_of, shape_of}
 use Rattle.field_table.proofs.Shown.{taint_shown, scalar_shown, greatest_shown, set_shown, counter_shown, map_shown, bag_shown}
 use Rattle.def_evolve.specs.declared.verdicts.Change.TheVariants as changes
 use Rattle.def_evolve.specs.Breaks.{variant_of, Fits, IsFirstBreak}
-use Rattle.def_evolve.specs.Found.{FindsBreak}
+use Rattle.def_evolve.specs.BreakSearches.{FindsBreak}
 use Rattle.def_evolve.proofs.BreakSteps.{here_found, fits_from, map_first, kind_found_scalar, kind_found_set, breaks_begin, breaks_end, no_partner, partner_fits, partner_breaks}
 use Rattle.def_evolve.proofs.FieldPlaces.{opened, field_at, field_smaller, field_there, found_open, none_open, found_shape}
 use Rattle.def_evolve.proofs.ShapeViews.{apart}

@@ -2,7 +2,7 @@ use Rattle.std.proofs.Common.{subst, subst₂}
 use Rattle.bag_model.specs.Shapes.{Nodes, Bag}
 use Rattle.def_evolve.specs.Breaks.{IsFitting}
 use Rattle.def_evolve.specs.Common.{IsCommonCount}
-use Rattle.def_evolve.specs.Found.{FindsBreak}
+use Rattle.def_evolve.specs.BreakSearches.{FindsBreak}
 use Rattle.def_evolve.proofs.Safe.{is_safe}
 use Rattle.def_evolve.proofs.evolution.evolve.Goals as goal
 

@@ -1,7 +1,7 @@
 use Rattle.std.proofs.Common.{IfOk, rules}
 use Rattle.std.proofs.lemmas.Result.{IfOk-at_ok}
 use Rattle.context_model.specs.Merged.{IsMerged}
-use Rattle.fan_in.specs.Named.{named}
+use Rattle.fan_in.specs.Pools.{named}
 use Rattle.fan_in.proofs.Halves.{halves_if_ok}
 use Rattle.fan_in.proofs.forked.+fn-merge_halved-join+arg2+fn-merge_halved-join+arg3+merge_halved.Goals as goal
 

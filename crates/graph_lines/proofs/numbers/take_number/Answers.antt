@@ -1,4 +1,4 @@
-use Rattle.graph_lines.specs.Taken.{NumberThen}
+use Rattle.graph_lines.specs.Reading.{NumberThen}
 use Rattle.graph_lines.proofs.Cutting.{other_number, one_number_front}
 use Rattle.graph_lines.proofs.numbers.take_number.Goals as goal
 

@@ -1,6 +1,6 @@
 use Rattle.std.proofs.Common.{◌≡◌, true, false, sym, ◌∙◌, ap}
 use Rattle.bag_model.specs.Words.{is_word}
-use Rattle.graph_lines.specs.Taken.{NameThen}
+use Rattle.graph_lines.specs.Reading.{NameThen}
 use Rattle.graph_lines.proofs.Cutting.{other_name, one_name}
 use Rattle.graph_lines.proofs.words.take_name.Goals as goal
 

@@ -1,6 +1,6 @@
 use Rattle.std.proofs.Common.{◌≡◌, true, false, sym, ◌∙◌, subst}
 use Rattle.graph_lines.specs.Forms.{IsPath}
-use Rattle.graph_lines.specs.Taken.{PathThen}
+use Rattle.graph_lines.specs.Reading.{PathThen}
 use Rattle.graph_lines.proofs.Cutting.{other_path, one_path}
 use Rattle.graph_lines.proofs.words.take_path.Goals as goal
 

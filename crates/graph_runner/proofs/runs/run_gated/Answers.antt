@@ -2,7 +2,7 @@ use Rattle.std.proofs.Common.{ℕ, ◌<◌, length, subst}
 use Rattle.trace_model.specs.Graphs.{IsTypedContext}
 use Rattle.trace_model.specs.Runs.{Lists, list_at}
 use Rattle.trace_model.specs.Faithful.{IsFaithful}
-use Rattle.graph_runner.specs.Alike.{AlikeStepsAgree}
+use Rattle.graph_runner.specs.Runs.{AlikeStepsAgree}
 use Rattle.graph_runner.proofs.runs.run_gated.Goals as goal
 
 pub returns-clause-faithful : goal.returns-clause-faithful

@@ -1,7 +1,7 @@
 use Rattle.std.proofs.Common.{◌≡◌, map, ◌∙◌, sym, subst}
 use Rattle.text_lines.specs.Lines.{line_value, lines_of}
 use Rattle.text_lines.proofs.LineLaws.{taken_before}
-use Rattle.graph_text.specs.GraphLines.{IsRefusalOf}
+use Rattle.graph_text.specs.Reading.{IsRefusalOf}
 use Rattle.graph_text.proofs.TextSteps.{says_more, refused_at}
 use Rattle.graph_text.proofs.reading.read_lines.Goals as goal
 

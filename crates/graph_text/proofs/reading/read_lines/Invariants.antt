@@ -2,7 +2,7 @@ use Rattle.std.proofs.Common.{◌≡◌, List, [], map}
 use Rattle.text_lines.specs.Lines.{line_value}
 use Rattle.text_lines.specs.Readings.{AllSay}
 use Rattle.graph_text.specs.Additions.{Addition, graph_of}
-use Rattle.graph_text.specs.GraphLines.{graph_lines}
+use Rattle.graph_text.specs.Reading.{graph_lines}
 use Rattle.graph_text.proofs.reading.read_lines.Given as goal
 
 abbrev pub invariant-loop-line : goal.invariant-loop-line

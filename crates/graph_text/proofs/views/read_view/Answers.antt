@@ -1,7 +1,7 @@
 use Rattle.std.proofs.Common.{List, ℕ, map, refl, sym, subst}
 use Rattle.std.specs.Borrow.{Bor}
 use Rattle.bag_model.specs.Views as views
-use Rattle.graph_lines.specs.Views.{view_of}
+use Rattle.graph_lines.specs.Acts.{view_of}
 use Rattle.graph_text.specs.Additions.{MeansView, AreRangesOf}
 use Rattle.graph_text.specs.Rules.{MissesPath}
 use Rattle.graph_text.proofs.ViewPaths.{none_missed, are_slots_of}

@@ -13,7 +13,7 @@ use Rattle.field_table.proofs.Shown.{scalar_shown}
 use Rattle.scalar_types.specs.declared.kinds.ScalarKind.TheVariants.{Fixed32}
 use Rattle.field_table.specs.declared.shapes.Shape.TheVariants as variants
 use Rattle.scalar_types.specs.declared.kinds.ScalarKind.{ScalarKind}
-use Rattle.accessor_gen.specs.Accessors.{FindsAccessor}
+use Rattle.accessor_gen.specs.Finding.{FindsAccessor}
 use Rattle.bag_walks.specs.SlotFits.{FitsAnywhere}
 use Rattle.bag_walks.proofs.SlotFits.{last_is}
 use Rattle.language_tests.proofs.accessing.written.Goals as goal

@@ -1,6 +1,6 @@
 use Rattle.std.proofs.Common.{ℕ, List, [], sym, ◌∙◌, subst}
 use Rattle.std.proofs.lemmas.List.{get_or_read}
-use Rattle.par_ranks.specs.Rows.{IsRow, IsRowRun}
+use Rattle.par_ranks.specs.Rows.{AreIndependent, IsRowRun}
 use Rattle.par_ranks.proofs.Running.{planned_row, no_rows, one_row, all_rows}
 use Rattle.par_ranks.proofs.runs.run_rows.Goals as goal
 
@@ -12,7 +12,7 @@ run_row-requires-clause-row g c κs within =
     let rows = c.args.rows.now in
     let turn = c.loop-row.row-index in
     let own = c.as_slice.ensures ∙ get_or_read rows turn c.row-item.result c.loop-row-test.true c.row-item.is [] in
-    subst (IsRow c.args.graph.now) (sym own) (planned_row c.args.graph.now rows turn c.requires.plan)
+    subst (AreIndependent c.args.graph.now) (sym own) (planned_row c.args.graph.now rows turn c.requires.plan)
 
 pub loop-row-preserved : goal.loop-row-preserved
 loop-row-preserved g c =

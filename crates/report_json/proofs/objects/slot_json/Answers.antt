@@ -3,7 +3,7 @@ use Rattle.bag_model.specs.Shapes.{Shape}
 use Rattle.bag_model.specs.Tables.{IsShape}
 use Rattle.bag_model.specs.Values.{IsOfShape}
 use Rattle.field_table.specs.Plain.{shape_of}
-use Rattle.bag_value.specs.Plain.{plain}
+use Rattle.bag_value.specs.Vals.{plain}
 use Rattle.report_json.proofs.SlotShapes.{slot_shape, slot_there, told}
 use Rattle.report_json.proofs.objects.slot_json.Goals as goal
 

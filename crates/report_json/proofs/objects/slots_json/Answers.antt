@@ -2,7 +2,7 @@ use Rattle.std.proofs.Common.{◌<◌, ◌+◌, [], ◌∷◌, length, map, sym,
 use Rattle.std.proofs.lemmas.List.{map-append}
 use Rattle.std.proofs.lemmas.Option.{slice_get_read}
 use Rattle.bag_model.specs.Slots.{slots_of}
-use Rattle.bag_value.specs.Plain.{plain}
+use Rattle.bag_value.specs.Vals.{plain}
 use Rattle.serde_json.specs.View.{view}
 use Rattle.report_json.specs.JsonReports.{AreInPlace, IsSlotObject}
 use Rattle.report_json.proofs.Placed.{one_placed}

@@ -1,7 +1,7 @@
 use Rattle.std.proofs.Common.{◌≡◌, ◌<◌, length, sym, subst, arith}
 use Rattle.std.proofs.lemmas.Option.{slice_get_read}
 use Rattle.bag_model.specs.Slots.{slots_of}
-use Rattle.bag_value.specs.Plain.{plain}
+use Rattle.bag_value.specs.Vals.{plain}
 use Rattle.report_text.specs.Blocks.{slot_line, AddsSlotLines}
 use Rattle.report_text.proofs.Grown.{appended, further, refused}
 use Rattle.report_text.proofs.SlotLines.{no_lines, one_more, span_there, line_shown, as_many}

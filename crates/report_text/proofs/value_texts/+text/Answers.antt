@@ -5,9 +5,9 @@ use Rattle.bag_model.specs.Shapes.{Field, fields}
 use Rattle.bag_model.specs.Values.{pairs, values_list}
 use Rattle.field_table.specs.Plain.{shape_of, nodes_of}
 use Rattle.field_table.proofs.Held.{field_is}
-use Rattle.scalar_types.specs.ScalarViews.{value_of}
+use Rattle.scalar_types.specs.Scalars.{value_of}
 use Rattle.bag_value.specs.declared.vals.Val.{Val}
-use Rattle.bag_value.specs.Plain.{plain, pair_of}
+use Rattle.bag_value.specs.Vals.{plain, pair_of}
 use Rattle.report_text.specs.ScalarTexts.{scalar_text}
 use Rattle.report_text.specs.ValueTexts.{value_text, entry_texts, field_texts}
 use Rattle.report_text.proofs.Grown.{unchanged, appended, further, stopped}

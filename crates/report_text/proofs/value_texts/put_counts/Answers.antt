@@ -3,7 +3,7 @@ use Rattle.std.specs.Prelude.{sum_by}
 use Rattle.std.specs.Fmt.{decimal}
 use Rattle.std.proofs.lemmas.List.{length-map}
 use Rattle.report_text.specs.Commas.{in_braces}
-use Rattle.report_text.specs.Growth.{Extends}
+use Rattle.report_text.specs.Extension.{Extends}
 use Rattle.report_text.specs.ScalarTexts.{bytes_text}
 use Rattle.report_text.specs.ValueTexts.{count_text}
 use Rattle.report_text.proofs.Grown.{unchanged, stopped}

@@ -1,6 +1,6 @@
 use Rattle.std.proofs.Common.{◌++◌, codes, map, arith}
 use Rattle.std.proofs.lemmas.List.{length-map}
-use Rattle.scalar_types.specs.ScalarViews.{value_of}
+use Rattle.scalar_types.specs.Scalars.{value_of}
 use Rattle.report_text.specs.ScalarTexts.{scalar_text}
 use Rattle.report_text.proofs.Joined.{next_text, closed}
 use Rattle.report_text.proofs.Places.{answered, mapped}

@@ -1,6 +1,6 @@
 use Rattle.std.proofs.Common.{◌≡◌, ℕ, List, ◌++◌, length}
 use Rattle.bag_model.specs.Scalars.{ended}
-use Rattle.scalar_types.specs.Spelling.{AlwaysFits}
+use Rattle.scalar_types.specs.Codec.{AlwaysFits}
 use Rattle.scalar_types.specs.Fronts.{BeginsWithSome}
 use Rattle.scalar_types.proofs.escapes.take_ended.Given as goal
 

@@ -1,7 +1,7 @@
 use Rattle.std.proofs.Common.{◌≡◌, length, map}
 use Rattle.std.proofs.lemmas.List.{length-map}
 use Rattle.scalar_types.specs.KindViews.{word_of}
-use Rattle.scalar_types.specs.ScalarViews.{plain_of}
+use Rattle.scalar_types.specs.Scalars.{plain_of}
 use Rattle.scalar_types.proofs.PackedSteps.{fits-length}
 use Rattle.scalar_types.proofs.packed.fields_fit.Goals as goal
 

@@ -4,7 +4,7 @@ use Rattle.context_model.proofs.MergeSteps.{drop-place}
 use Rattle.scalar_types.specs.declared.kinds.ScalarKind.{ScalarKind}
 use Rattle.scalar_types.specs.declared.scalars.Scalar.{Scalar}
 use Rattle.scalar_types.specs.KindViews.{word_of}
-use Rattle.scalar_types.specs.ScalarViews.{plain_of}
+use Rattle.scalar_types.specs.Scalars.{plain_of}
 use Rattle.scalar_types.specs.WordCodecs.{form}
 use Rattle.scalar_types.proofs.PackedSteps.{Fit, fields, fits-length, fields_put}
 use Rattle.scalar_types.proofs.packed.put_fields.Goals as goal

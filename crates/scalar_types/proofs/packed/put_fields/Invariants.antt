@@ -1,5 +1,5 @@
 use Rattle.std.proofs.Common.{◌≡◌, ◌++◌, map, drop}
-use Rattle.scalar_types.specs.ScalarViews.{plain_of}
+use Rattle.scalar_types.specs.Scalars.{plain_of}
 use Rattle.scalar_types.proofs.PackedSteps.{Fit, fields}
 use Rattle.scalar_types.proofs.packed.put_fields.Given as goal
 

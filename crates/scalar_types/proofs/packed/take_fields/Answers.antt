@@ -2,7 +2,7 @@ use Rattle.std.proofs.Common.{◌≡◌, ◌↔◌, ℕ, ◌+◌, List, [], ◌�
 use Rattle.std.proofs.lemmas.List.{drop_more, drop_all, append-nil, append_assoc}
 use Rattle.bag_model.specs.Scalars.{Plain}
 use Rattle.scalar_types.specs.declared.kinds.ScalarKind.{ScalarKind}
-use Rattle.scalar_types.specs.ScalarViews.{plain_of}
+use Rattle.scalar_types.specs.Scalars.{plain_of}
 use Rattle.scalar_types.specs.WordCodecs.{form}
 use Rattle.scalar_types.proofs.PackedSteps.{SpellsFields, FieldsSpelled, FirstField, first_field, fields_more, fields_less, no_fields, is_nothing_left}
 use Rattle.scalar_types.proofs.packed.take_fields.Goals as goal

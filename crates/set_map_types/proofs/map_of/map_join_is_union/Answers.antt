@@ -1,4 +1,4 @@
-use Rattle.set_map_types.specs.HeldLaws.{map_union}
+use Rattle.set_map_types.specs.SetAndMapLaws.{map_union}
 use Rattle.set_map_types.proofs.map_of.map_join_is_union.Goals as goal
 
 pub returns : goal.returns

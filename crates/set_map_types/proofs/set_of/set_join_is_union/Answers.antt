@@ -1,4 +1,4 @@
-use Rattle.set_map_types.specs.HeldLaws.{set_union}
+use Rattle.set_map_types.specs.SetAndMapLaws.{set_union}
 use Rattle.set_map_types.proofs.set_of.set_join_is_union.Goals as goal
 
 pub returns : goal.returns

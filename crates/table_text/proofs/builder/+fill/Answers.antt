@@ -2,7 +2,7 @@ use Rattle.std.proofs.Common.{sym, ◌∙◌, ap, subst}
 use Rattle.bag_model.specs.Shapes as model
 use Rattle.field_table.specs.declared.shapes.Shape.{Shape}
 use Rattle.scalar_types.specs.KindViews.{kind_of}
-use Rattle.field_table.specs.Kept.{IsLoose}
+use Rattle.field_table.specs.Tables.{IsLoose}
 use Rattle.field_table.specs.Plain.{shape_of, nodes_of, kept_shape}
 use Rattle.field_table.proofs.Shown.{kept_map, map_shown}
 use Rattle.table_text.specs.TableRows.{filled}

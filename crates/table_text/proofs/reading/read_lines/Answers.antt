@@ -1,6 +1,6 @@
 use Rattle.std.proofs.Common.{sym, subst, arith}
-use Rattle.table_text.specs.OpenBags.{rows_so_far}
-use Rattle.table_text.specs.TableFaults.{IsRefusalBehind}
+use Rattle.table_text.specs.Builder.{rows_so_far}
+use Rattle.table_text.specs.Reading.{IsRefusalBehind}
 use Rattle.table_text.proofs.LineRefusals.{said_more, said_bad}
 use Rattle.table_text.proofs.reading.read_lines.Goals as goal
 

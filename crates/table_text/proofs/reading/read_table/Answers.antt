@@ -1,7 +1,7 @@
 use Rattle.std.proofs.Common.{◌≡◌, ◌++◌, ◌∷◌, List, ℕ, ap, ◌∙◌, arith}
 use Rattle.std.proofs.lemmas.Grind.{common_steps}
-use Rattle.table_text.specs.OpenBags.{rows_so_far}
-use Rattle.table_text.specs.TableFaults.{head}
+use Rattle.table_text.specs.Builder.{rows_so_far}
+use Rattle.table_text.specs.Reading.{head}
 use Rattle.table_text.proofs.LineTexts.{table_read}
 use Rattle.table_text.proofs.reading.read_table.Goals as goal
 

@@ -5,7 +5,7 @@ use Rattle.field_table.specs.declared.shapes.Shape.{Shape}
 use Rattle.field_table.specs.Plain.{shape_of}
 use Rattle.field_table.proofs.Shown.{map_shown}
 use Rattle.scalar_types.specs.KindViews.{kind_of}
-use Rattle.table_text.specs.ShapeReads.{IsMapBehind}
+use Rattle.table_text.specs.Shapes.{IsMapBehind}
 use Rattle.table_text.proofs.ShapeTexts.{none_named, read_text, no_shape, no_kind, map_read, bare_answers, map_no_key, map_no_value, map_some}
 use Rattle.table_text.proofs.shapes.+shape.Goals as goal
 

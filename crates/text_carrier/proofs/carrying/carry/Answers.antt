@@ -1,5 +1,5 @@
 use Rattle.std.proofs.Common.{◌≡◌, ◌*◌, ◌++◌, ◌∷◌, [], ℕ, List, max, string_bytes, ◌∙◌, ap}
-use Rattle.text_carrier.specs.Carried.{piece_count}
+use Rattle.text_carrier.specs.Carrying.{piece_count}
 use Rattle.text_carrier.specs.Pieces.{line_of, data_text}
 use Rattle.text_carrier.proofs.Cutting.{piece_slice, lines_more, part_at}
 use Rattle.text_carrier.proofs.carrying.carry.Goals as goal

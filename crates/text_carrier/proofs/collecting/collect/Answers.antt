@@ -3,7 +3,7 @@ use Rattle.std.specs.List.{All}
 use Rattle.std.proofs.lemmas.Result.{IfErr-weaker, err_from_is_err_and}
 use Rattle.text_lines.specs.Lines.{lines_of}
 use Rattle.text_carrier.specs.declared.TheConstants.{CARRIED_MAX}
-use Rattle.text_carrier.specs.Collected.{AreWhole, Collects}
+use Rattle.text_carrier.specs.Collecting.{AreWhole, Collects}
 use Rattle.text_carrier.specs.Views.{IsData, IsJoinFault, all_bytes}
 use Rattle.text_carrier.proofs.Joined.{all_data, both_ok, join_fault, order_fault, texts_of, whole}
 use Rattle.text_carrier.proofs.collecting.collect.Goals as goal

@@ -3,8 +3,8 @@ use Rattle.std.proofs.lemmas.Result.{IfErr-weaker, IfOk-weaker}
 use Rattle.text_lines.specs.Lines.{lines_of}
 use Rattle.text_carrier.specs.declared.faults.CarryFault.{CarryFault}
 use Rattle.text_carrier.specs.declared.faults.CarryFault.TheVariants as faults
-use Rattle.text_carrier.specs.Carried.{IsCarried, carried_lines, carried_text}
-use Rattle.text_carrier.specs.Collected.{Collects}
+use Rattle.text_carrier.specs.Carrying.{IsCarried, carried_lines, carried_text}
+use Rattle.text_carrier.specs.Collecting.{Collects}
 use Rattle.text_carrier.proofs.OneWay.{AreOneAnswer}
 use Rattle.text_carrier.proofs.round_trip.carry_and_collect.Goals as goal
 

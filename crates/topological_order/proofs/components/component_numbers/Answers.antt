@@ -2,9 +2,9 @@ use Rattle.std.proofs.Common.{◌≡◌, ◌+◌, ◌-◌, List, ℕ, Some, leng
 use Rattle.std.specs.List.{slice_get}
 use Rattle.std.proofs.lemmas.List.{take_rest}
 use Rattle.std.proofs.lemmas.Option.{slice_get-get_or}
-use Rattle.topological_order.specs.Graphs.{Graph, graph_of}
+use Rattle.topological_order.specs.Graphs.{EdgeLists, graph_of}
 use Rattle.topological_order.specs.Components.{IsTurned, AreNumbered}
-use Rattle.topological_order.specs.Walks.{trail_of}
+use Rattle.topological_order.specs.Walk.{trail_of}
 use Rattle.topological_order.proofs.Edges.{graph_length}
 use Rattle.topological_order.proofs.Numbers.{IsNumberedTo, numbers_within, numbered_begun, component_numbered, all_numbered}
 use Rattle.topological_order.proofs.components.component_numbers.Goals as goal
@@ -19,7 +19,7 @@ loop-at-init c =
     let graph = graph_of c.args.graph.now in
     let walk = c.in_ok-walk.walk in
     let same = c.in_ok-walk.ensures.graph ∙ c.deref.ensures.value in
-    let P : Graph → Type 0 = IsTurned graph in
+    let P : EdgeLists → Type 0 = IsTurned graph in
     let turned : IsTurned graph (graph_of walk.graph.now) = subst P (sym (ap graph_of same)) c.in_ok-turned.ensures in
     numbered_begun graph c.args.order.now (trail_of walk) c.in_ok-numbers.numbers.items turned c.in_ok-walk.ensures.begun
     (omega (arith, graph_length c.args.graph.now, c.in_ok-numbers.ensures.len, c.in_ok-numbers.numbers.ok.0))

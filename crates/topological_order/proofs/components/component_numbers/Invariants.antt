@@ -1,5 +1,5 @@
 use Rattle.topological_order.specs.Graphs.{graph_of}
-use Rattle.topological_order.specs.Walks.{trail_of}
+use Rattle.topological_order.specs.Walk.{trail_of}
 use Rattle.topological_order.proofs.Numbers.{IsNumberedTo}
 use Rattle.topological_order.proofs.components.component_numbers.Given as goal
 

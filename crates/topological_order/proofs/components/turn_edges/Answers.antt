@@ -1,6 +1,6 @@
 use Rattle.std.proofs.Common.{◌≡◌, ◌+◌, ◌<◌, ◌++◌, ◌∷◌, [], length, get_or, set, take, refl, sym, ap, subst, ◌∙◌, arith}
 use Rattle.std.proofs.lemmas.List.{map-set}
-use Rattle.topological_order.specs.Graphs.{Graph, graph_of, row_of}
+use Rattle.topological_order.specs.Graphs.{EdgeLists, graph_of, row_of}
 use Rattle.topological_order.specs.Components.{IsTurnedAt}
 use Rattle.topological_order.proofs.Edges.{graph_length, row_read}
 use Rattle.topological_order.proofs.Turning.{turned_more}
@@ -21,6 +21,6 @@ loop-to-preserved c =
     ∙ ap (λ xs. xs ++ c.args.from ∷ []) (sym row) in
     let after : graph_of (set turned to c.push.new.self) ≡ set (graph_of turned) to (row_of (graph_of turned) to ++ c.args.from ∷ []) =
     map-set (λ row. row.items) turned to c.push.new.self ∙ ap (λ xs. set (graph_of turned) to xs) grown in
-    let P : Graph → Type 0 = λ g. IsTurnedAt old g c.args.from (take (at + 1) c.args.row.now) in
+    let P : EdgeLists → Type 0 = λ g. IsTurnedAt old g c.args.from (take (at + 1) c.args.row.now) in
     subst P (sym after) (turned_more old (graph_of turned) c.args.from at c.args.row.now (omega arith) (omega arith) (omega arith)
     c.loop-to.invariant)

@@ -1,6 +1,6 @@
 use Rattle.std.proofs.Common.{rules, ◌≡◌, ◌+◌, ◌<◌, Bool, true, false, not, IsTrue, refl, length, get_or, sym, ap, ◌∙◌, arith}
 use Rattle.topological_order.specs.Graphs.{graph_of, row_of, HasEdge}
-use Rattle.topological_order.specs.Walks.{mark_of, is_new}
+use Rattle.topological_order.specs.Walk.{mark_of, is_new}
 use Rattle.topological_order.proofs.Edges.{graph_length, row_read, edge_read, has_edge, to_within}
 use Rattle.topological_order.proofs.Marks.{new_mark}
 use Rattle.topological_order.proofs.Reaching.{from_more, from_all}

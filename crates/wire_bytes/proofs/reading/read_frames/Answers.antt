@@ -1,7 +1,7 @@
 use Rattle.std.proofs.Common.{◌≡◌, ◌+◌, ◌≤◌, length, take, subst, sym, Some, ◌∙◌, arith}
 use Rattle.context_model.specs.Framing.{length_code}
 use Rattle.context_model.specs.WireFault.{IsUnframed}
-use Rattle.wire_bytes.specs.Codes.{code_of, StopsAt}
+use Rattle.wire_bytes.specs.Reading.{code_of, StopsAt}
 use Rattle.wire_bytes.proofs.Stops.{frame_shortens, frame_read, frame_within}
 use Rattle.wire_bytes.proofs.Codings.{frames_any}
 use Rattle.context_model.proofs.Heads.{AreWithin-atoms}

@@ -3,7 +3,7 @@ use Rattle.context_model.specs.Framing.{head_len}
 use Rattle.context_model.specs.WireFault.{IsFirstWireFault}
 use Rattle.context_model.proofs.Heads.{AreWithin-atoms}
 use Rattle.context_model.proofs.FirstFaults.{reads_one_way}
-use Rattle.wire_bytes.specs.Codes.{code_of, ReadsUpTo}
+use Rattle.wire_bytes.specs.Reading.{code_of, ReadsUpTo}
 use Rattle.wire_bytes.proofs.Stops.{wire_list, wire_fault, stop_within, only_err}
 use Rattle.wire_bytes.proofs.reading.read_owned.Goals as goal
 

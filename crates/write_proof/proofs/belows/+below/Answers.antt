@@ -7,8 +7,8 @@ use Rattle.bag_model.specs.Scalars.{scalar_cmp}
 use Rattle.bag_model.specs.Values.{Value, pairs, values_list, size_of}
 use Rattle.bag_model.proofs.ScalarOrder.{scalar_total}
 use Rattle.scalar_types.specs.KindViews.{kind_of}
-use Rattle.scalar_types.specs.ScalarViews.{value_of}
-use Rattle.bag_value.specs.Plain.{plain, pair_of}
+use Rattle.scalar_types.specs.Scalars.{value_of}
+use Rattle.bag_value.specs.Vals.{plain, pair_of}
 use Rattle.write_proof.proofs.BelowCalls.{alike_of, sets_of, sets_answer, counters_answer, maps_answer, bags_answer, bags_of_one, entries_of_one, values_of_one, as_long, answered, read_place, at_place, place_at, place_within, entry_size, value_size, yes_answer, no_answer, each_more, iff_then, counters_of, maps_of, is_some}
 use Rattle.write_proof.proofs.belows.+below.Goals as goal
 

@@ -4,7 +4,7 @@ use Rattle.context_model.specs.KeyedMerge.{IsAt}
 use Rattle.bag_model.specs.Joins.{IsValueBelow}
 use Rattle.bag_model.specs.Scalars.{ScalarValue}
 use Rattle.bag_model.specs.Values.{Value, pairs, values_list, size_of, size_of_entries, size_of_values}
-use Rattle.bag_value.specs.Plain.{plain}
+use Rattle.bag_value.specs.Vals.{plain}
 use Rattle.write_proof.proofs.belows.+below.Given as goal
 
 abbrev pub decreases-is_below : goal.decreases-is_below

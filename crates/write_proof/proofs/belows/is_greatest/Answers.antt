@@ -2,7 +2,7 @@ use Rattle.std.proofs.Common.{sym}
 use Rattle.bag_model.specs.declared.Pick.TheVariants.{Greatest}
 use Rattle.bag_model.specs.Scalars.{pick_cmp}
 use Rattle.bag_model.proofs.ScalarOrder.{pick_total, pick_exact}
-use Rattle.scalar_types.specs.ScalarViews.{value_of}
+use Rattle.scalar_types.specs.Scalars.{value_of}
 use Rattle.write_proof.proofs.BelowCalls.{not_kept, kept_equal, yes_answer, no_answer}
 use Rattle.write_proof.proofs.belows.is_greatest.Goals as goal
 

@@ -5,7 +5,7 @@ use Rattle.context_model.specs.Orders.{IsIn}
 use Rattle.context_model.proofs.GreedyElements.{All-at}
 use Rattle.bag_model.specs.Scalars.{IsScalarOf}
 use Rattle.scalar_types.specs.KindViews.{kind_of}
-use Rattle.scalar_types.specs.ScalarViews.{value_of}
+use Rattle.scalar_types.specs.Scalars.{value_of}
 use Rattle.write_proof.proofs.BelowCalls.{in_place, place_in, place_map, place_within, in_values, from_values, yes_answer, no_answer, each_more}
 use Rattle.write_proof.proofs.belows.is_subset.Goals as goal
 

@@ -1,7 +1,7 @@
 use Rattle.std.proofs.Common.{◌≡◌, ℕ, ◌<◌, map, Some}
 use Rattle.std.specs.List.{slice_get}
 use Rattle.context_model.specs.Orders.{IsIn}
-use Rattle.scalar_types.specs.ScalarViews.{value_of}
+use Rattle.scalar_types.specs.Scalars.{value_of}
 use Rattle.scalar_types.specs.declared.scalars.Scalar.{Scalar}
 use Rattle.write_proof.proofs.belows.is_subset.Given as goal
 

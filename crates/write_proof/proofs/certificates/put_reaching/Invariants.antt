@@ -1,6 +1,6 @@
 use Rattle.std.proofs.Common.{◌≡◌, ◌++◌, map, take}
 use Rattle.std.specs.List.{flat_map}
-use Rattle.write_proof.specs.Lines.{Reach, entry_line}
+use Rattle.write_proof.specs.Entries.{Reach, entry_line}
 use Rattle.write_proof.specs.Reaching.{pairs_of}
 use Rattle.write_proof.proofs.certificates.put_reaching.Given as goal
 

@@ -1,6 +1,6 @@
 use Rattle.std.proofs.Common.{◌≡◌, ◌++◌, map, take}
 use Rattle.std.specs.List.{flat_map}
-use Rattle.write_proof.specs.Lines.{Uses, entry_line}
+use Rattle.write_proof.specs.Entries.{Uses, entry_line}
 use Rattle.write_proof.proofs.certificates.put_used.Given as goal
 
 abbrev pub invariant-loop-step : goal.invariant-loop-step

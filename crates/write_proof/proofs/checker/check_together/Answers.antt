@@ -1,7 +1,7 @@
 use Rattle.std.proofs.Common.{◌≡◌, ◌∙◌, map, sym, ap, subst, arith}
 use Rattle.context_model.specs.Orders.{IsIn}
 use Rattle.bag_model.specs.Slots.{slots_of}
-use Rattle.bag_value.specs.Plain.{plain}
+use Rattle.bag_value.specs.Vals.{plain}
 use Rattle.field_table.specs.Plain.{shape_of}
 use Rattle.report_text.specs.ValueTexts.{value_text}
 use Rattle.write_proof.specs.declared.verdicts.VerifyCode.TheVariants as codes

@@ -1,6 +1,6 @@
 use Rattle.bag_model.specs.Shapes.{Shape}
 use Rattle.bag_model.specs.Values.{bottom}
-use Rattle.bag_value.specs.Plain.{plain}
+use Rattle.bag_value.specs.Vals.{plain}
 use Rattle.write_proof.specs.Contributions.{contributed}
 use Rattle.write_proof.proofs.BelowCalls.{alike_of, no_answer}
 use Rattle.write_proof.proofs.ContributionCalls.{same_contributes, one_shape, more_answer, no_more}

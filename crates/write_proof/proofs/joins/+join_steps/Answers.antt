@@ -2,7 +2,7 @@ use Rattle.std.proofs.Common.{◌≡◌, ◌++◌, length, get_or, ◌/◌, sym,
 use Rattle.context_model.specs.Orders.{IsIn}
 use Rattle.bag_model.specs.Values.{bottom}
 use Rattle.bag_value.specs.declared.vals.Val.{Val}
-use Rattle.bag_value.specs.Plain.{plain}
+use Rattle.bag_value.specs.Vals.{plain}
 use Rattle.field_table.specs.Plain.{shape_of}
 use Rattle.write_proof.specs.Contributions.{ContributesAt}
 use Rattle.write_proof.specs.Joins.{IsJoinAt}

@@ -1,5 +1,5 @@
 use Rattle.std.proofs.Common.{◌∷◌, map}
-use Rattle.bag_value.specs.Plain.{plain}
+use Rattle.bag_value.specs.Vals.{plain}
 use Rattle.write_proof.specs.Together.{HaveOneJoin}
 use Rattle.write_proof.proofs.news.add_part.Given as goal
 

@@ -1,6 +1,6 @@
 use Rattle.std.proofs.Common.{◌↔◌, ◌∷◌, IsTrue, map, refl, sym, ◌∙◌, ap, subst}
 use Rattle.std.specs.Prelude.{IfOk}
-use Rattle.bag_value.specs.Plain.{plain}
+use Rattle.bag_value.specs.Vals.{plain}
 use Rattle.write_proof.specs.Together.{AreOfOneShape, IsSaidBy, values_of}
 use Rattle.write_proof.proofs.TogetherCalls.{lent_more, lent_all}
 use Rattle.write_proof.proofs.news.is_said_by_parts.Goals as goal

@@ -1,6 +1,6 @@
 use Rattle.std.proofs.Common.{◌≡◌, ℕ, map, subst}
 use Rattle.std.proofs.lemmas.Result.{on_ok_weaker}
-use Rattle.bag_value.specs.Plain.{plain}
+use Rattle.bag_value.specs.Vals.{plain}
 use Rattle.bag_model.specs.Shapes.{Shape, Nodes}
 use Rattle.bag_model.specs.Values.{Value}
 use Rattle.trace_model.specs.Graphs.{Graph, IsRecorded}

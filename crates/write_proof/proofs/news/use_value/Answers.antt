@@ -1,5 +1,5 @@
 use Rattle.std.proofs.Common.{inl, inr, ◌∷◌, map, refl, sym, subst}
-use Rattle.bag_value.specs.Plain.{plain}
+use Rattle.bag_value.specs.Vals.{plain}
 use Rattle.write_proof.specs.Together.{AreOfOneShape, HaveOneJoin, IsSaidBy}
 use Rattle.write_proof.proofs.news.use_value.Goals as goal
 

@@ -1,6 +1,6 @@
 use Rattle.std.proofs.Common.{ℕ, List, [], get_or, refl, sym, subst, arith}
 use Rattle.trace_model.specs.Graphs.{IsRecorded}
-use Rattle.bag_value.specs.Plain.{plain}
+use Rattle.bag_value.specs.Vals.{plain}
 use Rattle.field_table.specs.Plain.{shape_of}
 use Rattle.trace_model.specs.Contributions.{IsLeastAbove}
 use Rattle.write_proof.specs.WholeRules.{IsOfSteps}

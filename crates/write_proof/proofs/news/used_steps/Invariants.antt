@@ -1,5 +1,5 @@
 use Rattle.std.proofs.Common.{map, take}
-use Rattle.bag_value.specs.Plain.{plain}
+use Rattle.bag_value.specs.Vals.{plain}
 use Rattle.write_proof.specs.News.{ArePartsAt, AreNewsAt}
 use Rattle.write_proof.proofs.news.used_steps.Given as goal
 

@@ -1,8 +1,8 @@
 use Rattle.std.proofs.Common.{◌∷◌, length, ap, sym, subst, vec_len, arith}
 use Rattle.std.proofs.lemmas.List.{length-map}
 use Rattle.bag_model.specs.Values.{Map, Bag, pairs, values_list, size_of}
-use Rattle.scalar_types.specs.ScalarViews.{value_of}
-use Rattle.bag_value.specs.Plain.{plain, pair_of}
+use Rattle.scalar_types.specs.Scalars.{value_of}
+use Rattle.bag_value.specs.Vals.{plain, pair_of}
 use Rattle.write_proof.specs.Together.{AreOfOneShape, IsSaidBy, values_of}
 use Rattle.write_proof.proofs.BelowCalls.{answered, read_place, at_place, place_at, place_within, entry_size, value_size, yes_answer, no_answer, each_more, iff_then}
 use Rattle.write_proof.proofs.TogetherCalls.{all_proper, alone_answer, found_some, found_none, each_value, IsEntrySaid, IsFieldSaid, entries_said, entry_said, entry_found, fields_said, field_said, shape_at, shape_in}

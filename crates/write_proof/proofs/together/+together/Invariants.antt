@@ -2,7 +2,7 @@ use Rattle.std.proofs.Common.{◌≡◌, ℕ, ◌+◌, ◌*◌, ◌<◌, Some}
 use Rattle.std.specs.List.{slice_get}
 use Rattle.bag_model.specs.Scalars.{ScalarValue}
 use Rattle.bag_model.specs.Values.{Value, pairs, values_list, size_of, size_of_entries, size_of_values}
-use Rattle.bag_value.specs.Plain.{plain}
+use Rattle.bag_value.specs.Vals.{plain}
 use Rattle.write_proof.specs.Together.{values_of}
 use Rattle.write_proof.proofs.TogetherCalls.{IsEntrySaid, IsFieldSaid}
 use Rattle.write_proof.proofs.together.+together.Given as goal

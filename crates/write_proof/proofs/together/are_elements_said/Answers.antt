@@ -4,7 +4,7 @@ use Rattle.std.specs.Option.{option_copied}
 use Rattle.context_model.proofs.GreedyElements.{All-at}
 use Rattle.bag_model.specs.Scalars.{IsScalarOf}
 use Rattle.scalar_types.specs.KindViews.{kind_of}
-use Rattle.scalar_types.specs.ScalarViews.{value_of}
+use Rattle.scalar_types.specs.Scalars.{value_of}
 use Rattle.write_proof.specs.Together.{IsSaid, HasElement, values_of}
 use Rattle.write_proof.proofs.BelowCalls.{in_place, place_in, place_map, place_within, in_values, yes_answer, no_answer, each_more}
 use Rattle.write_proof.proofs.TogetherCalls.{set_fits, set_proper, elements_said}

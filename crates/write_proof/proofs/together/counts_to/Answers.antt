@@ -1,6 +1,6 @@
 use Rattle.std.proofs.Common.{ap}
 use Rattle.std.proofs.lemmas.Bool.{leb-true, le-leb}
-use Rattle.bag_value.specs.Plain.{plain}
+use Rattle.bag_value.specs.Vals.{plain}
 use Rattle.write_proof.proofs.BelowCalls.{no_answer}
 use Rattle.write_proof.proofs.TogetherCalls.{no_count, count_there, no_writer}
 use Rattle.write_proof.proofs.together.counts_to.Goals as goal

@@ -1,6 +1,6 @@
 use Rattle.std.proofs.Common.{ap}
 use Rattle.std.specs.Option.{option_map}
-use Rattle.bag_value.specs.Plain.{plain}
+use Rattle.bag_value.specs.Vals.{plain}
 use Rattle.write_proof.proofs.TogetherCalls.{behind, found_field, no_field_at}
 use Rattle.write_proof.proofs.together.field_of.Goals as goal
 

@@ -1,7 +1,7 @@
 use Rattle.std.proofs.Common.{map, ap}
-use Rattle.bag_value.specs.Plain.{plain}
+use Rattle.bag_value.specs.Vals.{plain}
 use Rattle.scalar_types.specs.KindViews.{kind_of}
-use Rattle.scalar_types.specs.ScalarViews.{value_of}
+use Rattle.scalar_types.specs.Scalars.{value_of}
 use Rattle.write_proof.proofs.BelowCalls.{in_values, from_values, iff_then, no_answer}
 use Rattle.write_proof.proofs.TogetherCalls.{no_element}
 use Rattle.write_proof.proofs.together.has_element.Goals as goal

@@ -1,6 +1,6 @@
 use Rattle.std.proofs.Common.{refl}
 use Rattle.bag_model.specs.Joins.{IsValueBelow}
-use Rattle.bag_value.specs.Plain.{plain}
+use Rattle.bag_value.specs.Vals.{plain}
 use Rattle.write_proof.specs.Together.{values_of}
 use Rattle.write_proof.proofs.BelowCalls.{alike_of, yes_answer, no_answer}
 use Rattle.write_proof.proofs.Parts.{in_items}

@@ -2,7 +2,7 @@ use Rattle.std.proofs.Common.{take}
 use Rattle.context_model.specs.Orders.{IsIn}
 use Rattle.bag_model.specs.Joins.{IsValueBelow}
 use Rattle.bag_model.specs.Values.{Value}
-use Rattle.bag_value.specs.Plain.{plain}
+use Rattle.bag_value.specs.Vals.{plain}
 use Rattle.write_proof.specs.Together.{values_of}
 use Rattle.write_proof.proofs.together.is_below_one.Given as goal
 

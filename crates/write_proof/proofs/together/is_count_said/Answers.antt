@@ -1,5 +1,5 @@
 use Rattle.std.proofs.Common.{refl}
-use Rattle.bag_value.specs.Plain.{plain}
+use Rattle.bag_value.specs.Vals.{plain}
 use Rattle.write_proof.specs.Together.{Says, CountsTo}
 use Rattle.write_proof.proofs.BelowCalls.{yes_answer, no_answer}
 use Rattle.write_proof.proofs.Parts.{in_items}

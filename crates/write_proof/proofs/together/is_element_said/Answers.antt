@@ -1,6 +1,6 @@
 use Rattle.std.proofs.Common.{refl, subst}
 use Rattle.context_model.specs.Orders.{IsIn}
-use Rattle.scalar_types.specs.ScalarViews.{value_of}
+use Rattle.scalar_types.specs.Scalars.{value_of}
 use Rattle.write_proof.specs.Together.{Says, HasElement, values_of}
 use Rattle.write_proof.proofs.BelowCalls.{yes_answer, no_answer}
 use Rattle.write_proof.proofs.Parts.{in_items}

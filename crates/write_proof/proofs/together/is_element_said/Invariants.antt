@@ -1,7 +1,7 @@
 use Rattle.std.proofs.Common.{take}
 use Rattle.context_model.specs.Orders.{IsIn}
 use Rattle.bag_model.specs.Values.{Value}
-use Rattle.scalar_types.specs.ScalarViews.{value_of}
+use Rattle.scalar_types.specs.Scalars.{value_of}
 use Rattle.write_proof.specs.Together.{Says, HasElement, values_of}
 use Rattle.write_proof.proofs.together.is_element_said.Given as goal
 

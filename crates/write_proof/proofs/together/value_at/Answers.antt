@@ -1,7 +1,7 @@
 use Rattle.std.proofs.Common.{ap}
 use Rattle.std.specs.Option.{option_map}
-use Rattle.bag_value.specs.Plain.{plain}
-use Rattle.scalar_types.specs.ScalarViews.{value_of}
+use Rattle.bag_value.specs.Vals.{plain}
+use Rattle.scalar_types.specs.Scalars.{value_of}
 use Rattle.write_proof.proofs.TogetherCalls.{behind, found_key, no_key_at}
 use Rattle.write_proof.proofs.together.value_at.Goals as goal
 

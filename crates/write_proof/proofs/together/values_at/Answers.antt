@@ -1,6 +1,6 @@
 use Rattle.std.proofs.Common.{take, sym, subst}
-use Rattle.bag_value.specs.Plain.{plain}
-use Rattle.scalar_types.specs.ScalarViews.{value_of}
+use Rattle.bag_value.specs.Vals.{plain}
+use Rattle.scalar_types.specs.Scalars.{value_of}
 use Rattle.write_proof.specs.Together.{IsAtKey, values_of}
 use Rattle.write_proof.proofs.Parts.{in_items}
 use Rattle.write_proof.proofs.TogetherCalls.{behind, Gathers, gathers_none, gathers_found, gathers_other, gathers_all}

@@ -1,5 +1,5 @@
 use Rattle.std.proofs.Common.{take}
-use Rattle.scalar_types.specs.ScalarViews.{value_of}
+use Rattle.scalar_types.specs.Scalars.{value_of}
 use Rattle.write_proof.specs.Together.{IsAtKey, values_of}
 use Rattle.write_proof.proofs.TogetherCalls.{Gathers}
 use Rattle.write_proof.proofs.together.values_at.Given as goal

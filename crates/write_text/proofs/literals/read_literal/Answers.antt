@@ -1,6 +1,6 @@
 use Rattle.std.proofs.Common.{◌≡◌, ◌==◌, ℕ, List, length, true, false, sym, ap, ◌∙◌}
 use Rattle.scalar_types.specs.KindViews.{kind_of}
-use Rattle.scalar_types.specs.ScalarViews.{value_of}
+use Rattle.scalar_types.specs.Scalars.{value_of}
 use Rattle.write_text.proofs.Whole.{no_literal, no_more_literal}
 use Rattle.write_text.proofs.literals.read_literal.Goals as goal
 

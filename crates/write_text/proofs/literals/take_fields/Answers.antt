@@ -3,8 +3,8 @@ use Rattle.std.proofs.lemmas.List.{append_cancel_left, length-map}
 use Rattle.bag_model.specs.Scalars.{Word, Plain}
 use Rattle.report_text.specs.Commas.{comma_before}
 use Rattle.scalar_types.specs.KindViews.{word_of}
-use Rattle.scalar_types.specs.ScalarViews.{plain_of}
-use Rattle.write_text.specs.Taken.{Begins}
+use Rattle.scalar_types.specs.Scalars.{plain_of}
+use Rattle.write_text.specs.Ends.{BeginsWithOne}
 use Rattle.write_text.proofs.Apart.{IsWordText}
 use Rattle.write_text.proofs.Structs.{FieldsBack, FieldsOn, IsNext, back_next, on_next, on_nowhere, fields_end, no_fields_end}
 use Rattle.write_text.proofs.Taking.{drop_mapped, fields_then, then_fields}
@@ -28,7 +28,7 @@ returns-in_default-2 c =
     let is = drop_mapped word_of c.args.kinds.now at kind c.loop-at-test.true c.index-kinds-at.is in
     let none = rw c.in_default-2.is at c.in_ok-field.ensures.value in
     λ vs rest p. on_nowhere words at c.loop-at.fields c.loop-at.rest.now c.args.text.now (word_of kind) is c.loop-at.invariant.forth
-    (λ v front behind comma b. none v behind (subst (λ (l : List ℕ). Begins (IsWordText (word_of kind) v) l behind)
+    (λ v front behind comma b. none v behind (subst (λ (l : List ℕ). BeginsWithOne (IsWordText (word_of kind) v) l behind)
     (append_cancel_left (comma_before at) front own (sym comma ∙ c.in-Some.ensures)) b)) vs rest (fields_then words vs rest c.args.text.now p)
 
 pub loop-at-preserved : goal.loop-at-preserved

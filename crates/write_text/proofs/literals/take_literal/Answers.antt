@@ -1,6 +1,6 @@
 use Rattle.std.proofs.Common.{◌≡◌, true, false, sym, ◌∙◌}
 use Rattle.scalar_types.specs.KindViews.{kind_of}
-use Rattle.scalar_types.specs.ScalarViews.{value_of}
+use Rattle.scalar_types.specs.Scalars.{value_of}
 use Rattle.write_text.proofs.Taking.{literal_begins, no_scalar_literal, no_long_literal}
 use Rattle.write_text.proofs.literals.take_literal.Goals as goal
 

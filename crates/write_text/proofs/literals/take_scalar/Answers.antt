@@ -1,7 +1,7 @@
 use Rattle.std.proofs.Common.{sym, ap, ◌∙◌, subst}
 use Rattle.bag_model.specs.Scalars as scalars
 use Rattle.scalar_types.specs.KindViews.{kind_of, word_of}
-use Rattle.write_text.specs.Taken.{Begins}
+use Rattle.write_text.specs.Ends.{BeginsWithOne}
 use Rattle.write_text.proofs.Taking.{is_word_of, no_struct_scalar, no_word_scalar}
 use Rattle.write_text.proofs.Unique.{SaysScalar}
 use Rattle.write_text.proofs.WordTexts.{word_kind}
@@ -10,10 +10,10 @@ use Rattle.write_text.proofs.literals.take_scalar.Goals as goal
 pub returns-in-None : goal.returns-in-None
 returns-in-None c = λ v rest p.
     no_struct_scalar _ c.args.text.now (rw c.in-None.is at c.in_ok-fields.ensures) v rest
-    (subst (λ (k : scalars.ScalarKind). Begins (SaysScalar k v) c.args.text.now rest)
+    (subst (λ (k : scalars.ScalarKind). BeginsWithOne (SaysScalar k v) c.args.text.now rest)
     (ap kind_of c.in-Packed.is ∙ ap scalars.ScalarKind.Packed (sym c.as_slice.ensures.words)) p)
 
 pub returns-in-None-2 : goal.returns-in-None-2
 returns-in-None-2 c = λ v rest p.
     no_word_scalar (word_of c.args.kind.now) c.args.text.now (rw c.in-None-2.is at c.in_ok-scalar.ensures.value) v rest
-    (subst (λ (k : scalars.ScalarKind). Begins (SaysScalar k v) c.args.text.now rest) (word_kind c.args.kind.now (is_word_of c.args.kind.now c.in_default.not-Packed)) p)
+    (subst (λ (k : scalars.ScalarKind). BeginsWithOne (SaysScalar k v) c.args.text.now rest) (word_kind c.args.kind.now (is_word_of c.args.kind.now c.in_default.not-Packed)) p)

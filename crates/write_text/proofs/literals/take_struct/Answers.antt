@@ -1,7 +1,7 @@
 use Rattle.std.proofs.Common.{List, map, rules}
 use Rattle.bag_model.specs.Scalars.{Word}
 use Rattle.scalar_types.specs.KindViews.{word_of}
-use Rattle.write_text.specs.Taken.{IsEnd}
+use Rattle.write_text.specs.Ends.{IsEnd}
 use Rattle.write_text.proofs.Taking.{struct_begins, no_struct_inside, no_other_struct}
 use Rattle.write_text.proofs.literals.take_struct.Goals as goal
 

@@ -1,7 +1,7 @@
 use Rattle.std.proofs.Common.{subst, ap}
 use Rattle.bag_model.specs.Scalars.{Word}
 use Rattle.scalar_types.specs.KindViews.{word_of}
-use Rattle.write_text.specs.Taken.{Begins}
+use Rattle.write_text.specs.Ends.{BeginsWithOne}
 use Rattle.write_text.proofs.Apart.{IsWordText}
 use Rattle.write_text.proofs.Taking.{no_string_word, no_cut_word, is_str}
 use Rattle.write_text.proofs.literals.take_word.Goals as goal
@@ -9,7 +9,7 @@ use Rattle.write_text.proofs.literals.take_word.Goals as goal
 pub returns-in-None-clause-value : goal.returns-in-None-clause-value
 returns-in-None-clause-value c = λ v rest p.
     no_string_word c.args.text.now (rw c.in-None.is at c.in_ok-string.ensures) v rest
-    (subst (λ (w : Word). Begins (IsWordText w v) c.args.text.now rest) (ap word_of c.in-Str.is) p)
+    (subst (λ (w : Word). BeginsWithOne (IsWordText w v) c.args.text.now rest) (ap word_of c.in-Str.is) p)
 
 pub returns-in-None-2 : goal.returns-in-None-2
 returns-in-None-2 c = record {

@@ -1,6 +1,6 @@
 use Rattle.std.proofs.Common.{ap, ◌∙◌, sym, subst, rules, List, ℕ}
 use Rattle.std.specs.Prelude.{IsUtf8}
-use Rattle.write_text.specs.Taken.{IsEnd}
+use Rattle.write_text.specs.Ends.{IsEnd}
 use Rattle.write_text.proofs.Quoted.{InsideThen}
 use Rattle.write_text.proofs.Taking.{no_string_inside, no_other_string, string_begins}
 use Rattle.write_text.proofs.strings.take_string.Goals as goal

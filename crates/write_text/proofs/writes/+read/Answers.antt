@@ -7,12 +7,12 @@ use Rattle.bag_model.specs.Tables.{IsShape}
 use Rattle.bag_model.specs.Values as values
 use Rattle.bag_model.specs.Values.{pairs}
 use Rattle.bag_model.proofs.PathLaws.{is_field}
-use Rattle.bag_value.specs.Plain.{plain}
+use Rattle.bag_value.specs.Vals.{plain}
 use Rattle.field_table.specs.Plain.{shape_of, nodes_of}
 use Rattle.field_table.specs.declared.shapes.Shape.{Shape}
 use Rattle.field_table.proofs.Shown.{bag_shown, counter_shown, map_shown, set_shown}
 use Rattle.scalar_types.specs.KindViews.{kind_of}
-use Rattle.scalar_types.specs.ScalarViews.{value_of}
+use Rattle.scalar_types.specs.Scalars.{value_of}
 use Rattle.write_text.specs.Writes.{IsWrite}
 use Rattle.write_text.proofs.Bags.{field_there, size_there}
 use Rattle.write_text.proofs.Whole.{entry_is, field_is_written, no_bag, no_counter, no_field_named, no_field_split, no_field_write, no_key_colon, no_key_literal, no_key_value, no_map, one_entry}

@@ -1,7 +1,7 @@
 use Rattle.std.proofs.Common.{◌+◌, ◌++◌, ap, ◌∙◌}
 use Rattle.bag_model.specs.Shapes.{fields}
 use Rattle.bag_model.specs.Values.{values_list}
-use Rattle.bag_value.specs.Plain.{plain}
+use Rattle.bag_value.specs.Vals.{plain}
 use Rattle.field_table.specs.Plain.{nodes_of}
 use Rattle.write_text.proofs.Bags.{bottoms_between, one_whole}
 use Rattle.write_text.proofs.writes.with_one.Goals as goal

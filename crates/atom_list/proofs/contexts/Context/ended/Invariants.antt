@@ -1,6 +1,6 @@
 use Rattle.std.proofs.Common.{◌≡◌, ℕ, ◌<◌, [], Some, slice_get, length, map, slice_index}
 use Rattle.context_model.proofs.Beyond.{headers_of}
-use Rattle.atom_list.specs.Open.{atom_at, path_before}
+use Rattle.atom_list.specs.OpenPlaces.{atom_at, path_before}
 use Rattle.atom_list.proofs.contexts.Context.ended.Given as goal
 
 abbrev pub invariant-loop-at : goal.invariant-loop-at

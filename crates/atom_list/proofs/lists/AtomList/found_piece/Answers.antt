@@ -1,12 +1,12 @@
 use Rattle.std.proofs.Common.{◌≡◌, ℕ, ◌+◌, ◌≤◌, List, length, take, get_or, slice_range, ◌∙◌, ap, subst}
 use Rattle.context_model.specs.Atoms.{Atom}
-use Rattle.atom_list.specs.Starts.{atoms_at, IsPieceOf, IsRow}
+use Rattle.atom_list.specs.Starts.{atoms_at, IsPieceOf, IsFrameRow}
 use Rattle.atom_list.proofs.Rows.{row_part}
 use Rattle.atom_list.proofs.lists.AtomList.found_piece.Goals as goal
 
 -- The piece, as the slices are seen.
 found : (bytes seen starts starts' : List ℕ) (list : List Atom) (from to count end : ℕ) → seen ≡ bytes → starts' ≡ starts → atoms_at bytes starts ≡ list
-    → count ≤ length (slice_range starts' from to) → IsRow seen (slice_range starts' from to) count end
+    → count ≤ length (slice_range starts' from to) → IsFrameRow seen (slice_range starts' from to) count end
     → IsPieceOf (slice_range seen (get_or (slice_range starts' from to) 0 0) end) (get_or (slice_range starts' from to) 0 0) (take count (slice_range starts' from to))
     (slice_range list from (from + length (take count (slice_range starts' from to))))
 found bytes seen starts starts' list from to count end e f view few row =

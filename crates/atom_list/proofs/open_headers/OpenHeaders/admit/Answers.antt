@@ -3,7 +3,7 @@ use Rattle.std.proofs.lemmas.Option.{get_or_from_slice_get}
 use Rattle.context_model.specs.Kinds.{HasBadPrefix, HasBadIndex}
 use Rattle.context_model.specs.Paths.{path_after}
 use Rattle.atom_kinds.specs.declared.Kind.TheVariants.{Marker, Datum, Indexed, Keyed}
-use Rattle.atom_list.specs.Open.{atom_at, path_before, IsOpen, IsHeaderOf, MayFollow}
+use Rattle.atom_list.specs.OpenPlaces.{atom_at, path_before, IsOpenPath, IsHeaderOf, MayStandBehind}
 use Rattle.atom_list.proofs.Opening.{told_datum, told_marker, told_indexed, told_keyed, marker_follows, marker_opens}
 use Rattle.atom_list.proofs.Walking.{path_next}
 use Rattle.atom_list.proofs.open_headers.OpenHeaders.admit.Goals as goal
@@ -43,7 +43,7 @@ pub returns-in-Ok-Marker-clause-ok : goal.returns-in-Ok-Marker-clause-ok
 returns-in-Ok-Marker-clause-ok c =
     let same = is_there c.args.list.now c.args.at c.unwrap-atom.result.now (sym c.get.ensures.value ∙ ap option_copied c.unwrap-atom.ensures) in
     let marker = told_marker c.unwrap-atom.result.now ((c.in-Ok-Marker.ensures.kind Marker).0 (ap Ok c.in-Ok-Marker.field-0-is)) in
-    subst (MayFollow (path_before c.args.list.now c.args.at)) (sym marker ∙ same) (marker_follows (path_before c.args.list.now c.args.at))
+    subst (MayStandBehind (path_before c.args.list.now c.args.at)) (sym marker ∙ same) (marker_follows (path_before c.args.list.now c.args.at))
 
 pub returns-in-Ok-Marker-clause-open : goal.returns-in-Ok-Marker-clause-open
 returns-in-Ok-Marker-clause-open c =
@@ -51,8 +51,8 @@ returns-in-Ok-Marker-clause-open c =
     let q = path_before list c.args.at in
     let same = is_there list c.args.at c.unwrap-atom.result.now (sym c.get.ensures.value ∙ ap option_copied c.unwrap-atom.ensures) in
     let marker = told_marker c.unwrap-atom.result.now ((c.in-Ok-Marker.ensures.kind Marker).0 (ap Ok c.in-Ok-Marker.field-0-is)) in
-    subst (λ p. IsOpen list p c.args.self.now.headers c.args.self.now.datum) (sym (path_next list c.args.at c.requires.at))
-    (subst (λ a. IsOpen list (path_after q a) c.args.self.now.headers c.args.self.now.datum) (sym marker ∙ same) (marker_opens list q _ _ c.requires.«open»))
+    subst (λ p. IsOpenPath list p c.args.self.now.headers c.args.self.now.datum) (sym (path_next list c.args.at c.requires.at))
+    (subst (λ a. IsOpenPath list (path_after q a) c.args.self.now.headers c.args.self.now.datum) (sym marker ∙ same) (marker_opens list q _ _ c.requires.«open»))
 
 pub returns-in-Err-BadPrefix-clause-err : goal.returns-in-Err-BadPrefix-clause-err
 returns-in-Err-BadPrefix-clause-err c =

@@ -1,5 +1,5 @@
 use Rattle.std.proofs.Common.{Some, refl, sym, subst}
-use Rattle.atom_list.specs.Open.{IsOpen, RisesTo, atom_at, path_before}
+use Rattle.atom_list.specs.OpenPlaces.{IsOpenPath, RisesTo, atom_at, path_before}
 use Rattle.atom_list.proofs.Opening.{datum_wrong, datum_follows, datum_taken, datum_within}
 use Rattle.atom_list.proofs.Walking.{path_next}
 use Rattle.atom_list.proofs.open_headers.OpenHeaders.admit_datum.Goals as goal
@@ -20,5 +20,5 @@ returns-clause-ok c =
 pub returns-clause-open : goal.returns-clause-open
 returns-clause-open c =
     let list = c.args.list.now in
-    subst (λ q. IsOpen list q c.args.self.now.headers (Some c.args.at)) (sym (path_next list c.args.at c.requires.at))
+    subst (λ q. IsOpenPath list q c.args.self.now.headers (Some c.args.at)) (sym (path_next list c.args.at c.requires.at))
     (datum_taken list (path_before list c.args.at) _ _ c.args.at c.requires.«open» c.requires.at c.requires.datum)

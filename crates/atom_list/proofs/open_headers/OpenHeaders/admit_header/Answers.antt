@@ -1,6 +1,6 @@
 use Rattle.std.proofs.Common.{◌≡◌, ◌+◌, ◌<◌, ◌++◌, [], ◌∷◌, length, take, Less, None, refl, sym, ◌∙◌, ap, subst, arith}
 use Rattle.context_model.specs.Orders.{atom_cmp}
-use Rattle.atom_list.specs.Open.{IsOpen, atom_at, path_before}
+use Rattle.atom_list.specs.OpenPlaces.{IsOpenPath, atom_at, path_before}
 use Rattle.atom_list.proofs.Opening.{header_within, header_wrong, header_follows, header_taken}
 use Rattle.atom_list.proofs.Walking.{path_next}
 use Rattle.atom_list.proofs.open_headers.OpenHeaders.admit_header.Goals as goal
@@ -30,6 +30,6 @@ pub returns-clause-open : goal.returns-clause-open
 returns-clause-open c =
     let list = c.args.list.now in
     let headers = c.push.ensures ∙ ap (λ v. v ++ c.args.at ∷ []) c.truncate.ensures in
-    subst (λ v. IsOpen list (path_before list (c.args.at + 1)) v None) (sym headers)
-    (subst (λ q. IsOpen list q (take c.args.level c.args.self.now.headers ++ c.args.at ∷ []) None) (sym (path_next list c.args.at c.requires.at))
+    subst (λ v. IsOpenPath list (path_before list (c.args.at + 1)) v None) (sym headers)
+    (subst (λ q. IsOpenPath list q (take c.args.level c.args.self.now.headers ++ c.args.at ∷ []) None) (sym (path_next list c.args.at c.requires.at))
     (header_taken list (path_before list c.args.at) _ _ c.args.at c.args.level c.requires.«open» c.requires.at c.requires.header (omega arith)))

@@ -1,8 +1,8 @@
 use Rattle.std.proofs.Common.{◌≡◌, ℕ, ◌+◌, ◌<◌, true, false, List, [], ◌∷◌, ◌++◌, length, take, drop, Some, option_copied, slice_get, sym, ◌∙◌, ap, subst, arith}
 use Rattle.std.proofs.lemmas.Option.{get_or_from_slice_get}
 use Rattle.context_model.specs.Paths.{is_header, level}
-use Rattle.atom_list.specs.Open.{atom_at}
-use Rattle.atom_list.specs.Walk.{padded, places_behind, IsWalk}
+use Rattle.atom_list.specs.OpenPlaces.{atom_at}
+use Rattle.atom_list.specs.Places.{padded, places_behind, IsAtomWalk}
 use Rattle.atom_list.specs.declared.places.Place.{Place}
 use Rattle.atom_list.proofs.Walking.{walk_other, walk_header, walk_level, place_other, place_header, view_next}
 use Rattle.atom_list.proofs.places.WalkIterator.next.Goals as goal
@@ -11,12 +11,12 @@ use Rattle.atom_list.proofs.places.WalkIterator.next.Goals as goal
 is_there : (list : List (List ℕ)) (at : ℕ) (x : List ℕ) → slice_get list at ≡ Some x → x ≡ atom_at list at
 is_there list at x there = sym (get_or_from_slice_get list at x [] there)
 
-step_other : (list : List (List ℕ)) (at : ℕ) (headers : List ℕ) (made : Place) (left : List Place) → IsWalk list at headers → at < length list → is_header (atom_at list at) ≡ false
+step_other : (list : List (List ℕ)) (at : ℕ) (headers : List ℕ) (made : Place) (left : List Place) → IsAtomWalk list at headers → at < length list → is_header (atom_at list at) ≡ false
     → made ≡ record { at = at; level = length headers; above = padded headers } → places_behind (take at list) (drop at list) ≡ left → left ≡ made ∷ places_behind (take (at + 1) list) (drop (at + 1) list)
 step_other list at headers made left walk within other e view =
     sym view ∙ view_next list at within ∙ ap (λ p. p ∷ places_behind (take (at + 1) list) (drop (at + 1) list)) (sym (place_other list at headers made walk within other e))
 
-step_header : (list : List (List ℕ)) (at : ℕ) (headers : List ℕ) (made : Place) (left : List Place) → IsWalk list at headers → at < length list → is_header (atom_at list at) ≡ true
+step_header : (list : List (List ℕ)) (at : ℕ) (headers : List ℕ) (made : Place) (left : List Place) → IsAtomWalk list at headers → at < length list → is_header (atom_at list at) ≡ true
     → made ≡ record { at = at; level = length (take (level (atom_at list at)) headers); above = padded (take (level (atom_at list at)) headers) }
     → places_behind (take at list) (drop at list) ≡ left → left ≡ made ∷ places_behind (take (at + 1) list) (drop (at + 1) list)
 step_header list at headers made left walk within header e view =
@@ -58,7 +58,7 @@ invariant_of-self-2 c =
     let found : c.in-Some.level ≡ level (atom_at list at) = c.in-Some.ensures.1 ∙ ap level same in
     let headers : c.push.new.self ≡ take (level (atom_at list at)) c.self.inside.headers ++ at ∷ [] =
     c.push.ensures ∙ ap (λ v. v ++ at ∷ []) (c.truncate.ensures ∙ ap (λ n. take n c.self.inside.headers) found) in
-    subst (IsWalk list (at + 1)) (sym headers) (walk_header list at c.self.inside.headers c.self.invariant (omega (arith, c.self.invariant.within, c.len.ensures.len)) (ap is_header (sym same) ∙ c.in-Some.ensures.0))
+    subst (IsAtomWalk list (at + 1)) (sym headers) (walk_header list at c.self.inside.headers c.self.invariant (omega (arith, c.self.invariant.within, c.len.ensures.len)) (ap is_header (sym same) ∙ c.in-Some.ensures.0))
 
 pub returns-clause-steps : goal.returns-clause-steps
 returns-clause-steps c =

@@ -1,7 +1,7 @@
 use Rattle.std.proofs.Common.{List, ℕ, ◌∷◌, [], ◌++◌, ◌≡◌, OnOk, sym, subst}
 use Rattle.bag_model.specs.Scalars.{spelling}
 use Rattle.scalar_types.specs.KindViews.{kind_of}
-use Rattle.scalar_types.specs.ScalarViews.{value_of}
+use Rattle.scalar_types.specs.Scalars.{value_of}
 use Rattle.bag_encode.proofs.growing_list.GrowingList.push_key.Goals as goal
 
 pub returns : goal.returns

@@ -1,7 +1,7 @@
 use Rattle.std.proofs.Common.{length, rules, of_calls, ap, arith}
 use Rattle.std.proofs.lemmas.Fn.{always_returns_same}
 use Rattle.bag_model.specs.Scalars.{scalar_cmp}
-use Rattle.scalar_types.specs.ScalarViews.{value_of}
+use Rattle.scalar_types.specs.Scalars.{value_of}
 use Rattle.bag_value.specs.declared.lists.Entry.{Entry}
 use Rattle.bag_value.proofs.Searching.{found_there, found_nowhere}
 use Rattle.bag_value.proofs.lists.Entries.find.Goals as goal

@@ -1,7 +1,7 @@
 use Rattle.std.proofs.Common.{sym, arith}
 use Rattle.std.proofs.lemmas.Option.{slice_get_past}
 use Rattle.bag_model.specs.Values.{pairs}
-use Rattle.bag_value.specs.Plain.{plain_entries}
+use Rattle.bag_value.specs.Vals.{plain_entries}
 use Rattle.bag_value.proofs.ListLaws.{length_entries}
 use Rattle.bag_value.proofs.lists.Entries.get.Goals as goal
 

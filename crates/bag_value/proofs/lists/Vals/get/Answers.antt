@@ -1,7 +1,7 @@
 use Rattle.std.proofs.Common.{sym, arith}
 use Rattle.std.proofs.lemmas.Option.{slice_get_past}
 use Rattle.bag_model.specs.Values.{values_list}
-use Rattle.bag_value.specs.Plain.{plain_values}
+use Rattle.bag_value.specs.Vals.{plain_values}
 use Rattle.bag_value.proofs.ListLaws.{length_values}
 use Rattle.bag_value.proofs.lists.Vals.get.Goals as goal
 

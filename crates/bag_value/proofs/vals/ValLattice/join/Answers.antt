@@ -1,6 +1,6 @@
 use Rattle.std.proofs.Common.{sym, ap, ◌∙◌}
-use Rattle.bag_value.specs.Plain.{val_of}
-use Rattle.bag_value.specs.PlainLaws.{val_back}
+use Rattle.bag_value.specs.Vals.{val_of}
+use Rattle.bag_value.specs.ValLaws.{val_back}
 use Rattle.bag_value.proofs.vals.ValLattice.join.Goals as goal
 
 pub returns-clause-ok : goal.returns-clause-ok

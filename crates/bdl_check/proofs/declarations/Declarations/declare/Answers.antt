@@ -3,7 +3,7 @@ use Rattle.std.proofs.lemmas.List.{length-map, map-append}
 use Rattle.std.proofs.lemmas.Map.Text.{btree_map_updates_str}
 use Rattle.std.specs.Option.{is_some}
 use Rattle.bdl_check.specs.Declarations.{Placed, number_named}
-use Rattle.bdl_check.specs.DeclarationViews.{placed_of, AreNumbersOf}
+use Rattle.bdl_check.specs.DeclarationViews.{placed_of, NumbersDeclarations}
 use Rattle.bdl_check.proofs.Numbers.{done, none_numbered, is_taken, numbers_more}
 use Rattle.bdl_check.proofs.declarations.Declarations.declare.Goals as goal
 
@@ -27,5 +27,5 @@ invariant_of-self-else-is_err c =
     let updates = done c.insert.result (cc (c.is_err.ensures.value, c.if-is_err.false)) c.insert.ensures.updates in
     let grown = numbers_more ds _ name c.len-number.result c.self.inside.numbers c.insert.new.self c.self.invariant c.decl_name-name.ensures count new
     (btree_map_updates_str name c.self.inside.numbers c.insert.new.self _ updates) in
-    subst (λ (all : List Placed). AreNumbersOf all c.insert.new.self)
+    subst (λ (all : List Placed). NumbersDeclarations all c.insert.new.self)
     (sym (ap (map placed_of) c.in_ok-push.ensures.items ∙ map-append placed_of c.self.inside.all.items _)) grown

@@ -4,7 +4,7 @@ use Rattle.bdl_parser.specs.declared.TheConstants.{MAX_NESTING}
 use Rattle.bdl_parser.specs.declared.parser.FormFault.{FormFault}
 use Rattle.bdl_parser.specs.Grammar.{a_bag_field}
 use Rattle.bdl_parser.specs.Refusals.{is_type_first}
-use Rattle.bdl_parser.specs.Spelled.{IsSpelledField}
+use Rattle.bdl_parser.specs.Decls.{IsSpelledField}
 use Rattle.bdl_parser.specs.Trees.{BagFieldTree}
 use Rattle.bdl_parser.specs.Views.{bag_field_of}
 use Rattle.bdl_parser.proofs.DeclLaws.{read_shorter, fields_item, fields_taken}

@@ -2,7 +2,7 @@ use Rattle.std.proofs.Common.{length}
 use Rattle.std.specs.List.{AllByRecursion}
 use Rattle.bdl_parser.specs.declared.TheConstants.{MAX_NESTING}
 use Rattle.bdl_parser.specs.Grammar.{a_bag_field}
-use Rattle.bdl_parser.specs.Spelled.{IsSpelledField}
+use Rattle.bdl_parser.specs.Decls.{IsSpelledField}
 use Rattle.bdl_parser.proofs.Families.{TakenItems}
 use Rattle.bdl_parser.proofs.parser.Parser.bag_fields.Given as goal
 

@@ -4,7 +4,7 @@ use Rattle.bdl_parser.specs.declared.TheConstants.{MAX_NESTING}
 use Rattle.bdl_parser.specs.declared.parser.FormFault.{FormFault}
 use Rattle.bdl_parser.specs.declared.trees.Decl.{Decl}
 use Rattle.bdl_parser.specs.Grammar.{a_decl}
-use Rattle.bdl_parser.specs.Spelled.{IsSpelledDecl}
+use Rattle.bdl_parser.specs.Decls.{IsSpelledDecl}
 use Rattle.bdl_parser.proofs.DeclLaws.{read_shorter, decls_item, decls_taken}
 use Rattle.bdl_parser.proofs.Exits.{exit_err}
 use Rattle.bdl_parser.proofs.Families.{TakenItems, items_more, all_more}

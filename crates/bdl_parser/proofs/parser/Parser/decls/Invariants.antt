@@ -2,7 +2,7 @@ use Rattle.std.proofs.Common.{length}
 use Rattle.std.specs.List.{AllByRecursion}
 use Rattle.bdl_parser.specs.declared.TheConstants.{MAX_NESTING}
 use Rattle.bdl_parser.specs.Grammar.{a_decl}
-use Rattle.bdl_parser.specs.Spelled.{IsSpelledDecl}
+use Rattle.bdl_parser.specs.Decls.{IsSpelledDecl}
 use Rattle.bdl_parser.proofs.Families.{TakenItems}
 use Rattle.bdl_parser.proofs.parser.Parser.decls.Given as goal
 

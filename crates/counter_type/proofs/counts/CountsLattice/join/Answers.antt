@@ -1,4 +1,4 @@
-use Rattle.counter_type.specs.Counted.{IsCounted-joined, counted_entries}
+use Rattle.counter_type.specs.Counts.{IsCounted-joined, counted_entries}
 use Rattle.counter_type.proofs.counts.CountsLattice.join.Goals as goal
 
 pub join_entries-requires-clause-theirs : goal.join_entries-requires-clause-theirs

@@ -1,7 +1,7 @@
 use Rattle.std.proofs.Common.{sym, ◌∙◌, ap, subst}
 use Rattle.bag_model.specs.Shapes as model
 use Rattle.scalar_types.specs.KindViews.{kind_of}
-use Rattle.field_table.specs.Kept.{IsKept, IsLoose}
+use Rattle.field_table.specs.Tables.{IsKept, IsLoose}
 use Rattle.field_table.specs.Plain.{shape_of, kept_shape}
 use Rattle.field_table.proofs.Shown.{kept_map, map_shown}
 use Rattle.field_table.proofs.shapes.Shape.+sort_bag_index.Goals as goal

@@ -3,12 +3,12 @@ use Rattle.std.specs.List.{slice_get}
 use Rattle.std.specs.Option.{option_map}
 use Rattle.bag_model.specs.Shapes as model
 use Rattle.bag_model.specs.Slots.{FindsField}
-use Rattle.field_table.specs.Paths.{IsSplit}
+use Rattle.field_table.specs.Shapes.{IsSplit}
 use Rattle.field_table.proofs.PathFinding.{finds_none, finds_only, finds_own, finds_inside, nothing_inside, nothing_in_bag, only_there, own_alone, inside_alone}
 use Rattle.bag_model.proofs.SlotLaws.{starts-bound, slots_of-list}
 use Rattle.field_table.specs.declared.shapes.Shape.TheViews.{out-Slots}
 use Rattle.field_table.specs.declared.shapes.Slot.{Slot}
-use Rattle.field_table.specs.Kept.{plain, KeptField, IsKept, IsNameOrder, IsPlaceOf}
+use Rattle.field_table.specs.Tables.{plain, KeptField, IsKept, IsNameOrder, IsPlaceOf}
 use Rattle.field_table.specs.Plain.{nodes_of, name_of, shape_of}
 use Rattle.field_table.proofs.Opened.{length_fields, has_indexes, is_ordered}
 use Rattle.field_table.proofs.Held.{inner_fewer, inner_ready, no_bag, shape_bag, field_open}

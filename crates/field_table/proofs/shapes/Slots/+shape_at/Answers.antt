@@ -4,7 +4,7 @@ use Rattle.bag_model.specs.Slots.{starts, slots_of, slots_in, slot_count, within
 use Rattle.field_table.specs.declared.shapes.Shape.TheViews.{out-Slots}
 use Rattle.std.specs.List.{slice_get}
 use Rattle.std.specs.Option.{option_map}
-use Rattle.field_table.specs.Kept.{plain}
+use Rattle.field_table.specs.Tables.{plain}
 use Rattle.field_table.specs.Plain.{nodes_of, shape_of}
 use Rattle.field_table.proofs.Opened.{length_fields}
 use Rattle.field_table.proofs.Held.{held, held_own, inner_ready, inner_fewer, no_bag, shape_bag, shape_within}

@@ -4,7 +4,7 @@ use Rattle.std.specs.Option.{option_map}
 use Rattle.std.proofs.lemmas.Option.{slice_get_within}
 use Rattle.bag_model.specs.Shapes.{fields, Field}
 use Rattle.field_table.specs.declared.shapes.Shape.TheViews.{out-Slots}
-use Rattle.field_table.specs.Kept.{KeptField}
+use Rattle.field_table.specs.Tables.{KeptField}
 use Rattle.field_table.specs.Plain.{nodes_of, field_of}
 use Rattle.field_table.proofs.Opened.{get_field, length_fields}
 use Rattle.field_table.proofs.Held.{field_open, item_at, bag_ready}

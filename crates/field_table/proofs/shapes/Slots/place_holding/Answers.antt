@@ -3,7 +3,7 @@ use Rattle.std.proofs.Math.Dec.{leb}
 use Rattle.std.proofs.lemmas.Fn.{always_returns_same}
 use Rattle.std.specs.List.Sorted.{IsPartitionedBy, IsPartitionPoint}
 use Rattle.bag_model.specs.Shapes.{fields}
-use Rattle.field_table.specs.Kept.{ends_after}
+use Rattle.field_table.specs.Tables.{ends_after}
 use Rattle.field_table.specs.Plain.{nodes_of}
 use Rattle.field_table.proofs.Ends.{ends_part, point_holds, length-ends}
 use Rattle.field_table.proofs.Opened.{has_indexes}

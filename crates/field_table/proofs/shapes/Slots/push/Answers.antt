@@ -7,7 +7,7 @@ use Rattle.field_table.specs.declared.shapes.Slot.{Slot}
 use Rattle.field_table.specs.declared.shapes.Slots.{Slots}
 use Rattle.field_table.specs.declared.shapes.Shape.TheOpen.{Slots-F}
 use Rattle.field_table.specs.declared.shapes.Shape.TheViews.{out-Slots}
-use Rattle.field_table.specs.Kept.{capped, HasPlaces, IsKept, IsLoose, KeptField}
+use Rattle.field_table.specs.Tables.{capped, HasPlaces, IsKept, IsLoose, KeptField}
 use Rattle.field_table.specs.Plain.{field_of, nodes_of, name_of, kept_shape}
 use Rattle.field_table.proofs.Held.{field_open}
 use Rattle.field_table.proofs.Opened.{has_indexes, fields_of-items, fields_of-rolled, map_push}

@@ -1,7 +1,7 @@
 use Rattle.std.proofs.Common.{◌≡◌, suc, ◌-◌, ◌<◌, length, get_or, sym, ◌∙◌, ap, arith}
 use Rattle.std.proofs.lemmas.List.{get_or_default}
 use Rattle.field_table.specs.declared.shapes.Shape.TheViews.{out-Slots}
-use Rattle.field_table.specs.Kept.{ends_of, start_at}
+use Rattle.field_table.specs.Tables.{ends_of, start_at}
 use Rattle.field_table.specs.Plain.{kept_bag}
 use Rattle.field_table.proofs.Opened.{count_is, open_ends}
 use Rattle.field_table.proofs.shapes.Slots.slot_count.Goals as goal

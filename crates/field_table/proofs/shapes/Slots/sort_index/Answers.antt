@@ -3,7 +3,7 @@ use Rattle.std.specs.Vec.{with_items}
 use Rattle.std.proofs.lemmas.List.{with_items_is}
 use Rattle.field_table.specs.declared.shapes.Slot.{Slot}
 use Rattle.field_table.specs.declared.shapes.Shape.TheViews.{out-Slots}
-use Rattle.field_table.specs.Kept.{HasPlaces, IsNameOrder}
+use Rattle.field_table.specs.Tables.{HasPlaces, IsNameOrder}
 use Rattle.field_table.specs.Plain.{name_of, IsIndexed}
 use Rattle.field_table.proofs.Opened.{has_indexes}
 use Rattle.field_table.proofs.Pushed.{same_fields, roll_ordered}

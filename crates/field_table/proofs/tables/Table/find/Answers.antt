@@ -3,7 +3,7 @@ use Rattle.bag_model.specs.Shapes as model
 use Rattle.bag_model.specs.Slots.{FindsSlot}
 use Rattle.bag_model.proofs.SlotPaths.{finds_slot, finds_no_slot}
 use Rattle.field_table.proofs.PathFinding.{bag_no_slot}
-use Rattle.field_table.specs.Kept.{plain}
+use Rattle.field_table.specs.Tables.{plain}
 use Rattle.field_table.specs.Plain.{nodes_of, shape_of}
 use Rattle.field_table.proofs.Held.{shape_bag, no_bag}
 use Rattle.field_table.proofs.Found.{ready}

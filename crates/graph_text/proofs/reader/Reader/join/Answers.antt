@@ -2,7 +2,7 @@ use Rattle.std.proofs.Common.{sym, subst}
 use Rattle.std.proofs.lemmas.Result.{err_from_is_err_and}
 use Rattle.trace_model.specs.Graphs as graphs
 use Rattle.graph_lines.specs.Statements as lines
-use Rattle.graph_text.specs.Additions.{IsNext}
+use Rattle.graph_text.specs.Additions.{IsNextStep}
 use Rattle.graph_text.proofs.Refusals.{no_step, join_apart, join_too_late, join_too_many, join_good}
 use Rattle.graph_text.proofs.reader.Reader.join.Goals as goal
 
@@ -34,5 +34,5 @@ pub returns-clause-ok : goal.returns-clause-ok
 returns-clause-ok c = λ table.
     let good = join_good table c.args.self.now c.args.parents.now c.in_ok-check_earlier.ensures.ok c.in_ok-service.service c.in_ok-service.ensures.ok
     c.in_ok-check_room.ensures.ok c.if-parents-gt-PARENTS_MAX.false c.requires in
-    subst (λ parents. IsNext table c.args.self.now (lines.Join c.args.parents.now) (record { service = c.in_ok-service.service; act = graphs.Act.Join parents }))
+    subst (λ parents. IsNextStep table c.args.self.now (lines.Join c.args.parents.now) (record { service = c.in_ok-service.service; act = graphs.Act.Join parents }))
     (sym c.in_ok-parents.ensures) good

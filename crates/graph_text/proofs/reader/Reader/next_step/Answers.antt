@@ -1,6 +1,6 @@
 use Rattle.std.proofs.Common.{IfErr, sym, subst}
 use Rattle.graph_lines.specs.Statements as lines
-use Rattle.graph_lines.specs.Views.{act_of}
+use Rattle.graph_lines.specs.Acts.{act_of}
 use Rattle.graph_text.specs.Additions.{IsRefusedNext}
 use Rattle.graph_text.proofs.reader.Reader.next_step.Goals as goal
 

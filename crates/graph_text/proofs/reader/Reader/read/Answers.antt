@@ -1,5 +1,5 @@
 use Rattle.std.proofs.Common.{IfErr, sym, subst}
-use Rattle.graph_lines.specs.Views.{statement_of}
+use Rattle.graph_lines.specs.Acts.{statement_of}
 use Rattle.graph_text.specs.Additions.{IsRefused}
 use Rattle.graph_text.proofs.reader.Reader.read.Goals as goal
 

@@ -1,7 +1,7 @@
 use Rattle.std.proofs.Common.{subst}
 use Rattle.trace_model.specs.Graphs.{IsGraph}
 use Rattle.recorded_graph.specs.Plain.{step_of}
-use Rattle.graph_lines.specs.Views.{act_of}
+use Rattle.graph_lines.specs.Acts.{act_of}
 use Rattle.graph_text.specs.Additions.{AddStep}
 use Rattle.graph_text.proofs.Follows.{may_follow}
 use Rattle.graph_text.proofs.reader.Reader.read_numbered.Goals as goal

@@ -1,7 +1,7 @@
 use Rattle.std.proofs.Common.{◌∙◌, ap}
 use Rattle.field_table.specs.Views as tables
-use Rattle.recorded_graph.specs.Growth.{with_service}
-use Rattle.graph_lines.specs.Views.{view_of}
+use Rattle.recorded_graph.specs.Graphs.{with_service}
+use Rattle.graph_lines.specs.Acts.{view_of}
 use Rattle.graph_text.proofs.Refusals.{declared}
 use Rattle.graph_text.proofs.reader.Reader.read_service.Goals as goal
 

@@ -1,11 +1,11 @@
 use Rattle.std.proofs.Common.{inl, refl, sym, subst}
 use Rattle.std.proofs.lemmas.Result.{err_from_is_err_and}
-use Rattle.bag_value.specs.Plain.{plain}
+use Rattle.bag_value.specs.Vals.{plain}
 use Rattle.trace_model.specs.Graphs as graphs
 use Rattle.graph_lines.specs.Statements as lines
 use Rattle.graph_text.specs.declared.faults.LineFault.TheVariants.{Code}
 use Rattle.graph_text.specs.declared.faults.Refusal.TheVariants.{Fault}
-use Rattle.graph_text.specs.Additions.{IsNext, IsRefusedNext}
+use Rattle.graph_text.specs.Additions.{IsNextStep, IsRefusedNext}
 use Rattle.graph_text.proofs.Refusals.{no_step, path_refused, write_refused, write_too_late, write_good}
 use Rattle.graph_text.proofs.reader.Reader.set.Goals as goal
 
@@ -49,7 +49,7 @@ returns-in_err-check_room-clause-err c =
 pub returns-clause-ok : goal.returns-clause-ok
 returns-clause-ok c =
     let step : graphs.Step = record { service = c.service_of-service.result; act = graphs.Act.Set c.in_ok-parent.parent c.in_ok-slot.slot (plain c.in_ok-write.write) } in
-    subst (λ n. IsNext c.args.table.now c.args.self.now (lines.Set n c.args.path.now c.args.write.now) step) c.in_ok-parent.ensures.ok.0
+    subst (λ n. IsNextStep c.args.table.now c.args.self.now (lines.Set n c.args.path.now c.args.write.now) step) c.in_ok-parent.ensures.ok.0
     (write_good c.args.table.now c.nodes.ensures.table c.args.self.now c.in_ok-parent.parent c.args.path.now c.args.write.now c.in_ok-parent.ensures.ok.1
     c.in_ok-slot.slot c.in_ok-slot.ensures.ok
     c.service_of-service.result c.service_of-service.ensures.at c.form_of-form.result (sym c.form_of-form.ensures)

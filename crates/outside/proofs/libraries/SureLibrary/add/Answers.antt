@@ -1,7 +1,7 @@
 use Rattle.std.proofs.Common.{◌≡◌, List, ℕ, subst, string_bytes}
 use Rattle.outside.proofs.Files.{held_more}
 use Rattle.outside.specs.Libraries.{held_in}
-use Rattle.outside.specs.Told.{with_file}
+use Rattle.outside.specs.Transfers.{with_file}
 use Rattle.outside.proofs.libraries.SureLibrary.add.Goals as goal
 
 pub returns-clause-ok : goal.returns-clause-ok

@@ -1,7 +1,7 @@
 use Rattle.std.proofs.Common.{List, ℕ, get_or, refl, subst, arith}
 use Rattle.context_model.specs.Orders.{IsIn}
 use Rattle.recorded_graph.specs.Plain.{step_of}
-use Rattle.recorded_graph.specs.Growth.{MayHaveParent}
+use Rattle.recorded_graph.specs.Graphs.{MayHaveParent}
 use Rattle.recorded_graph.proofs.Parents.{in_at, at_in}
 use Rattle.recorded_graph.proofs.graphs.Graph.may_have_parents.Goals as goal
 

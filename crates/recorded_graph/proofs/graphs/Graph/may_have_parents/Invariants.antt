@@ -1,6 +1,6 @@
 use Rattle.std.proofs.Common.{ℕ, ◌<◌, get_or}
 use Rattle.recorded_graph.specs.Plain.{step_of}
-use Rattle.recorded_graph.specs.Growth.{MayHaveParent}
+use Rattle.recorded_graph.specs.Graphs.{MayHaveParent}
 use Rattle.recorded_graph.proofs.graphs.Graph.may_have_parents.Given as goal
 
 abbrev pub invariant-loop-parent : goal.invariant-loop-parent

@@ -1,7 +1,7 @@
 use Rattle.std.proofs.Common.{sym, ◌∙◌}
 use Rattle.bag_model.proofs.SpellingOrder.{spelling-order}
 use Rattle.scalar_types.specs.KindViews.{kind_of}
-use Rattle.scalar_types.specs.ScalarViews.{value_of}
+use Rattle.scalar_types.specs.Scalars.{value_of}
 use Rattle.scalar_types.proofs.kind_codec.ScalarKindCodec.compare.Goals as goal
 
 pub returns : goal.returns

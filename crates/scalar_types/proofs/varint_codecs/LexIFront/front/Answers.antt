@@ -2,7 +2,7 @@ use Rattle.std.proofs.Common.{◌-◌, length, take, drop, w64, sym, subst, rule
 use Rattle.std.proofs.lemmas.Int.{to_z-of_z}
 use Rattle.scalar_types.specs.Fronts.{Begins}
 use Rattle.context_model.specs.Varints.{signed_varint}
-use Rattle.lex_varint.specs.Fronts.{IsSignedAt}
+use Rattle.lex_varint.specs.Readings.{IsSignedAt}
 use Rattle.bag_model.specs.Scalars.{IsSigned}
 use Rattle.scalar_types.proofs.VarintFronts.{signed_count, signed_begins, signed_at, signed_out, ok_is_no_err}
 use Rattle.scalar_types.proofs.varint_codecs.LexIFront.front.Goals as goal

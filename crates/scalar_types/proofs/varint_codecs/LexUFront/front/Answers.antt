@@ -1,6 +1,6 @@
 use Rattle.std.proofs.Common.{length, rules}
 use Rattle.context_model.specs.Varints.{unsigned_varint}
-use Rattle.lex_varint.specs.Fronts.{IsUnsignedAt}
+use Rattle.lex_varint.specs.Readings.{IsUnsignedAt}
 use Rattle.bag_model.specs.Scalars.{IsUnsigned}
 use Rattle.scalar_types.proofs.VarintFronts.{unsigned_count, unsigned_begins, unsigned_at, unsigned_out, ok_is_no_err}
 use Rattle.scalar_types.proofs.varint_codecs.LexUFront.front.Goals as goal

@@ -1,6 +1,6 @@
 use Rattle.std.proofs.Common.{◌↔◌, ℕ, Bool, List, IsTrue, sym, subst}
 use Rattle.bag_model.specs.Scalars.{IsOfForm, plain_spelling}
-use Rattle.scalar_types.specs.Spelling.{IsSpelled}
+use Rattle.scalar_types.specs.Codec.{IsSpelled}
 use Rattle.scalar_types.specs.WordCodecs.{form}
 use Rattle.scalar_types.specs.declared.word_codecs.WordCodec.{WordCodec}
 use Rattle.scalar_types.proofs.FormValues.{truth_spelled, unsigned_spelled, signed_spelled, fixed_spelled, signed_fixed_spelled, text_spelled, raw_spelled}

@@ -1,7 +1,7 @@
 use Rattle.std.proofs.Common.{ℕ, List, rules, sym, subst}
 use Rattle.std.specs.Prelude.{IsUtf8}
 use Rattle.bag_model.specs.Scalars.{IsOfForm, field_spelling, ended}
-use Rattle.scalar_types.specs.Spelling.{AlwaysFits, IsSpelled}
+use Rattle.scalar_types.specs.Codec.{AlwaysFits, IsSpelled}
 use Rattle.scalar_types.specs.Fronts.{Begins, BeginsWithSome}
 use Rattle.scalar_types.specs.WordCodecs.{form}
 use Rattle.scalar_types.proofs.FormValues.{no_text_begins}

@@ -1,6 +1,6 @@
 use Rattle.std.proofs.Common.{sym, subst}
-use Rattle.set_map_types.specs.Held.{IsMap}
-use Rattle.set_map_types.specs.HeldLaws.{IsMap-merge}
+use Rattle.set_map_types.specs.SetsAndMaps.{IsMap}
+use Rattle.set_map_types.specs.SetAndMapLaws.{IsMap-merge}
 use Rattle.set_map_types.proofs.map_of.MapOfLattice.join.Goals as goal
 
 pub join_entries-requires-clause-alike : goal.join_entries-requires-clause-alike

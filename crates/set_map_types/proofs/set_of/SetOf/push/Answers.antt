@@ -1,6 +1,6 @@
 use Rattle.std.proofs.lemmas.List.{map-append}
 use Rattle.context_model.specs.KeyedMerge.{keys_of}
-use Rattle.set_map_types.specs.HeldLaws.{IsSet-push}
+use Rattle.set_map_types.specs.SetAndMapLaws.{IsSet-push}
 use Rattle.set_map_types.proofs.set_of.SetOf.push.Goals as goal
 
 pub invariant_of-self-2 : goal.invariant_of-self-2

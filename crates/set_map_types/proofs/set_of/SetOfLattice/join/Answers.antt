@@ -2,8 +2,8 @@ use Rattle.std.proofs.Common.{◌≡◌, sym, subst}
 use Rattle.context_model.specs.Merge.{greedy_merge}
 use Rattle.context_model.specs.KeyedMerge.{keys_of}
 use Rattle.context_model.proofs.MergeLaws.{keys_of-merge_with}
-use Rattle.set_map_types.specs.Held.{IsSet, value_cmp}
-use Rattle.set_map_types.specs.HeldLaws.{IsMap-bare, IsSet-union}
+use Rattle.set_map_types.specs.SetsAndMaps.{IsSet, value_cmp}
+use Rattle.set_map_types.specs.SetAndMapLaws.{IsMap-bare, IsSet-union}
 use Rattle.set_map_types.proofs.set_of.SetOfLattice.join.Goals as goal
 
 pub join_entries-requires-clause-ours : goal.join_entries-requires-clause-ours

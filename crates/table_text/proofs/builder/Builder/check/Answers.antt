@@ -1,7 +1,7 @@
 use Rattle.std.proofs.Common.{reverse, sym, subst, ◌∙◌, arith}
 use Rattle.bag_model.specs.Shapes.{fields}
 use Rattle.field_table.specs.Plain.{nodes_of}
-use Rattle.table_text.specs.OpenBags.{rows_so_far}
+use Rattle.table_text.specs.Builder.{rows_so_far}
 use Rattle.table_text.specs.Views.{row_of}
 use Rattle.table_text.proofs.BagRules.{IsHere, here, order_first, name_first, levels_first, count_first, none_broken}
 use Rattle.table_text.proofs.builder.Builder.check.Goals as goal

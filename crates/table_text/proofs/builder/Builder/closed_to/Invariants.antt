@@ -1,10 +1,10 @@
 use Rattle.std.proofs.Common.{◌≡◌, ◌≤◌}
-use Rattle.table_text.specs.OpenBags.{IsSound, depth_of, rows_so_far}
+use Rattle.table_text.specs.Builder.{IsSoundBuilder, depth_of, rows_so_far}
 use Rattle.table_text.proofs.builder.Builder.closed_to.Given as goal
 
 abbrev pub invariant-loop-alloc : goal.invariant-loop-alloc
 invariant-loop-alloc l = record {
-  sound : IsSound l.builder;
+  sound : IsSoundBuilder l.builder;
   rows : rows_so_far l.builder ≡ rows_so_far l.initial.builder;
   depth : l.depth ≤ depth_of l.builder;
 }

@@ -1,6 +1,6 @@
 use Rattle.std.proofs.lemmas.Result.{err_from_is_err_and}
 use Rattle.std.proofs.Common.{reverse, arith}
-use Rattle.table_text.specs.OpenBags.{rows_so_far}
+use Rattle.table_text.specs.Builder.{rows_so_far}
 use Rattle.table_text.proofs.Finished.{few_open}
 use Rattle.table_text.proofs.LineRefusals.{sound_row, unread_refused}
 use Rattle.table_text.proofs.builder.Builder.read_line.Goals as goal

@@ -1,7 +1,7 @@
 use Rattle.std.proofs.Common.{◌≡◌, ◌+◌, ◌<◌, ℕ, length, get_or, set, sym, ap, subst, ◌∙◌, arith}
 use Rattle.std.proofs.lemmas.Option.{slice_get_within}
 use Rattle.topological_order.specs.Graphs.{row_of}
-use Rattle.topological_order.specs.Walks.{Trail, trail_of, counted, Follows}
+use Rattle.topological_order.specs.Walk.{Trail, trail_of, counted, Follows}
 use Rattle.topological_order.proofs.Lists.{read}
 use Rattle.topological_order.proofs.Edges.{row_small, to_within}
 use Rattle.topological_order.proofs.Steps.{is_here, met_follows, met_followed}

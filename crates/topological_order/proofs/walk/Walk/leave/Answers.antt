@@ -1,5 +1,5 @@
 use Rattle.std.proofs.Common.{◌≡◌, ◌-◌, List, ℕ, length, take, sym, ap, subst, ◌∙◌, arith}
-use Rattle.topological_order.specs.Walks.{trail_of, left, Follows}
+use Rattle.topological_order.specs.Walk.{trail_of, left, Follows}
 use Rattle.topological_order.proofs.Steps.{is_here, left_follows}
 use Rattle.topological_order.proofs.walk.Walk.leave.Goals as goal
 

@@ -1,5 +1,5 @@
 use Rattle.std.proofs.Common.{arith}
-use Rattle.topological_order.specs.Walks.{trail_of}
+use Rattle.topological_order.specs.Walk.{trail_of}
 use Rattle.topological_order.proofs.Edges.{graph_length}
 use Rattle.topological_order.proofs.Steps.{is_here}
 use Rattle.topological_order.proofs.walk.Walk.step.Goals as goal

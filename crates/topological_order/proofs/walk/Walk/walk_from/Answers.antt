@@ -1,5 +1,5 @@
 use Rattle.std.proofs.Common.{◌<◌, length, sym, subst, arith}
-use Rattle.topological_order.specs.Walks.{Trail, trail_of, IsWalkedFrom}
+use Rattle.topological_order.specs.Walk.{Trail, trail_of, IsWalkedFrom}
 use Rattle.topological_order.proofs.Edges.{graph_length}
 use Rattle.topological_order.proofs.Walking.{walk_begun, walk_more}
 use Rattle.topological_order.proofs.walk.Walk.walk_from.Goals as goal

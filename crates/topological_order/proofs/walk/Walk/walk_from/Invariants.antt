@@ -1,4 +1,4 @@
-use Rattle.topological_order.specs.Walks.{trail_of, effort, IsWalkedFrom}
+use Rattle.topological_order.specs.Walk.{trail_of, effort, IsWalkedFrom}
 use Rattle.topological_order.proofs.walk.Walk.walk_from.Given as goal
 
 abbrev pub invariant-loop-node : goal.invariant-loop-node

@@ -1,0 +1,35 @@
+-- What is read of a field, and why nothing is.
+use Rattle.std.specs.Prelude.{◌≡◌, ℕ, List, Some, None}
+use Rattle.context_model.specs.Atoms.{Atom}
+use Rattle.context_model.specs.ContextFault.{IsContextOf, IsFirstContextFault}
+use Rattle.bag_model.specs.Shapes.{Nodes}
+use Rattle.bag_model.specs.Slots.{FindsSlot}
+use Rattle.bag_model.specs.Typed.{IsFirstIllTyped}
+use Rattle.wire_bytes.specs.Reading.{byte_code_of}
+use Rattle.wire_bytes.specs.declared.contexts.ContextFault.{ContextFault}
+use Rattle.wire_bytes.specs.declared.contexts.ContextFault.TheVariants as contexts
+use Rattle.accessor_gen.specs.Access.{IsReadingOf}
+use Rattle.accessor_gen.specs.declared.access.Reading.{Reading}
+use Rattle.checkout_client.specs.declared.FieldFault.{FieldFault}
+use Rattle.checkout_client.specs.declared.FieldFault.TheVariants.{NoField, NoContext, IllTyped, Memory}
+
+-- The bytes are those of a context, and this is read in it of the slot with this name path.
+pub record IsRead (nodes : Nodes) (bytes name : List ℕ) (reading : Reading) : Type 0 where
+  pub list : List Atom
+  pub framed : IsContextOf list bytes
+  pub slot : ℕ
+  pub found : FindsSlot nodes name (Some slot)
+  pub read : IsReadingOf nodes list slot reading
+
+-- Why nothing is read: no slot has the name, the bytes have this first fault, or the atom at this place of their context is
+-- the first that is ill typed. Want of memory claims nothing.
+abbrev pub IsUnreadFor : Nodes → List ℕ → List ℕ → FieldFault → Type 0
+IsUnreadFor nodes bytes name NoField = FindsSlot nodes name None
+IsUnreadFor nodes bytes name (NoContext offset code) = IsFirstContextFault bytes offset (byte_code_of code)
+IsUnreadFor nodes bytes name (IllTyped place) = (list : List Atom) × IsContextOf list bytes × IsFirstIllTyped nodes list place
+IsUnreadFor nodes bytes name Memory = Unit {0}
+
+-- The fault of bytes in the words of this crate.
+abbrev pub TellsFault : ContextFault → FieldFault → Type 0
+TellsFault (contexts.At offset code) fault = fault ≡ NoContext offset code
+TellsFault contexts.Memory fault = fault ≡ Memory

@@ -1,0 +1,94 @@
+-- Kinds and values back from the plain ones; a spelling belongs to one value of a kind.
+use Rattle.std.specs.Prelude.{◌≡◌}
+use Rattle.std.proofs.Common.{refl, sym, ap, ◌∙◌}
+use Rattle.bag_model.specs.Scalars as model
+use Rattle.bag_model.specs.Scalars.{IsScalarOf, spelling}
+use Rattle.bag_model.proofs.SpellingOrder.{spelling-one}
+use Rattle.scalar_types.specs.Codec.{OneValue}
+use Rattle.scalar_types.specs.declared.kinds.ScalarKind.{ScalarKind}
+use Rattle.scalar_types.specs.declared.kinds.ScalarKind.TheVariants as kinds
+use Rattle.scalar_types.specs.declared.scalars.Scalar.{Scalar}
+use Rattle.scalar_types.specs.declared.scalars.Scalar.TheVariants.{Bool as BoolScalar, Signed, Unsigned, Str, Bytes, Packed}
+use Rattle.scalar_types.specs.KindViews.{kind_of}
+use Rattle.scalar_types.specs.Scalars.{value_of}
+
+-- The kind of a word.
+abbrev pub kind_of_word : model.Word → ScalarKind
+kind_of_word model.Word.Boolean = kinds.Bool
+kind_of_word model.Word.Int32 = kinds.Int32
+kind_of_word model.Word.Int64 = kinds.Int64
+kind_of_word model.Word.Sint32 = kinds.Sint32
+kind_of_word model.Word.Sint64 = kinds.Sint64
+kind_of_word model.Word.Uint32 = kinds.Uint32
+kind_of_word model.Word.Uint64 = kinds.Uint64
+kind_of_word model.Word.Fixed32 = kinds.Fixed32
+kind_of_word model.Word.Fixed64 = kinds.Fixed64
+kind_of_word model.Word.Sfixed32 = kinds.Sfixed32
+kind_of_word model.Word.Sfixed64 = kinds.Sfixed64
+kind_of_word model.Word.Str = kinds.Str
+kind_of_word model.Word.Bytes = kinds.Bytes
+
+-- The kind back from its plain kind.
+abbrev pub kind_from : model.ScalarKind → ScalarKind
+kind_from (model.ScalarKind.One word) = kind_of_word word
+kind_from (model.ScalarKind.Packed words) = kinds.Packed words
+
+pub kind_back : (kind : ScalarKind) → kind_from (kind_of kind) ≡ kind
+kind_back kinds.Bool = refl
+kind_back kinds.Int32 = refl
+kind_back kinds.Int64 = refl
+kind_back kinds.Sint32 = refl
+kind_back kinds.Sint64 = refl
+kind_back kinds.Uint32 = refl
+kind_back kinds.Uint64 = refl
+kind_back kinds.Fixed32 = refl
+kind_back kinds.Fixed64 = refl
+kind_back kinds.Sfixed32 = refl
+kind_back kinds.Sfixed64 = refl
+kind_back kinds.Str = refl
+kind_back kinds.Bytes = refl
+kind_back (kinds.Packed words) = refl
+
+pub plain_kind_back : (kind : model.ScalarKind) → kind_of (kind_from kind) ≡ kind
+plain_kind_back (model.ScalarKind.One model.Word.Boolean) = refl
+plain_kind_back (model.ScalarKind.One model.Word.Int32) = refl
+plain_kind_back (model.ScalarKind.One model.Word.Int64) = refl
+plain_kind_back (model.ScalarKind.One model.Word.Sint32) = refl
+plain_kind_back (model.ScalarKind.One model.Word.Sint64) = refl
+plain_kind_back (model.ScalarKind.One model.Word.Uint32) = refl
+plain_kind_back (model.ScalarKind.One model.Word.Uint64) = refl
+plain_kind_back (model.ScalarKind.One model.Word.Fixed32) = refl
+plain_kind_back (model.ScalarKind.One model.Word.Fixed64) = refl
+plain_kind_back (model.ScalarKind.One model.Word.Sfixed32) = refl
+plain_kind_back (model.ScalarKind.One model.Word.Sfixed64) = refl
+plain_kind_back (model.ScalarKind.One model.Word.Str) = refl
+plain_kind_back (model.ScalarKind.One model.Word.Bytes) = refl
+plain_kind_back (model.ScalarKind.Packed words) = refl
+
+-- The value back from its plain value.
+abbrev pub scalar_of : model.ScalarValue → Scalar
+scalar_of (model.ScalarValue.One (model.Plain.Truth b)) = BoolScalar b
+scalar_of (model.ScalarValue.One (model.Plain.Signed z)) = Signed z
+scalar_of (model.ScalarValue.One (model.Plain.Unsigned n)) = Unsigned n
+scalar_of (model.ScalarValue.One (model.Plain.Text bytes)) = Str bytes
+scalar_of (model.ScalarValue.One (model.Plain.Octets bytes)) = Bytes bytes
+scalar_of (model.ScalarValue.Packed values) = Packed values
+
+pub scalar_back : (v : Scalar) → scalar_of (value_of v) ≡ v
+scalar_back (BoolScalar b) = refl
+scalar_back (Signed z) = refl
+scalar_back (Unsigned n) = refl
+scalar_back (Str bytes) = refl
+scalar_back (Bytes bytes) = refl
+scalar_back (Packed values) = refl
+
+pub value_back : (x : model.ScalarValue) → value_of (scalar_of x) ≡ x
+value_back (model.ScalarValue.One (model.Plain.Truth b)) = refl
+value_back (model.ScalarValue.One (model.Plain.Signed z)) = refl
+value_back (model.ScalarValue.One (model.Plain.Unsigned n)) = refl
+value_back (model.ScalarValue.One (model.Plain.Text bytes)) = refl
+value_back (model.ScalarValue.One (model.Plain.Octets bytes)) = refl
+value_back (model.ScalarValue.Packed values) = refl
+
+pub kind_one : (kind : ScalarKind) → OneValue (λ v. IsScalarOf (kind_of kind) (value_of v)) (λ v. spelling (kind_of kind) (value_of v))
+kind_one kind v w p q e = sym (scalar_back v) ∙ ap scalar_of (spelling-one (kind_of kind) (value_of v) (value_of w) p q e) ∙ scalar_back w

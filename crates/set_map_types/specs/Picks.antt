@@ -1,0 +1,38 @@
+use Rattle.std.specs.Prelude.{◌≡◌, ℕ, List, Option, Some, None}
+use Rattle.std.specs.Ordering.{flip_args}
+use Rattle.std.specs.declared.cmp.Ordering.{Ordering}
+use Rattle.context_model.specs.Merge.{first_of}
+use Rattle.set_map_types.specs.SetsAndMaps.{value_cmp}
+
+-- a codec, and one of its values or none
+pub record HeldOne (C V : Type 0) : Type 0 where
+  pub codec : C
+  pub value : Option V
+
+-- a value that is there holds P
+abbrev pub IfThere : {V : Type 0} → (V → Type 0) → Option V → Type 0
+IfThere P None = Unit {0}
+IfThere P (Some v) = P v
+
+abbrev pub one_proper : {C V : Type 0} → (C → V → Type 0) → HeldOne C V → Type 0
+one_proper fits s = IfThere (fits s.codec) s.value
+
+-- of the values that are there the first
+abbrev pub one_joined : {C V : Type 0} → (C → V → V → Ordering) → HeldOne C V → HeldOne C V → HeldOne C V
+one_joined order s t = record { codec = s.codec; value = first_of (order s.codec) s.value t.value }
+
+-- two are alike where their codecs are equal
+abbrev pub SameCodecOfOne : {C V : Type 0} → HeldOne C V → HeldOne C V → Type 0
+SameCodecOfOne s t = s.codec ≡ t.codec
+
+-- no value is there
+abbrev pub IsAbsent : {C V : Type 0} → HeldOne C V → Type 0
+IsAbsent s = s.value ≡ None
+
+-- the order of a codec's values, by their spellings
+abbrev pub by_spelling : {C V : Type 0} → (C → V → List ℕ) → C → V → V → Ordering
+by_spelling spelling c = value_cmp (spelling c)
+
+-- the same order, turned round
+abbrev pub against_spelling : {C V : Type 0} → (C → V → List ℕ) → C → V → V → Ordering
+against_spelling spelling c = flip_args (by_spelling spelling c)
