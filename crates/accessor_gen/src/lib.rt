@@ -1,5 +1,10 @@
 //! Accessors for the slots of a table: by the name path of its slot, an accessor reads what a context says of the slot, with
 //! whether that is whole, and makes the context that says one value of the slot and nothing else.
+//!
+//! ```rust
+//! let tags = accessor(alloc, &table, "tags")?;              // None where the table has no such slot
+//! let reading = tags.get(alloc, &table, &context)?;         // its value, and whether that is exact
+//! ```
 #![tactic(auto)]
 
 mod access;

@@ -3,6 +3,12 @@
 //! The empty atom is a marker, and the byte `00` begins a datum, whose payload may be any bytes. A header of level 0 to
 //! 15 is indexed, `80 + 8 * (15 - level)` and then one varint, or keyed, `81 + 8 * (15 - level)` and then any bytes as
 //! its key. No other byte begins an atom.
+//!
+//! ```rust
+//! kind_of(&[0xf8, 0x05])               // Ok(Kind::Indexed { level: 0, number: 5 })
+//! kind_of(b"")                         // Ok(Kind::Marker)
+//! let header = indexed(alloc, 0, 5)?;  // the bytes f8 05
+//! ```
 #![tactic(auto)]
 
 ghost use Rattle.std.specs.Prelude.{◌≡◌, ◌↔◌, ◌-◌, ◌/◌, ℕ, ◌^◌, ◌<◌, ◌≤◌, ◌∷◌, drop, false, length, IfOk, MatchOption};

@@ -5,6 +5,11 @@
 //! next level for each writer of a counter and each key of a map, with the count or the value under it. The fields of a
 //! bag in a field stand under that field's header, one level further in. A field that is bottom has no header, and a key
 //! always has one.
+//!
+//! ```rust
+//! let context = encode(alloc, &table, &value)?;             // says the value, and nothing else
+//! let write = encode_slot(alloc, &table, slot, &value)?;    // one slot alone, to be merged into a context
+//! ```
 #![tactic(auto)]
 
 mod encoding;

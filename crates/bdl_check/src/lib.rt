@@ -1,4 +1,8 @@
 //! The table of a bag, from its definition, or the first fault of the definition.
+//!
+//! ```rust
+//! let table = compile(alloc, &mut library, "request.bdl", "Request")?;
+//! ```
 #![tactic(auto)]
 
 mod checks;

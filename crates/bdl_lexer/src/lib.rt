@@ -1,4 +1,8 @@
 //! The tokens of a baggage definition, or its first lexical fault.
+//!
+//! ```rust
+//! let tokens = lex(alloc, source)?;                         // or the first lexical fault, with line and column
+//! ```
 #![tactic(auto)]
 
 ghost use Rattle.std.specs.Prelude.{◌≤◌, length, All, IfOk, IfErr};

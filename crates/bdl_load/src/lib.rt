@@ -1,4 +1,8 @@
 //! The files of a baggage definition, from the name of its root, or the first fault of loading them.
+//!
+//! ```rust
+//! let files = load(alloc, &mut library, "request.bdl")?;    // the root, and all that it imports, each once
+//! ```
 #![tactic(auto)]
 
 mod code_names;

@@ -1,4 +1,8 @@
 //! The module of a baggage definition, from its tokens, or its first parse fault.
+//!
+//! ```rust
+//! let module = parse(alloc, source, &tokens)?;              // its imports and declarations, each with its place
+//! ```
 #![tactic(auto)]
 
 ghost use Rattle.std.specs.Prelude.{All, IfOk, IfErr};

@@ -1,5 +1,13 @@
 //! Calls from bytes to bytes, for programs that hold contexts as bytes and know nothing of lists: what is made is written into the
 //! caller's room.
+//!
+//! ```rust
+//! match forward_into(alloc, Form::One, first, second, 512, &mut room) {
+//!     Ok(size) => channel.send(&room[..size]),
+//!     Err(Refusal::Room(size)) => ..   // nothing was written; so many bytes are needed
+//!     Err(refusal) => ..
+//! }
+//! ```
 #![tactic(auto)]
 
 mod calls;

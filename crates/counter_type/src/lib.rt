@@ -1,4 +1,12 @@
 //! Values that are joined, entries of keys with such values, and the counts of writers.
+//!
+//! A [`Lattice`] is a type of values with a join: commutative, associative and idempotent, as its impl has to prove.
+//!
+//! ```rust
+//! let mut counts = Counts::of(alloc, b"cart", 3)?;
+//! counts.join(&Counts::of(alloc, b"gateway", 1)?)?;
+//! counts.total()                                            // 4
+//! ```
 #![tactic(auto)]
 
 mod counts;

@@ -1,4 +1,9 @@
 //! Decimal numbers of 64 bits, each the whole of a text.
+//!
+//! ```rust
+//! read_decimal(b"42")                                       // Some(42)
+//! read_decimal(b"042")                                      // None
+//! ```
 #![tactic(auto)]
 
 ghost use Rattle.std.specs.Prelude.{◌≡◌, ◌⊎◌, ◌↔◌, ◌^◌, ◌<◌, IsTrue, length, slice_index};

@@ -1,4 +1,8 @@
 //! The merge of many contexts of a pool, in several threads where there are many.
+//!
+//! ```rust
+//! let merged = merge_all(rt, alloc, &Open, &pool, &[0, 3, 4])?; // the contexts at places 0, 3 and 4 of the pool
+//! ```
 #![tactic(auto)]
 
 mod alone;

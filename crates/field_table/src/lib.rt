@@ -1,4 +1,11 @@
 //! Tables: the fields of a bag with all nested bags in place, their slots, and the views of services.
+//!
+//! ```rust
+//! let mut fields = Slots::new(alloc);
+//! fields.add("tags", 1, Shape::Set(ScalarKind::Str))?;
+//! let table = Table::of(fields);
+//! table.find("tags")                                        // Some(0): the place of the slot
+//! ```
 #![tactic(auto)]
 
 mod laws;

@@ -1,4 +1,8 @@
 //! The lines of a recorded graph: what the words of a line say, before any name is looked up.
+//!
+//! ```rust
+//! let line = read_statement(alloc, b"trim 5 4 64")?;        // Some(Statement::Step { number: 5, act: .. })
+//! ```
 #![tactic(auto)]
 
 mod acts;

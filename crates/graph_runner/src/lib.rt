@@ -1,4 +1,8 @@
 //! The run of a recorded graph: the lists of all its steps.
+//!
+//! ```rust
+//! let lists = run_all(alloc, &table, &graph)?;              // the context of each step, in order
+//! ```
 #![tactic(auto)]
 
 mod runs;

@@ -1,4 +1,11 @@
 //! The merge of lists of atoms, by comparing bytes alone.
+//!
+//! [`merge`] puts two contexts together, and [`merge_many`] any number: what comes out has exactly their paths, whatever the order.
+//! The laws are in [`laws`].
+//!
+//! ```rust
+//! let merged = merge(alloc, &ours, &theirs)?;
+//! ```
 #![tactic(auto)]
 
 ghost use Rattle.std.specs.Prelude.{◌≡◌, [], ◌∷◌, IfOk};

@@ -5,6 +5,12 @@
 //! from 0 on has the same code with one more one in its first byte, where there is room: with eight bytes behind it the
 //! first byte is `ff`, and no signed code has seven. A negative number `n` has the code of `-1 - n` with each bit turned.
 //! Only the shortest code of a number is valid, so no code begins another and each number has one.
+//!
+//! ```rust
+//! put_u64(300).as_slice()              // [0x81, 0x2c]
+//! take_u64(&[0x81, 0x2c, 0xff])        // Ok((300, 2)): the number, and how many bytes it took
+//! take_u64(&[0x80, 0x2c])              // Err(VarintFault::LongForm): 44 has a code of one byte
+//! ```
 #![tactic(auto)]
 
 ghost use Rattle.std.specs.Prelude.{◌≡◌, ◌≢◌, ◌↔◌, ℕ, ℤ, ◌+◌, ◌-◌, ◌*◌, ◌/◌, ◌^◌, ◌<◌, ◌≤◌, List, ◌∷◌, ◌++◌, length, map, pos, negsuc, if◌then◌else◌, ◌≤ℤ◌, unsigned_abs};

@@ -1,4 +1,8 @@
 //! Lists of atoms that are cut to a budget of bytes, with a marker where something was cut off.
+//!
+//! ```rust
+//! trim_context(Form::One, &mut context, 512);               // at most 512 bytes, the marker included
+//! ```
 #![tactic(auto)]
 
 ghost use Rattle.std.specs.Prelude.{◌≡◌, ◌+◌, ◌^◌, ◌<◌, ◌≤◌, ◌↔◌, length, take, nat_lt, if◌then◌else◌, IsTrue, IfOk, ℕ};

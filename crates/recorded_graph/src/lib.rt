@@ -1,4 +1,12 @@
 //! Recorded graphs of steps: who stands at which service, and what was done there, step by step.
+//!
+//! A [`Graph`] is sound by its type: a step is added only where [`Graph::may_follow`] says so.
+//!
+//! ```rust
+//! if graph.may_follow(&step) {
+//!     graph.add_step(step)?;
+//! }
+//! ```
 #![tactic(auto)]
 
 mod graphs;

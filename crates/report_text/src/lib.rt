@@ -1,4 +1,11 @@
 //! Texts of typed values, as reports show them.
+//!
+//! A block is what a report shows of one context: its bytes, and a line for each slot.
+//!
+//! ```rust
+//! let text = value_text(alloc, &value, &shape)?;            // {"a","b"}
+//! let lines = block(alloc, &table, Form::One, &context)?;   // the bytes, and `NAME STATE VALUE` for each slot
+//! ```
 #![tactic(auto)]
 
 mod blocks;

@@ -1,4 +1,14 @@
 //! Codecs: types of values with one spelling in bytes each, whose byte order is the order of the values.
+//!
+//! A type of one's own is a [`Codec`]: which values fit, how one is spelled, and how it is read back.
+//!
+//! ```rust
+//! let kind = ScalarKind::of_word("uint32");                 // Some(ScalarKind::Uint32)
+//! let mut bytes = Vec::new(alloc);
+//! let codec = LexU { wide: false };                         // numbers of 32 bits
+//! codec.put(&300, &mut bytes)?;                             // the bytes 81 2c
+//! codec.take(alloc, &bytes)?                                // 300
+//! ```
 #![tactic(auto)]
 
 mod codec;

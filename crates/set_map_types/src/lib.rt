@@ -1,4 +1,10 @@
 //! Scalars, sets and maps over any codec, as values that are joined.
+//!
+//! ```rust
+//! let mut tags = SetOf::of(alloc, Utf8, Text::of(alloc, "a")?)?;
+//! tags.join(&SetOf::of(alloc, Utf8, Text::of(alloc, "b")?)?)?;   // both of them
+//! let price = Least::of(LexU { wide: false }, 1299)?;            // of several the least stays
+//! ```
 #![tactic(auto)]
 
 mod codec_keys;

@@ -1,4 +1,9 @@
 //! A table as a text: printed, and read back exactly or with the first fault of its lines.
+//!
+//! ```rust
+//! let text = print_table(alloc, &table)?;                   // "baggage table 1\n0 1 tags set string\n"
+//! let table = read_table(alloc, &text)?;
+//! ```
 #![tactic(auto)]
 
 mod builder;

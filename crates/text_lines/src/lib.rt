@@ -1,5 +1,11 @@
 //! Texts that are read line by line: their lines with numbers, the first bad one of them, and bytes as
 //! hexadecimal digits.
+//!
+//! ```rust
+//! for line in lines_of(input) {                             // blank lines and comments are skipped
+//!     let bytes = hex_bytes(alloc, line.text)?;
+//! }
+//! ```
 #![tactic(auto)]
 
 mod fed_lines;

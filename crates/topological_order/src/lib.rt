@@ -1,4 +1,11 @@
 //! The order of a graph's nodes in which each stands behind those that its edges lead to.
+//!
+//! ```rust
+//! match topological_order(alloc, &edges)? {                 // for each node, those to which its edges lead
+//!     Sorted::Order(nodes) => ..
+//!     Sorted::Cycle(node) => ..            // the first node that reaches itself
+//! }
+//! ```
 #![tactic(auto)]
 
 mod components;

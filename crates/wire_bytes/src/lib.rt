@@ -2,6 +2,11 @@
 //! first; in form two behind its length as a varint, and all of them behind a head: four bytes that mark the form, and the number of
 //! bytes that follow, as eight bytes, most significant first. A list with an atom above [`LENGTH_MAX`] bytes is always written in form
 //! two.
+//!
+//! ```rust
+//! let context = read_context(alloc, bytes)?;                // or the first fault, with its offset
+//! let sent = write(alloc, Form::One, context.list())?;      // its bytes again
+//! ```
 #![tactic(auto)]
 
 mod contexts;

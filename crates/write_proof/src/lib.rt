@@ -1,4 +1,12 @@
 //! Certificates: why a slot has its value at a step of a recorded graph, in lines that can be checked without running a step.
+//!
+//! ```rust
+//! let certificate = why(alloc, &table, &graph, &lists, step, slot)?;
+//! match verify(alloc, &table, &graph, &certificate)? {
+//!     Verified::Yes => ..                  // its text is that of the truth
+//!     Verified::No { line, code } => ..    // the first rule that it breaks
+//! }
+//! ```
 #![tactic(auto)]
 
 mod belows;
