@@ -1,7 +1,9 @@
 //! What the tests need: a table, graphs, and verdicts as texts.
 
 ghost use Rattle.trace_model.specs.Graphs.{IsOfTable};
+ghost use Rattle.trace_model.specs.Runs.{IsRun};
 
+use atom_list::Context;
 use bag_scan::{State, state_of};
 use bdl_check::compile;
 use field_table::Table;
@@ -53,6 +55,27 @@ pub fn verdict_on(
     Ok(text)
 }
 
+/// The certificate for a slot in the context of a step, if the slot is ended there.
+pub fn certificate_at(
+    alloc: Global,
+    table: &Table,
+    graph: &Graph,
+    lists: &[Context],
+    step: usize,
+    slot: usize,
+) -> Result<Option<Vec<u8>>, Fail>
+    requires table { IsOfTable table.now graph.now }
+    requires run { IsRun table.now graph.now lists.now }
+{
+    if step >= graph.steps() || step >= lists.len() || slot >= table.slots() {
+        return Ok(None);
+    }
+    match state_of(table, &lists[step], slot) {
+        State::Exact => Ok(Some(why(alloc, table, graph, lists, step, slot)?)),
+        State::Partial => Ok(None),
+    }
+}
+
 /// The certificate for a slot in the context of a step. The slot is ended there.
 pub fn certificate_of(
     rt: &impl Abort,
@@ -68,11 +91,8 @@ pub fn certificate_of(
     let Some(slot) = table.find(path) else {
         panic!(rt; "no slot {path}");
     };
-    assert!(rt; slot < table.slots());
-    assert!(rt; step < graph.steps());
-    assert!(rt; step < lists.len());
-    match state_of(table, &lists[step], slot) {
-        State::Exact => Ok(why(alloc, table, graph, lists.as_slice(), step, slot)?),
-        State::Partial => panic!(rt; "{path} isn't ended"),
+    match certificate_at(alloc, table, graph, lists.as_slice(), step, slot)? {
+        Some(certificate) => Ok(certificate),
+        None => panic!(rt; "{path} isn't ended at step {step}"),
     }
 }

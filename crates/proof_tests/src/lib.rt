@@ -6,4 +6,6 @@ mod certificates;
 #[cfg(test)]
 mod fixtures;
 #[cfg(test)]
+mod random_graphs;
+#[cfg(test)]
 mod verdicts;
