@@ -1,2 +1,6 @@
 mod NameTexts
 mod Offsets
+mod OneRoom
+mod OneField
+mod OneReading
+mod OneWriting
