@@ -32,12 +32,12 @@ use Rattle.write_proof.specs.declared.verdicts.Verified.{Verified}
 use Rattle.baggage_cli.specs.Building.{product_text}
 use Rattle.baggage_cli.specs.Carrying.{byte_lines}
 use Rattle.baggage_cli.specs.Collecting.{CollectsLines}
-use Rattle.baggage_cli.specs.Commands.{Origin, compiled, Product, ReportForm, as_json, Purpose, decoding, running, explaining, trimming, carrying, Task, alone, trim, merge, carry, collect, load, build, under, compare, checking, decode, run_json, evolve, why, verify, ReadsSource, FetchesFiles}
+use Rattle.baggage_cli.specs.Commands.{Origin, compiled, Product, Form, as_json, Purpose, decoding, running, explaining, trimming, carrying, Task, alone, trim, merge, carry, collect, load, build, under, compare, checking, decode, run_json, evolve, why, verify, ReadsSource, FetchesFiles}
 use Rattle.baggage_cli.specs.Checking.{verified_line, IsVerified, ChecksLines, VerdictUnder, TruthWhereYes}
 use Rattle.baggage_cli.specs.Explaining.{IsExplainedAt, IsExplained, ExplainsLines}
 use Rattle.baggage_cli.specs.Comparing.{verdict_line, SafeWhereItFits}
 use Rattle.baggage_cli.specs.declared.merging.TheConstants.{LINES_MAX}
-use Rattle.baggage_cli.specs.declared.refusals.InputCode.TheVariants.{TooLong, ReportForm as Excess, TooManyLines}
+use Rattle.baggage_cli.specs.declared.refusals.InputCode.TheVariants.{TooLong, Form as Excess, TooManyLines}
 use Rattle.baggage_cli.specs.declared.refusals.InputFault.{InputFault}
 use Rattle.baggage_cli.specs.declared.refusals.InputFault.TheVariants.{Code, Hex, Graph, Piece, Missing, Bytes, IllTyped}
 use Rattle.baggage_cli.specs.declared.refusals.Notice.TheVariants.{LibraryFailed, SourceFailed, Memory}
@@ -249,12 +249,12 @@ shows_truth laws table graph lists recorded ran = λ n slot exact v among shown.
     laws.honest table graph lists n slot exact v (record { recorded = recorded; run = ran; within = recorded.sound.shows n among }) shown
 
 -- Where the answer is 0, the report of the run of the graph that the input says was written.
-abbrev pub RanUnder : ReportForm → Origin → Holding → List ℕ → Scene → Type 0
+abbrev pub RanUnder : Form → Origin → Holding → List ℕ → Scene → Type 0
 RanUnder form origin held input scene =
     (table : Nodes) × (graph : model.Graph) × (lists : Lists) × (output : List ℕ) × TableGives origin held (Ok table) × IsGraphOf table input graph
     × IsRun table graph lists × IsReportAs form table graph lists output × ShowsTruth table graph lists × Appends scene.out.before scene.out.after output
 
-pub run_appends : Laws → (form : ReportForm) (origin : Origin) (held : Holding) (input : List ℕ) (scene : Scene) (answer : ℕ) → Answers (Some (under (running form) origin)) scene answer
+pub run_appends : Laws → (form : Form) (origin : Origin) (held : Holding) (input : List ℕ) (scene : Scene) (answer : ℕ) → Answers (Some (under (running form) origin)) scene answer
     → scene.library.before ≡ Some held → scene.source.before ≡ Some input → answer ≡ 0 → RanUnder form origin held input scene
 run_appends laws form origin held input scene answer answers told content zero =
     let done = gave_under (running form) origin held input scene answer answers told content zero in

@@ -14,7 +14,7 @@ use Rattle.baggage_cli.specs.declared.commands.Origin as code_origins
 use Rattle.baggage_cli.specs.declared.commands.Origin.TheVariants.{Bag, Printed}
 use Rattle.baggage_cli.specs.declared.commands.Product.{Product as CodeProduct}
 use Rattle.baggage_cli.specs.declared.commands.Product.TheVariants.{SlotLine, WholeText}
-use Rattle.baggage_cli.specs.declared.commands.Form.{ReportForm as CodeForm}
+use Rattle.baggage_cli.specs.declared.commands.Form.{Form as CodeForm}
 use Rattle.baggage_cli.specs.declared.commands.Form.TheVariants.{Text, Json}
 use Rattle.baggage_cli.specs.declared.commands.Purpose as code_purposes
 use Rattle.baggage_cli.specs.declared.commands.Purpose.TheVariants.{Decode, Run, Explain}
@@ -32,15 +32,15 @@ pub data Product : Type 0 where
   whole_text : Product
 
 -- How a report is printed: as lines, or as JSON.
-pub data ReportForm : Type 0 where
-  as_lines : ReportForm
-  as_json : ReportForm
+pub data Form : Type 0 where
+  as_lines : Form
+  as_json : Form
 
 -- What is made of an input under a table: the block of a context, the report of a graph, or the certificate for the value that the
 -- slot of this name path has at the step of this number of a graph.
 pub data Purpose : Type 0 where
   decoding : Purpose
-  running : ReportForm → Purpose
+  running : Form → Purpose
   explaining : ℕ → List ℕ → Purpose
 
 -- What is made of an input by itself: a list is cut to a budget, contexts are merged, or the bytes of a context become lines of
@@ -122,7 +122,7 @@ abbrev pub product_of : CodeProduct → Product
 product_of SlotLine = slot_line
 product_of WholeText = whole_text
 
-abbrev pub form_of : CodeForm → ReportForm
+abbrev pub form_of : CodeForm → Form
 form_of Text = as_lines
 form_of Json = as_json
 
