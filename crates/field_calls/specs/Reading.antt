@@ -12,7 +12,7 @@ use Rattle.bag_model.specs.Typed.{AreTyped, IsFirstIllTyped}
 use Rattle.bag_model.specs.Values.{Value}
 use Rattle.bag_scan.specs.declared.states.State.{State}
 use Rattle.bag_scan.specs.declared.states.State.TheVariants.{Exact}
-use Rattle.report_text.specs.ValueTexts.{value_text}
+use Rattle.text_model.specs.ValueTexts.{value_text}
 use Rattle.table_text.specs.Reading.{IsTableFault}
 use Rattle.wire_bytes.specs.Reading.{byte_code_of}
 use Rattle.byte_calls.specs.Room.{HoldsBytes, IsTooShortFor}

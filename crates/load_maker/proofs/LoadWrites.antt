@@ -14,7 +14,7 @@ use Rattle.bag_model.specs.Scalars.{ScalarValue, Plain, Text, Unsigned}
 use Rattle.bag_model.specs.Shapes as shapes
 use Rattle.bag_model.specs.Values as values
 use Rattle.bag_model.specs.Values.{Value}
-use Rattle.report_text.specs.ScalarTexts.{is_marked}
+use Rattle.text_model.specs.ScalarTexts.{is_marked}
 use Rattle.write_text.specs.Literals.{SaysByte, IsWriter}
 use Rattle.write_text.specs.Writes.{IsWrite}
 use Rattle.load_maker.specs.Loads.{hit}

@@ -4,7 +4,7 @@ use Rattle.std.specs.List.{slice_index}
 use Rattle.bag_model.specs.Shapes.{Nodes}
 use Rattle.trace_model.specs.Graphs.{Graph}
 use Rattle.trace_model.specs.Runs.{Lists, list_at}
-use Rattle.report_text.specs.Commas.{comma_before}
+use Rattle.text_model.specs.Commas.{comma_before}
 use Rattle.serde_json.specs.Data.{Data}
 use Rattle.serde_json.specs.Written.{compact_text, has_float}
 use Rattle.report_json.specs.JsonReports.{AreInPlace, IsSlotObject, IsStepObject, AddsStepObject, IsJsonReport}

@@ -18,9 +18,9 @@ use Rattle.bag_model.specs.Scalars.{SpellingForm, Word, ScalarKind, ScalarValue,
 use Rattle.bag_model.specs.Shapes.{Shape, Nodes, no_node, node}
 use Rattle.bag_model.specs.Tables.{IsShape, AreFields}
 use Rattle.bag_model.specs.Values.{Value, Entries, Values, no_entry, entry, no_value, value, pairs, IsOfShape, AreOfShapes}
-use Rattle.report_text.specs.Commas.{comma_joined, in_braces}
-use Rattle.report_text.specs.ScalarTexts.{is_marked, is_control, escaped, quoted, bytes_text, plain_text, scalar_text}
-use Rattle.report_text.specs.ValueTexts.{taint_text, scalar_or_dash, count_text, counts_text, value_text, entry_texts, field_texts}
+use Rattle.text_model.specs.Commas.{comma_joined, in_braces}
+use Rattle.text_model.specs.ScalarTexts.{is_marked, is_control, escaped, quoted, bytes_text, plain_text, scalar_text}
+use Rattle.text_model.specs.ValueTexts.{taint_text, scalar_or_dash, count_text, counts_text, value_text, entry_texts, field_texts}
 use Rattle.report_json.proofs.AsciiTexts.{literal_utf8, low_utf8, either_utf8, decimal_utf8, signed_utf8, hex_utf8, name_utf8}
 
 -- ---- texts in a row

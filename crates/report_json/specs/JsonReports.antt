@@ -14,7 +14,7 @@ use Rattle.text_lines.specs.HexLines.{hex_text}
 use Rattle.bag_scan.specs.declared.states.State.{State}
 use Rattle.bag_scan.specs.declared.states.State.TheVariants.{Exact, Partial}
 use Rattle.report_text.specs.Blocks.{is_exact, bytes_line, IsBlock}
-use Rattle.report_text.specs.ValueTexts.{value_text}
+use Rattle.text_model.specs.ValueTexts.{value_text}
 use Rattle.serde_json.specs.Data.{Data, string, number, array, object, unsigned, member, no_members}
 use Rattle.serde_json.specs.View.{items_of}
 use Rattle.serde_json.specs.Written.{compact_text}

@@ -13,7 +13,7 @@ ghost use Rattle.trace_model.specs.Runs.{list_at};
 ghost use Rattle.field_table.specs.Plain.{shape_of};
 ghost use Rattle.bag_value.specs.Vals.{plain};
 ghost use Rattle.text_lines.specs.HexLines.{hex_text};
-ghost use Rattle.report_text.specs.ValueTexts.{value_text};
+ghost use Rattle.text_model.specs.ValueTexts.{value_text};
 ghost use Rattle.serde_json.specs.View.{view};
 ghost use Rattle.report_json.specs.JsonReports.{AreSlotObjects, IsStepObject, slot_object, state_word};
 

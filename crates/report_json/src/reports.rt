@@ -3,7 +3,7 @@
 ghost use Rattle.std.specs.Prelude.{◌≡◌, ℕ, ◌<◌, ◌++◌, length, IfOk, OnOk};
 ghost use Rattle.trace_model.specs.Graphs.{IsTypedContext};
 ghost use Rattle.trace_model.specs.Runs.{list_at};
-ghost use Rattle.report_text.specs.Commas.{comma_before};
+ghost use Rattle.text_model.specs.Commas.{comma_before};
 ghost use Rattle.report_json.specs.JsonReports.{AddsStepObject, IsJsonReport};
 
 use crate::objects::step_json;

@@ -3,7 +3,7 @@ use Rattle.std.proofs.Common.{◌≡◌, ℕ, zero, suc, ◌+◌, ◌≤◌, Lis
 use Rattle.std.specs.List.{slice_get}
 use Rattle.std.proofs.lemmas.Bool.Decides.{nat_tests}
 use Rattle.std.proofs.lemmas.List.{take_all}
-use Rattle.report_text.specs.Commas.{comma_joined, comma_before}
+use Rattle.text_model.specs.Commas.{comma_joined, comma_before}
 
 -- The first so many of the texts, joined.
 abbrev pub first_joined : ℕ → List (List ℕ) → List ℕ

@@ -4,8 +4,8 @@ use Rattle.std.specs.List.{slice_get}
 use Rattle.bag_model.specs.Scalars.{ScalarValue}
 use Rattle.bag_model.specs.Shapes.{Shape, Nodes, Field, fields, no_node, node}
 use Rattle.bag_model.specs.Values.{Value, Entries, Values, no_entry, entry, no_value, value, pairs, values_list, size_of, size_of_entries, size_of_values}
-use Rattle.report_text.specs.ScalarTexts.{scalar_text}
-use Rattle.report_text.specs.ValueTexts.{value_text, entry_texts, field_texts}
+use Rattle.text_model.specs.ScalarTexts.{scalar_text}
+use Rattle.text_model.specs.ValueTexts.{value_text, entry_texts, field_texts}
 
 -- A key with its value.
 abbrev pub entry_text : Shape → ScalarValue × Value → List ℕ

@@ -9,7 +9,7 @@ use Rattle.field_table.specs.declared.shapes.Slots.{Slots}
 use Rattle.field_table.specs.declared.shapes.Shape.TheVariants as variants
 use Rattle.field_table.specs.Plain.{shape_of}
 use Rattle.field_table.proofs.Held.{no_bag}
-use Rattle.report_text.specs.ValueTexts.{value_text}
+use Rattle.text_model.specs.ValueTexts.{value_text}
 
 pub no_text : (old text : List ℕ) → text ≡ [] → old ≡ old ++ text
 no_text old text none = sym (ap (λ (l : List ℕ). old ++ l) none ∙ append-nil old)

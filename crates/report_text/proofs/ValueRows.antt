@@ -7,8 +7,8 @@ use Rattle.bag_model.specs.Scalars as scalars
 use Rattle.bag_model.specs.Scalars.{ScalarValue, Uint64, Str, Truth, Signed, Unsigned, Text, Octets}
 use Rattle.bag_model.specs.Shapes.{Shape, Nodes, no_node, node}
 use Rattle.bag_model.specs.Values.{Taint, Scalar, Set, Counter, Map, Bag, no_entry, entry, no_value, value}
-use Rattle.report_text.specs.ScalarTexts.{scalar_text}
-use Rattle.report_text.specs.ValueTexts.{value_text}
+use Rattle.text_model.specs.ScalarTexts.{scalar_text}
+use Rattle.text_model.specs.ValueTexts.{value_text}
 
 on_row : value_text Shape.Taint (Taint true) ≡ codes "on"
 on_row = refl

@@ -10,7 +10,7 @@ use Rattle.trace_model.specs.Shown.{IsShown}
 use Rattle.text_lines.specs.HexLines.{hex_line}
 use Rattle.bag_scan.specs.declared.states.State.{State}
 use Rattle.bag_scan.specs.declared.states.State.TheVariants.{Exact, Partial}
-use Rattle.report_text.specs.ValueTexts.{value_text}
+use Rattle.text_model.specs.ValueTexts.{value_text}
 
 -- The line of the bytes of a list, where this form is asked for.
 abbrev pub bytes_line : Form → List Atom → List ℕ

@@ -1,7 +1,7 @@
 //! Commas between texts.
 
 ghost use Rattle.std.specs.Prelude.{◌≡◌, ◌++◌, OnOk, OnErr};
-ghost use Rattle.report_text.specs.Commas.{comma_before};
+ghost use Rattle.text_model.specs.Commas.{comma_before};
 ghost use Rattle.report_text.specs.Extension.{Extends};
 
 use outside::Memory;

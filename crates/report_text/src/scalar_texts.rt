@@ -2,8 +2,8 @@
 
 ghost use Rattle.std.specs.Prelude.{◌≡◌, ◌++◌, map, OnOk, OnErr};
 ghost use Rattle.scalar_types.specs.Scalars.{IsPlain, plain_of, value_of};
-ghost use Rattle.report_text.specs.Commas.{in_parentheses};
-ghost use Rattle.report_text.specs.ScalarTexts.{bytes_text, escaped, plain_text, quoted, scalar_text, truth_text};
+ghost use Rattle.text_model.specs.Commas.{in_parentheses};
+ghost use Rattle.text_model.specs.ScalarTexts.{bytes_text, escaped, plain_text, quoted, scalar_text, truth_text};
 ghost use Rattle.report_text.specs.Extension.{Extends};
 
 use crate::commas::put_comma;

@@ -5,9 +5,9 @@ ghost use Rattle.std.specs.Option.{option_map};
 ghost use Rattle.field_table.specs.Plain.{shape_of, nodes_of};
 ghost use Rattle.scalar_types.specs.Scalars.{value_of};
 ghost use Rattle.bag_value.specs.Vals.{plain};
-ghost use Rattle.report_text.specs.Commas.{in_braces, in_brackets};
-ghost use Rattle.report_text.specs.ValueTexts as spec;
-ghost use Rattle.report_text.specs.ValueTexts.{taint_text, scalar_or_dash, set_text, counts_text, entry_texts, field_texts};
+ghost use Rattle.text_model.specs.Commas.{in_braces, in_brackets};
+ghost use Rattle.text_model.specs.ValueTexts as spec;
+ghost use Rattle.text_model.specs.ValueTexts.{taint_text, scalar_or_dash, set_text, counts_text, entry_texts, field_texts};
 ghost use Rattle.report_text.specs.Extension.{Extends};
 
 use crate::commas::put_comma;

@@ -14,7 +14,7 @@ use Rattle.bag_model.specs.SlotValues.{HasSlot}
 use Rattle.bag_model.specs.ValueCode.{value_code}
 use Rattle.bag_model.specs.Values.{Value, bottom, IsOfShape}
 use Rattle.bag_model.proofs.BelowLaws.{below-onwards, below-bottom}
-use Rattle.report_text.specs.ValueTexts.{value_text}
+use Rattle.text_model.specs.ValueTexts.{value_text}
 use Rattle.recorded_graph.specs.declared.graphs.TheConstants.{STEPS_MAX}
 use Rattle.graph_lines.specs.Forms.{IsNumber}
 use Rattle.text_lines.specs.Readings.{NoneOf}

@@ -13,9 +13,9 @@ use Rattle.bag_model.specs.Slots.{dotted}
 use Rattle.bag_model.specs.Tables.{IsShape, AreFields}
 use Rattle.bag_model.specs.Values.{Value, Entries, Values, no_entry, entry, no_value, value}
 use Rattle.bag_model.specs.Words.{is_word, is_name, reserved_words}
-use Rattle.report_text.specs.Commas.{comma_joined, in_braces}
-use Rattle.report_text.specs.ScalarTexts.{is_marked, is_control, escaped, quoted, bytes_text, plain_text, scalar_text}
-use Rattle.report_text.specs.ValueTexts.{taint_text, scalar_or_dash, count_text, counts_text, value_text, entry_texts, field_texts}
+use Rattle.text_model.specs.Commas.{comma_joined, in_braces}
+use Rattle.text_model.specs.ScalarTexts.{is_marked, is_control, escaped, quoted, bytes_text, plain_text, scalar_text}
+use Rattle.text_model.specs.ValueTexts.{taint_text, scalar_or_dash, count_text, counts_text, value_text, entry_texts, field_texts}
 use Rattle.graph_lines.specs.Forms.{IsName, IsPath}
 use Rattle.graph_lines.proofs.Names.{name_free}
 use Rattle.graph_lines.proofs.Separated.{IsFree, or_false, free_append}

@@ -8,7 +8,7 @@ use Rattle.bag_model.specs.Slots.{SlotAt, FindsSlot}
 use Rattle.bag_model.specs.SlotValues.{HasSlot}
 use Rattle.bag_model.specs.ValueCode.{value_code}
 use Rattle.bag_model.specs.Values.{Value}
-use Rattle.report_text.specs.ValueTexts.{value_text}
+use Rattle.text_model.specs.ValueTexts.{value_text}
 use Rattle.text_lines.specs.Readings.{NoneOf}
 use Rattle.trace_model.specs.Contributions.{IsContributed, IsLeastAbove}
 use Rattle.trace_model.specs.Graphs.{Graph, IsRecorded}

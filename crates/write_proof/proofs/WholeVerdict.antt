@@ -14,7 +14,7 @@ use Rattle.bag_model.specs.SlotValues.{HasSlot}
 use Rattle.bag_model.specs.Values.{Value}
 use Rattle.bag_model.specs.Tables.{IsTable}
 use Rattle.outside.specs.declared.Memory.{Memory}
-use Rattle.report_text.specs.ValueTexts.{value_text}
+use Rattle.text_model.specs.ValueTexts.{value_text}
 use Rattle.text_lines.specs.Lines.{Line}
 use Rattle.text_lines.specs.Readings.{AllSay}
 use Rattle.trace_model.specs.Graphs as model

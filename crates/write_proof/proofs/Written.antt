@@ -10,7 +10,7 @@ use Rattle.bag_model.specs.Shapes.{Nodes}
 use Rattle.bag_model.specs.Slots.{SlotAt, slots_of, name_path}
 use Rattle.bag_model.specs.SlotValues.{HasSlot, SaysSlot}
 use Rattle.bag_model.specs.Values.{Value}
-use Rattle.report_text.specs.ValueTexts.{value_text}
+use Rattle.text_model.specs.ValueTexts.{value_text}
 use Rattle.trace_model.specs.Graphs.{Graph, IsGraph, IsRecorded}
 use Rattle.trace_model.specs.Runs.{Lists, list_at}
 use Rattle.write_proof.specs.Certificates.{AreReachPairs, IsCertificate, AddsWhy, AddsValue}

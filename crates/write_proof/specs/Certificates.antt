@@ -12,7 +12,7 @@ use Rattle.bag_model.specs.Slots.{SlotAt, name_path}
 use Rattle.bag_model.specs.SlotValues.{HasSlot, SaysSlot}
 use Rattle.bag_model.specs.Values.{Value}
 use Rattle.recorded_graph.specs.declared.graphs.TheConstants.{STEPS_MAX}
-use Rattle.report_text.specs.ValueTexts.{value_text}
+use Rattle.text_model.specs.ValueTexts.{value_text}
 use Rattle.trace_model.specs.Contributions.{IsLeastAbove}
 use Rattle.trace_model.specs.Faithful.{IsRunStep}
 use Rattle.trace_model.specs.Graphs.{Graph}

@@ -6,7 +6,7 @@ use Rattle.bag_model.specs.Slots.{SlotAt, FindsSlot}
 use Rattle.bag_model.specs.SlotValues.{HasSlot}
 use Rattle.bag_model.specs.Tables.{IsTable}
 use Rattle.bag_model.specs.Values.{Value}
-use Rattle.report_text.specs.ValueTexts.{value_text}
+use Rattle.text_model.specs.ValueTexts.{value_text}
 use Rattle.text_lines.specs.Readings.{AllSay, IsFirstBad, IsFirstOf, NoneOf}
 use Rattle.trace_model.specs.Graphs.{Graph}
 use Rattle.trace_model.specs.Truth.{Reaches, IsTruthAt}

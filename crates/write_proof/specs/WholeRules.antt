@@ -5,7 +5,7 @@ use Rattle.context_model.specs.Orders.{IsIn}
 use Rattle.bag_model.specs.Joins.{IsValueBelow}
 use Rattle.bag_model.specs.Slots.{SlotAt}
 use Rattle.bag_model.specs.Values.{Value}
-use Rattle.report_text.specs.ValueTexts.{value_text}
+use Rattle.text_model.specs.ValueTexts.{value_text}
 use Rattle.trace_model.specs.Contributions.{Contributes, IsLeastAbove}
 use Rattle.trace_model.specs.Graphs as model
 use Rattle.trace_model.specs.Graphs.{Graph, HasStep}

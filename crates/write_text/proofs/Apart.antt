@@ -14,7 +14,7 @@ use Rattle.hex.specs.Hex.{decode_of, is_hex_digit}
 use Rattle.hex.proofs.HexLemmas.{decode_of-ok, decode_of-same}
 use Rattle.bag_model.specs.Scalars as scalars
 use Rattle.bag_model.specs.Scalars.{Word, Plain, Truth, Signed, Unsigned, Text, Octets, SpellingForm, TruthByte, UnsignedVarint, SignedVarint, FixedBytes, SignedFixedBytes, TextBytes, RawBytes, IsOfForm, IsPlainOf, form_of, plain_rank}
-use Rattle.report_text.specs.ScalarTexts.{truth_text}
+use Rattle.text_model.specs.ScalarTexts.{truth_text}
 use Rattle.write_text.specs.Literals.{IsPlainText}
 use Rattle.write_text.specs.Ends.{is_stop, IsNoStop, IsEnd, BeginsWithOne}
 use Rattle.write_text.proofs.Decimals.{no_minus}

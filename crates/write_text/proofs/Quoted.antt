@@ -2,7 +2,7 @@
 use Rattle.std.proofs.Common.{◌≡◌, ◌⊎◌, ℕ, Option, ◌<◌, ◌≤◌, true, false, List, [], ◌∷◌, ◌++◌, codes, inl, inr, refl, sym, ap, ◌∙◌, subst, append_assoc, arith}
 use Rattle.std.specs.Prelude.{IsTrue}
 use Rattle.std.proofs.lemmas.List.{append-nil}
-use Rattle.report_text.specs.ScalarTexts.{is_marked}
+use Rattle.text_model.specs.ScalarTexts.{is_marked}
 use Rattle.write_text.specs.Literals.{AreDigitsOf, SaysEscaped, SaysByte, SpellsBytes}
 use Rattle.write_text.specs.Ends.{TakesFront}
 use Rattle.write_text.proofs.Answered.{takes_same}

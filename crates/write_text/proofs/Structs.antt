@@ -3,7 +3,7 @@ use Rattle.std.proofs.Common.{◌≡◌, ℕ, zero, suc, ◌≤◌, List, [], �
 use Rattle.std.proofs.lemmas.Bool.Decides.{nat_tests}
 use Rattle.std.proofs.lemmas.List.{append-nil, append_cancel_left}
 use Rattle.bag_model.specs.Scalars.{Word, Plain, IsPlainOf, ArePlainsOf}
-use Rattle.report_text.specs.Commas.{comma_before, comma_joined}
+use Rattle.text_model.specs.Commas.{comma_before, comma_joined}
 use Rattle.write_text.specs.Literals.{IsPlainText, ArePlainTexts}
 use Rattle.write_text.specs.Ends.{IsEnd, BeginsWithOne}
 use Rattle.write_text.proofs.Apart.{IsWordText, word_apart}

@@ -5,7 +5,7 @@ use Rattle.std.proofs.lemmas.List.Elements.{recursion_from_All}
 use Rattle.context_model.specs.declared.Form.{Form as WireForm}
 use Rattle.bag_model.specs.Scalars as scalars
 use Rattle.bag_model.specs.Scalars.{Word, Plain, Signed, Unsigned, Text, Octets, ArePlainsOf, plain_bytes, spelling}
-use Rattle.report_text.specs.Commas.{comma_joined}
+use Rattle.text_model.specs.Commas.{comma_joined}
 use Rattle.scalar_types.specs.declared.kinds.ScalarKind.{ScalarKind}
 use Rattle.scalar_types.specs.declared.kinds.ScalarKind.TheVariants as kinds
 use Rattle.scalar_types.specs.declared.kinds.KindList.{KindList}

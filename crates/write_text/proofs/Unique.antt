@@ -4,7 +4,7 @@ use Rattle.std.proofs.lemmas.List.{append-nil}
 use Rattle.context_model.specs.declared.Form.{Form as WireForm}
 use Rattle.bag_model.specs.Scalars as scalars
 use Rattle.bag_model.specs.Scalars.{ScalarKind, ScalarValue, Text, Octets, IsScalarOf}
-use Rattle.report_text.specs.Commas.{comma_joined}
+use Rattle.text_model.specs.Commas.{comma_joined}
 use Rattle.write_text.specs.Literals.{IsScalarText, IsLiteral, IsWriter}
 use Rattle.write_text.specs.Ends.{BeginsWithOne}
 use Rattle.write_text.proofs.Apart.{word_apart}

@@ -6,8 +6,8 @@ use Rattle.hex.specs.Hex.{decode_of}
 use Rattle.context_model.specs.declared.Form.{Form as WireForm}
 use Rattle.context_model.specs.Framing.{most}
 use Rattle.bag_model.specs.Scalars.{Word, ScalarKind, Plain, ScalarValue, Truth, Signed, Unsigned, Text, Octets, IsScalarOf, spelling, Str, Bytes, form_of, SignedVarint, SignedFixedBytes, UnsignedVarint, FixedBytes}
-use Rattle.report_text.specs.Commas.{in_parentheses}
-use Rattle.report_text.specs.ScalarTexts.{is_marked, truth_text}
+use Rattle.text_model.specs.Commas.{in_parentheses}
+use Rattle.text_model.specs.ScalarTexts.{is_marked, truth_text}
 
 -- The two digits, of either case, are those of this byte, which is below 128.
 abbrev pub AreDigitsOf : ℕ → ℕ → ℕ → Type 0

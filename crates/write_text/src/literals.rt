@@ -7,7 +7,7 @@ ghost use Rattle.bag_model.specs.Scalars.{IsPlainOf, IsScalarOf, ArePlainsOf, pl
 ghost use Rattle.scalar_types.specs.KindViews.{IsPlainWord, kind_of, word_of};
 ghost use Rattle.scalar_types.specs.Scalars.{IsPlain, plain_of, value_of};
 ghost use Rattle.decimal_text.specs.Answers.{IsSomeOf};
-ghost use Rattle.report_text.specs.Commas.{comma_before, comma_joined};
+ghost use Rattle.text_model.specs.Commas.{comma_before, comma_joined};
 ghost use Rattle.write_text.specs.Literals.{ArePlainTexts, HasNoSign, HasSign, IsLiteral, IsPlainText, IsScalarText, IsWriter, most_payload};
 ghost use Rattle.write_text.specs.Ends.{BeginsWithOne, TakesFront};
 

@@ -5,7 +5,7 @@ ghost use Rattle.std.specs.Fmt.{signed_decimal};
 ghost use Rattle.std.specs.Int.{w64};
 ghost use Rattle.hex.specs.Hex.{decode_of};
 ghost use Rattle.decimal_text.specs.Answers.{IsSomeOf};
-ghost use Rattle.report_text.specs.ScalarTexts.{truth_text};
+ghost use Rattle.text_model.specs.ScalarTexts.{truth_text};
 
 use crate::ends::behind;
 use decimal_text::read_decimal;

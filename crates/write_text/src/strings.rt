@@ -4,7 +4,7 @@ ghost use Rattle.std.specs.Prelude.{◌≡◌, ℕ, ◌++◌, ◌∷◌, List, c
 ghost use Rattle.std.specs.Option.{option_map};
 ghost use Rattle.bag_model.specs.Scalars as scalars;
 ghost use Rattle.decimal_text.specs.Answers.{IsSomeOf};
-ghost use Rattle.report_text.specs.ScalarTexts.{is_marked};
+ghost use Rattle.text_model.specs.ScalarTexts.{is_marked};
 ghost use Rattle.write_text.specs.Literals.{AreDigitsOf, IsPlainText, SaysByte, SpellsBytes, SaysEscaped};
 ghost use Rattle.write_text.specs.Ends.{BeginsWithOne, TakesFront};
 

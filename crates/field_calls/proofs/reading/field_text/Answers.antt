@@ -1,7 +1,7 @@
 use Rattle.std.proofs.Common.{◌≡◌, sym, ap, ◌∙◌}
 use Rattle.bag_model.specs.Slots.{name_path}
 use Rattle.bag_value.specs.Vals.{plain}
-use Rattle.report_text.specs.ValueTexts.{value_text}
+use Rattle.text_model.specs.ValueTexts.{value_text}
 use Rattle.field_calls.proofs.reading.field_text.Goals as goal
 
 pub returns-clause-read : goal.returns-clause-read

@@ -1,7 +1,7 @@
 use Rattle.std.proofs.Common.{◌≡◌, ℕ, List, ◌++◌, IsUtf8, sym, ap, ◌∙◌, subst}
 use Rattle.field_table.specs.Plain.{shape_of}
 use Rattle.bag_value.specs.Vals.{plain}
-use Rattle.report_text.specs.ValueTexts.{value_text}
+use Rattle.text_model.specs.ValueTexts.{value_text}
 use Rattle.report_json.proofs.ValueBytes.{value_utf8}
 use Rattle.report_json.proofs.objects.text_of.Goals as goal
 

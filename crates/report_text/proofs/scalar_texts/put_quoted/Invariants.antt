@@ -1,6 +1,6 @@
 use Rattle.std.proofs.Common.{◌≡◌, ◌++◌, codes, take}
 use Rattle.std.specs.List.{flat_map}
-use Rattle.report_text.specs.ScalarTexts.{escaped}
+use Rattle.text_model.specs.ScalarTexts.{escaped}
 use Rattle.report_text.proofs.scalar_texts.put_quoted.Given as goal
 
 abbrev pub invariant-loop-byte : goal.invariant-loop-byte

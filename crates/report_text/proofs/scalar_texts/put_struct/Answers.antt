@@ -1,7 +1,7 @@
 use Rattle.std.proofs.Common.{◌++◌, codes, map, ap, length, arith}
 use Rattle.std.proofs.lemmas.List.{length-map}
 use Rattle.scalar_types.specs.Scalars.{plain_of}
-use Rattle.report_text.specs.ScalarTexts.{plain_text}
+use Rattle.text_model.specs.ScalarTexts.{plain_text}
 use Rattle.report_text.proofs.Joined.{next_text, closed}
 use Rattle.report_text.proofs.Places.{seen, mapped}
 use Rattle.report_text.proofs.scalar_texts.put_struct.Goals as goal

@@ -1,5 +1,5 @@
 use Rattle.std.proofs.Common.{◌≡◌, ◌++◌, codes, map}
-use Rattle.report_text.specs.ScalarTexts.{plain_text}
+use Rattle.text_model.specs.ScalarTexts.{plain_text}
 use Rattle.report_text.proofs.Joined.{first_joined}
 use Rattle.report_text.proofs.scalar_texts.put_struct.Given as goal
 

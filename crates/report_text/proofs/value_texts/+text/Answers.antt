@@ -8,8 +8,8 @@ use Rattle.field_table.proofs.Held.{field_is}
 use Rattle.scalar_types.specs.Scalars.{value_of}
 use Rattle.bag_value.specs.declared.vals.Val.{Val}
 use Rattle.bag_value.specs.Vals.{plain, pair_of}
-use Rattle.report_text.specs.ScalarTexts.{scalar_text}
-use Rattle.report_text.specs.ValueTexts.{value_text, entry_texts, field_texts}
+use Rattle.text_model.specs.ScalarTexts.{scalar_text}
+use Rattle.text_model.specs.ValueTexts.{value_text, entry_texts, field_texts}
 use Rattle.report_text.proofs.Grown.{unchanged, appended, further, stopped}
 use Rattle.report_text.proofs.Joined.{next_text, closed, three_parts, read_part}
 use Rattle.report_text.proofs.Textless.{no_text, bag_textless}

@@ -2,7 +2,7 @@ use Rattle.std.proofs.Common.{◌≡◌, ◌+◌, ◌*◌, ◌++◌, codes}
 use Rattle.bag_model.specs.Values.{size_of, size_of_entries, size_of_values}
 use Rattle.field_table.specs.Plain.{shape_of, nodes_of}
 use Rattle.bag_value.specs.Vals.{plain}
-use Rattle.report_text.specs.ValueTexts.{entry_texts, field_texts}
+use Rattle.text_model.specs.ValueTexts.{entry_texts, field_texts}
 use Rattle.report_text.proofs.Joined.{first_joined}
 use Rattle.report_text.proofs.value_texts.+text.Given as goal
 

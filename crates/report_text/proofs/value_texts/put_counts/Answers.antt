@@ -2,10 +2,10 @@ use Rattle.std.proofs.Common.{◌≡◌, ℕ, List, ◌++◌, codes, map, Result
 use Rattle.std.specs.Prelude.{sum_by}
 use Rattle.std.specs.Fmt.{decimal}
 use Rattle.std.proofs.lemmas.List.{length-map}
-use Rattle.report_text.specs.Commas.{in_braces}
+use Rattle.text_model.specs.Commas.{in_braces}
 use Rattle.report_text.specs.Extension.{Extends}
-use Rattle.report_text.specs.ScalarTexts.{bytes_text}
-use Rattle.report_text.specs.ValueTexts.{count_text}
+use Rattle.text_model.specs.ScalarTexts.{bytes_text}
+use Rattle.text_model.specs.ValueTexts.{count_text}
 use Rattle.report_text.proofs.Grown.{unchanged, stopped}
 use Rattle.report_text.proofs.Joined.{first_joined, next_text, closed, three_parts}
 use Rattle.report_text.proofs.Places.{answered, mapped}

@@ -1,7 +1,7 @@
 use Rattle.std.proofs.Common.{◌≡◌, ◌++◌, codes, map}
 use Rattle.std.specs.Prelude.{sum_by}
 use Rattle.std.specs.Fmt.{decimal}
-use Rattle.report_text.specs.ValueTexts.{count_text}
+use Rattle.text_model.specs.ValueTexts.{count_text}
 use Rattle.report_text.proofs.Joined.{first_joined}
 use Rattle.report_text.proofs.value_texts.put_counts.Given as goal
 

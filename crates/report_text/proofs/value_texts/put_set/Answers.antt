@@ -1,7 +1,7 @@
 use Rattle.std.proofs.Common.{◌++◌, codes, map, arith}
 use Rattle.std.proofs.lemmas.List.{length-map}
 use Rattle.scalar_types.specs.Scalars.{value_of}
-use Rattle.report_text.specs.ScalarTexts.{scalar_text}
+use Rattle.text_model.specs.ScalarTexts.{scalar_text}
 use Rattle.report_text.proofs.Joined.{next_text, closed}
 use Rattle.report_text.proofs.Places.{answered, mapped}
 use Rattle.report_text.proofs.value_texts.put_set.Goals as goal

@@ -1,6 +1,6 @@
 use Rattle.std.proofs.Common.{◌≡◌, ◌++◌, codes, map}
 use Rattle.scalar_types.specs.Scalars.{value_of}
-use Rattle.report_text.specs.ScalarTexts.{scalar_text}
+use Rattle.text_model.specs.ScalarTexts.{scalar_text}
 use Rattle.report_text.proofs.Joined.{first_joined}
 use Rattle.report_text.proofs.value_texts.put_set.Given as goal
 

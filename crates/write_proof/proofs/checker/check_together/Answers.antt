@@ -3,7 +3,7 @@ use Rattle.context_model.specs.Orders.{IsIn}
 use Rattle.bag_model.specs.Slots.{slots_of}
 use Rattle.bag_value.specs.Vals.{plain}
 use Rattle.field_table.specs.Plain.{shape_of}
-use Rattle.report_text.specs.ValueTexts.{value_text}
+use Rattle.text_model.specs.ValueTexts.{value_text}
 use Rattle.write_proof.specs.declared.verdicts.VerifyCode.TheVariants as codes
 use Rattle.write_proof.specs.FirstLines.{FindsLine}
 use Rattle.write_proof.specs.Joins.{IsJoinAt}

@@ -1,7 +1,7 @@
 use Rattle.std.proofs.Common.{◌≡◌, ℕ, ◌+◌, List, map, sym, ◌∙◌, subst, add-one, suc, arith}
 use Rattle.std.proofs.lemmas.List.{append_cancel_left, length-map}
 use Rattle.bag_model.specs.Scalars.{Word, Plain}
-use Rattle.report_text.specs.Commas.{comma_before}
+use Rattle.text_model.specs.Commas.{comma_before}
 use Rattle.scalar_types.specs.KindViews.{word_of}
 use Rattle.scalar_types.specs.Scalars.{plain_of}
 use Rattle.write_text.specs.Ends.{BeginsWithOne}

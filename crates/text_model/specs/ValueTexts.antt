@@ -4,8 +4,8 @@ use Rattle.std.specs.Fmt.{decimal}
 use Rattle.bag_model.specs.Scalars.{ScalarValue}
 use Rattle.bag_model.specs.Shapes.{Shape, Nodes, node}
 use Rattle.bag_model.specs.Values.{Value, Entries, Values, Taint, Scalar, Set, Counter, Map, Bag, no_entry, entry, value}
-use Rattle.report_text.specs.Commas.{in_braces, in_brackets}
-use Rattle.report_text.specs.ScalarTexts.{bytes_text, scalar_text}
+use Rattle.text_model.specs.Commas.{in_braces, in_brackets}
+use Rattle.text_model.specs.ScalarTexts.{bytes_text, scalar_text}
 
 -- A taint is on or off.
 abbrev pub taint_text : Bool → List ℕ

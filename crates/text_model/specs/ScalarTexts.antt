@@ -4,7 +4,7 @@ use Rattle.std.specs.Fmt.{decimal, signed_decimal}
 use Rattle.std.specs.List.{flat_map}
 use Rattle.hex.specs.Hex.{encode_lower}
 use Rattle.bag_model.specs.Scalars.{Plain, Truth, Signed, Unsigned, Text, Octets, ScalarValue}
-use Rattle.report_text.specs.Commas.{in_parentheses}
+use Rattle.text_model.specs.Commas.{in_parentheses}
 
 -- The byte is a quotation mark or a backslash.
 abbrev pub is_marked : ℕ → Bool
