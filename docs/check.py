@@ -86,6 +86,17 @@ def check_crates():
     bad.extend(f"docs/CRATES.md: the map of crates names {name}, which crates.txt doesn't" for name in sorted(named - listed))
 
 
+def check_libraries():
+    """Each line of crates.txt lists the libraries that a file of the crate names, and no others."""
+    listed = dict(re.findall(r"(?m)^(\w+)[^:\n#]*:(.*)$", text_of("crates.txt")))
+    for crate, libraries in listed.items():
+        files = [path for path in sources(".rt", ".antt", ".edit") if path.split("/")[1] == crate]
+        text = re.sub(r"(?m)^\s*(//|--).*$", "", "\n".join(map(text_of, files)))
+        for library in libraries.split():
+            if not re.search(rf"\bRattle\.{library}\b|\b{library}::|\buse {library}\b", text):
+                bad.append(f"crates.txt: {crate} lists {library}, which no file of it names")
+
+
 def check_examples():
     """Each shell example prints what stands below it, where the program is built."""
     program = next((path for path in PROGRAMS if os.path.isfile(path)), None)
@@ -103,7 +114,7 @@ def check_examples():
                         bad.append(f"{document}: {command!r} prints {(ran.stdout + ran.stderr)[:200]!r}")
 
 
-for check in (check_links, check_names, check_excerpts, check_crates, check_examples):
+for check in (check_links, check_names, check_excerpts, check_crates, check_libraries, check_examples):
     check()
 for line in bad:
     print(line)
