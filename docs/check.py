@@ -88,13 +88,13 @@ def check_crates():
 
 def check_libraries():
     """Each line of crates.txt lists the libraries that a file of the crate names, and no others."""
-    listed = dict(re.findall(r"(?m)^(\w+)[^:\n#]*:(.*)$", text_of("crates.txt")))
-    for crate, libraries in listed.items():
-        files = [path for path in sources(".rt", ".antt", ".edit") if path.split("/")[1] == crate]
-        text = re.sub(r"(?m)^\s*(//|--).*$", "", "\n".join(map(text_of, files)))
-        for library in libraries.split():
-            if not re.search(rf"\bRattle\.{library}\b|\b{library}::|\buse {library}\b", text):
-                bad.append(f"crates.txt: {crate} lists {library}, which no file of it names")
+    code = {}
+    for path in sources(".rt", ".antt", ".edit"):
+        code.setdefault(path.split("/")[1], []).append(re.sub(r"(?m)^\s*(//|--).*$", "", text_of(path)))
+    for crate, libraries in re.findall(r"(?m)^(\w+)[^:\n#]*:(.*)$", text_of("crates.txt")):
+        named = set(re.findall(r"\bRattle\.(\w+)|\b(\w+)::|\buse (\w+)", "\n".join(code.get(crate, []))))
+        named = {name for names in named for name in names}
+        bad.extend(f"crates.txt: {crate} lists {name}, which no file of it names" for name in libraries.split() if name not in named)
 
 
 def check_examples():
