@@ -92,8 +92,7 @@ def check_libraries():
     for path in sources(".rt", ".antt", ".edit"):
         code.setdefault(path.split("/")[1], []).append(re.sub(r"(?m)^\s*(//|--).*$", "", text_of(path)))
     for crate, libraries in re.findall(r"(?m)^(\w+)[^:\n#]*:(.*)$", text_of("crates.txt")):
-        named = set(re.findall(r"\bRattle\.(\w+)|\b(\w+)::|\buse (\w+)", "\n".join(code.get(crate, []))))
-        named = {name for names in named for name in names}
+        named = {name for way in (r"\bRattle\.(\w+)", r"\b(\w+)::", r"\buse (\w+)") for name in re.findall(way, "\n".join(code.get(crate, [])))}
         bad.extend(f"crates.txt: {crate} lists {name}, which no file of it names" for name in libraries.split() if name not in named)
 
 
