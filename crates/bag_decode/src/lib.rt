@@ -7,11 +7,11 @@
 #![tactic(auto)]
 
 mod bottoms;
+mod decoding;
 pub mod laws;
 mod leaves;
 mod slots;
-mod walks;
 
 pub use bottoms::{bottom, bottom_of};
+pub use decoding::{decode, decode_field};
 pub use slots::{decode_slot, slot_value};
-pub use walks::{decode, decode_field};

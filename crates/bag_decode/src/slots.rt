@@ -10,7 +10,7 @@ ghost use Rattle.bag_value.specs.Vals.{plain};
 ghost use Rattle.bag_decode.specs.Slots.{IsPlaceBehind, IsSlotPlace, IsSpanOfSlot, SaysAt};
 
 use crate::bottoms::bottom_of;
-use crate::walks::decode_field;
+use crate::decoding::decode_field;
 use atom_list::{AtomList, Context};
 use bag_model::MAX_LEVELS;
 use bag_scan::{Span, find_field};

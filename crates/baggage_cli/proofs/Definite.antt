@@ -39,7 +39,7 @@ use Rattle.baggage_cli.specs.declared.refusals.InputFault.TheVariants.{Code, Hex
 use Rattle.baggage_cli.specs.declared.refusals.Refusal.{Refusal}
 use Rattle.baggage_cli.specs.Carrying.{AreOfContext, own_bytes, byte_lines}
 use Rattle.baggage_cli.specs.Collecting.{CollectsLines}
-use Rattle.baggage_cli.specs.Checking.{verified_line, IsVerified, ChecksLines, VerdictUnder}
+use Rattle.baggage_cli.specs.Verifying.{verified_line, IsVerified, ChecksLines, VerdictUnder}
 use Rattle.baggage_cli.specs.Decoding.{DecodesLines}
 use Rattle.baggage_cli.specs.Explaining.{IsPlace, IsNoPlace, IsUnexplained, IsExplained, ExplainsLines}
 use Rattle.baggage_cli.specs.Filters.{FiltersLines}

@@ -14,7 +14,7 @@ use Rattle.baggage_cli.specs.declared.refusals.Notice.TheVariants.{LibraryFailed
 use Rattle.baggage_cli.specs.declared.refusals.Refusal.{Refusal}
 use Rattle.baggage_cli.specs.declared.refusals.Refusal.TheVariants.{Input, Plain}
 use Rattle.baggage_cli.specs.Building.{product_text}
-use Rattle.baggage_cli.specs.Checking.{VerdictUnder, BringsAndChecks}
+use Rattle.baggage_cli.specs.Verifying.{VerdictUnder, BringsAndChecks}
 use Rattle.baggage_cli.specs.Comparing.{ComparesTables}
 use Rattle.baggage_cli.specs.Commands.{Origin, compiled, printed, Product, decoding, running, explaining, Filter, trimming, merging, carrying, collecting, Task, alone, load, build, under, compare, checking, ReadsSource, FetchesFiles}
 use Rattle.baggage_cli.specs.Delivery.{Delivers}

@@ -9,7 +9,7 @@ use Rattle.context_model.specs.Merged.{IsMerged}
 use Rattle.bag_model.specs.Shapes.{Nodes}
 use Rattle.bag_model.specs.Tables.{IsTable}
 use Rattle.bdl_load.specs.Loading.{Holding}
-use Rattle.def_evolve.specs.Common.{IsVerdict}
+use Rattle.def_evolve.specs.Verdicts.{IsVerdict}
 use Rattle.def_evolve.specs.declared.verdicts.Verdict.{Verdict}
 use Rattle.bdl_check.specs.Compiler.{IsTableOf}
 use Rattle.report_text.specs.Blocks.{IsBlock}
@@ -33,7 +33,7 @@ use Rattle.baggage_cli.specs.Building.{product_text}
 use Rattle.baggage_cli.specs.Carrying.{byte_lines}
 use Rattle.baggage_cli.specs.Collecting.{CollectsLines}
 use Rattle.baggage_cli.specs.Commands.{Origin, compiled, Product, Form, as_json, Purpose, decoding, running, explaining, trimming, carrying, Task, alone, trim, merge, carry, collect, load, build, under, compare, checking, decode, run_json, evolve, why, verify, ReadsSource, FetchesFiles}
-use Rattle.baggage_cli.specs.Checking.{verified_line, IsVerified, ChecksLines, VerdictUnder, TruthWhereYes}
+use Rattle.baggage_cli.specs.Verifying.{verified_line, IsVerified, ChecksLines, VerdictUnder, TruthWhereYes}
 use Rattle.baggage_cli.specs.Explaining.{IsExplainedAt, IsExplained, ExplainsLines}
 use Rattle.baggage_cli.specs.Comparing.{verdict_line, SafeWhereItFits}
 use Rattle.baggage_cli.specs.declared.merging.TheConstants.{LINES_MAX}

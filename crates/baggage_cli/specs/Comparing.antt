@@ -1,9 +1,8 @@
 -- What the comparison of two tables comes to.
 use Rattle.std.specs.Prelude.{◌≡◌, ℕ, List, [], ◌∷◌, ◌++◌, Ok}
 use Rattle.bag_model.specs.Shapes.{Nodes}
-use Rattle.def_evolve.specs.Common.{IsVerdict}
 use Rattle.def_evolve.specs.Evolution.{IsSafe}
-use Rattle.def_evolve.specs.Verdicts.{verdict_text}
+use Rattle.def_evolve.specs.Verdicts.{IsVerdict, verdict_text}
 use Rattle.def_evolve.specs.declared.verdicts.Verdict.{Verdict}
 use Rattle.def_evolve.specs.declared.verdicts.Verdict.TheVariants.{Fits}
 use Rattle.baggage_cli.specs.Commands.{Origin}

@@ -14,7 +14,7 @@ pub mod Comparing
 pub mod Decoding
 pub mod Running
 pub mod Explaining
-pub mod Checking
+pub mod Verifying
 pub mod Under
 pub mod Loading
 pub mod Delivery

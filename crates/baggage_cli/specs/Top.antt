@@ -11,7 +11,7 @@ use Rattle.baggage_cli.specs.declared.refusals.Refusal.{Refusal}
 use Rattle.baggage_cli.specs.Building.{BuildsProduct}
 use Rattle.text_carrier.specs.Collecting.{Collects}
 use Rattle.baggage_cli.specs.Carrying.{AreOfContext, byte_lines}
-use Rattle.baggage_cli.specs.Checking.{VerdictUnder, Checks}
+use Rattle.baggage_cli.specs.Verifying.{VerdictUnder, Checks}
 use Rattle.baggage_cli.specs.Comparing.{Compares}
 use Rattle.baggage_cli.specs.Commands.{Task, Origin, ReadsSource, FetchesFiles, alone, load, build, under, compare, checking}
 use Rattle.baggage_cli.specs.Delivery.{Notifies, Delivers}

@@ -3,7 +3,6 @@
 
 mod building;
 mod carrying;
-mod checking;
 mod collecting;
 mod commands;
 mod comparing;
@@ -20,6 +19,7 @@ mod tables;
 mod top;
 mod trimming;
 mod under;
+mod verifying;
 
 pub use delivery::notify;
 pub use refusals::Notice;

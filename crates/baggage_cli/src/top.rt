@@ -11,7 +11,7 @@ ghost use Rattle.bag_model.specs.Slots.{slots_of};
 ghost use Rattle.bdl_load.specs.Loading.{Holding};
 ghost use Rattle.bdl_check.specs.Compiler.{IsTableOf};
 ghost use Rattle.report_text.specs.Blocks.{IsBlock};
-ghost use Rattle.def_evolve.specs.Common.{IsVerdict};
+ghost use Rattle.def_evolve.specs.Verdicts.{IsVerdict};
 ghost use Rattle.def_evolve.specs.declared.verdicts.Verdict.{Verdict};
 ghost use Rattle.trace_model.specs.Graphs.{Graph};
 ghost use Rattle.trace_model.specs.Runs.{Lists, IsRun};
@@ -34,7 +34,7 @@ ghost use Rattle.baggage_cli.specs.Trimming.{trimmed_line};
 ghost use Rattle.baggage_cli.specs.Merging.{lists_of, widest};
 ghost use Rattle.baggage_cli.specs.Reading.{Framed};
 ghost use Rattle.baggage_cli.specs.Building.{ok_line};
-ghost use Rattle.baggage_cli.specs.Checking.{TruthWhereYes, verified_line};
+ghost use Rattle.baggage_cli.specs.Verifying.{TruthWhereYes, verified_line};
 ghost use Rattle.baggage_cli.specs.Comparing.{verdict_line, SafeWhereItFits};
 ghost use Rattle.baggage_cli.specs.Explaining.{IsExplainedAt};
 ghost use Rattle.baggage_cli.specs.Loading.{load_heading};
@@ -44,7 +44,7 @@ ghost use Rattle.baggage_cli.specs.Top.{TellsFiles, TellsAll, InputGives, Comes,
 ghost use Rattle.baggage_cli.specs.Under.{SaysTyped};
 
 use crate::building::build;
-use crate::checking::check_certificate;
+use crate::verifying::check_certificate;
 use crate::commands::{Command, command_of};
 use crate::comparing::compare;
 use crate::delivery::{deliver, notify, refuse};

@@ -18,7 +18,8 @@ use Rattle.def_evolve.specs.declared.verdicts.Part.TheVariants.{Number, MapValue
 use Rattle.def_evolve.specs.declared.verdicts.Verdict.{Verdict}
 use Rattle.def_evolve.specs.declared.verdicts.Verdict.TheVariants as verdicts
 use Rattle.def_evolve.specs.Breaks.{part_rank, way_cmp, way_text, StepsTo, LeadsAlong, variant_of, KeysDiffer, KindsDiffer, Differs, IsBreak, IsFirstBreak}
-use Rattle.def_evolve.specs.Common.{IsCommonCount, IsVerdict}
+use Rattle.def_evolve.specs.Common.{IsCommonCount}
+use Rattle.def_evolve.specs.Verdicts.{IsVerdict}
 
 -- ---- the order of ways
 

@@ -1,14 +1,10 @@
--- The slots that two tables have in common, and the verdict on them.
+-- The slots that two tables have in common.
 use Rattle.std.specs.Prelude.{◌≡◌, ◌↔◌, ℕ, List, length}
 use Rattle.std.specs.Ordering.{nat_cmp}
 use Rattle.std.specs.Cmp.Lexicographic.{slice_cmp}
 use Rattle.context_model.specs.Orders.{IsIn, Rises}
-use Rattle.bag_model.specs.Shapes.{Shape, Nodes, Bag}
+use Rattle.bag_model.specs.Shapes.{Shape}
 use Rattle.bag_model.specs.Slots.{SlotAt, slots_in}
-use Rattle.def_evolve.specs.declared.verdicts.Verdict.{Verdict}
-use Rattle.def_evolve.specs.declared.verdicts.Verdict.TheVariants as verdicts
-use Rattle.def_evolve.specs.declared.verdicts.Part.{Part}
-use Rattle.def_evolve.specs.Breaks.{IsFirstBreak, IsFitting, way_text}
 
 -- From a field of this shape these numbers lead to a slot.
 abbrev pub IsSlotPath : Shape → List ℕ → Type 0
@@ -22,9 +18,3 @@ pub record AreCommonPaths (old new : Shape) (paths : List (List ℕ)) : Type 0 w
 -- So many slots are in both fields.
 abbrev pub IsCommonCount : Shape → Shape → ℕ → Type 0
 IsCommonCount old new common = (paths : List (List ℕ)) × AreCommonPaths old new paths × (common ≡ length paths)
-
--- The verdict is right: that the new table fits, with the number of common slots, or the first break.
-abbrev pub IsVerdict : Nodes → Nodes → Verdict → Type 0
-IsVerdict old new (verdicts.Fits common) = IsFitting old new × IsCommonCount (Bag old) (Bag new) common
-IsVerdict old new (verdicts.Breaks path change) =
-    (way : List Part) × IsFirstBreak (Bag old) (Bag new) way change × (path ≡ way_text way)

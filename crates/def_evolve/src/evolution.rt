@@ -1,7 +1,7 @@
 //! The verdict on two tables.
 
 ghost use Rattle.std.specs.Prelude.{◌≡◌, ℕ, IfOk};
-ghost use Rattle.def_evolve.specs.Common.{IsVerdict};
+ghost use Rattle.def_evolve.specs.Verdicts.{IsVerdict};
 ghost use Rattle.def_evolve.specs.Evolution.{IsSafe};
 ghost use Rattle.def_evolve.specs.declared.verdicts.Verdict.TheVariants.{Fits};
 

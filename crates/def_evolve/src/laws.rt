@@ -4,7 +4,7 @@ ghost use Rattle.std.specs.Prelude.{◌≡◌};
 ghost use Rattle.bag_model.specs.Shapes.{Nodes};
 ghost use Rattle.bag_model.specs.Tables.{IsTable};
 ghost use Rattle.def_evolve.specs.Breaks.{IsFitting};
-ghost use Rattle.def_evolve.specs.Common.{IsVerdict};
+ghost use Rattle.def_evolve.specs.Verdicts.{IsVerdict};
 ghost use Rattle.def_evolve.specs.Evolution.{IsSafe};
 ghost use Rattle.def_evolve.specs.Widening.{WiderKindsSpellAlike};
 ghost use Rattle.def_evolve.specs.declared.verdicts.Verdict.{Verdict};

@@ -19,7 +19,7 @@ use Rattle.trace_model.proofs.ContributedLaws.{least_alike, least_one}
 use Rattle.write_proof.specs.Certificates.{AreReachPairs, IsOfEarlier, IsNews, AreUsedSteps}
 use Rattle.write_proof.specs.Contributions.{ContributesAt}
 use Rattle.write_proof.specs.LineRules.{BringsValues, IsWriteStep}
-use Rattle.write_proof.specs.News.{UsesValue, ArePartsAt, IsUsedNext, AreNewsOf}
+use Rattle.write_proof.specs.Used.{UsesValue, ArePartsAt, IsUsedNext, AreNewsOf}
 use Rattle.write_proof.specs.Together.{IsSaidBy, AreOfOneShape, IsJoinOfAll}
 use Rattle.write_proof.specs.WholeRules.{StepContributes, IsOfSteps}
 use Rattle.write_proof.proofs.BelowCalls.{place_some}

@@ -15,7 +15,7 @@ use Rattle.trace_model.specs.Graphs.{Graph, IsGraph, IsRecorded}
 use Rattle.trace_model.specs.Runs.{Lists, list_at}
 use Rattle.write_proof.specs.Certificates.{AreReachPairs, IsCertificate, AddsWhy, AddsValue}
 use Rattle.write_proof.specs.Entries.{Entry, Why, ValueText, Reach, Uses, entry_line}
-use Rattle.write_proof.specs.News.{AreNewsAt}
+use Rattle.write_proof.specs.Used.{AreNewsAt}
 use Rattle.write_proof.proofs.BelowCalls.{place_some}
 use Rattle.write_proof.proofs.Complete.{reaches_no_later}
 use Rattle.write_proof.proofs.Newly.{news_used}

@@ -9,7 +9,7 @@ pub mod Together
 pub mod Belows
 pub mod Contributions
 pub mod Reaching
-pub mod News
+pub mod Used
 pub mod Joins
 pub mod Marks
 pub mod FirstLines

@@ -19,10 +19,10 @@ mod joins;
 mod laws;
 mod line_rules;
 mod marks;
-mod news;
 mod reaching;
 mod reading;
 mod together;
+mod used;
 mod verdicts;
 
 pub use certificates::why;

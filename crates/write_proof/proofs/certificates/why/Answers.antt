@@ -12,7 +12,7 @@ use Rattle.trace_model.specs.Graphs.{IsRecorded}
 use Rattle.trace_model.proofs.FaithfulLaws.{runs_are_faithful}
 use Rattle.write_proof.specs.declared.reaching.Reach as code
 use Rattle.write_proof.specs.Entries.{Reach, Uses, entry_line}
-use Rattle.write_proof.specs.News.{AreNewsAt}
+use Rattle.write_proof.specs.Used.{AreNewsAt}
 use Rattle.write_proof.specs.Reaching.{pairs_of}
 use Rattle.write_proof.proofs.Complete.{certificates_verify}
 use Rattle.write_proof.proofs.Written.{way_rises, way_within, written}
