@@ -201,6 +201,15 @@ fn slots_are_written(rt: HostRuntime) -> Result<(), Fail> {
         let table = table_of(alloc, text)?;
         let context = written(alloc, &table, name, u64::from(*number))?;
         assert_eq!(rt; context.as_slice(), *bytes);
+    }
+    Ok(())
+}
+
+#[test]
+fn written_slots_are_read(rt: HostRuntime) -> Result<(), Fail> {
+    let alloc = rt.alloc();
+    for (text, name, number, bytes) in &WRITES {
+        let table = table_of(alloc, text)?;
         let wanted = format!(in alloc; "Exact {number}")?;
         let reading = reading_of(alloc, &table, bytes, name)?;
         assert_eq!(rt; reading.as_str(), wanted.as_str());
