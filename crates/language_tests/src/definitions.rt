@@ -44,27 +44,38 @@ fn answers_of_several_files(rt: HostRuntime) -> Result<(), Fail> {
     Ok(())
 }
 
-#[test]
-fn libraries_that_fail(rt: HostRuntime) -> Result<(), Fail> {
-    let alloc = rt.alloc();
-    let mut library = MemoryLibrary::new(alloc, vec![in alloc; 1, 4]?);
-    for wanted in ["z.bdl 1:1 NoFile", "failed"] {
-        let answer = answer_of(alloc, &mut library, "z.bdl", "Z")?;
-        assert_eq!(rt; answer.as_str(), wanted);
-    }
-    library.add("z.bdl", b"import \"y.bdl\"; bag Z { }")?;
-    library.add("y.bdl", b"")?;
-    for wanted in ["ok", "failed"] {
-        let answer = answer_of(alloc, &mut library, "z.bdl", "Z")?;
-        assert_eq!(rt; answer.as_str(), wanted);
-    }
+/// The answers of two calls for the bag `Z`.
+fn answers_of_two(alloc: Global, library: &mut MemoryLibrary) -> Result<String, Fail> {
+    let first = answer_of(alloc, library, "z.bdl", "Z")?;
+    let second = answer_of(alloc, library, "z.bdl", "Z")?;
+    Ok(format!(in alloc; "{first}, {second}")?)
+}
+
+/// The names that a library was asked for, each with a blank behind it.
+fn asked(alloc: Global, library: &MemoryLibrary) -> Result<String, Fail> {
     let names = library.asked().ok_or("names")?;
     let mut asked = String::new(alloc);
     for at in 0..names.len() {
         asked.push_str(names.get(at).ok_or("a name")?.as_str())?;
         asked.push(' ')?;
     }
-    assert_eq!(rt; asked.as_str(), "z.bdl z.bdl z.bdl y.bdl z.bdl ");
+    Ok(asked)
+}
+
+#[test]
+fn libraries_that_fail(rt: HostRuntime) -> Result<(), Fail> {
+    let alloc = rt.alloc();
+    let mut library = MemoryLibrary::new(alloc, vec![in alloc; 1, 4]?);
+    let answers = answers_of_two(alloc, &mut library)?;
+    assert_eq!(rt; answers.as_str(), "z.bdl 1:1 NoFile, failed");
+    library.add("z.bdl", b"import \"y.bdl\"; bag Z { }")?;
+    library.add("y.bdl", b"")?;
+    let answers = answers_of_two(alloc, &mut library)?;
+    assert_eq!(rt; answers.as_str(), "ok, failed");
+    assert_eq!(rt;
+        asked(alloc, &library)?.as_str(),
+        "z.bdl z.bdl z.bdl y.bdl z.bdl "
+    );
     Ok(())
 }
 
@@ -162,6 +173,12 @@ fn long_definitions(rt: HostRuntime) -> Result<(), Fail> {
         let answer = sizes_in(alloc, &mut library, "B")?;
         assert!(rt; answer.as_str().starts_with(*wanted), "{wanted}: {answer}");
     }
+    Ok(())
+}
+
+#[test]
+fn long_files(rt: HostRuntime) -> Result<(), Fail> {
+    let alloc = rt.alloc();
     let mut library = SureLibrary::new(alloc);
     library.add("f", b"import \"long\"; bag A { }")?;
     let mut long = vec![in alloc; b' '; 1_048_576]?;

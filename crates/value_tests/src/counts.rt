@@ -20,13 +20,21 @@ fn seen(rt: &impl Abort, counts: &Counts, expected: &[(&[u8], u64)]) {
 }
 
 #[test]
-fn counts_of_writers(rt: HostRuntime) -> Result<(), Fail> {
+fn the_least_and_the_most(rt: HostRuntime) -> Result<(), Fail> {
     let alloc = rt.alloc();
     let none = Counts::new(alloc);
     assert!(rt; none.is_bottom());
     assert_eq!(rt; none.total(), 0);
     seen(&rt, &none, &[]);
+    let mut most = Counts::of(alloc, b"a", u64::MAX)?;
+    most.join(&Counts::of(alloc, b"b", u64::MAX)?)?;
+    assert_eq!(rt; most.total(), 36_893_488_147_419_103_230);
+    Ok(())
+}
 
+#[test]
+fn counts_of_writers(rt: HostRuntime) -> Result<(), Fail> {
+    let alloc = rt.alloc();
     let mut counts = Counts::of(alloc, b"a", 3)?;
     assert!(rt; !counts.is_bottom());
     seen(&rt, &counts.copy()?, &[(b"a", 3)]);
@@ -34,10 +42,6 @@ fn counts_of_writers(rt: HostRuntime) -> Result<(), Fail> {
     seen(&rt, &counts, &[(b"a", 3), (b"b", 2)]);
     assert_eq!(rt; counts.total(), 5);
     assert_eq!(rt; counts.get(b"c"), None);
-
-    let mut most = Counts::of(alloc, b"a", u64::MAX)?;
-    most.join(&Counts::of(alloc, b"b", u64::MAX)?)?;
-    assert_eq!(rt; most.total(), 36_893_488_147_419_103_230);
     Ok(())
 }
 
@@ -69,10 +73,15 @@ fn joins_of_counts(rt: HostRuntime) -> Result<(), Fail> {
     let mut alone = a.copy()?;
     alone.join(&Counts::new(alloc))?;
     seen(&rt, &alone, &[(b"a", 3), (b"c", 1)]);
+    counts_join_is_union();
+    Ok(())
+}
+
+#[test]
+fn joins_of_numbers_and_of_nothing(rt: HostRuntime) -> Result<(), Fail> {
     let _ = joins(&rt, &(), &(), &())?;
     let (greatest, again) = joins(&rt, &3_u64, &5, &4)?;
     assert_eq!(rt; (greatest, again), (5, 5));
     assert!(rt; 0_u64.is_bottom() && !greatest.is_bottom());
-    counts_join_is_union();
     Ok(())
 }

@@ -19,19 +19,29 @@ fn seen(rt: &impl Abort, set: &SetOf<Utf8>, expected: &[&str]) {
 }
 
 #[test]
-fn least_of_two(rt: HostRuntime) -> Result<(), Fail> {
-    let alloc = rt.alloc();
+fn least_of_texts(rt: HostRuntime) -> Result<(), Fail> {
     assert!(rt; Least::new(Utf8)?.is_bottom());
-    let a = Least::of(Utf8, Text::of(alloc, "a")?)?;
+    let a = Least::of(Utf8, Text::of(rt.alloc(), "a")?)?;
     assert!(rt; !a.is_bottom());
     assert_eq!(rt; a.copy()?.get().expect(&rt, "a value").as_str(), "a");
+    Ok(())
+}
 
+#[test]
+fn least_of_two(rt: HostRuntime) -> Result<(), Fail> {
     let nine = Least::of(LexU { wide: true }, 9)?;
     let seven = Least::of(LexU { wide: true }, 7)?;
     let (first, second) = joins_commute(&nine, &seven)?;
     assert_eq!(rt; *first.get().expect(&rt, "a value"), 7);
     assert_eq!(rt; *second.get().expect(&rt, "a value"), 7);
+    Ok(())
+}
+
+#[test]
+fn least_of_three(rt: HostRuntime) -> Result<(), Fail> {
     let none = Least::new(LexU { wide: true })?;
+    let nine = Least::of(LexU { wide: true }, 9)?;
+    let seven = Least::of(LexU { wide: true }, 7)?;
     let (first, second) = joins_regroup(&none, &nine, &seven)?;
     assert_eq!(rt; *first.get().expect(&rt, "a value"), 7);
     assert_eq!(rt; *join_repeats(&second)?.get().expect(&rt, "a value"), 7);
@@ -49,10 +59,14 @@ fn greatest_of_two(rt: HostRuntime) -> Result<(), Fail> {
     let (first, second) = joins_commute(&a, &b)?;
     assert_eq!(rt; first.get().expect(&rt, "a value").as_str(), "b");
     assert_eq!(rt; second.copy()?.get().expect(&rt, "a value").as_str(), "b");
+    Ok(())
+}
 
-    let nine = Greatest::of(LexU { wide: true }, 9)?;
-    let seven = Greatest::of(LexU { wide: true }, 7)?;
+#[test]
+fn greatest_of_three(rt: HostRuntime) -> Result<(), Fail> {
     let none = Greatest::new(LexU { wide: true })?;
+    let seven = Greatest::of(LexU { wide: true }, 7)?;
+    let nine = Greatest::of(LexU { wide: true }, 9)?;
     let (first, second) = joins_regroup(&none, &seven, &nine)?;
     assert_eq!(rt; *first.get().expect(&rt, "a value"), 9);
     assert_eq!(rt; *join_repeats(&second)?.get().expect(&rt, "a value"), 9);
@@ -61,7 +75,7 @@ fn greatest_of_two(rt: HostRuntime) -> Result<(), Fail> {
 }
 
 #[test]
-fn union_of_sets(rt: HostRuntime) -> Result<(), Fail> {
+fn sets_of_texts(rt: HostRuntime) -> Result<(), Fail> {
     let alloc = rt.alloc();
     let none = SetOf::new(alloc, Utf8)?;
     assert!(rt; none.is_bottom());
@@ -71,15 +85,22 @@ fn union_of_sets(rt: HostRuntime) -> Result<(), Fail> {
     let b = SetOf::of(alloc, Utf8, text.copy()?)?;
     assert!(rt; !b.is_bottom());
     assert!(rt; b.contains(&text) && !a.contains(&text));
-    let (first, second) = joins_commute(&b, &a)?;
-    seen(&rt, &first, &["a", "b"]);
-    seen(&rt, &second, &["a", "b"]);
-
     let mut pushed = a.copy()?;
     pushed.push(text)?;
     seen(&rt, &pushed, &["a", "b"]);
     let (first, _) = joins_regroup(&pushed, &none, &b)?;
     seen(&rt, &join_repeats(&first)?, &["a", "b"]);
+    Ok(())
+}
+
+#[test]
+fn union_of_sets(rt: HostRuntime) -> Result<(), Fail> {
+    let alloc = rt.alloc();
+    let a = SetOf::of(alloc, Utf8, Text::of(alloc, "a")?)?;
+    let b = SetOf::of(alloc, Utf8, Text::of(alloc, "b")?)?;
+    let (first, second) = joins_commute(&b, &a)?;
+    seen(&rt, &first, &["a", "b"]);
+    seen(&rt, &second, &["a", "b"]);
     keeps_join_laws::<SetOf<Utf8>>();
     set_join_is_union::<Utf8>();
     Ok(())
@@ -94,10 +115,22 @@ fn maps_of_counts(rt: HostRuntime) -> Result<(), Fail> {
     assert_eq!(rt; same.len(), 1);
     assert!(rt; same.contains(&key));
     assert_eq!(rt; same.value(&key).expect(&rt, "counts").get(b"w"), Some(3));
-
     let none: MapOf<Utf8, Counts> = MapOf::new(alloc, Utf8)?;
     assert!(rt; none.is_bottom() && !map.is_bottom());
     assert!(rt; none.value(&key).is_none());
+    Ok(())
+}
+
+#[test]
+fn joins_of_maps(rt: HostRuntime) -> Result<(), Fail> {
+    let alloc = rt.alloc();
+    let none: MapOf<Utf8, Counts> = MapOf::new(alloc, Utf8)?;
+    let map = MapOf::of(
+        alloc,
+        Utf8,
+        Text::of(alloc, "k")?,
+        Counts::of(alloc, b"w", 3)?,
+    )?;
     let empty = MapOf::of(alloc, Utf8, Text::of(alloc, "l")?, Counts::new(alloc))?;
     assert!(rt; !empty.is_bottom());
     let (joined, _) = joins_commute(&map, &empty)?;

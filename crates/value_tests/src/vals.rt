@@ -77,37 +77,53 @@ fn nested(alloc: Global, count: u64) -> Result<Val, Memory> {
     map_of(alloc, 1, map_of(alloc, 7, Val::Counter(counts))?)
 }
 
+// Two taints and their join.
+static TAINTS: [(bool, bool, bool); 3] = [
+    (false, false, false),
+    (true, false, true),
+    (false, true, true),
+];
+
 #[test]
-fn joins_of_taints_and_scalars(rt: HostRuntime) -> Result<(), Fail> {
-    for (ours, theirs, both) in [
-        (false, false, false),
-        (true, false, true),
-        (false, true, true),
-    ] {
-        let joined = join_of(Val::Taint(ours), Val::Taint(theirs))?;
-        assert_eq!(rt; is_on(joined), Some(both));
+fn joins_of_taints(rt: HostRuntime) -> Result<(), Fail> {
+    for (ours, theirs, both) in &TAINTS {
+        let joined = join_of(Val::Taint(*ours), Val::Taint(*theirs))?;
+        assert_eq!(rt; is_on(joined), Some(*both));
     }
-    for (ours, theirs, first) in [(3, 5, 3), (5, 3, 3), (4, 4, 4)] {
-        let ours = Val::Scalar(Some(Scalar::Unsigned(ours)));
-        let theirs = Val::Scalar(Some(Scalar::Unsigned(theirs)));
-        assert_eq!(rt; number_of(join_of(ours, theirs)?), Some(first));
-    }
-    for (ours, theirs, last) in [(3, 5, 5), (5, 3, 5), (4, 4, 4)] {
-        let ours = Val::Greatest(Some(Scalar::Unsigned(ours)));
-        let theirs = Val::Greatest(Some(Scalar::Unsigned(theirs)));
-        assert_eq!(rt; number_of(join_of(ours, theirs)?), Some(last));
-    }
-    let five = Val::Scalar(Some(Scalar::Unsigned(5)));
-    assert_eq!(rt; number_of(join_of(Val::Scalar(None), five)?), Some(5));
-    let five = Val::Greatest(Some(Scalar::Unsigned(5)));
-    assert_eq!(rt; number_of(join_of(Val::Greatest(None), five)?), Some(5));
     keeps_join_laws::<Val>();
     values_of_one_shape_are_joined();
     Ok(())
 }
 
+// Two numbers, and the one that stays of two scalars, and of two greatest values.
+static NUMBERS: [(u64, u64, u64, u64); 3] = [(3, 5, 3, 5), (5, 3, 3, 5), (4, 4, 4, 4)];
+
 #[test]
-fn joins_of_sets_and_counters(rt: HostRuntime) -> Result<(), Fail> {
+fn joins_of_scalars(rt: HostRuntime) -> Result<(), Fail> {
+    for (ours, theirs, first, _) in &NUMBERS {
+        let ours = Val::Scalar(Some(Scalar::Unsigned(*ours)));
+        let theirs = Val::Scalar(Some(Scalar::Unsigned(*theirs)));
+        assert_eq!(rt; number_of(join_of(ours, theirs)?), Some(*first));
+    }
+    let five = Val::Scalar(Some(Scalar::Unsigned(5)));
+    assert_eq!(rt; number_of(join_of(Val::Scalar(None), five)?), Some(5));
+    Ok(())
+}
+
+#[test]
+fn joins_of_greatest_values(rt: HostRuntime) -> Result<(), Fail> {
+    for (ours, theirs, _, last) in &NUMBERS {
+        let ours = Val::Greatest(Some(Scalar::Unsigned(*ours)));
+        let theirs = Val::Greatest(Some(Scalar::Unsigned(*theirs)));
+        assert_eq!(rt; number_of(join_of(ours, theirs)?), Some(*last));
+    }
+    let five = Val::Greatest(Some(Scalar::Unsigned(5)));
+    assert_eq!(rt; number_of(join_of(Val::Greatest(None), five)?), Some(5));
+    Ok(())
+}
+
+#[test]
+fn joins_of_sets(rt: HostRuntime) -> Result<(), Fail> {
     let alloc = rt.alloc();
     let two = SetOf::of(alloc, ScalarKind::Uint64, Scalar::Unsigned(2))?;
     let one = SetOf::of(alloc, ScalarKind::Uint64, Scalar::Unsigned(1))?;
@@ -115,7 +131,12 @@ fn joins_of_sets_and_counters(rt: HostRuntime) -> Result<(), Fail> {
         elements_of(join_of(Val::Set(two), Val::Set(one))?),
         Some(2)
     );
+    Ok(())
+}
 
+#[test]
+fn joins_of_counters(rt: HostRuntime) -> Result<(), Fail> {
+    let alloc = rt.alloc();
     let three = Counts::of(alloc, b"w", 3)?;
     let five = Counts::of(alloc, b"w", 5)?;
     let joined = join_of(Val::Counter(three), Val::Counter(five))?;

@@ -1,8 +1,8 @@
 //! The modules of texts, and their first faults.
 
-use crate::pieces::{Piece, joined};
 use bdl_lexer::{MAX_SOURCE, lex};
 use bdl_parser::{BagField, Decl, Module, ParseFault, StructField, TypeForm, TypeNode, parse};
+use outside::Memory;
 use std::alloc::Global;
 use std::test::Fail;
 
@@ -90,104 +90,119 @@ static TEXTS: [(&str, &str); 52] = [
     ),
 ];
 
-// The same of types inside one another: the pieces of the text, and what it is answered with at least at its front.
-static NESTED: [(&[Piece], &str); 11] = [
-    (
-        &[
-            ("bag B { ", 1),
-            ("set<", 32),
-            ("bool", 1),
-            (">", 32),
-            (" a = 0; }", 1),
-        ],
-        "67 TypeNesting",
-    ),
-    (
-        &[
-            ("bag B { ", 1),
-            ("set<", 33),
-            ("bool", 1),
-            (">", 33),
-            (" a = 0; }", 1),
-        ],
-        "67 TypeNesting",
-    ),
-    (
-        &[
-            ("bag B { ", 1),
-            ("map<bool,", 32),
-            ("bool", 1),
-            (">", 32),
-            (" a = 0; }", 1),
-        ],
-        "129 TypeNesting",
-    ),
-    (
-        &[("bag B { ", 1), ("set<", 32), ("x", 1), (">", 32)],
-        "67 TypeNesting",
-    ),
-    (
-        &[
-            ("bag B { ", 1),
-            ("set<", 32),
-            ("=", 1),
-            (">", 32),
-            (" a = 0; }", 1),
-        ],
-        "67 Expected",
-    ),
-    (&[("bag B { ", 1), ("set<", 32)], "67 Expected"),
-    (
-        &[
-            ("bag B { bool a = 1 } bag C { ", 1),
-            ("set<", 40),
-            ("bool", 1),
-            (">", 40),
-            (" a = 0; }", 1),
-        ],
-        "7 Expected",
-    ),
-    (
-        &[
-            ("struct S { ", 1),
-            ("set<", 33),
-            ("bool", 1),
-            (">", 33),
-            (" a; } x", 1),
-        ],
-        "67 TypeNesting",
-    ),
-    (
-        &[
-            ("bag B { ", 1),
-            ("set<", 31),
-            ("bool", 1),
-            (">", 31),
-            (" a = 0; }", 1),
-        ],
-        "ok bag B 1:5 {",
-    ),
-    (
-        &[
-            ("bag B { ", 1),
-            ("set<", 32),
-            ("greatest<", 1),
-            ("bool", 1),
-            (">", 33),
-            (" a = 0; }", 1),
-        ],
-        "67 TypeNesting",
-    ),
-    (
-        &[
-            ("bag B { ", 1),
-            ("greatest<", 31),
-            ("bool", 1),
-            (">", 31),
-            (" a = 0; }", 1),
-        ],
-        "ok bag B 1:5 {",
-    ),
+/// A text with types inside one another, and what it is answered with at least at its front.
+struct Nested {
+    front: &'static str,
+    /// What opens a type, and how often it stands.
+    opening: &'static str,
+    opened: usize,
+    inner: &'static str,
+    /// How many types are closed.
+    closed: usize,
+    behind: &'static str,
+    wanted: &'static str,
+}
+
+static NESTED: [Nested; 11] = [
+    Nested {
+        front: "bag B { ",
+        opening: "set<",
+        opened: 32,
+        inner: "bool",
+        closed: 32,
+        behind: " a = 0; }",
+        wanted: "67 TypeNesting",
+    },
+    Nested {
+        front: "bag B { ",
+        opening: "set<",
+        opened: 33,
+        inner: "bool",
+        closed: 33,
+        behind: " a = 0; }",
+        wanted: "67 TypeNesting",
+    },
+    Nested {
+        front: "bag B { ",
+        opening: "map<bool,",
+        opened: 32,
+        inner: "bool",
+        closed: 32,
+        behind: " a = 0; }",
+        wanted: "129 TypeNesting",
+    },
+    Nested {
+        front: "bag B { ",
+        opening: "set<",
+        opened: 32,
+        inner: "x",
+        closed: 32,
+        behind: "",
+        wanted: "67 TypeNesting",
+    },
+    Nested {
+        front: "bag B { ",
+        opening: "set<",
+        opened: 32,
+        inner: "=",
+        closed: 32,
+        behind: " a = 0; }",
+        wanted: "67 Expected",
+    },
+    Nested {
+        front: "bag B { ",
+        opening: "set<",
+        opened: 32,
+        inner: "",
+        closed: 0,
+        behind: "",
+        wanted: "67 Expected",
+    },
+    Nested {
+        front: "bag B { bool a = 1 } bag C { ",
+        opening: "set<",
+        opened: 40,
+        inner: "bool",
+        closed: 40,
+        behind: " a = 0; }",
+        wanted: "7 Expected",
+    },
+    Nested {
+        front: "struct S { ",
+        opening: "set<",
+        opened: 33,
+        inner: "bool",
+        closed: 33,
+        behind: " a; } x",
+        wanted: "67 TypeNesting",
+    },
+    Nested {
+        front: "bag B { ",
+        opening: "set<",
+        opened: 31,
+        inner: "bool",
+        closed: 31,
+        behind: " a = 0; }",
+        wanted: "ok bag B 1:5 {",
+    },
+    Nested {
+        front: "bag B { ",
+        opening: "set<",
+        opened: 32,
+        inner: "greatest<bool",
+        closed: 33,
+        behind: " a = 0; }",
+        wanted: "67 TypeNesting",
+    },
+    Nested {
+        front: "bag B { ",
+        opening: "greatest<",
+        opened: 31,
+        inner: "bool",
+        closed: 31,
+        behind: " a = 0; }",
+        wanted: "ok bag B 1:5 {",
+    },
 ];
 
 /// A type with its place and those of the types inside it.
@@ -311,10 +326,26 @@ fn texts_are_modules_or_have_faults(rt: HostRuntime) -> Result<(), Fail> {
         let answer = answer_of(alloc, text)?;
         assert_eq!(rt; answer.as_str(), *wanted, "{text}");
     }
-    for (pieces, wanted) in &NESTED {
-        let text = joined(alloc, pieces)?;
+    Ok(())
+}
+
+/// The text of a row.
+fn text_of(alloc: Global, row: &Nested) -> Result<String, Memory> {
+    let mut text = String::from_str(alloc, row.front)?;
+    text.push_str(row.opening.repeat(alloc, row.opened)?.as_str())?;
+    text.push_str(row.inner)?;
+    text.push_str(">".repeat(alloc, row.closed)?.as_str())?;
+    text.push_str(row.behind)?;
+    Ok(text)
+}
+
+#[test]
+fn types_stand_inside_one_another(rt: HostRuntime) -> Result<(), Fail> {
+    let alloc = rt.alloc();
+    for row in &NESTED {
+        let text = text_of(alloc, row)?;
         let answer = answer_of(alloc, text.as_str())?;
-        assert!(rt; answer.as_str().starts_with(*wanted), "{text}");
+        assert!(rt; answer.as_str().starts_with(row.wanted), "{text}");
     }
     Ok(())
 }

@@ -1,7 +1,5 @@
 //! Texts of tables, and their first faults. Line feeds are written as `/`.
 
-use crate::pieces::{Piece, joined};
-use crate::tables::{slots_of, table_of};
 use field_table::Table;
 use outside::Memory;
 use std::alloc::Global;
@@ -119,152 +117,39 @@ const RULES: &str = "1 0 a taint/ => 2 Depth
 0 1 a bag/1 2 b bag/2 3 c taint/1 3 b taint/ => 5 DuplicateField
 0 1 a taint/0 2 b taint/0 3 a map bool bag/ => 4 DuplicateField
 0 2 a taint/1 1 a taint/ => 3 Depth";
-// The pieces of a text, and its first fault, or nothing where it is a table's.
-static NESTED: [(&[Piece], &str); 14] = [
-    (&[("baggage table 1\n", 1), ("# 7 a bag\n", 16)], ""),
-    (
-        &[("baggage table 1\n", 1), ("# 7 a bag\n", 17)],
-        "18 TooDeep",
-    ),
-    (
-        &[
-            ("baggage table 1\n", 1),
-            ("# 7 a bag\n", 15),
-            ("15 0 x taint\n15 1 x counter\n", 1),
-        ],
-        "18 DuplicateField",
-    ),
-    (
-        &[
-            ("baggage table 1\n", 1),
-            ("# 7 a bag\n", 15),
-            ("15 1 x taint\n15 1 y counter\n", 1),
-        ],
-        "18 Order",
-    ),
-    (
-        &[
-            ("baggage table 1\n0 0 a ", 1),
-            ("map bool ", 15),
-            ("taint\n", 1),
-        ],
-        "",
-    ),
-    (
-        &[
-            ("baggage table 1\n0 0 a ", 1),
-            ("map bool ", 16),
-            ("taint\n", 1),
-        ],
-        "2 TooDeep",
-    ),
-    (
-        &[
-            ("baggage table 1\n0 0 a ", 1),
-            ("map bool ", 15),
-            ("bag\n", 1),
-        ],
-        "",
-    ),
-    (
-        &[
-            ("baggage table 1\n0 0 a ", 1),
-            ("map bool ", 16),
-            ("bag\n", 1),
-        ],
-        "2 TooDeep",
-    ),
-    (
-        &[
-            ("baggage table 1\n0 0 a ", 1),
-            ("map bool ", 15),
-            ("set bool\n", 1),
-        ],
-        "",
-    ),
-    (
-        &[
-            ("baggage table 1\n0 0 a ", 1),
-            ("map bool ", 16),
-            ("set bool\n", 1),
-        ],
-        "2 TooDeep",
-    ),
-    (
-        &[
-            ("baggage table 1\n0 0 a ", 1),
-            ("map bool ", 14),
-            ("counter\n", 1),
-        ],
-        "",
-    ),
-    (
-        &[
-            ("baggage table 1\n0 0 a ", 1),
-            ("map bool ", 15),
-            ("counter\n", 1),
-        ],
-        "2 TooDeep",
-    ),
-    (
-        &[
-            ("baggage table 1\n0 0 a ", 1),
-            ("map bool ", 32),
-            ("taint\n", 1),
-        ],
-        "2 TooDeep",
-    ),
-    (
-        &[
-            ("baggage table 1\n0 0 a ", 1),
-            ("map bool ", 33),
-            ("taint\n", 1),
-        ],
-        "2 Form",
-    ),
+// How many bags stand inside one another, what stands behind them, and the first fault, or nothing.
+static BAGS: [(u32, &str, &str); 4] = [
+    (16, "", ""),
+    (17, "", "18 TooDeep"),
+    (15, "15 0 x taint/15 1 x counter/", "18 DuplicateField"),
+    (15, "15 1 x taint/15 1 y counter/", "18 Order"),
 ];
 
-// What stands behind the lines of 16,384 fields, and the first fault. Of two faults of a line the first in the order of the rules
-// is told.
-static BEHIND: [(&[Piece], &str); 6] = [
-    (&[], ""),
-    (&[("0 16384 n16384 taint\n", 1)], "16386 TooManySlots"),
-    (&[("0 16384 n1 taint\n", 1)], "16386 DuplicateField"),
-    (&[("0 16383 d taint\n", 1)], "16386 Order"),
-    (&[("1 16384 d taint\n", 1)], "16386 Depth"),
+// How many maps stand inside one another, the shape inside them, and the first fault, or nothing.
+static MAPS: [(usize, &str, &str); 10] = [
+    (15, "taint", ""),
+    (16, "taint", "2 TooDeep"),
+    (15, "bag", ""),
+    (16, "bag", "2 TooDeep"),
+    (15, "set bool", ""),
+    (16, "set bool", "2 TooDeep"),
+    (14, "counter", ""),
+    (15, "counter", "2 TooDeep"),
+    (32, "taint", "2 TooDeep"),
+    (33, "taint", "2 Form"),
+];
+
+// What stands behind the lines of 16,384 fields, and the first fault, or nothing. Of two faults of a line the first in the order of
+// the rules is told.
+static BEHIND: [(&str, &str); 6] = [
+    ("", ""),
+    ("0 16384 n16384 taint/", "16386 TooManySlots"),
+    ("0 16384 n1 taint/", "16386 DuplicateField"),
+    ("0 16383 d taint/", "16386 Order"),
+    ("1 16384 d taint/", "16386 Depth"),
     (
-        &[("0 16384 d ", 1), ("map bool ", 16), ("taint\n", 1)],
+        "0 16384 d map bool map bool map bool map bool map bool map bool map bool map bool map bool map bool map bool map bool map bool map bool map bool map bool taint/",
         "16386 TooDeep",
-    ),
-];
-
-// A definition of a bag `B`, the text of its table, and its slots.
-static COMPILED: [(&str, &str, &str); 6] = [
-    ("bag B { }", "baggage table 1/", "ok"),
-    (
-        "struct P { string a; int32 b; } bag M { counter t = 1; } bag B { P p = 3; map<bool, M> m = 9; }",
-        "baggage table 1/0 3 p scalar (string,int32)/0 9 m map bool bag/1 1 t counter/",
-        "ok p:3:struct m:9:map",
-    ),
-    (
-        "bag D { taint d = 0; } bag B { taint f = 7; bag_ a = 5; In b = 6; } bag bag_ { } bag In { D c = 0; taint e = 1; }",
-        "baggage table 1/0 5 a bag/0 6 b bag/1 0 c bag/2 0 d taint/1 1 e taint/0 7 f taint/",
-        "ok b.c.d:6.0.0:taint b.e:6.1:taint f:7:taint",
-    ),
-    (
-        "bag B { set<bytes> s = 0; map<uint64, set<sfixed64>> t = 258; counter u = 65535; }",
-        "baggage table 1/0 0 s set bytes/0 258 t map uint64 set sfixed64/0 65535 u counter/",
-        "ok s:0:set t:258:map u:65535:counter",
-    ),
-    (
-        "bag B { greatest<uint32> top = 0; }",
-        "baggage table 1/0 0 top greatest uint32/",
-        "ok top:0:greatest",
-    ),
-    (
-        "struct P { string a; int32 b; } bag B { map<string, greatest<P>> m = 2; greatest<P> p = 1; }",
-        "baggage table 1/0 1 p greatest (string,int32)/0 2 m map string greatest (string,int32)/",
-        "ok p:1:greatest m:2:map",
     ),
 ];
 
@@ -315,46 +200,75 @@ fn texts_are_tables_or_have_faults(rt: HostRuntime) -> Result<(), Fail> {
     ] {
         assert_eq!(rt; wrong_row(alloc, front, rows)?, None);
     }
-    for (text, wanted) in [
-        (b"baggage table 1\r\n0 0 a taint\n".as_slice(), "1 Head"),
-        (b"baggage table 1\n0 0 a taint\r\n".as_slice(), "2 Form"),
-        (b"baggage table 1\n0 0 \xff taint\n".as_slice(), "2 Form"),
-    ] {
-        assert_eq!(rt; answer_of(alloc, text)?.as_str(), wanted);
-    }
-    for (pieces, wanted) in &NESTED {
-        let text = joined(alloc, pieces)?;
-        assert_eq!(rt; answer_of(alloc, text.as_bytes())?.as_str(), *wanted);
+    Ok(())
+}
+
+// Bytes that no text of rows has, and the first fault.
+static BYTES: [(&[u8], &str); 3] = [
+    (b"baggage table 1\r\n0 0 a taint\n", "1 Head"),
+    (b"baggage table 1\n0 0 a taint\r\n", "2 Form"),
+    (b"baggage table 1\n0 0 \xff taint\n", "2 Form"),
+];
+
+#[test]
+fn bytes_have_faults(rt: HostRuntime) -> Result<(), Fail> {
+    let alloc = rt.alloc();
+    for (bytes, wanted) in &BYTES {
+        assert_eq!(rt; answer_of(alloc, bytes)?.as_str(), *wanted);
     }
     Ok(())
+}
+
+/// The text of so many bags inside one another.
+fn bags(alloc: Global, count: u32) -> Result<String, Memory> {
+    let mut text = String::from_str(alloc, "baggage table 1/")?;
+    for depth in 0..count {
+        text.push_str(format!(in alloc; "{depth} 7 a bag/")?.as_str())?;
+    }
+    Ok(text)
+}
+
+#[test]
+fn bags_stand_inside_one_another(rt: HostRuntime) -> Result<(), Fail> {
+    let alloc = rt.alloc();
+    for (count, behind, wanted) in &BAGS {
+        let mut text = bags(alloc, *count)?;
+        text.push_str(behind)?;
+        let bytes = fed(alloc, text.as_str())?;
+        assert_eq!(rt; answer_of(alloc, &bytes)?.as_str(), *wanted, "{text}");
+    }
+    Ok(())
+}
+
+#[test]
+fn maps_stand_inside_one_another(rt: HostRuntime) -> Result<(), Fail> {
+    let alloc = rt.alloc();
+    for (count, inner, wanted) in &MAPS {
+        let maps = "map bool ".repeat(alloc, *count)?;
+        let text = format!(in alloc; "baggage table 1/0 0 a {maps}{inner}/")?;
+        let bytes = fed(alloc, text.as_str())?;
+        assert_eq!(rt; answer_of(alloc, &bytes)?.as_str(), *wanted, "{text}");
+    }
+    Ok(())
+}
+
+/// The text of a table of so many taints.
+fn taints(alloc: Global, count: u32) -> Result<String, Memory> {
+    let mut text = String::from_str(alloc, "baggage table 1/")?;
+    for number in 0..count {
+        text.push_str(format!(in alloc; "0 {number} n{number} taint/")?.as_str())?;
+    }
+    Ok(text)
 }
 
 #[test]
 fn a_table_has_at_most_16384_fields(rt: HostRuntime) -> Result<(), Fail> {
     let alloc = rt.alloc();
-    let front = joined(
-        alloc,
-        &[("baggage table 1\n", 1), ("0 # n# taint\n", 16_384)],
-    )?;
-    for (pieces, wanted) in &BEHIND {
-        let behind = joined(alloc, pieces)?;
+    let front = taints(alloc, 16_384)?;
+    for (behind, wanted) in &BEHIND {
         let text = format!(in alloc; "{front}{behind}")?;
-        assert_eq!(rt; answer_of(alloc, text.as_bytes())?.as_str(), *wanted);
-    }
-    Ok(())
-}
-
-#[test]
-fn compiled_tables_are_printed_and_read(rt: HostRuntime) -> Result<(), Fail> {
-    let alloc = rt.alloc();
-    for (definition, text, slots) in &COMPILED {
-        let table = table_of(alloc, definition, "B")?;
-        let bytes = fed(alloc, text)?;
-        assert_eq!(rt; table.print(alloc)?.as_slice(), bytes.as_slice(), "{text}");
-        let Ok(read) = Table::read(alloc, &bytes) else {
-            return Err(Fail::from("a table's text"));
-        };
-        assert_eq!(rt; slots_of(alloc, &read)?.as_str(), *slots);
+        let bytes = fed(alloc, text.as_str())?;
+        assert_eq!(rt; answer_of(alloc, &bytes)?.as_str(), *wanted);
     }
     Ok(())
 }

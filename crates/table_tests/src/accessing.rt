@@ -1,9 +1,7 @@
-//! Accessors of definitions: their names, and what some of them read and write.
+//! Accessors of tables: their names, and what some of them read and write.
 
 ghost use Rattle.std.specs.Prelude.{◌<◌, ◌^◌};
 
-use crate::pieces::joined;
-use crate::tables::table_of;
 use accessor_gen::laws::values_fit_at_slots;
 use accessor_gen::{accessor, accessors};
 use bag_typed::check_typed;
@@ -13,16 +11,27 @@ use outside::Memory;
 use scalar_types::{Scalar, ScalarKind};
 use std::alloc::Global;
 use std::test::Fail;
+use table_text::TableText;
 use wire_bytes::{Form, read_context, write};
 
-const REQUEST: &str =
-    "bag Req { fixed32 id = 0; set<string> tags = 1; counter hops = 2; taint debug = 3;
-    map<string, uint32> load = 4; greatest<uint32> top = 5; }";
+const REQUEST: &str = "baggage table 1
+0 0 id scalar fixed32
+0 1 tags set string
+0 2 hops counter
+0 3 debug taint
+0 4 load map string scalar uint32
+0 5 top greatest uint32
+";
 
-const NESTED: &str = "bag Sub { fixed32 ok = 0; set<string> late = 9; }
-    bag Req { taint first = 0; Sub sub = 5; taint last = 300; }";
+const NESTED: &str = "baggage table 1
+0 0 first taint
+0 5 sub bag
+1 0 ok scalar fixed32
+1 9 late set string
+0 300 last taint
+";
 
-// Each definition with the names of its accessors, and with names that none has.
+// The text of each table with the names of its accessors, and with names that none has.
 static NAMES: [(&str, &str, &str); 2] = [
     (
         REQUEST,
@@ -87,6 +96,14 @@ static WRITES: [(&str, &str, u32, &[u8]); 2] = [
     ),
 ];
 
+/// The table that a text says.
+fn table_of(alloc: Global, text: &str) -> Result<Table, Fail> {
+    let Ok(table) = Table::read(alloc, text.as_bytes()) else {
+        return Err(Fail::from("a text of no table"));
+    };
+    Ok(table)
+}
+
 /// The names of the accessors of a table, with a blank between two, or nothing where one isn't found by its name with the number
 /// of its place.
 fn names_of(alloc: Global, table: &Table) -> Result<Option<String>, Fail> {
@@ -109,8 +126,8 @@ fn names_of(alloc: Global, table: &Table) -> Result<Option<String>, Fail> {
 #[test]
 fn each_slot_has_an_accessor(rt: HostRuntime) -> Result<(), Fail> {
     let alloc = rt.alloc();
-    for (definition, wanted, others) in &NAMES {
-        let table = table_of(alloc, definition, "Req")?;
+    for (text, wanted, others) in &NAMES {
+        let table = table_of(alloc, text)?;
         let names = names_of(alloc, &table)?.ok_or("each is found")?;
         assert_eq!(rt; names.as_str(), *wanted);
         for name in others.split(' ') {
@@ -149,7 +166,7 @@ fn reading_of(alloc: Global, table: &Table, bytes: &[u8], name: &str) -> Result<
 #[test]
 fn slots_are_read(rt: HostRuntime) -> Result<(), Fail> {
     let alloc = rt.alloc();
-    let table = table_of(alloc, REQUEST, "Req")?;
+    let table = table_of(alloc, REQUEST)?;
     for (bytes, name, wanted) in &READINGS {
         let reading = reading_of(alloc, &table, bytes, name)?;
         assert_eq!(rt; reading.as_str(), *wanted, "{name}");
@@ -180,10 +197,19 @@ fn written(alloc: Global, table: &Table, name: &str, number: u64) -> Result<Vec<
 #[test]
 fn slots_are_written(rt: HostRuntime) -> Result<(), Fail> {
     let alloc = rt.alloc();
-    for (definition, name, number, bytes) in &WRITES {
-        let table = table_of(alloc, definition, "Req")?;
+    for (text, name, number, bytes) in &WRITES {
+        let table = table_of(alloc, text)?;
         let context = written(alloc, &table, name, u64::from(*number))?;
         assert_eq!(rt; context.as_slice(), *bytes);
+    }
+    Ok(())
+}
+
+#[test]
+fn written_slots_are_read(rt: HostRuntime) -> Result<(), Fail> {
+    let alloc = rt.alloc();
+    for (text, name, number, bytes) in &WRITES {
+        let table = table_of(alloc, text)?;
         let wanted = format!(in alloc; "Exact {number}")?;
         let reading = reading_of(alloc, &table, bytes, name)?;
         assert_eq!(rt; reading.as_str(), wanted.as_str());
@@ -191,11 +217,19 @@ fn slots_are_written(rt: HostRuntime) -> Result<(), Fail> {
     Ok(())
 }
 
+/// The text of a table of so many numbers of 32 bits.
+fn numbers(alloc: Global, count: u32) -> Result<String, Memory> {
+    let mut text = String::from_str(alloc, "baggage table 1\n")?;
+    for number in 0..count {
+        text.push_str(format!(in alloc; "0 {number} f{number} scalar fixed32\n")?.as_str())?;
+    }
+    Ok(text)
+}
+
 #[test]
 fn the_last_of_300_slots(rt: HostRuntime) -> Result<(), Fail> {
     let alloc = rt.alloc();
-    let fields = [("bag Req {", 1), (" fixed32 f# = #;", 300), (" }", 1)];
-    let table = table_of(alloc, joined(alloc, &fields)?.as_str(), "Req")?;
+    let table = table_of(alloc, numbers(alloc, 300)?.as_str())?;
     let last = b"\x03\xf8\x81\x2b\x05\x00\x00\x00\x00\x07";
     let context = written(alloc, &table, "f299", 7)?;
     assert_eq!(rt; context.as_slice(), last.as_slice());

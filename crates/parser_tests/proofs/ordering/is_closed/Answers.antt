@@ -3,7 +3,7 @@ use Rattle.std.specs.List.{All}
 use Rattle.std.proofs.lemmas.List.{get_or-map, get_or_default}
 use Rattle.topological_order.specs.Graphs.{graph_of}
 use Rattle.topological_order.proofs.Edges.{graph_length}
-use Rattle.language_tests.proofs.ordering.is_closed.Goals as goal
+use Rattle.parser_tests.proofs.ordering.is_closed.Goals as goal
 
 pub loop-row-preserved : goal.loop-row-preserved
 loop-row-preserved c =

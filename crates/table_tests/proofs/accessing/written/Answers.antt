@@ -16,7 +16,7 @@ use Rattle.scalar_types.specs.declared.kinds.ScalarKind.{ScalarKind}
 use Rattle.accessor_gen.specs.Finding.{FindsAccessor}
 use Rattle.bag_walks.specs.SlotFits.{FitsAnywhere}
 use Rattle.bag_walks.proofs.SlotFits.{last_is}
-use Rattle.language_tests.proofs.accessing.written.Goals as goal
+use Rattle.table_tests.proofs.accessing.written.Goals as goal
 
 abbrev number_shape : Shape
 number_shape = Scalar Least (scalars.ScalarKind.One scalars.Word.Fixed32)
