@@ -1,6 +1,7 @@
 //! Contexts that are carried as lines of pieces, and such lines that are collected.
 
-use crate::calls::{FILES, Row, all_hold, holds, output_of};
+use crate::calls::{Row, all_hold, holds, output_of};
+use program_calls::FILES;
 use std::test::Fail;
 
 static CARRIED: [Row; 9] = [

@@ -1,7 +1,8 @@
 //! Graphs one of whose lines is refused.
 
-use crate::calls::{FILES, RUN, Row, all_hold, holds};
+use crate::calls::{Row, all_hold, holds};
 use crate::runs::graph;
+use program_calls::{FILES, RUN};
 use std::test::Fail;
 
 /// The lines before each refused one.

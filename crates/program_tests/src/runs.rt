@@ -1,7 +1,8 @@
 //! Graphs that are run, under definitions and under printed tables, and loads.
 
-use crate::calls::{FILES, RUN, holds, output_of};
+use crate::calls::{holds, output_of};
 use crate::reports::REPORTS;
+use program_calls::{FILES, RUN};
 use std::alloc::Global;
 use std::process::Abort;
 use std::test::Fail;

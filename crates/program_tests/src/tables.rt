@@ -1,7 +1,8 @@
 //! Tables that are printed, and files that are no printed tables.
 
-use crate::calls::{FILES, holds};
+use crate::calls::holds;
 use crate::runs::graph;
+use program_calls::FILES;
 use std::test::Fail;
 
 /// The text of the table of a request.

@@ -2,7 +2,7 @@
 
 ghost use Rattle.std.specs.Prelude.{◌<◌};
 
-use crate::calls::output_of;
+use program_calls::{FILES, Objects, answer_of};
 use std::alloc::Global;
 use std::process::Abort;
 use std::test::Fail;
@@ -396,25 +396,36 @@ fn slot_holds<R: Abort>(
     Ok(is_exact)
 }
 
-/// Runs a random graph, shows all its steps and compares each slot with what is true of it. Answers how many values were
-/// called exact.
+/// A random graph that shows all its steps.
+fn random_graph(alloc: Global, dice: &mut Dice, trims: bool) -> Result<Graph, Fail> {
+    let mut graph = Graph::new(alloc)?;
+    for _ in 0..12 {
+        add_step(&mut graph, alloc, dice, trims)?;
+    }
+    for step in 0..graph.steps.len() {
+        let line = format!(in alloc; "show {step}\n")?;
+        graph.text.push_str(line.as_str())?;
+    }
+    Ok(graph)
+}
+
+/// What the program reports of a graph.
+fn report_of<R: Abort + Threads + Sync>(rt: &R, alloc: Global, text: &str) -> Result<String, Fail> {
+    let mut objects = Objects::new(alloc, FILES, text.as_bytes())?;
+    let came = answer_of(rt, alloc, RUN, &mut objects)?;
+    assert_eq!(rt; came.status, 0);
+    Ok(String::from_utf8(came.out)?)
+}
+
+/// Runs a random graph and compares each slot with what is true of it. Answers how many values were called exact.
 fn graph_holds<R: Abort + Threads + Sync>(
     rt: &R,
     alloc: Global,
     dice: &mut Dice,
     trims: bool,
 ) -> Result<usize, Fail> {
-    let mut graph = Graph::new(alloc)?;
-    for _ in 0..12 {
-        add_step(&mut graph, alloc, dice, trims)?;
-    }
-    for step in 0..graph.steps.len() {
-        graph
-            .text
-            .push_str(format!(in alloc; "show {step}\n")?.as_str())?;
-    }
-    let output = output_of(rt, alloc, RUN, graph.text.as_str())?;
-    let report = str::from_utf8(output.as_slice())?;
+    let graph = random_graph(alloc, dice, trims)?;
+    let report = report_of(rt, alloc, graph.text.as_str())?;
     let mut exact = 0_usize;
     for (number, line) in report.lines().enumerate() {
         // A block has eight lines, the last six of which are those of the slots.
