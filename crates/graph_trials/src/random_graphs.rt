@@ -34,18 +34,18 @@ impl Dice {
 }
 
 /// What tags, writers and keys are called.
-const NAMES: [&str; 3] = ["a", "b", "c"];
+static NAMES: [&str; 3] = ["a", "b", "c"];
 
 /// The same as writers and as keys are printed.
-const WRITERS: [&str; 3] = ["0x61", "0x62", "0x63"];
+static WRITERS: [&str; 3] = ["0x61", "0x62", "0x63"];
 
-const QUOTED: [&str; 3] = ["\"a\"", "\"b\"", "\"c\""];
+static QUOTED: [&str; 3] = ["\"a\"", "\"b\"", "\"c\""];
 
 /// The words of a run under a definition that has all fields.
 const RUN: &str = "run wide.bdl Req";
 
 /// The services: the first word of its line, what each is called, and what its line says that it knows.
-const SERVICES: [(&str, &str, &str); 4] = [
+static SERVICES: [(&str, &str, &str); 4] = [
     ("service", "knows", "all"),
     ("service", "some", "only tags hops"),
     ("service", "proxy", "none"),
@@ -152,7 +152,7 @@ impl Graph {
     /// The lines of the services, and a first step at the one that knows all.
     fn new(alloc: Global) -> Result<Graph, Fail> {
         let mut text = String::new(alloc);
-        for (word, name, view) in SERVICES {
+        for (word, name, view) in &SERVICES {
             text.push_str(format!(in alloc; "{word} {name} {view}\n")?.as_str())?;
         }
         let mut graph = Graph {
