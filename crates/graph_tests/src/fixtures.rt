@@ -1,8 +1,5 @@
-//! What several tests need: tables, graphs and contexts, each from a text.
+//! What several tests need: tables and graphs, each from a text, and long texts.
 
-ghost use Rattle.trace_model.specs.Graphs.{IsOfTable};
-
-use atom_list::Context;
 use bdl_check::compile;
 use field_table::Table;
 use graph_text::{Graph, read_graph};
@@ -10,10 +7,8 @@ use outside::SureLibrary;
 use std::alloc::Global;
 use std::process::Abort;
 use std::test::Fail;
-use text_lines::{hex_bytes, push_hex};
-use wire_bytes::{Form, read_context_owned, write};
 
-/// A bag with a field of each type, a small one with a bag inside, and one without fields.
+/// A bag with a field of each type, and a small one with a bag inside.
 const DEFINITIONS: &str = "
 bag Request {
   fixed32 id = 0;
@@ -24,7 +19,6 @@ bag Request {
 }
 bag Inner { bool ok = 2; counter n = 5; }
 bag Small { uint32 id = 0; Inner sub = 1; taint seen = 3; }
-bag Nothing { }
 ";
 
 /// The table of a bag.
@@ -38,27 +32,11 @@ pub fn table_of(rt: &impl Abort, alloc: Global, bag: &str) -> Result<Table, Fail
 }
 
 /// The graph of a text that says one.
-pub fn graph_of(rt: &impl Abort, alloc: Global, table: &Table, text: &str) -> Graph
-    ensures { IsOfTable table.now result }
-{
+pub fn graph_of(rt: &impl Abort, alloc: Global, table: &Table, text: &str) -> Graph {
     match read_graph(alloc, table, text.as_bytes()) {
         Ok(graph) => graph,
         Err(fault) => panic!(rt; "{fault:?}"),
     }
-}
-
-/// The context whose bytes have these digits.
-pub fn context_of(alloc: Global, digits: &str) -> Result<Context, Fail> {
-    let bytes = hex_bytes(alloc, digits.as_bytes())?;
-    Ok(read_context_owned(alloc, bytes)?)
-}
-
-/// The digits of a context's bytes in form one.
-pub fn digits_of(alloc: Global, context: &Context) -> Result<Vec<u8>, Fail> {
-    let bytes = write(alloc, Form::One, context.list())?;
-    let mut digits = Vec::new(alloc);
-    push_hex(&mut digits, bytes.as_slice())?;
-    Ok(digits)
 }
 
 /// A text with a word so many times at the end.

@@ -78,26 +78,42 @@ fn step(
     Ok(Step { service, act })
 }
 
-/// A graph of two services, which write in different forms, with the steps of the rows, two of which are shown.
+/// Adds two services, which write in different forms.
+fn add_services(alloc: Global, graph: &mut Graph) -> Result<(), Memory> {
+    let name = Text::of(alloc, "c")?;
+    let (form, view) = (Form::One, View::All);
+    graph.add_service(Service { name, form, view })?;
+    let name = Text::of(alloc, "d")?;
+    let (form, view) = (Form::Two, View::Nothing);
+    graph.add_service(Service { name, form, view })
+}
+
+/// Adds a step that may follow.
+fn add(rt: &impl Abort, graph: &mut Graph, step: Step) -> Result<(), Memory> {
+    assert!(rt; graph.steps() < STEPS_MAX && graph.may_follow(&step));
+    graph.add_step(step)
+}
+
+/// A graph of two services with the steps of the rows, two of which are shown.
 fn seven_steps(rt: &impl Abort, alloc: Global) -> Result<Graph, Memory> {
     let mut graph = Graph::new(alloc);
-    for (name, form, view) in [("c", Form::One, View::All), ("d", Form::Two, View::Nothing)] {
-        let name = Text::of(alloc, name)?;
-        graph.add_service(Service { name, form, view })?;
-    }
+    add_services(alloc, &mut graph)?;
     for &(service, word, parents, budget) in &STEPS {
-        let step = step(alloc, service, word, parents, budget)?;
-        assert!(rt;
-            graph.steps() < STEPS_MAX && graph.may_follow(&step),
-            "{word}"
-        );
-        graph.add_step(step)?;
+        add(rt, &mut graph, step(alloc, service, word, parents, budget)?)?;
     }
     for number in [6, 2] {
         assert!(rt; number < graph.steps());
         graph.add_show(number)?;
     }
     Ok(graph)
+}
+
+/// Compares a step with its row.
+fn stands(rt: &impl Abort, graph: &Graph, number: usize, service: usize, parents: &[usize]) {
+    assert!(rt; number < graph.steps());
+    let step = graph.step(number);
+    assert_eq!(rt; step.service, service, "{number}");
+    assert_eq!(rt; step.act.parents(), parents, "{number}");
 }
 
 #[test]
@@ -108,10 +124,8 @@ fn graphs_grow_at_their_ends(rt: HostRuntime) -> Result<(), Fail> {
     assert_eq!(rt; graph.service(1).form, Form::Two);
     assert!(rt; matches!(graph.service(0).view, View::All));
     assert_eq!(rt; graph.steps(), 7);
-    for (number, &(service, word, parents, _budget)) in STEPS.iter().enumerate() {
-        assert!(rt; number < graph.steps());
-        assert_eq!(rt; graph.step(number).service, service, "{word}");
-        assert_eq!(rt; graph.step(number).act.parents(), parents, "{word}");
+    for (number, &(service, _, parents, _)) in STEPS.iter().enumerate() {
+        stands(&rt, &graph, number, service, parents);
     }
     assert_eq!(rt; graph.shows(), [6, 2].as_slice());
     graph.known();

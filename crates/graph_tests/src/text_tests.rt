@@ -3,7 +3,7 @@
 use crate::fixtures::{graph_of, star_text, table_of, with_words};
 use field_table::Table;
 use graph_text::laws::{lines_are_definite, texts_have_one_graph};
-use graph_text::{Act, BUDGET_MAX, PARENTS_MAX, read_graph};
+use graph_text::{Act, BUDGET_MAX, Graph, PARENTS_MAX, read_graph};
 use recorded_graph::STEPS_MAX;
 use std::alloc::Global;
 use std::process::Abort;
@@ -53,32 +53,57 @@ static STEPS: [(usize, &[usize]); 10] = [
     (3, &[]),
 ];
 
+/// Compares a service with its row.
+fn knows(rt: &impl Abort, graph: &Graph, number: usize, name: &str, known: &[bool]) {
+    assert!(rt; number < graph.services());
+    let service = graph.service(number);
+    assert_eq!(rt; service.name.as_str(), name);
+    for (slot, knows) in known.iter().enumerate() {
+        assert_eq!(rt; service.view.knows(slot), *knows, "{number} {slot}");
+    }
+}
+
 #[test]
-fn services_and_steps_of_each_form(rt: HostRuntime) -> Result<(), Fail> {
+fn services_of_each_form(rt: HostRuntime) -> Result<(), Fail> {
     let table = table_of(&rt, rt.alloc(), "Small")?;
     let graph = graph_of(&rt, rt.alloc(), &table, EACH_FORM);
     assert_eq!(rt; graph.services(), SERVICES.len());
+    for (number, (name, known)) in SERVICES.iter().enumerate() {
+        knows(&rt, &graph, number, name, known.as_slice());
+    }
+    Ok(())
+}
+
+/// Compares a step with its row.
+fn stands(rt: &impl Abort, graph: &Graph, number: usize, service: usize, parents: &[usize]) {
+    assert!(rt; number < graph.steps());
+    let step = graph.step(number);
+    assert_eq!(rt; step.service, service, "{number}");
+    assert_eq!(rt; step.act.parents(), parents, "{number}");
+}
+
+#[test]
+fn steps_of_each_form(rt: HostRuntime) -> Result<(), Fail> {
+    let table = table_of(&rt, rt.alloc(), "Small")?;
+    let graph = graph_of(&rt, rt.alloc(), &table, EACH_FORM);
     assert_eq!(rt; graph.steps(), STEPS.len());
     assert_eq!(rt; graph.shows(), [8, 0, 8].as_slice());
-    for (number, &(name, known)) in SERVICES.iter().enumerate() {
-        assert!(rt; number < graph.services());
-        assert_eq!(rt; graph.service(number).name.as_str(), name);
-        for (slot, knows) in known.into_iter().enumerate() {
-            assert_eq!(rt;
-                graph.service(number).view.knows(slot),
-                knows,
-                "{number} {slot}"
-            );
-        }
-    }
     for (number, &(service, parents)) in STEPS.iter().enumerate() {
-        assert!(rt; number < graph.steps());
-        assert_eq!(rt; graph.step(number).service, service, "{number}");
-        assert_eq!(rt; graph.step(number).act.parents(), parents, "{number}");
+        stands(&rt, &graph, number, service, parents);
     }
     lines_are_definite();
     texts_have_one_graph();
     Ok(())
+}
+
+/// Whether the step of this number writes, cuts or receives what its line says.
+fn does_as_told(number: usize, act: &Act) -> bool {
+    match act {
+        Act::Set { slot, .. } => (number, *slot) == (1, 0) || (number, *slot) == (2, 2),
+        Act::Trim { budget, .. } => number == 5 && *budget == BUDGET_MAX,
+        Act::Recv(context) => context.list().len() == if number == 6 { 3 } else { 0 },
+        _ => true,
+    }
 }
 
 #[test]
@@ -86,12 +111,7 @@ fn what_steps_do(rt: HostRuntime) -> Result<(), Fail> {
     let table = table_of(&rt, rt.alloc(), "Small")?;
     let graph = graph_of(&rt, rt.alloc(), &table, EACH_FORM);
     for number in 0..graph.steps() {
-        let is_right = match &graph.step(number).act {
-            Act::Set { slot, .. } => (number, *slot) == (1, 0) || (number, *slot) == (2, 2),
-            Act::Trim { budget, .. } => number == 5 && *budget == BUDGET_MAX,
-            Act::Recv(context) => context.list().len() == if number == 6 { 3 } else { 0 },
-            _ => true,
-        };
+        let is_right = does_as_told(number, &graph.step(number).act);
         assert!(rt; is_right, "{number}");
     }
     Ok(())
@@ -196,9 +216,20 @@ fn fault_of(alloc: Global, table: &Table, text: &str) -> Result<Option<String>, 
     }
 }
 
-/// The fault of a line by a rule, as it is printed.
-fn printed(alloc: Global, line: usize, code: &str) -> Result<String, Fail> {
-    Ok(format!(in alloc; "At {{ line: {line}, code: {code} }}")?)
+/// The first fault of the text of a row is that of this line, by the rule of this code.
+fn has_fault(
+    rt: &impl Abort,
+    alloc: Global,
+    table: &Table,
+    text: &str,
+    line: usize,
+    code: &str,
+    row: &str,
+) -> Result<(), Fail> {
+    let wanted = format!(in alloc; "At {{ line: {line}, code: {code} }}")?;
+    let fault = fault_of(alloc, table, text)?;
+    assert_eq!(rt; fault.as_deref(), Some(wanted.as_str()), "{row}");
+    Ok(())
 }
 
 #[test]
@@ -208,8 +239,7 @@ fn lines_that_are_refused(rt: HostRuntime) -> Result<(), Fail> {
     for row in REFUSED.split('\n') {
         let (code, line) = row.split_once(' ').ok_or("a row without a code")?;
         let text = format!(in alloc; "{FRONT}{line}\nhop\n")?;
-        let fault = fault_of(alloc, &table, text.as_str())?;
-        assert_eq!(rt; fault, Some(printed(alloc, 5, code)?), "{row}");
+        has_fault(&rt, alloc, &table, text.as_str(), 5, code, row)?;
     }
     Ok(())
 }
@@ -224,41 +254,49 @@ fn are_refused(
 ) -> Result<(), Fail> {
     let table = table_of(rt, alloc, "Small")?;
     for &(code, line, word, times) in rows {
-        let text = with_words(
-            alloc,
-            format!(in alloc; "{front}{line}")?.as_str(),
-            word,
-            times,
-        )?;
-        let fault = fault_of(alloc, &table, text.as_str())?;
-        assert_eq!(rt; fault, Some(printed(alloc, number, code)?), "{line}");
+        let start = format!(in alloc; "{front}{line}")?;
+        let text = with_words(alloc, start.as_str(), word, times)?;
+        has_fault(rt, alloc, &table, text.as_str(), number, code, line)?;
     }
     Ok(())
 }
 
 #[test]
 fn long_lines_that_are_refused(rt: HostRuntime) -> Result<(), Fail> {
-    let alloc = rt.alloc();
-    are_refused(&rt, alloc, FRONT, 5, &LONG)?;
-    let table = table_of(&rt, alloc, "Small")?;
-    let front = format!(in alloc; "{FRONT}join 2")?;
-    let most = with_words(alloc, front.as_str(), " 0", PARENTS_MAX)?;
-    assert!(rt; fault_of(alloc, &table, most.as_str())?.is_none());
-    Ok(())
+    are_refused(&rt, rt.alloc(), FRONT, 5, &LONG)
 }
 
 #[test]
 fn lines_of_services_that_write_in_form_two(rt: HostRuntime) -> Result<(), Fail> {
-    let alloc = rt.alloc();
-    are_refused(&rt, alloc, WIDE_FRONT, 3, &WIDE)?;
-    let table = table_of(&rt, alloc, "Small")?;
-    let text = format!(in alloc; "{WIDE_FRONT}trim 1 0 13\nset 2 1 id 7\nshow 2\n")?;
-    assert!(rt; fault_of(alloc, &table, text.as_str())?.is_none());
+    are_refused(&rt, rt.alloc(), WIDE_FRONT, 3, &WIDE)
+}
+
+/// A text at the edge has no fault.
+fn is_read(rt: &impl Abort, alloc: Global, text: &str) -> Result<(), Fail> {
+    let table = table_of(rt, alloc, "Small")?;
+    assert!(rt; fault_of(alloc, &table, text)?.is_none());
     Ok(())
 }
 
-/// Contexts that are received: the bag, the line of the service, the digits, and the fault, if any.
-static RECEIVED: [(&str, &str, &str, Option<&str>); 11] = [
+#[test]
+fn lines_at_the_edge(rt: HostRuntime) -> Result<(), Fail> {
+    let alloc = rt.alloc();
+    let front = format!(in alloc; "{FRONT}join 2")?;
+    let most = with_words(alloc, front.as_str(), " 0", PARENTS_MAX)?;
+    is_read(&rt, alloc, most.as_str())?;
+    let least = format!(in alloc; "{WIDE_FRONT}trim 1 0 13\nset 2 1 id 7\nshow 2\n")?;
+    is_read(&rt, alloc, least.as_str())
+}
+
+/// A context that is received: the bag, the line of the service, the digits, and the fault, if any.
+type Received = (
+    &'static str,
+    &'static str,
+    &'static str,
+    Option<&'static str>,
+);
+
+static RECEIVED: [Received; 11] = [
     ("Small", "service a all", "02f800020007", None),
     (
         "Small",
@@ -322,15 +360,21 @@ static RECEIVED: [(&str, &str, &str, Option<&str>); 11] = [
     ),
 ];
 
+/// Compares the fault of the text of a row.
+fn receives(rt: &impl Abort, alloc: Global, row: &Received) -> Result<(), Fail> {
+    let &(bag, service, digits, wanted) = row;
+    let table = table_of(rt, alloc, bag)?;
+    let name = service.split(' ').nth(1).unwrap_or("");
+    let text = format!(in alloc; "{service}\nrecv 0 {name} {digits}\n")?;
+    let fault = fault_of(alloc, &table, text.as_str())?;
+    assert_eq!(rt; fault.as_deref(), wanted, "{service} {digits}");
+    Ok(())
+}
+
 #[test]
 fn contexts_that_are_refused(rt: HostRuntime) -> Result<(), Fail> {
-    let alloc = rt.alloc();
-    for &(bag, service, digits, wanted) in &RECEIVED {
-        let table = table_of(&rt, alloc, bag)?;
-        let name = service.split(' ').nth(1).unwrap_or("");
-        let text = format!(in alloc; "{service}\nrecv 0 {name} {digits}\n")?;
-        let fault = fault_of(alloc, &table, text.as_str())?;
-        assert_eq!(rt; fault.as_deref(), wanted, "{service} {digits}");
+    for row in &RECEIVED {
+        receives(&rt, rt.alloc(), row)?;
     }
     Ok(())
 }

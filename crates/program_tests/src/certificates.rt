@@ -1,7 +1,7 @@
 //! Certificates, written and verified.
 
-use crate::calls::{FILES, Objects, Row, all_hold, asked, call};
-use outside::Open;
+use crate::calls::{Row, all_hold, is_told};
+use program_calls::{FILES, Objects, answer_of, asked};
 use std::alloc::Global;
 use std::process::Abort;
 use std::test::Fail;
@@ -196,18 +196,10 @@ fn objects_with(alloc: Global, certificate: &str, input: &str) -> Result<Objects
 fn fetches<R: Abort + Threads + Sync>(rt: &R, alloc: Global, row: &Fetching) -> Result<(), Fail> {
     let (line, input, status, text, names) = row;
     let mut objects = objects_with(alloc, CERTIFICATE, input)?;
-    let came = call(rt, alloc, &Open, line, &mut objects)?;
-    let (out, errs) = if *status == 0 {
-        (*text, "")
-    } else {
-        ("", *text)
-    };
-    assert_eq!(rt; came, *status, "{line}");
-    assert_eq!(rt; objects.out.taken(), out.as_bytes(), "{line}");
-    assert_eq!(rt; objects.errs.taken(), errs.as_bytes(), "{line}");
-    assert_eq!(rt; asked(alloc, &objects.library)?.as_str(), *names, "{line}");
+    let came = answer_of(rt, alloc, line, &mut objects)?;
     let left = if *status == 1 { *input } else { "" };
-    assert_eq!(rt; objects.left(alloc).as_slice(), left.as_bytes(), "{line}");
+    is_told(rt, &came, line, *status, text, left.as_bytes());
+    assert_eq!(rt; asked(alloc, &objects.library)?.as_str(), *names, "{line}");
     Ok(())
 }
 
@@ -217,18 +209,31 @@ fn certificates_are_written(rt: HostRuntime) -> Result<(), Fail> {
     all_hold(&rt, alloc, &WRITTEN)
 }
 
+/// Verifies a certificate for the meeting, and compares the verdict.
+fn has_verdict<R: Abort + Threads + Sync>(
+    rt: &R,
+    alloc: Global,
+    certificate: &str,
+    verdict: &str,
+) -> Result<(), Fail> {
+    let mut objects = objects_with(alloc, certificate, MEETING)?;
+    let came = answer_of(rt, alloc, "verify q.bdl Req c", &mut objects)?;
+    is_told(rt, &came, certificate, 0, verdict, b"");
+    Ok(())
+}
+
 #[test]
 fn certificates_are_verified(rt: HostRuntime) -> Result<(), Fail> {
-    let alloc = rt.alloc();
     for (certificate, verdict) in &VERDICTS {
-        let mut objects = objects_with(alloc, certificate, MEETING)?;
-        let came = call(&rt, alloc, &Open, "verify q.bdl Req c", &mut objects)?;
-        assert_eq!(rt; came, 0, "{certificate}");
-        assert_eq!(rt; objects.out.taken(), verdict.as_bytes(), "{certificate}");
-        assert!(rt; objects.errs.taken().is_empty(), "{certificate}");
+        has_verdict(&rt, rt.alloc(), certificate, verdict)?;
     }
+    Ok(())
+}
+
+#[test]
+fn files_of_certificates_are_fetched(rt: HostRuntime) -> Result<(), Fail> {
     for row in &FETCHES {
-        fetches(&rt, alloc, row)?;
+        fetches(&rt, rt.alloc(), row)?;
     }
     Ok(())
 }

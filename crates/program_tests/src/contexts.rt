@@ -1,6 +1,7 @@
 //! Lines of contexts: what is trimmed and merged, and what is refused.
 
-use crate::calls::{FILES, Row, all_hold, holds};
+use crate::calls::{Row, all_hold, holds};
+use program_calls::FILES;
 use std::test::Fail;
 
 /// Two values of one field.
@@ -315,16 +316,17 @@ static WITH_HEADS: [Row; 21] = [
 #[test]
 fn lines_of_contexts(rt: HostRuntime) -> Result<(), Fail> {
     let alloc = rt.alloc();
-    for rows in [
-        TRIMS.as_slice(),
-        LINES.as_slice(),
-        MERGES.as_slice(),
-        NO_CONTEXTS.as_slice(),
-        WITH_HEADS.as_slice(),
-    ] {
-        all_hold(&rt, alloc, rows)?;
-    }
-    // A comment isn't UTF-8, and a line isn't.
+    all_hold(&rt, alloc, &TRIMS)?;
+    all_hold(&rt, alloc, &LINES)?;
+    all_hold(&rt, alloc, &MERGES)?;
+    all_hold(&rt, alloc, &NO_CONTEXTS)?;
+    all_hold(&rt, alloc, &WITH_HEADS)
+}
+
+/// A comment isn't UTF-8, and a line isn't.
+#[test]
+fn lines_of_bytes(rt: HostRuntime) -> Result<(), Fail> {
+    let alloc = rt.alloc();
     let skipped = b"# a line\r\n#\n0101\n#\xff\r";
     holds(&rt, alloc, FILES, "trim 9", skipped, 0, "0101\n")?;
     let bad = "input line 2 BadHex\n";

@@ -1,7 +1,7 @@
 //! A definition in place of an older one.
 
-use crate::calls::{Objects, asked, call};
-use outside::Open;
+use crate::calls::is_told;
+use program_calls::{Objects, answer_of, asked};
 use std::alloc::Global;
 use std::process::Abort;
 use std::test::Fail;
@@ -142,17 +142,9 @@ static ROWS: [Row; 28] = [
 fn evolves<R: Abort + Threads + Sync>(rt: &R, alloc: Global, row: &Row) -> Result<(), Fail> {
     let (line, status, text, names) = row;
     let mut objects = Objects::new(alloc, FILES, b"-\n")?;
-    let came = call(rt, alloc, &Open, line, &mut objects)?;
-    let (out, errs) = if *status == 0 {
-        (*text, "")
-    } else {
-        ("", *text)
-    };
-    assert_eq!(rt; came, *status, "{line}");
-    assert_eq!(rt; objects.out.taken(), out.as_bytes(), "{line}");
-    assert_eq!(rt; objects.errs.taken(), errs.as_bytes(), "{line}");
+    let came = answer_of(rt, alloc, line, &mut objects)?;
+    is_told(rt, &came, line, *status, text, b"-\n");
     assert_eq!(rt; asked(alloc, &objects.library)?.as_str(), *names, "{line}");
-    assert_eq!(rt; objects.left(alloc).as_slice(), b"-\n".as_slice(), "{line}");
     Ok(())
 }
 

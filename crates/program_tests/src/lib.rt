@@ -14,15 +14,7 @@ mod definitions;
 #[cfg(test)]
 mod evolutions;
 #[cfg(test)]
-mod failures;
-#[cfg(test)]
-mod gates;
-#[cfg(test)]
-mod limits;
-#[cfg(test)]
 mod pieces;
-#[cfg(test)]
-mod random_graphs;
 #[cfg(test)]
 mod refused_graphs;
 #[cfg(test)]

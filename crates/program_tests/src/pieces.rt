@@ -1,6 +1,7 @@
 //! Contexts that are carried as lines of pieces, and such lines that are collected.
 
-use crate::calls::{FILES, Row, all_hold, holds, output_of};
+use crate::calls::{Row, all_hold, holds, output_of};
+use program_calls::FILES;
 use std::test::Fail;
 
 static CARRIED: [Row; 9] = [
@@ -69,15 +70,22 @@ static COLLECTED: [Row; 13] = [
 
 #[test]
 fn pieces_of_contexts(rt: HostRuntime) -> Result<(), Fail> {
-    let alloc = rt.alloc();
-    all_hold(&rt, alloc, &CARRIED)?;
-    all_hold(&rt, alloc, &COLLECTED)?;
-    // What is carried is collected.
-    let line =
-        "02f80005000000000702f80102006102006202f80202f17702000302f803010002f80402f178020005\n";
-    for width in ["carry 4", "carry 5", "carry 40", "carry 41", "carry 300"] {
-        let pieces = output_of(&rt, alloc, width, line)?;
-        holds(&rt, alloc, FILES, "collect", pieces.as_slice(), 0, line)?;
+    all_hold(&rt, rt.alloc(), &CARRIED)?;
+    all_hold(&rt, rt.alloc(), &COLLECTED)
+}
+
+/// A context, and the words that carry it in pieces of several widths.
+const LINE: &str =
+    "02f80005000000000702f80102006102006202f80202f17702000302f803010002f80402f178020005\n";
+
+static WIDTHS: [&str; 5] = ["carry 4", "carry 5", "carry 40", "carry 41", "carry 300"];
+
+#[test]
+fn what_is_carried_is_collected(rt: HostRuntime) -> Result<(), Fail> {
+    for width in &WIDTHS {
+        let pieces = output_of(&rt, rt.alloc(), width, LINE)?;
+        let pieces = pieces.as_slice();
+        holds(&rt, rt.alloc(), FILES, "collect", pieces, 0, LINE)?;
     }
     Ok(())
 }

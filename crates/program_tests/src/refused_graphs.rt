@@ -1,8 +1,12 @@
 //! Graphs one of whose lines is refused.
 
-use crate::calls::{FILES, RUN, Row, all_hold, holds};
+use crate::calls::{Row, all_hold, holds};
 use crate::runs::graph;
+use program_calls::{FILES, RUN};
+use std::alloc::Global;
+use std::process::Abort;
 use std::test::Fail;
+use std::thread::Threads;
 
 /// The lines before each refused one.
 const BEFORE: &str = "service a all / service b only tags / start 0 a / start 1 b";
@@ -195,27 +199,33 @@ static GRAPHS: [Row; 14] = [
     ),
 ];
 
+/// Runs a graph whose fifth line is refused.
+fn fifth_is_refused<R: Abort + Threads + Sync>(
+    rt: &R,
+    alloc: Global,
+    row: &str,
+) -> Result<(), Fail> {
+    let (line, refusal) = row.split_once(" => ").ok_or("a refusal")?;
+    let status = if refusal.starts_with("input") { 2 } else { 3 };
+    let before = graph(alloc, BEFORE)?;
+    let input = format!(in alloc; "{before}{line}")?;
+    let text = format!(in alloc; "{refusal}\n")?;
+    let (input, text) = (input.as_bytes(), text.as_str());
+    holds(rt, alloc, FILES, RUN, input, status, text)
+}
+
 #[test]
 fn refused_lines(rt: HostRuntime) -> Result<(), Fail> {
-    let alloc = rt.alloc();
-    let before = graph(alloc, BEFORE)?;
     for row in FIFTH_LINES.lines() {
-        let (line, refusal) = row.split_once(" => ").ok_or("a refusal")?;
-        let status = if refusal.starts_with("input") { 2 } else { 3 };
-        let input = format!(in alloc; "{before}{line}")?;
-        let text = format!(in alloc; "{refusal}\n")?;
-        holds(
-            &rt,
-            alloc,
-            FILES,
-            RUN,
-            input.as_bytes(),
-            status,
-            text.as_str(),
-        )?;
+        fifth_is_refused(&rt, rt.alloc(), row)?;
     }
-    all_hold(&rt, alloc, &GRAPHS)?;
+    Ok(())
+}
+
+#[test]
+fn refused_graphs(rt: HostRuntime) -> Result<(), Fail> {
+    all_hold(&rt, rt.alloc(), &GRAPHS)?;
     // A line that isn't UTF-8, behind good ones.
     let input = b"service a all\nstart 0 a\nset 1 0 tags \"\xff\"\nshow 1\n";
-    holds(&rt, alloc, FILES, RUN, input, 2, "input line 3 Form\n")
+    holds(&rt, rt.alloc(), FILES, RUN, input, 2, "input line 3 Form\n")
 }

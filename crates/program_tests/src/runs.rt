@@ -1,7 +1,8 @@
 //! Graphs that are run, under definitions and under printed tables, and loads.
 
-use crate::calls::{FILES, RUN, holds, output_of};
+use crate::calls::{holds, output_of};
 use crate::reports::REPORTS;
+use program_calls::{FILES, RUN};
 use std::alloc::Global;
 use std::process::Abort;
 use std::test::Fail;
@@ -17,37 +18,42 @@ pub fn graph(alloc: Global, joined: &str) -> Result<String, Fail> {
     Ok(text)
 }
 
-/// Runs one graph with its report, under the definition and under its printed table.
-fn report_holds<R: Abort + Threads + Sync>(rt: &R, alloc: Global, case: &str) -> Result<(), Fail> {
+/// The words of a table, the lines of a graph, and its report, of a text that holds them.
+fn parts(case: &str) -> Result<(&str, &str, &str), Fail> {
     let (first, report) = case.split_once('\n').unwrap_or((case, ""));
     let (words, joined) = first.split_once(" | ").ok_or("a graph")?;
+    Ok((words, joined, report))
+}
+
+/// Runs a graph under a definition.
+fn runs<R: Abort + Threads + Sync>(
+    rt: &R,
+    alloc: Global,
+    words: &str,
+    input: &str,
+    text: &str,
+) -> Result<(), Fail> {
+    let run = format!(in alloc; "run {words}")?;
+    holds(rt, alloc, FILES, run.as_str(), input.as_bytes(), 0, text)
+}
+
+/// A file `t` with the printed table of a definition.
+fn printed(rt: &(impl Abort + Threads + Sync), alloc: Global, words: &str) -> Result<String, Fail> {
+    let print = format!(in alloc; "table {words}")?;
+    let table = output_of(rt, alloc, print.as_str(), "")?;
+    Ok(format!(in alloc; "t|{}", str::from_utf8(table.as_slice())?)?)
+}
+
+/// Runs one graph with its report, under the definition and under its printed table.
+fn report_holds<R: Abort + Threads + Sync>(rt: &R, alloc: Global, case: &str) -> Result<(), Fail> {
+    let (words, joined, report) = parts(case)?;
     let end = if report.is_empty() { "" } else { "\n" };
     let text = format!(in alloc; "{report}{end}")?;
     let input = graph(alloc, joined)?;
-    let run = format!(in alloc; "run {words}")?;
-    holds(
-        rt,
-        alloc,
-        FILES,
-        run.as_str(),
-        input.as_bytes(),
-        0,
-        text.as_str(),
-    )?;
-
-    let print = format!(in alloc; "table {words}")?;
-    let printed = output_of(rt, alloc, print.as_str(), "")?;
-    let table = str::from_utf8(printed.as_slice())?;
-    let files = format!(in alloc; "t|{table}")?;
-    holds(
-        rt,
-        alloc,
-        files.as_str(),
-        "runtable t",
-        input.as_bytes(),
-        0,
-        text.as_str(),
-    )
+    runs(rt, alloc, words, input.as_str(), text.as_str())?;
+    let files = printed(rt, alloc, words)?;
+    let (files, input, text) = (files.as_str(), input.as_bytes(), text.as_str());
+    holds(rt, alloc, files, "runtable t", input, 0, text)
 }
 
 #[test]
@@ -90,22 +96,19 @@ static JSON: &str =
     r#"service a all / start 0 a / set 1 0 id 7 / show 1 => [{"bytes":"02f800050000000007","fields":[{"path":"id","state":"exact","text":"7"},{"path":"tags","state":"exact","text":"{}"},{"path":"hops","state":"exact","text":"0{}"},{"path":"debug","state":"exact","text":"off"},{"path":"load","state":"exact","text":"{}"}],"step":1}]
 service a all / start 0 a => []"#;
 
+/// Runs one graph with its report as JSON.
+fn json_holds<R: Abort + Threads + Sync>(rt: &R, alloc: Global, row: &str) -> Result<(), Fail> {
+    let (joined, report) = row.split_once(" => ").ok_or("a report")?;
+    let input = graph(alloc, joined)?;
+    let text = format!(in alloc; "{report}\n")?;
+    let (input, text) = (input.as_bytes(), text.as_str());
+    holds(rt, alloc, FILES, "runjson q.bdl Req", input, 0, text)
+}
+
 #[test]
 fn reports_as_json(rt: HostRuntime) -> Result<(), Fail> {
-    let alloc = rt.alloc();
     for row in JSON.lines() {
-        let (joined, report) = row.split_once(" => ").ok_or("a report")?;
-        let input = graph(alloc, joined)?;
-        let text = format!(in alloc; "{report}\n")?;
-        holds(
-            &rt,
-            alloc,
-            FILES,
-            "runjson q.bdl Req",
-            input.as_bytes(),
-            0,
-            text.as_str(),
-        )?;
+        json_holds(&rt, rt.alloc(), row)?;
     }
     Ok(())
 }
@@ -117,34 +120,71 @@ const ONE_ROUND: &str = "load 1\nsteps 43\nstep 42\n\
     hits exact 8{0x7730:1,0x7731:1,0x7732:1,0x7733:1,0x7734:1,0x7735:1,0x7736:1,0x7737:1}\n\
     seen exact {0,1,2,3,4,5,6,7}\n";
 
-/// Loads: the rounds, the steps, the step that is shown, the least value, the sum of the counts, and how many numbers are seen.
-static LOADS: [(u32, u32, u32, u32, u32, u32); 3] = [
-    (1, 43, 42, 999_993, 8, 8),
-    (10, 421, 420, 999_921, 80, 80),
-    (1000, 42_001, 42_000, 992_001, 8000, 256),
+/// Rounds, the head of their load's report, its line of the least value, the sum of the counts, and how many numbers are seen.
+type Load = (u32, &'static str, &'static str, u32, u32);
+
+static LOADS: [Load; 3] = [
+    (
+        1,
+        "load 1\nsteps 43\nstep 42\nbytes 02f80005",
+        "least exact 999993",
+        8,
+        8,
+    ),
+    (
+        10,
+        "load 10\nsteps 421\nstep 420\nbytes 02f80005",
+        "least exact 999921",
+        80,
+        80,
+    ),
+    (
+        1000,
+        "load 1000\nsteps 42001\nstep 42000\nbytes 02f80005",
+        "least exact 992001",
+        8000,
+        256,
+    ),
 ];
+
+/// What eight writers have counted, each as often as there are rounds.
+fn counts(alloc: Global, rounds: u32) -> Result<String, Fail> {
+    let mut text = format!(in alloc; "0x7730:{rounds}")?;
+    for writer in 1..8 {
+        text.push_str(format!(in alloc; ",0x773{writer}:{rounds}")?.as_str())?;
+    }
+    Ok(text)
+}
+
+/// The numbers below this one.
+fn numbers(alloc: Global, bound: u32) -> Result<String, Fail> {
+    let mut text = String::from_str(alloc, "0")?;
+    for number in 1..bound {
+        text.push_str(format!(in alloc; ",{number}")?.as_str())?;
+    }
+    Ok(text)
+}
+
+/// Makes and runs a load.
+fn load_holds<R: Abort + Threads + Sync>(rt: &R, alloc: Global, row: &Load) -> Result<(), Fail> {
+    let (rounds, head, least, hits, seen) = row;
+    let load = format!(in alloc; "load {rounds}")?;
+    let output = output_of(rt, alloc, load.as_str(), "")?;
+    assert!(rt; output.starts_with(head.as_bytes()), "{rounds}");
+    let counts = counts(alloc, *rounds)?;
+    let numbers = numbers(alloc, *seen)?;
+    let tail = format!(in alloc;
+        "\n{least}\nhits exact {hits}{{{counts}}}\nseen exact {{{numbers}}}\n"
+    )?;
+    assert!(rt; output.ends_with(tail.as_bytes()), "{rounds}");
+    Ok(())
+}
 
 #[test]
 fn loads(rt: HostRuntime) -> Result<(), Fail> {
-    let alloc = rt.alloc();
-    holds(&rt, alloc, FILES, "load 1", b"-", 0, ONE_ROUND)?;
-    for (rounds, steps, step, least, hits, seen) in &LOADS {
-        let load = format!(in alloc; "load {rounds}")?;
-        let output = output_of(&rt, alloc, load.as_str(), "")?;
-        let head = format!(in alloc; "{load}\nsteps {steps}\nstep {step}\nbytes 02f80005")?;
-        assert!(rt; output.starts_with(head.as_bytes()), "{rounds}");
-        let mut tail = format!(in alloc;
-            "\nleast exact {least}\nhits exact {hits}{{0x7730:{rounds}"
-        )?;
-        for writer in 1..8 {
-            tail.push_str(format!(in alloc; ",0x773{writer}:{rounds}")?.as_str())?;
-        }
-        tail.push_str("}\nseen exact {0")?;
-        for number in 1..*seen {
-            tail.push_str(format!(in alloc; ",{number}")?.as_str())?;
-        }
-        tail.push_str("}\n")?;
-        assert!(rt; output.ends_with(tail.as_bytes()), "{rounds}");
+    holds(&rt, rt.alloc(), FILES, "load 1", b"-", 0, ONE_ROUND)?;
+    for row in &LOADS {
+        load_holds(&rt, rt.alloc(), row)?;
     }
     Ok(())
 }

@@ -1,8 +1,12 @@
 //! Tables that are printed, and files that are no printed tables.
 
-use crate::calls::{FILES, holds};
+use crate::calls::holds;
 use crate::runs::graph;
+use program_calls::FILES;
+use std::alloc::Global;
+use std::process::Abort;
 use std::test::Fail;
+use std::thread::Threads;
 
 /// The text of the table of a request.
 const PRINTED: &str = "baggage table 1\n\
@@ -23,33 +27,41 @@ baggage table 1 / 0 0 a taint / 0 1 a taint => 3:1 DuplicateField"#;
 /// An input, which isn't read where the table is refused.
 const INPUT: &[u8] = b"service a all\n";
 
+/// A file that is no printed table is refused.
+fn is_refused<R: Abort + Threads + Sync>(
+    rt: &R,
+    alloc: Global,
+    content: &str,
+    place: &str,
+) -> Result<(), Fail> {
+    let files = format!(in alloc; "t|{content}")?;
+    let text = format!(in alloc; "definition t {place}\n")?;
+    let (files, text) = (files.as_str(), text.as_str());
+    holds(rt, alloc, files, "runtable t", INPUT, 1, text)
+}
+
 #[test]
 fn printed_tables(rt: HostRuntime) -> Result<(), Fail> {
-    let alloc = rt.alloc();
-    let text = format!(in alloc; "{PRINTED}\n")?;
-    holds(&rt, alloc, FILES, "table q.bdl Req", b"-", 0, text.as_str())?;
+    let text = format!(in rt.alloc(); "{PRINTED}\n")?;
+    let text = text.as_str();
+    holds(&rt, rt.alloc(), FILES, "table q.bdl Req", b"-", 0, text)
+}
+
+#[test]
+fn refused_tables(rt: HostRuntime) -> Result<(), Fail> {
     for row in REFUSED.lines() {
         let (joined, place) = row.split_once(" => ").ok_or("a refusal")?;
-        let files = format!(in alloc; "t|{}", graph(alloc, joined)?)?;
-        let text = format!(in alloc; "definition t {place}\n")?;
-        holds(
-            &rt,
-            alloc,
-            files.as_str(),
-            "runtable t",
-            INPUT,
-            1,
-            text.as_str(),
-        )?;
-    }
-    // A table without its last line feed, an empty one, and none.
-    let cut = format!(in alloc; "t|{PRINTED}")?;
-    for (files, text) in [
-        (cut.as_str(), "definition t 6:1 Form\n"),
-        ("t|", "definition t 1:1 Head\n"),
-        ("", "definition t 1:1 NoFile\n"),
-    ] {
-        holds(&rt, alloc, files, "runtable t", INPUT, 1, text)?;
+        let content = graph(rt.alloc(), joined)?;
+        is_refused(&rt, rt.alloc(), content.as_str(), place)?;
     }
     Ok(())
+}
+
+/// A table without its last line feed, an empty one, and none.
+#[test]
+fn cut_tables(rt: HostRuntime) -> Result<(), Fail> {
+    is_refused(&rt, rt.alloc(), PRINTED, "6:1 Form")?;
+    is_refused(&rt, rt.alloc(), "", "1:1 Head")?;
+    let text = "definition t 1:1 NoFile\n";
+    holds(&rt, rt.alloc(), "", "runtable t", INPUT, 1, text)
 }

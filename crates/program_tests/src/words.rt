@@ -1,8 +1,11 @@
 //! Words without a form.
 
-use crate::calls::{FILES, Objects, call};
-use outside::Open;
+use crate::calls::is_told;
+use program_calls::{FILES, Objects, answer_of};
+use std::alloc::Global;
+use std::process::Abort;
 use std::test::Fail;
+use std::thread::Threads;
 
 static REFUSED: [&str; 68] = [
     "",
@@ -75,30 +78,23 @@ static REFUSED: [&str; 68] = [
     "run q.bdl Req 5 id",
 ];
 
-/// The library and the source stay as they were.
+/// The program refuses the words, and the library and the source stay as they were.
+fn is_refused<R: Abort + Threads + Sync>(rt: &R, alloc: Global, line: &str) -> Result<(), Fail> {
+    let mut objects = Objects::new(alloc, FILES, b"02f800\n")?;
+    let came = answer_of(rt, alloc, line, &mut objects)?;
+    is_told(rt, &came, line, 7, "words refused\n", b"02f800\n");
+    let is_unasked = objects
+        .library
+        .asked()
+        .is_some_and(|names| names.is_empty());
+    assert!(rt; is_unasked, "{line}");
+    Ok(())
+}
+
 #[test]
 fn words_without_a_form(rt: HostRuntime) -> Result<(), Fail> {
-    let alloc = rt.alloc();
     for line in &REFUSED {
-        let mut objects = Objects::new(alloc, FILES, b"02f800\n")?;
-        let status = call(&rt, alloc, &Open, line, &mut objects)?;
-        assert_eq!(rt; status, 7, "{line}");
-        assert!(rt; objects.out.taken().is_empty(), "{line}");
-        assert_eq!(rt;
-            objects.errs.taken(),
-            b"words refused\n".as_slice(),
-            "{line}"
-        );
-        assert_eq!(rt;
-            objects.left(alloc).as_slice(),
-            b"02f800\n".as_slice(),
-            "{line}"
-        );
-        let is_unasked = objects
-            .library
-            .asked()
-            .is_some_and(|names| names.is_empty());
-        assert!(rt; is_unasked, "{line}");
+        is_refused(&rt, rt.alloc(), line)?;
     }
     Ok(())
 }

@@ -1,6 +1,6 @@
 use Rattle.recorded_graph.specs.Plain.{step_of}
-use Rattle.graph_tests.proofs.Places.{places_of}
-use Rattle.graph_tests.proofs.step_tests.gives.Goals as goal
+use Rattle.run_tests.proofs.Places.{places_of}
+use Rattle.run_tests.proofs.step_tests.gives.Goals as goal
 
 pub run_step-requires-clause-places : goal.run_step-requires-clause-places
 run_step-requires-clause-places g c κs lives =

@@ -166,6 +166,19 @@ fn check_places(rt: &impl Abort, parents: &[usize], pool: &[Context], places: &[
     }
 }
 
+/// Compares the list of a step with its digits.
+fn has_digits(
+    rt: &impl Abort,
+    alloc: Global,
+    list: &Context,
+    digits: &str,
+    step: usize,
+) -> Result<(), Fail> {
+    let own = digits_of(alloc, list)?;
+    assert_eq!(rt; own.as_slice(), digits.as_bytes(), "{step}");
+    Ok(())
+}
+
 /// Compares what a step gives by both calls.
 fn gives<R: Abort + Threads + Sync>(
     rt: &R,
@@ -185,10 +198,8 @@ fn gives<R: Abort + Threads + Sync>(
     check_places(rt, parents, pool, places);
     let beside = run_step(rt, alloc, table, graph, step, pool, places)?;
     let alone = run_step_alone(alloc, table, graph, step, pool, places)?;
-    let (beside, alone) = (digits_of(alloc, &beside)?, digits_of(alloc, &alone)?);
-    assert_eq!(rt; beside.as_slice(), digits.as_bytes(), "{step}");
-    assert_eq!(rt; alone.as_slice(), digits.as_bytes(), "{step}");
-    Ok(())
+    has_digits(rt, alloc, &beside, digits, step)?;
+    has_digits(rt, alloc, &alone, digits, step)
 }
 
 /// The contexts whose digits stand behind one another.
@@ -224,21 +235,23 @@ fn steps_give_lists(rt: HostRuntime) -> Result<(), Fail> {
 /// A pool for the most parents: its lists, of which the first stands for all parents but the last; and what the join gives.
 static MOST: [(&str, &str); 2] = [("- -", "-"), ("02f80100 02f80200", "02f8010002f80200")];
 
-#[test]
-fn the_most_parents_are_joined(rt: HostRuntime) -> Result<(), Fail> {
-    let alloc = rt.alloc();
-    let table = table_of(&rt, alloc, "Nothing")?;
-    let text = with_words(
-        alloc,
-        "service n none\nstart 0 n\njoin 1",
-        " 0",
-        PARENTS_MAX,
-    )?;
-    let graph = graph_of(&rt, alloc, &table, text.as_str());
+/// The first place for all parents but the last, which has the second.
+fn most_places(alloc: Global) -> Result<Vec<usize>, Fail> {
     let mut places = Vec::new(alloc);
     for parent in 0..PARENTS_MAX {
         places.push(if parent + 1 < PARENTS_MAX { 0 } else { 1 })?;
     }
+    Ok(places)
+}
+
+#[test]
+fn the_most_parents_are_joined(rt: HostRuntime) -> Result<(), Fail> {
+    let alloc = rt.alloc();
+    let table = table_of(&rt, alloc, "Nothing")?;
+    let start = "service n none\nstart 0 n\njoin 1";
+    let text = with_words(alloc, start, " 0", PARENTS_MAX)?;
+    let graph = graph_of(&rt, alloc, &table, text.as_str());
+    let places = most_places(alloc)?;
     for &(pool, digits) in &MOST {
         let pool = pool_of(alloc, pool)?;
         gives(

@@ -1,9 +1,10 @@
 //! Inputs and files at the edge of what is read.
 
-use crate::calls::{FILES, Objects, RUN, call, holds};
-use outside::Open;
+use program_calls::{FILES, Objects, RUN, answer_of, leaves_input};
 use std::alloc::Global;
+use std::process::Abort;
 use std::test::Fail;
+use std::thread::Threads;
 use text_lines::{DIGITS_MAX, INPUT_MAX};
 
 /// A long text: what stands before, so many copies of a piece, and what stands behind. In the copies `@` is the number of the copy,
@@ -250,6 +251,31 @@ static WIDE_VALUE: Long = (
     "\"}\nhops exact 0{}\ndebug exact off\nload exact {}\n",
 );
 
+/// Calls the program with these files and this input, and compares its answer_of, what it writes, and what it leaves of the input.
+fn holds<R: Abort + Threads + Sync>(
+    rt: &R,
+    alloc: Global,
+    files: &str,
+    line: &str,
+    input: &[u8],
+    status: u8,
+    text: &str,
+) -> Result<(), Fail> {
+    let mut objects = Objects::new(alloc, files, input)?;
+    let came = answer_of(rt, alloc, line, &mut objects)?;
+    let (out, errs) = if status == 0 { (text, "") } else { ("", text) };
+    let left = if leaves_input(line, status) {
+        input
+    } else {
+        b"".as_slice()
+    };
+    assert_eq!(rt; came.status, status, "{line} must write {text}");
+    assert_eq!(rt; came.out.as_slice(), out.as_bytes(), "{line}");
+    assert_eq!(rt; came.errs.as_slice(), errs.as_bytes(), "{line}");
+    assert_eq!(rt; came.left.as_slice(), left, "{line}");
+    Ok(())
+}
+
 #[test]
 fn long_inputs(rt: HostRuntime) -> Result<(), Fail> {
     let alloc = rt.alloc();
@@ -257,17 +283,29 @@ fn long_inputs(rt: HostRuntime) -> Result<(), Fail> {
         let input = spelled(alloc, long)?;
         holds(&rt, alloc, FILES, line, input.as_bytes(), *status, text)?;
     }
-    // A long atom is shown behind a head, also at a service that writes none.
+    Ok(())
+}
+
+/// A long atom is shown behind a head, also at a service that writes none.
+#[test]
+fn a_long_atom(rt: HostRuntime) -> Result<(), Fail> {
+    let alloc = rt.alloc();
     let wide = spelled(alloc, &WIDE)?;
     let bytes = spelled(alloc, &WIDE_BYTES)?;
     let value = spelled(alloc, &WIDE_VALUE)?;
     let report = format!(in alloc; "{bytes}{value}")?;
-    holds(&rt, alloc, FILES, RUN, wide.as_bytes(), 0, report.as_str())?;
-    // What stands behind an input that is too long is left.
+    holds(&rt, alloc, FILES, RUN, wide.as_bytes(), 0, report.as_str())
+}
+
+/// What stands behind an input that is too long is left.
+#[test]
+fn what_is_left_of_a_long_input(rt: HostRuntime) -> Result<(), Fail> {
+    let alloc = rt.alloc();
     let input = spelled(alloc, &("", "#", INPUT_MAX, "\n-"))?;
     let mut objects = Objects::new(alloc, FILES, input.as_bytes())?;
-    assert_eq!(rt; call(&rt, alloc, &Open, "merge", &mut objects)?, 2);
-    assert_eq!(rt; objects.left(alloc).as_slice(), b"-".as_slice());
+    let came = answer_of(&rt, alloc, "merge", &mut objects)?;
+    assert_eq!(rt; came.status, 2);
+    assert_eq!(rt; came.left.as_slice(), b"-".as_slice());
     Ok(())
 }
 
@@ -455,20 +493,23 @@ fn data_lines(alloc: Global) -> Result<(String, String), Fail> {
     Ok((lines, merged))
 }
 
+/// Lines behind those, the status, and what is written where it isn't the merge.
+static BEHIND: [(&str, u8, &str); 5] = [
+    ("", 0, ""),
+    ("#\n\n", 0, ""),
+    ("-\n", 2, "input line 8193 TooManyLines\n"),
+    ("0\n", 2, "input line 8193 TooManyLines\n"),
+    ("0101", 2, "input line 8193 TooManyLines\n"),
+];
+
 #[test]
 fn many_lines(rt: HostRuntime) -> Result<(), Fail> {
     let alloc = rt.alloc();
     let (lines, merged) = data_lines(alloc)?;
-    let many = "input line 8193 TooManyLines\n";
-    for (behind, status, text) in [
-        ("", 0, merged.as_str()),
-        ("#\n\n", 0, merged.as_str()),
-        ("-\n", 2, many),
-        ("0\n", 2, many),
-        ("0101", 2, many),
-    ] {
+    for (behind, status, text) in &BEHIND {
         let input = format!(in alloc; "{lines}{behind}")?;
-        holds(&rt, alloc, FILES, "merge", input.as_bytes(), status, text)?;
+        let text = if *status == 0 { merged.as_str() } else { *text };
+        holds(&rt, alloc, FILES, "merge", input.as_bytes(), *status, text)?;
     }
     Ok(())
 }

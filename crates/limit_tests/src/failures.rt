@@ -1,7 +1,7 @@
 //! Calls one of whose objects fails.
 
-use crate::calls::{Objects, call, library_of};
 use outside::{MemorySink, MemorySource, Open};
+use program_calls::{Objects, answer_of, call, library_of};
 use std::alloc::Global;
 use std::process::Abort;
 use std::test::Fail;
@@ -203,7 +203,7 @@ fn fails<R: Abort + Threads + Sync>(
 ) -> Result<(), Fail> {
     let (line, input, object, text) = row;
     let mut objects = failing(alloc, input, object, number)?;
-    let came = call(rt, alloc, &Open, line, &mut objects)?;
+    let came = answer_of(rt, alloc, line, &mut objects)?;
     let length = text.len().min(number as usize);
     let front = text.get(..length).unwrap_or("");
     let (status, out, errs) = match object {
@@ -212,15 +212,11 @@ fn fails<R: Abort + Threads + Sync>(
         Object::Output => (5, front, "sink failed\n"),
         Object::Errors => (5, "", front),
     };
-    assert_eq!(rt; came, status, "{line} {number}");
-    assert_eq!(rt; objects.out.taken(), out.as_bytes(), "{line} {number}");
-    assert_eq!(rt; objects.errs.taken(), errs.as_bytes(), "{line} {number}");
+    assert_eq!(rt; came.status, status, "{line} {number}");
+    assert_eq!(rt; came.out.as_slice(), out.as_bytes(), "{line} {number}");
+    assert_eq!(rt; came.errs.as_slice(), errs.as_bytes(), "{line} {number}");
     if matches!(object, Object::Library) {
-        assert_eq!(rt;
-            objects.left(alloc).as_slice(),
-            input.as_bytes(),
-            "{line} {number}"
-        );
+        assert_eq!(rt; came.left.as_slice(), input.as_bytes(), "{line} {number}");
     }
     Ok(())
 }
@@ -256,28 +252,37 @@ fn is_full<R: Abort + Threads + Sync>(rt: &R, alloc: Global, row: Full) -> Resul
     let mut objects = Objects::new(alloc, FILES, input.as_bytes())?;
     objects.out = MemorySink::new(alloc, out, 1, Vec::new(alloc))?;
     objects.errs = MemorySink::new(alloc, errs, 64, Vec::new(alloc))?;
-    let status = call(rt, alloc, &Open, line, &mut objects)?;
-    assert_eq!(rt; status, 5, "{line}");
-    assert_eq!(rt; objects.out.taken(), written.as_bytes(), "{line}");
-    assert_eq!(rt; objects.errs.taken(), told.as_bytes(), "{line}");
+    let came = answer_of(rt, alloc, line, &mut objects)?;
+    assert_eq!(rt; came.status, 5, "{line}");
+    assert_eq!(rt; came.out.as_slice(), written.as_bytes(), "{line}");
+    assert_eq!(rt; came.errs.as_slice(), told.as_bytes(), "{line}");
     Ok(())
 }
 
 #[test]
 fn failing_calls(rt: HostRuntime) -> Result<(), Fail> {
-    let alloc = rt.alloc();
     for (line, input, object, uses) in &TAKINGS {
         for number in 0..*uses {
-            fails(&rt, alloc, (*line, *input, *object, ""), number)?;
+            fails(&rt, rt.alloc(), (*line, *input, *object, ""), number)?;
         }
     }
+    Ok(())
+}
+
+#[test]
+fn failing_writes(rt: HostRuntime) -> Result<(), Fail> {
     for row in &GIVINGS {
         for number in 0..row.3.len() {
-            fails(&rt, alloc, *row, number as u64)?;
+            fails(&rt, rt.alloc(), *row, number as u64)?;
         }
     }
+    Ok(())
+}
+
+#[test]
+fn full_sinks(rt: HostRuntime) -> Result<(), Fail> {
     for row in &FULL {
-        is_full(&rt, alloc, *row)?;
+        is_full(&rt, rt.alloc(), *row)?;
     }
     Ok(())
 }
@@ -295,20 +300,23 @@ fn a_library_serves_after_a_failure(rt: HostRuntime) -> Result<(), Fail> {
     Ok(())
 }
 
-/// A source that fails behind the longest input: that it is too long isn't known yet.
+/// The read that fails of a source with the longest input and one byte more, the status, and what is told: that it is too long
+/// isn't known before the read behind it.
+static LONG_SOURCES: [(usize, u8, &str); 2] = [
+    (INPUT_MAX / 4096, 4, "source failed\n"),
+    (INPUT_MAX / 4096 + 1, 2, "input line 0 TooLong\n"),
+];
+
 #[test]
 fn a_long_source_fails(rt: HostRuntime) -> Result<(), Fail> {
     let alloc = rt.alloc();
-    for (read, status, text) in [
-        (INPUT_MAX as u64 / 4096, 4, "source failed\n"),
-        (INPUT_MAX as u64 / 4096 + 1, 2, "input line 0 TooLong\n"),
-    ] {
+    for &(read, status, text) in &LONG_SOURCES {
         let mut objects = Objects::new(alloc, FILES, b"")?;
         let content = vec![in alloc; b'#'; INPUT_MAX + 2]?;
-        objects.source = MemorySource::new(content, 4096, vec![in alloc; read]?);
-        let came = call(&rt, alloc, &Open, "merge", &mut objects)?;
-        assert_eq!(rt; came, status, "{read}");
-        assert_eq!(rt; objects.errs.taken(), text.as_bytes(), "{read}");
+        objects.source = MemorySource::new(content, 4096, vec![in alloc; read as u64]?);
+        let came = answer_of(&rt, alloc, "merge", &mut objects)?;
+        assert_eq!(rt; came.status, status, "{read}");
+        assert_eq!(rt; came.errs.as_slice(), text.as_bytes(), "{read}");
     }
     Ok(())
 }

@@ -2,7 +2,7 @@
 
 ghost use Rattle.std.specs.Prelude.{◌<◌};
 
-use crate::calls::output_of;
+use program_calls::{FILES, Objects, answer_of};
 use std::alloc::Global;
 use std::process::Abort;
 use std::test::Fail;
@@ -34,18 +34,18 @@ impl Dice {
 }
 
 /// What tags, writers and keys are called.
-const NAMES: [&str; 3] = ["a", "b", "c"];
+static NAMES: [&str; 3] = ["a", "b", "c"];
 
 /// The same as writers and as keys are printed.
-const WRITERS: [&str; 3] = ["0x61", "0x62", "0x63"];
+static WRITERS: [&str; 3] = ["0x61", "0x62", "0x63"];
 
-const QUOTED: [&str; 3] = ["\"a\"", "\"b\"", "\"c\""];
+static QUOTED: [&str; 3] = ["\"a\"", "\"b\"", "\"c\""];
 
 /// The words of a run under a definition that has all fields.
 const RUN: &str = "run wide.bdl Req";
 
 /// The services: the first word of its line, what each is called, and what its line says that it knows.
-const SERVICES: [(&str, &str, &str); 4] = [
+static SERVICES: [(&str, &str, &str); 4] = [
     ("service", "knows", "all"),
     ("service", "some", "only tags hops"),
     ("service", "proxy", "none"),
@@ -152,7 +152,7 @@ impl Graph {
     /// The lines of the services, and a first step at the one that knows all.
     fn new(alloc: Global) -> Result<Graph, Fail> {
         let mut text = String::new(alloc);
-        for (word, name, view) in SERVICES {
+        for (word, name, view) in &SERVICES {
             text.push_str(format!(in alloc; "{word} {name} {view}\n")?.as_str())?;
         }
         let mut graph = Graph {
@@ -396,25 +396,36 @@ fn slot_holds<R: Abort>(
     Ok(is_exact)
 }
 
-/// Runs a random graph, shows all its steps and compares each slot with what is true of it. Answers how many values were
-/// called exact.
+/// A random graph that shows all its steps.
+fn random_graph(alloc: Global, dice: &mut Dice, trims: bool) -> Result<Graph, Fail> {
+    let mut graph = Graph::new(alloc)?;
+    for _ in 0..12 {
+        add_step(&mut graph, alloc, dice, trims)?;
+    }
+    for step in 0..graph.steps.len() {
+        let line = format!(in alloc; "show {step}\n")?;
+        graph.text.push_str(line.as_str())?;
+    }
+    Ok(graph)
+}
+
+/// What the program reports of a graph.
+fn report_of<R: Abort + Threads + Sync>(rt: &R, alloc: Global, text: &str) -> Result<String, Fail> {
+    let mut objects = Objects::new(alloc, FILES, text.as_bytes())?;
+    let came = answer_of(rt, alloc, RUN, &mut objects)?;
+    assert_eq!(rt; came.status, 0);
+    Ok(String::from_utf8(came.out)?)
+}
+
+/// Runs a random graph and compares each slot with what is true of it. Answers how many values were called exact.
 fn graph_holds<R: Abort + Threads + Sync>(
     rt: &R,
     alloc: Global,
     dice: &mut Dice,
     trims: bool,
 ) -> Result<usize, Fail> {
-    let mut graph = Graph::new(alloc)?;
-    for _ in 0..12 {
-        add_step(&mut graph, alloc, dice, trims)?;
-    }
-    for step in 0..graph.steps.len() {
-        graph
-            .text
-            .push_str(format!(in alloc; "show {step}\n")?.as_str())?;
-    }
-    let output = output_of(rt, alloc, RUN, graph.text.as_str())?;
-    let report = str::from_utf8(output.as_slice())?;
+    let graph = random_graph(alloc, dice, trims)?;
+    let report = report_of(rt, alloc, graph.text.as_str())?;
     let mut exact = 0_usize;
     for (number, line) in report.lines().enumerate() {
         // A block has eight lines, the last six of which are those of the slots.

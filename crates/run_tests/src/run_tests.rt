@@ -82,23 +82,37 @@ fn a_load_is_run_in_both_ways(rt: HostRuntime) -> Result<(), Fail> {
     Ok(())
 }
 
+/// Runs a graph of contexts without atoms in both ways.
+fn run_empty<R: Abort + Threads + Sync>(
+    rt: &R,
+    alloc: Global,
+    text: &str,
+    steps: usize,
+) -> Result<(), Fail> {
+    let table = table_of(rt, alloc, "Nothing")?;
+    let lists = run_both(rt, alloc, &table, text, "")?;
+    assert_eq!(rt; lists.len(), steps);
+    assert!(rt; lists.iter().all(|list| list.list().is_empty()));
+    Ok(())
+}
+
 #[test]
-fn wide_graphs_are_run_in_both_ways(rt: HostRuntime) -> Result<(), Fail> {
+fn a_wide_rank_is_run_in_both_ways(rt: HostRuntime) -> Result<(), Fail> {
+    let star = star_text(rt.alloc(), 1_000)?;
+    run_empty(&rt, rt.alloc(), star.as_str(), 1_001)
+}
+
+#[test]
+fn a_join_of_the_most_parents_is_run_in_both_ways(rt: HostRuntime) -> Result<(), Fail> {
+    let start = "service n none\nstart 0 n\njoin 1";
+    let join = with_words(rt.alloc(), start, " 0", PARENTS_MAX)?;
+    run_empty(&rt, rt.alloc(), join.as_str(), 2)
+}
+
+#[test]
+fn mixed_steps_are_run_in_both_ways(rt: HostRuntime) -> Result<(), Fail> {
     let alloc = rt.alloc();
     let table = table_of(&rt, alloc, "Nothing")?;
-    let star = star_text(alloc, 1_000)?;
-    let lists = run_both(&rt, alloc, &table, star.as_str(), "")?;
-    assert_eq!(rt; lists.len(), 1_001);
-    assert!(rt; lists.iter().all(|list| list.list().is_empty()));
-    let join = with_words(
-        alloc,
-        "service n none\nstart 0 n\njoin 1",
-        " 0",
-        PARENTS_MAX,
-    )?;
-    let lists = run_both(&rt, alloc, &table, join.as_str(), "")?;
-    assert_eq!(rt; lists.len(), 2);
-    assert!(rt; lists.iter().all(|list| list.list().is_empty()));
     let mixed = mixed_text(alloc)?;
     let lists = run_both(&rt, alloc, &table, mixed.as_str(), "")?;
     assert_eq!(rt; lists.len(), 400);

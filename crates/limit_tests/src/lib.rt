@@ -1,0 +1,10 @@
+//! Tests of the program at its limits: long inputs and files, objects that fail, and gates that steps pass. Nothing but tests
+//! stands here.
+#![tactic(auto)]
+
+#[cfg(test)]
+mod failures;
+#[cfg(test)]
+mod gates;
+#[cfg(test)]
+mod limits;

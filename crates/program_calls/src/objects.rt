@@ -1,0 +1,59 @@
+//! The objects of a call.
+
+use outside::{MemoryLibrary, MemorySink, MemorySource, read_all};
+use std::alloc::Global;
+use std::test::Fail;
+
+/// The objects of a call.
+#[derive(Drop)]
+pub struct Objects {
+    pub library: MemoryLibrary,
+    pub source: MemorySource,
+    pub out: MemorySink,
+    pub errs: MemorySink,
+}
+
+/// A library with these files, whose fetches of these numbers fail.
+pub fn library_of(alloc: Global, files: &str, failing: &[u64]) -> Result<MemoryLibrary, Fail> {
+    let mut library = MemoryLibrary::new(alloc, Vec::from_slice(alloc, failing)?);
+    for file in files.split("\n\n") {
+        if let Some((name, content)) = file.split_once('|') {
+            library.add(name, content.as_bytes())?;
+        }
+    }
+    Ok(library)
+}
+
+impl Objects {
+    /// Objects with these files and this input, none of which fails. They take and give a few bytes at a time.
+    pub fn new(alloc: Global, files: &str, input: &[u8]) -> Result<Objects, Fail> {
+        let content = Vec::from_slice(alloc, input)?;
+        Ok(Objects {
+            library: library_of(alloc, files, &[])?,
+            source: MemorySource::new(content, 61, Vec::new(alloc)),
+            out: MemorySink::new(alloc, 1 << 19, 5, Vec::new(alloc))?,
+            errs: MemorySink::new(alloc, 256, 11, Vec::new(alloc))?,
+        })
+    }
+
+    /// What is left of the source.
+    pub fn left(&mut self, alloc: Global) -> Vec<u8> {
+        match read_all(alloc, &mut self.source, 1 << 30) {
+            Ok(left) => left,
+            Err(_) => Vec::new(alloc),
+        }
+    }
+}
+
+/// The names that a library was asked for, in order.
+pub fn asked(alloc: Global, library: &MemoryLibrary) -> Result<String, Fail> {
+    let names = library.asked().ok_or("names")?;
+    let mut text = String::new(alloc);
+    for at in 0..names.len() {
+        if 0 < at {
+            text.push(' ')?;
+        }
+        text.push_str(names.get(at).ok_or("a name")?.as_str())?;
+    }
+    Ok(text)
+}
