@@ -76,17 +76,26 @@ fn wide_list(alloc: Global, thirds: bool, evens: bool) -> Result<AtomList, Memor
     Ok(list)
 }
 
+/// The merge of two such lists.
+fn merged_wide_lists(alloc: Global) -> Result<AtomList, Memory> {
+    let thirds = wide_list(alloc, true, false)?;
+    let evens = wide_list(alloc, false, true)?;
+    merge_lists(alloc, &thirds, &evens)
+}
+
+/// That two lists have the same atoms at the same places.
+fn expect_same(rt: &impl Abort, list: &AtomList, other: &AtomList) {
+    assert_eq!(rt; list.len(), other.len());
+    for at in 0..other.len() {
+        assert!(rt; list.get(at) == other.get(at));
+    }
+}
+
 #[test]
 fn merges_wide_lists(rt: HostRuntime) -> Result<(), Fail> {
     let alloc = rt.alloc();
-    let thirds = wide_list(alloc, true, false)?;
-    let evens = wide_list(alloc, false, true)?;
-    let either = wide_list(alloc, true, true)?;
-    let merged = merge_lists(alloc, &thirds, &evens)?;
-    assert_eq!(rt; merged.len(), either.len());
-    for at in 0..either.len() {
-        assert!(rt; merged.get(at) == either.get(at));
-    }
+    let merged = merged_wide_lists(alloc)?;
+    expect_same(&rt, &merged, &wide_list(alloc, true, true)?);
     Ok(())
 }
 
