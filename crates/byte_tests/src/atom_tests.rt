@@ -1,13 +1,15 @@
 //! Numbers and atoms: their codes, and which bytes are none.
 
-use crate::byte_texts::{bytes_of, expect_bytes};
 use atom_kinds::{
     FieldHeader, Kind, KindFault, compare, datum, header_level, indexed, indexed_prefix, is_key,
     keyed, keyed_prefix, kind_of, rest,
 };
 use lex_varint::{VarintFault, put_i64, put_u64, take_i64, take_u64};
+use std::alloc::Global;
 use std::cmp::Ordering;
+use std::process::Abort;
 use std::test::Fail;
+use test_texts::{bytes_of, expect_bytes};
 
 /// Unsigned numbers and their codes.
 static UNSIGNED: [(u64, &str); 8] = [
@@ -33,26 +35,30 @@ static SIGNED: [(i64, &str); 8] = [
     (i64::MIN, "008000000000000000"),
 ];
 
+/// That an unsigned number has this code, and is read back from it.
+fn expect_unsigned(rt: &impl Abort, alloc: Global, number: u64, digits: &str) -> Result<(), Fail> {
+    let code = put_u64(number);
+    let code = code.as_slice();
+    assert!(rt; take_u64(code) == Ok((number, code.len())), "{number}");
+    expect_bytes(alloc, code, digits)
+}
+
+/// That a signed number has this code, and is read back from it.
+fn expect_signed(rt: &impl Abort, alloc: Global, number: i64, digits: &str) -> Result<(), Fail> {
+    let code = put_i64(number);
+    let code = code.as_slice();
+    assert!(rt; take_i64(code) == Ok((number, code.len())), "{number}");
+    expect_bytes(alloc, code, digits)
+}
+
 #[test]
 fn numbers(rt: HostRuntime) -> Result<(), Fail> {
     let alloc = rt.alloc();
     for (number, digits) in &UNSIGNED {
-        let code = put_u64(*number);
-        expect_bytes(&rt, alloc, code.as_slice(), digits)?;
-        let count = code.as_slice().len();
-        assert!(rt;
-            take_u64(code.as_slice()) == Ok((*number, count)),
-            "{number}"
-        );
+        expect_unsigned(&rt, alloc, *number, digits)?;
     }
     for (number, digits) in &SIGNED {
-        let code = put_i64(*number);
-        expect_bytes(&rt, alloc, code.as_slice(), digits)?;
-        let count = code.as_slice().len();
-        assert!(rt;
-            take_i64(code.as_slice()) == Ok((*number, count)),
-            "{number}"
-        );
+        expect_signed(&rt, alloc, *number, digits)?;
     }
     Ok(())
 }
@@ -115,6 +121,15 @@ static KINDS: [(&str, Result<Kind, KindFault>); 14] = [
     ("f80000", Err(KindFault::BadIndex)),
 ];
 
+#[test]
+fn kinds(rt: HostRuntime) -> Result<(), Fail> {
+    let alloc = rt.alloc();
+    for (digits, kind) in &KINDS {
+        assert!(rt; kind_of(&bytes_of(alloc, digits)?) == *kind, "{digits}");
+    }
+    Ok(())
+}
+
 /// Atoms, their levels, and what follows their first bytes.
 static PARTS: [(&str, Option<usize>, &str); 7] = [
     ("-", None, "-"),
@@ -127,15 +142,12 @@ static PARTS: [(&str, Option<usize>, &str); 7] = [
 ];
 
 #[test]
-fn kinds(rt: HostRuntime) -> Result<(), Fail> {
+fn parts_of_atoms(rt: HostRuntime) -> Result<(), Fail> {
     let alloc = rt.alloc();
-    for (digits, kind) in &KINDS {
-        assert!(rt; kind_of(&bytes_of(alloc, digits)?) == *kind, "{digits}");
-    }
     for (digits, level, behind) in &PARTS {
         let atom = bytes_of(alloc, digits)?;
         assert!(rt; header_level(&atom) == *level, "{digits}");
-        expect_bytes(&rt, alloc, rest(&atom), behind)?;
+        expect_bytes(alloc, rest(&atom), behind)?;
     }
     Ok(())
 }
@@ -143,10 +155,14 @@ fn kinds(rt: HostRuntime) -> Result<(), Fail> {
 #[test]
 fn atoms(rt: HostRuntime) -> Result<(), Fail> {
     let alloc = rt.alloc();
-    expect_bytes(&rt, alloc, indexed(alloc, 1, 4)?.as_slice(), "f004")?;
-    expect_bytes(&rt, alloc, keyed(alloc, 1, b"w")?.as_slice(), "f177")?;
-    expect_bytes(&rt, alloc, keyed(alloc, 15, b"")?.as_slice(), "81")?;
-    expect_bytes(&rt, alloc, datum(alloc, b"")?.as_slice(), "00")?;
+    expect_bytes(alloc, indexed(alloc, 1, 4)?.as_slice(), "f004")?;
+    expect_bytes(alloc, keyed(alloc, 1, b"w")?.as_slice(), "f177")?;
+    expect_bytes(alloc, keyed(alloc, 15, b"")?.as_slice(), "81")?;
+    expect_bytes(alloc, datum(alloc, b"")?.as_slice(), "00")
+}
+
+#[test]
+fn orders_and_headers(rt: HostRuntime) {
     assert!(rt; compare(b"", b"\x00") == Ordering::Less);
     assert!(rt; compare(b"\xf8\x01", b"\xf8") == Ordering::Greater);
     let header = FieldHeader::new(1, 4);
@@ -156,5 +172,4 @@ fn atoms(rt: HostRuntime) -> Result<(), Fail> {
     assert!(rt; header.order_of(b"\xf0\x03\xff") == Ordering::Less);
     assert!(rt; is_key(b"\xf1w", 1));
     assert!(rt; !is_key(b"\xf1w", 0));
-    Ok(())
 }

@@ -4,8 +4,6 @@
 #[cfg(test)]
 mod atom_tests;
 #[cfg(test)]
-mod byte_texts;
-#[cfg(test)]
 mod outside_tests;
 #[cfg(test)]
 mod text_tests;

@@ -1,11 +1,11 @@
 //! Lists and contexts as bytes, in either form.
 
-use crate::byte_texts::{bytes_of, expect_bytes};
 use atom_list::AtomList;
 use outside::ATOM_MAX;
 use std::alloc::Global;
 use std::process::Abort;
 use std::test::Fail;
+use test_texts::{bytes_of, expect_atoms, expect_bytes};
 use wire_bytes::{
     ByteCode, ContextFault, Form, LENGTH_MAX, WireCode, WireFault, form_of, frame_len, offset,
     read, read_context, read_context_owned, read_owned, size, write,
@@ -25,7 +25,35 @@ static LENGTHS: [(usize, u128, u128, u128); 9] = [
     (1_048_576, 1_048_579, 1_048_592, 1_048_592),
 ];
 
-/// That the bytes of a list of an atom and a marker are so many where a form is asked for, and are read back.
+/// That a list of an atom and a marker has so many bytes where a form is asked for, and its marker the last of them.
+fn expect_measures(rt: &impl Abort, form: Form, list: &AtomList, head_len: u128, whole: u128) {
+    assert!(rt; list.len() == 2);
+    let before_marker = whole.saturating_sub(1);
+    assert_eq!(rt; size(form, list), whole, "in {form:?}");
+    assert_eq!(rt; offset(form, list, 1), before_marker, "{whole} in {form:?}");
+    assert_eq!(rt; offset(form, list, 0), head_len, "{whole} in {form:?}");
+}
+
+/// That a list of an atom and a marker is written as so many bytes where a form is asked for, and is read back.
+fn expect_written(
+    rt: &impl Abort,
+    alloc: Global,
+    form: Form,
+    list: &AtomList,
+    head_len: u128,
+    whole: u128,
+) -> Result<(), Fail> {
+    let bytes = write(alloc, form, list)?;
+    assert_eq!(rt; bytes.len() as u128, whole, "in {form:?}");
+    let written = if head_len == 0 { Form::One } else { Form::Two };
+    assert_eq!(rt; form_of(&bytes), written, "{whole} in {form:?}");
+    let again = read(alloc, &bytes)?;
+    assert_eq!(rt; again.len(), 2, "{whole} in {form:?}");
+    assert!(rt; again.get(0) == list.get(0), "{whole} in {form:?}");
+    Ok(())
+}
+
+/// Both of these, of a list whose atom takes so many bytes with its length.
 fn expect_pair(
     rt: &impl Abort,
     alloc: Global,
@@ -34,36 +62,32 @@ fn expect_pair(
     framed: u128,
     whole: u128,
 ) -> Result<(), Fail> {
-    let bytes = write(alloc, form, list)?;
-    assert_eq!(rt; bytes.len() as u128, whole, "{framed} in {form:?}");
-    assert_eq!(rt; size(form, list), whole, "{framed} in {form:?}");
-    assert!(rt; list.len() == 2);
-    let before_marker = whole.saturating_sub(1);
-    assert_eq!(rt;
-        offset(form, list, 1),
-        before_marker,
-        "{framed} in {form:?}"
-    );
-    let head_len = before_marker.saturating_sub(framed);
-    assert_eq!(rt; offset(form, list, 0), head_len, "{framed} in {form:?}");
-    let written = if head_len == 0 { Form::One } else { Form::Two };
-    assert_eq!(rt; form_of(&bytes), written, "{framed} in {form:?}");
-    let again = read(alloc, &bytes)?;
-    assert_eq!(rt; again.len(), 2, "{framed} in {form:?}");
-    assert!(rt; again.get(0) == list.get(0), "{framed} in {form:?}");
-    Ok(())
+    let head_len = whole.saturating_sub(1).saturating_sub(framed);
+    expect_measures(rt, form, list, head_len, whole);
+    expect_written(rt, alloc, form, list, head_len, whole)
+}
+
+/// The list of an atom of so many zeros and a marker.
+fn list_of_zeros(
+    rt: &impl Abort,
+    alloc: Global,
+    len: usize,
+    framed: u128,
+) -> Result<AtomList, Fail> {
+    let atom = vec![in alloc; 0u8; len]?;
+    assert!(rt; atom.len() <= ATOM_MAX);
+    assert_eq!(rt; frame_len(&atom) as u128, framed, "{len}");
+    let mut list = AtomList::new(alloc);
+    list.push(&atom)?;
+    list.push(&[])?;
+    Ok(list)
 }
 
 #[test]
 fn lists_at_the_limits(rt: HostRuntime) -> Result<(), Fail> {
     let alloc = rt.alloc();
     for (len, framed, one, two) in &LENGTHS {
-        let atom = vec![in alloc; 0u8; *len]?;
-        assert!(rt; atom.len() <= ATOM_MAX);
-        let mut list = AtomList::new(alloc);
-        list.push(&atom)?;
-        list.push(&[])?;
-        assert_eq!(rt; frame_len(&atom) as u128, *framed, "{len}");
+        let list = list_of_zeros(&rt, alloc, *len, *framed)?;
         assert_eq!(rt; list.is_long(), LENGTH_MAX < *len, "{len}");
         expect_pair(&rt, alloc, Form::One, &list, *framed, *one)?;
         expect_pair(&rt, alloc, Form::Two, &list, *framed, *two)?;
@@ -84,7 +108,7 @@ fn fronts_of_wide_lists(rt: HostRuntime) -> Result<(), Fail> {
     assert!(rt; list.len() == 2);
     assert_eq!(rt; offset(Form::One, &list, 1), 3);
     assert_eq!(rt; size(Form::One, &list), 4);
-    expect_bytes(&rt, alloc, &write(alloc, Form::One, &list)?, "02f80000")
+    expect_bytes(alloc, &write(alloc, Form::One, &list)?, "02f80000")
 }
 
 #[test]
@@ -98,7 +122,7 @@ fn many_markers(rt: HostRuntime) -> Result<(), Fail> {
     assert!(rt; 2 < list.len());
     list.cut_to_marker(2);
     assert_eq!(rt; size(Form::One, &list), 3);
-    expect_bytes(&rt, alloc, &write(alloc, Form::One, &list)?, "000000")
+    expect_bytes(alloc, &write(alloc, Form::One, &list)?, "000000")
 }
 
 /// Bytes that are those of no list, where they cease to be, and why.
@@ -166,28 +190,32 @@ static NO_CONTEXTS: [(&str, usize, ByteCode); 23] = [
     ("ffffff02000000000000000402f80003", 15, ByteCode::CutBody),
 ];
 
+/// That bytes are no list for what is wrong at a place.
+fn expect_no_list(rt: &impl Abort, alloc: Global, bytes: &[u8], offset: usize, code: WireCode) {
+    let fault = WireFault::At { offset, code };
+    match read(alloc, bytes) {
+        Err(found) => assert_eq!(rt; found, fault, "{bytes:?}"),
+        Ok(_list) => panic!(rt; "{bytes:?} is read"),
+    }
+}
+
+/// That bytes are no context for what is wrong at a place.
+fn expect_no_context(rt: &impl Abort, alloc: Global, bytes: &[u8], offset: usize, code: ByteCode) {
+    let fault = ContextFault::At { offset, code };
+    match read_context(alloc, bytes) {
+        Err(found) => assert_eq!(rt; found, fault, "{bytes:?}"),
+        Ok(_context) => panic!(rt; "{bytes:?} is read"),
+    }
+}
+
 #[test]
 fn refused_bytes(rt: HostRuntime) -> Result<(), Fail> {
     let alloc = rt.alloc();
     for (digits, offset, code) in &NO_LISTS {
-        let fault = WireFault::At {
-            offset: *offset,
-            code: *code,
-        };
-        match read(alloc, &bytes_of(alloc, digits)?) {
-            Err(found) => assert_eq!(rt; found, fault, "{digits}"),
-            Ok(_list) => panic!(&rt; "{digits} is read"),
-        }
+        expect_no_list(&rt, alloc, &bytes_of(alloc, digits)?, *offset, *code);
     }
     for (digits, offset, code) in &NO_CONTEXTS {
-        let fault = ContextFault::At {
-            offset: *offset,
-            code: *code,
-        };
-        match read_context(alloc, &bytes_of(alloc, digits)?) {
-            Err(found) => assert_eq!(rt; found, fault, "{digits}"),
-            Ok(_context) => panic!(&rt; "{digits} is read"),
-        }
+        expect_no_context(&rt, alloc, &bytes_of(alloc, digits)?, *offset, *code);
     }
     Ok(())
 }
@@ -211,13 +239,21 @@ static CONTEXTS: [(&str, &str, &str); 7] = [
     ),
 ];
 
-/// That a list has exactly these atoms, which stand with blanks between them, a dash for a marker.
-fn expect_atoms(rt: &impl Abort, alloc: Global, list: &AtomList, atoms: &str) -> Result<(), Fail> {
-    let mut words = atoms.split_whitespace();
-    for atom in list.iter() {
-        expect_bytes(rt, alloc, atom, words.next().ok_or("an atom too many")?)?;
-    }
-    assert!(rt; words.next().is_none(), "{atoms}");
+/// That bytes of form one are those of a context of these atoms, which is written in either form.
+fn expect_context(
+    rt: &impl Abort,
+    alloc: Global,
+    digits: &str,
+    two: &[u8],
+    atoms: &str,
+) -> Result<(), Fail> {
+    let context = read_context_owned(alloc, bytes_of(alloc, digits)?)?;
+    expect_atoms(alloc, context.list(), atoms)?;
+    expect_bytes(alloc, &write(alloc, Form::One, context.list())?, digits)?;
+    assert!(rt;
+        write(alloc, Form::Two, context.list())?.as_slice() == two,
+        "{atoms}"
+    );
     Ok(())
 }
 
@@ -225,21 +261,11 @@ fn expect_atoms(rt: &impl Abort, alloc: Global, list: &AtomList, atoms: &str) ->
 fn contexts(rt: HostRuntime) -> Result<(), Fail> {
     let alloc = rt.alloc();
     for (digits, head, atoms) in &CONTEXTS {
-        let one = bytes_of(alloc, digits)?;
         let mut two = bytes_of(alloc, head)?;
-        two.extend_from_slice(&one)?;
+        two.extend_from_slice(&bytes_of(alloc, digits)?)?;
         assert_eq!(rt; form_of(&two), Form::Two, "{atoms}");
-        let context = read_context_owned(alloc, one)?;
-        expect_atoms(&rt, alloc, context.list(), atoms)?;
-        expect_bytes(
-            &rt,
-            alloc,
-            &write(alloc, Form::One, context.list())?,
-            digits,
-        )?;
-        assert!(rt; write(alloc, Form::Two, context.list())? == two, "{atoms}");
-        let context = read_context_owned(alloc, two)?;
-        expect_atoms(&rt, alloc, context.list(), atoms)?;
+        expect_context(&rt, alloc, digits, &two, atoms)?;
+        expect_atoms(alloc, read_context_owned(alloc, two)?.list(), atoms)?;
     }
     Ok(())
 }
@@ -247,31 +273,22 @@ fn contexts(rt: HostRuntime) -> Result<(), Fail> {
 /// A header and two data in form two.
 const HEADED: &str = "ffffff02000000000000000f02f800050000000007050000000009";
 
-/// That bytes are no list for what is wrong with their head.
-fn expect_no_head(rt: &impl Abort, alloc: Global, bytes: &[u8], code: WireCode) {
-    let fault = WireFault::At { offset: 4, code };
-    match read(alloc, bytes) {
-        Err(found) => assert_eq!(rt; found, fault, "{} bytes", bytes.len()),
-        Ok(_list) => panic!(rt; "{} bytes are read", bytes.len()),
-    }
-}
-
 #[test]
 fn heads(rt: HostRuntime) -> Result<(), Fail> {
     let alloc = rt.alloc();
     let bytes = bytes_of(alloc, HEADED)?;
     assert!(rt; bytes.len() == 27);
     for end in 4..12 {
-        expect_no_head(&rt, alloc, &bytes[..end], WireCode::CutLength);
+        expect_no_list(&rt, alloc, &bytes[..end], 4, WireCode::CutLength);
     }
     for end in 12..27 {
-        expect_no_head(&rt, alloc, &bytes[..end], WireCode::BadCount);
+        expect_no_list(&rt, alloc, &bytes[..end], 4, WireCode::BadCount);
     }
     for at in 4..12 {
         let mut changed = bytes_of(alloc, HEADED)?;
         assert!(rt; at < changed.len());
         changed[at] ^= 0x10;
-        expect_no_head(&rt, alloc, &changed, WireCode::BadCount);
+        expect_no_list(&rt, alloc, &changed, 4, WireCode::BadCount);
     }
     Ok(())
 }

@@ -1,9 +1,10 @@
 //! Calls on single fields: what is read and written under a table's text, what is left of the room, and what is refused.
 
-use crate::byte_texts::{bytes_of, expect_bytes, expect_unchanged};
+use crate::unchanged::expect_unchanged;
 use field_calls::{FieldRefusal, State, read_field_into, write_field_into};
 use std::test::Fail;
 use table_text::TableCode;
+use test_texts::{bytes_of, expect_bytes};
 use wire_bytes::{ByteCode, Form};
 
 const TABLE: &str =
@@ -95,7 +96,7 @@ fn writes_fields(rt: HostRuntime) -> Result<(), Fail> {
             let answer = write_field_into(alloc, *form, table, name, text, &mut room);
             assert_eq!(rt; answer, Ok(size), "row {row}");
             let (front, rest) = room.split_at_checked(size).ok_or("the room is short")?;
-            expect_bytes(&rt, alloc, front, written)?;
+            expect_bytes(alloc, front, written)?;
             expect_unchanged(&rt, rest, row);
         }
         let mut room = Vec::from_elem(alloc, 238u8, size.saturating_sub(1))?;

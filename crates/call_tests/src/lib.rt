@@ -2,8 +2,8 @@
 #![tactic(auto)]
 
 #[cfg(test)]
-mod byte_texts;
-#[cfg(test)]
 mod fields;
 #[cfg(test)]
 mod rooms;
+#[cfg(test)]
+mod unchanged;

@@ -1,10 +1,11 @@
 //! Calls that write into room of the caller's: what is written, what is left of the room, and what is refused.
 
-use crate::byte_texts::{bytes_of, expect_bytes, expect_unchanged};
+use crate::unchanged::expect_unchanged;
 use byte_calls::{Refusal, Span, check, forward_into, merge_into, merge_many_into, trim_into};
 use std::alloc::Global;
 use std::process::Abort;
 use std::test::Fail;
+use test_texts::{bytes_of, expect_bytes};
 use wire_bytes::{ByteCode, Form};
 
 const SEVEN: &str = "02f800050000000007";
@@ -98,7 +99,7 @@ fn writes_into_rooms(rt: HostRuntime) -> Result<(), Fail> {
             let (answer, room) = tried(&rt, alloc, *call, *form, (&first, &second), room_len)?;
             assert_eq!(&rt; answer, Ok(size), "row {row}");
             let (front, rest) = room.split_at_checked(size).ok_or("the room is short")?;
-            expect_bytes(&rt, alloc, front, written)?;
+            expect_bytes(alloc, front, written)?;
             expect_unchanged(&rt, rest, row);
         }
         if let Some(room_len) = size.checked_sub(1) {

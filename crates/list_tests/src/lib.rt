@@ -2,6 +2,4 @@
 #![tactic(auto)]
 
 #[cfg(test)]
-mod atom_texts;
-#[cfg(test)]
 mod list_tests;

@@ -2,12 +2,12 @@
 
 ghost use Rattle.std.specs.Prelude.{◌≡◌, ◌<◌, ℕ, List, ◌∷◌, IsTrue, Some, slice_get};
 
-use crate::atom_texts::{bytes_of, context_of, expect_atoms, expect_bytes, list_of};
 use atom_list::{AtomList, Builder, Context, ShapeFault};
 use outside::Memory;
 use std::alloc::Global;
 use std::process::Abort;
 use std::test::Fail;
+use test_texts::{context_of, expect_atoms, expect_bytes, list_of};
 
 /// Cuts a list to so many atoms and a marker.
 fn cut(rt: &impl Abort, list: &mut AtomList, keep: usize) {
@@ -30,14 +30,14 @@ fn expect_cut(
     keep: usize,
     left: &str,
 ) -> Result<(), Fail> {
-    let mut list = list_of(rt, alloc, atoms)?;
+    let mut list = list_of(alloc, atoms)?;
     let copy = list.copy()?;
     cut(rt, &mut list, keep);
-    expect_atoms(rt, alloc, &list, left)?;
-    expect_atoms(rt, alloc, &list.copy()?, left)?;
+    expect_atoms(alloc, &list, left)?;
+    expect_atoms(alloc, &list.copy()?, left)?;
     assert!(rt; list.framed().is_none(), "{atoms}");
     drop(list);
-    expect_atoms(rt, alloc, &copy, atoms)
+    expect_atoms(alloc, &copy, atoms)
 }
 
 /// That a context is cut as its list, and that its copy isn't.
@@ -48,22 +48,22 @@ fn expect_context_cut(
     keep: usize,
     left: &str,
 ) -> Result<(), Fail> {
-    let mut context = context_of(rt, alloc, atoms)?;
+    let mut context = context_of(alloc, atoms)?;
     let copy = context.copy()?;
     assert!(rt; keep < context.list().len());
     context.cut_to_marker(keep);
-    expect_atoms(rt, alloc, context.list(), left)?;
-    expect_atoms(rt, alloc, &copy.into_list(), atoms)
+    expect_atoms(alloc, context.list(), left)?;
+    expect_atoms(alloc, &copy.into_list(), atoms)
 }
 
 #[test]
 fn lists(rt: HostRuntime) -> Result<(), Fail> {
     let alloc = rt.alloc();
-    expect_atoms(&rt, alloc, &AtomList::new(alloc), "")?;
+    expect_atoms(alloc, &AtomList::new(alloc), "")?;
     for (atoms, bytes, keep, left) in &CUTS {
-        let list = list_of(&rt, alloc, atoms)?;
+        let list = list_of(alloc, atoms)?;
         let framed = list.framed().ok_or("the bytes don't stand in the buffer")?;
-        expect_bytes(&rt, alloc, framed, bytes)?;
+        expect_bytes(alloc, framed, bytes)?;
         expect_cut(&rt, alloc, atoms, *keep, left)?;
         expect_context_cut(&rt, alloc, atoms, *keep, left)?;
     }
@@ -82,21 +82,44 @@ static FRONTS: [(usize, &str, &str); 4] = [
     ),
 ];
 
+/// That so many first atoms of a list are these, with these bytes.
+fn expect_front(
+    rt: &impl Abort,
+    alloc: Global,
+    list: &AtomList,
+    keep: usize,
+    atoms: &str,
+    bytes: &str,
+) -> Result<(), Fail> {
+    assert!(rt; keep <= list.len());
+    let framed = list
+        .framed_front(keep)
+        .ok_or("the bytes don't stand in the buffer")?;
+    expect_bytes(alloc, framed, bytes)?;
+    expect_atoms(alloc, &list.front(keep)?, atoms)
+}
+
+/// That so many first atoms of a context are these, and that it stays whole.
+fn expect_context_front(
+    rt: &impl Abort,
+    alloc: Global,
+    whole: &str,
+    keep: usize,
+    atoms: &str,
+) -> Result<(), Fail> {
+    let context = context_of(alloc, whole)?;
+    assert!(rt; keep <= context.list().len());
+    expect_atoms(alloc, context.front(keep)?.list(), atoms)?;
+    expect_atoms(alloc, context.list(), whole)
+}
+
 #[test]
 fn fronts(rt: HostRuntime) -> Result<(), Fail> {
     let alloc = rt.alloc();
+    let whole = "f800 0000000007 0000000009";
     for (keep, atoms, bytes) in &FRONTS {
-        let list = list_of(&rt, alloc, "f800 0000000007 0000000009")?;
-        assert!(rt; *keep <= list.len());
-        let framed = list
-            .framed_front(*keep)
-            .ok_or("the bytes don't stand in the buffer")?;
-        expect_bytes(&rt, alloc, framed, bytes)?;
-        expect_atoms(&rt, alloc, &list.front(*keep)?, atoms)?;
-        let context = context_of(&rt, alloc, "f800 0000000007 0000000009")?;
-        assert!(rt; *keep <= context.list().len());
-        expect_atoms(&rt, alloc, context.front(*keep)?.list(), atoms)?;
-        expect_atoms(&rt, alloc, context.list(), "f800 0000000007 0000000009")?;
+        expect_front(&rt, alloc, &list_of(alloc, whole)?, *keep, atoms, bytes)?;
+        expect_context_front(&rt, alloc, whole, *keep, atoms)?;
     }
     Ok(())
 }
@@ -104,16 +127,16 @@ fn fronts(rt: HostRuntime) -> Result<(), Fail> {
 #[test]
 fn fronts_of_a_list_that_was_cut(rt: HostRuntime) -> Result<(), Fail> {
     let alloc = rt.alloc();
-    let mut list = list_of(&rt, alloc, "f800 0000000007 0000000009")?;
+    let mut list = list_of(alloc, "f800 0000000007 0000000009")?;
     cut(&rt, &mut list, 1);
     assert_eq!(rt; list.len(), 2);
-    expect_atoms(&rt, alloc, &list.front(2)?, "f800 -")?;
+    expect_atoms(alloc, &list.front(2)?, "f800 -")?;
     assert!(rt; list.framed_front(2).is_none());
     let front = list.front(1)?;
     drop(list);
-    expect_atoms(&rt, alloc, &front, "f800")?;
+    expect_atoms(alloc, &front, "f800")?;
     let framed = front.framed().ok_or("the bytes don't stand in the buffer")?;
-    expect_bytes(&rt, alloc, framed, "02f800")
+    expect_bytes(alloc, framed, "02f800")
 }
 
 #[test]
@@ -121,17 +144,21 @@ fn lists_that_are_built(rt: HostRuntime) -> Result<(), Fail> {
     let alloc = rt.alloc();
     let mut built = Builder::with_room(alloc, 8, 1)?;
     built.push(b"\xf8\x00");
-    expect_atoms(&rt, alloc, &built.finish()?, "f800")?;
+    expect_atoms(alloc, &built.finish()?, "f800")?;
     let mut exact = Builder::with_room(alloc, 5, 1)?;
     exact.push(b"\xf8\x00");
-    expect_bytes(&rt, alloc, &exact.into_bytes(), "02f800")?;
+    expect_bytes(alloc, &exact.into_bytes(), "02f800")
+}
+
+#[test]
+fn lists_that_grow(rt: HostRuntime) -> Result<(), Fail> {
+    let alloc = rt.alloc();
     assert!(rt; Builder::with_room(alloc, 1 << 32, 0).is_err());
     let mut grown = Builder::with_room(alloc, 0, 0)?;
     grown.reserve(5, 1)?;
     grown.push(b"\xf8\x01");
     assert!(rt; grown.reserve((1 << 32) - 3, 0).is_err());
-    expect_atoms(&rt, alloc, &grown.finish()?, "f801")?;
-    Ok(())
+    expect_atoms(alloc, &grown.finish()?, "f801")
 }
 
 /// The atoms of a list from a place on, in a list of their own.
@@ -162,26 +189,26 @@ fn run_of(
 #[test]
 fn runs_of_lists(rt: HostRuntime) -> Result<(), Fail> {
     let alloc = rt.alloc();
-    let mut origin = list_of(&rt, alloc, "f800 0061 0062 -")?;
+    let mut origin = list_of(alloc, "f800 0061 0062 -")?;
     assert_eq!(rt; origin.room(), Some(10 + 2 * 4));
-    expect_atoms(&rt, alloc, &run_of(&rt, alloc, &origin, 1, 3)?, "0061 0062")?;
+    expect_atoms(alloc, &run_of(&rt, alloc, &origin, 1, 3)?, "0061 0062")?;
     cut(&rt, &mut origin, 2);
     assert_eq!(rt; origin.room(), Some(6 + 2 * 2 + 3));
-    expect_atoms(&rt, alloc, &run_of(&rt, alloc, &origin, 1, 3)?, "0061 -")
+    expect_atoms(alloc, &run_of(&rt, alloc, &origin, 1, 3)?, "0061 -")
 }
 
 #[test]
 fn lists_of_other_lists(rt: HostRuntime) -> Result<(), Fail> {
     let alloc = rt.alloc();
-    let mut origin = list_of(&rt, alloc, "f800 0061 0062 -")?;
+    let mut origin = list_of(alloc, "f800 0061 0062 -")?;
     let copy = origin.copy()?;
     cut(&rt, &mut origin, 2);
-    expect_atoms(&rt, alloc, &rest_of(alloc, &origin)?, "f800 0061 -")?;
+    expect_atoms(alloc, &rest_of(alloc, &origin)?, "f800 0061 -")?;
     drop(origin);
     let rest = rest_of(alloc, &copy)?;
     drop(copy);
     assert!(rt; rest.framed() == Some(b"\x02\xf8\x00\x02\0a\x02\0b\0"));
-    expect_atoms(&rt, alloc, &rest, "f800 0061 0062 -")
+    expect_atoms(alloc, &rest, "f800 0061 0062 -")
 }
 
 /// Contexts, how many atoms stand before their first marker, numbers of fields one in another, and whether the innermost
@@ -205,14 +232,19 @@ static ENDED: [(&str, usize, &[u64], bool); 11] = [
 /// A field that is open at level 0, a map below it, and another field.
 const NESTED: &str = "f800 0007 f161 e802 00 f162 f801 -";
 
+/// That so many atoms stand before the first marker of a context.
+fn expect_front_len(rt: &impl Abort, context: &Context, front: usize, atoms: &str) {
+    let marked = front < context.list().len();
+    assert_eq!(rt; context.front_len(), front, "{atoms}");
+    assert_eq!(rt; context.has_marker(), marked, "{atoms}");
+}
+
 #[test]
 fn ended_fields(rt: HostRuntime) -> Result<(), Fail> {
     let alloc = rt.alloc();
     for (atoms, front, numbers, ended) in &ENDED {
-        let context = context_of(&rt, alloc, atoms)?;
-        let marked = *front < context.list().len();
-        assert_eq!(rt; context.front_len(), *front, "{atoms}");
-        assert_eq!(rt; context.has_marker(), marked, "{atoms}");
+        let context = context_of(alloc, atoms)?;
+        expect_front_len(&rt, &context, *front, atoms);
         assert!(rt; numbers.len() <= 16);
         assert_eq!(rt; context.ended(numbers), *ended, "{atoms}");
     }
@@ -247,20 +279,24 @@ static PLACES: [(&str, usize, &[usize]); 12] = [
     ),
 ];
 
+/// That the headers around a place of a context stand at these places.
+fn expect_place(rt: &impl Abort, context: &Context, at: usize, around: &[usize], atoms: &str) {
+    let Some(place) = context.walk().nth(at) else {
+        panic!(rt; "no place at {at} of {atoms}");
+    };
+    assert_eq!(rt; place.at, at, "{atoms}");
+    assert_eq!(rt; usize::from(place.level), around.len(), "{at} of {atoms}");
+    for level in 0..16 {
+        let expected = around.get(level).copied().unwrap_or(0);
+        assert_eq!(rt; place.above[level], expected, "{at} of {atoms}");
+    }
+}
+
 #[test]
 fn places(rt: HostRuntime) -> Result<(), Fail> {
     let alloc = rt.alloc();
     for (atoms, at, around) in &PLACES {
-        let context = context_of(&rt, alloc, atoms)?;
-        let Some(place) = context.walk().nth(*at) else {
-            panic!(&rt; "no place at {at} of {atoms}");
-        };
-        assert_eq!(rt; place.at, *at, "{atoms}");
-        assert_eq!(rt; usize::from(place.level), around.len(), "{at} of {atoms}");
-        for level in 0..16 {
-            let expected = around.get(level).copied().unwrap_or(0);
-            assert_eq!(rt; place.above[level], expected, "{at} of {atoms}");
-        }
+        expect_place(&rt, &context_of(alloc, atoms)?, *at, around, atoms);
     }
     Ok(())
 }
@@ -291,19 +327,31 @@ static DROPS: [(&str, usize, usize, &str); 2] = [
     ("0001 0002 0003", 0, 2, "0002"),
 ];
 
+/// That this is left of a context without the data at two places, and that its copy stays whole.
+fn expect_dropped(
+    rt: &impl Abort,
+    alloc: Global,
+    atoms: &str,
+    places: (usize, usize),
+    left: &str,
+) -> Result<(), Fail> {
+    let (first, second) = places;
+    let mut context = context_of(alloc, atoms)?;
+    let copy = context.copy()?;
+    context.drop_data(&[]);
+    expect_atoms(alloc, context.list(), atoms)?;
+    drop_both(rt, &mut context, first, second);
+    expect_atoms(alloc, context.list(), left)?;
+    expect_atoms(alloc, &copy.into_list(), atoms)
+}
+
 #[test]
 fn data_that_go(rt: HostRuntime) -> Result<(), Fail> {
     let alloc = rt.alloc();
     for (atoms, first, second, left) in &DROPS {
-        let mut context = context_of(&rt, alloc, atoms)?;
-        let copy = context.copy()?;
-        context.drop_data(&[]);
-        expect_atoms(&rt, alloc, context.list(), atoms)?;
-        drop_both(&rt, &mut context, *first, *second);
-        expect_atoms(&rt, alloc, context.list(), left)?;
-        expect_atoms(&rt, alloc, &copy.into_list(), atoms)?;
+        expect_dropped(&rt, alloc, atoms, (*first, *second), left)?;
     }
-    expect_atoms(&rt, alloc, Context::empty(alloc).list(), "")
+    expect_atoms(alloc, Context::empty(alloc).list(), "")
 }
 
 /// Lists that are no contexts, what is first wrong with them, and at which place.
@@ -318,12 +366,12 @@ static REFUSED: [(&str, ShapeFault, usize); 4] = [
 fn lists_that_are_no_contexts(rt: HostRuntime) -> Result<(), Fail> {
     let alloc = rt.alloc();
     for (atoms, fault, at) in &REFUSED {
-        match Context::check(list_of(&rt, alloc, atoms)?) {
+        match Context::check(list_of(alloc, atoms)?) {
             Ok(_context) => panic!(&rt; "{atoms} is well formed"),
             Err((found, place, list)) => {
                 assert_eq!(rt; found, *fault, "{atoms}");
                 assert_eq!(rt; place, *at, "{atoms}");
-                expect_atoms(&rt, alloc, &list, atoms)?;
+                expect_atoms(alloc, &list, atoms)?;
             }
         }
     }

@@ -2,7 +2,6 @@
 
 ghost use Rattle.std.specs.Prelude.{◌<◌};
 
-use crate::atom_texts::{context_of, expect_atoms, list_of};
 use atom_list::{AtomList, Context};
 use fan_in::{merge_all, merge_alone};
 use lex_merge::{merge, merge_lists, merge_many};
@@ -12,6 +11,7 @@ use std::process::Abort;
 use std::sync::atomic::{AtomicUsize, Ordering};
 use std::test::Fail;
 use std::thread::Threads;
+use test_texts::{context_of, expect_atoms, list_of};
 
 /// Two lists that aren't contexts, and their merge.
 static LISTS: [(&str, &str, &str); 2] = [("62 61", "61", "61 62 61"), ("62 61", "62 61", "62 61")];
@@ -37,18 +37,30 @@ const FIVE: &str = "f805 f178 0001";
 
 const BOTH: &str = "f804 f178 0001 f805 f178 0001";
 
+/// That one list merged with another is this.
+fn expect_merged_lists(alloc: Global, one: &str, other: &str, both: &str) -> Result<(), Fail> {
+    let one = list_of(alloc, one)?;
+    let other = list_of(alloc, other)?;
+    expect_atoms(alloc, &merge_lists(alloc, &one, &other)?, both)
+}
+
+/// That one context merged with another is this.
+fn expect_merged(alloc: Global, one: &str, other: &str, both: &str) -> Result<(), Fail> {
+    let one = context_of(alloc, one)?;
+    let other = context_of(alloc, other)?;
+    expect_atoms(alloc, merge(alloc, &one, &other)?.list(), both)
+}
+
 #[test]
 fn merges_two(rt: HostRuntime) -> Result<(), Fail> {
     let alloc = rt.alloc();
     for (one, other, both) in &LISTS {
-        let (a, b) = (list_of(&rt, alloc, one)?, list_of(&rt, alloc, other)?);
-        expect_atoms(&rt, alloc, &merge_lists(alloc, &a, &b)?, both)?;
-        expect_atoms(&rt, alloc, &merge_lists(alloc, &b, &a)?, both)?;
+        expect_merged_lists(alloc, one, other, both)?;
+        expect_merged_lists(alloc, other, one, both)?;
     }
     for (one, other, both) in &CONTEXTS {
-        let (a, b) = (context_of(&rt, alloc, one)?, context_of(&rt, alloc, other)?);
-        expect_atoms(&rt, alloc, merge(alloc, &a, &b)?.list(), both)?;
-        expect_atoms(&rt, alloc, merge(alloc, &b, &a)?.list(), both)?;
+        expect_merged(alloc, one, other, both)?;
+        expect_merged(alloc, other, one, both)?;
     }
     Ok(())
 }
@@ -64,33 +76,47 @@ fn wide_list(alloc: Global, thirds: bool, evens: bool) -> Result<AtomList, Memor
     Ok(list)
 }
 
+/// The merge of two such lists.
+fn merged_wide_lists(alloc: Global) -> Result<AtomList, Memory> {
+    let thirds = wide_list(alloc, true, false)?;
+    let evens = wide_list(alloc, false, true)?;
+    merge_lists(alloc, &thirds, &evens)
+}
+
+/// That two lists have the same atoms at the same places.
+fn expect_same(rt: &impl Abort, list: &AtomList, other: &AtomList) {
+    assert_eq!(rt; list.len(), other.len());
+    for at in 0..other.len() {
+        assert!(rt; list.get(at) == other.get(at));
+    }
+}
+
 #[test]
 fn merges_wide_lists(rt: HostRuntime) -> Result<(), Fail> {
     let alloc = rt.alloc();
-    let thirds = wide_list(alloc, true, false)?;
-    let evens = wide_list(alloc, false, true)?;
-    let either = wide_list(alloc, true, true)?;
-    let merged = merge_lists(alloc, &thirds, &evens)?;
-    assert_eq!(rt; merged.len(), either.len());
-    for at in 0..either.len() {
-        assert!(rt; merged.get(at) == either.get(at));
-    }
+    let merged = merged_wide_lists(alloc)?;
+    expect_same(&rt, &merged, &wide_list(alloc, true, true)?);
     Ok(())
 }
 
 /// Contexts of a field each, in falling order.
 static FIELDS: [&str; 5] = ["f804", "f803", "f802", "f801", "f800"];
 
+/// A context for each of these texts.
+fn contexts_of(alloc: Global, texts: &[&'static str]) -> Result<Vec<Context>, Fail> {
+    let mut contexts = Vec::new(alloc);
+    for atoms in texts {
+        contexts.push(context_of(alloc, atoms)?)?;
+    }
+    Ok(contexts)
+}
+
 #[test]
 fn merges_many(rt: HostRuntime) -> Result<(), Fail> {
     let alloc = rt.alloc();
-    expect_atoms(&rt, alloc, merge_many(alloc, Vec::new(alloc))?.list(), "")?;
-    let mut contexts = Vec::new(alloc);
-    for atoms in &FIELDS {
-        contexts.push(context_of(&rt, alloc, atoms)?)?;
-    }
-    let merged = merge_many(alloc, contexts)?;
-    expect_atoms(&rt, alloc, merged.list(), "f800 f801 f802 f803 f804")
+    expect_atoms(alloc, merge_many(alloc, Vec::new(alloc))?.list(), "")?;
+    let merged = merge_many(alloc, contexts_of(alloc, &FIELDS)?)?;
+    expect_atoms(alloc, merged.list(), "f800 f801 f802 f803 f804")
 }
 
 /// That the merge of the contexts of a pool at some places has exactly these atoms, in threads and on one.
@@ -103,13 +129,9 @@ fn expect_merge<R: Threads + Abort + Sync, G: Gate>(
     atoms: &str,
 ) -> Result<(), Fail> {
     assert!(rt; places.iter().all(|place| *place < pool.len()));
-    expect_atoms(
-        rt,
-        alloc,
-        merge_all(rt, alloc, gate, pool, places)?.list(),
-        atoms,
-    )?;
-    expect_atoms(rt, alloc, merge_alone(alloc, pool, places)?.list(), atoms)
+    let merged = merge_all(rt, alloc, gate, pool, places)?;
+    expect_atoms(alloc, merged.list(), atoms)?;
+    expect_atoms(alloc, merge_alone(alloc, pool, places)?.list(), atoms)
 }
 
 /// Contexts that are merged at places.
@@ -145,10 +167,7 @@ fn in_turn(alloc: Global, count: usize, below: usize) -> Result<Vec<usize>, Memo
 #[test]
 fn merges_at_places(rt: HostRuntime) -> Result<(), Fail> {
     let alloc = rt.alloc();
-    let mut pool = Vec::new(alloc);
-    for atoms in &POOL {
-        pool.push(context_of(&rt, alloc, atoms)?)?;
-    }
+    let pool = contexts_of(alloc, &POOL)?;
     for (places, atoms) in &PLACES {
         expect_merge(&rt, alloc, &Open, &pool, places, atoms)?;
     }
@@ -177,30 +196,33 @@ impl Gate for CountingGate {
 /// Numbers of places, and how often each half of them passes the gate.
 static PASSES: [(usize, usize); 5] = [(0, 0), (1, 0), (2, 1), (63, 1), (64, 1)];
 
+/// That the merge of an empty context at so many places passes a gate.
+fn expect_empty_merge<R: Threads + Abort + Sync, G: Gate>(
+    rt: &R,
+    alloc: Global,
+    gate: &G,
+    count: usize,
+) -> Result<(), Fail> {
+    let mut pool = Vec::new(alloc);
+    pool.push(Context::empty(alloc))?;
+    expect_merge(rt, alloc, gate, &pool, &in_turn(alloc, count, 1)?, "")
+}
+
 #[test]
 fn halves_pass_the_gate(rt: HostRuntime) -> Result<(), Fail> {
     let alloc = rt.alloc();
-    let mut pool = Vec::new(alloc);
-    pool.push(Context::empty(alloc))?;
     for (count, passes) in &PASSES {
         let gate = CountingGate {
             first: AtomicUsize::new(0),
             second: AtomicUsize::new(0),
         };
-        expect_merge(&rt, alloc, &gate, &pool, &in_turn(alloc, *count, 1)?, "")?;
-        assert_eq!(rt;
-            gate.first.load(Ordering::SeqCst),
-            *passes,
-            "{count} places"
-        );
-        assert_eq!(rt;
-            gate.second.load(Ordering::SeqCst),
-            *passes,
-            "{count} places"
-        );
+        expect_empty_merge(&rt, alloc, &gate, *count)?;
+        let first = gate.first.load(Ordering::SeqCst);
+        let second = gate.second.load(Ordering::SeqCst);
+        assert_eq!(rt; (first, second), (*passes, *passes), "{count} places");
     }
     let meeting = MeetingGate::new(0, 1);
-    expect_merge(&rt, alloc, &meeting, &pool, &in_turn(alloc, 64, 1)?, "")?;
+    expect_empty_merge(&rt, alloc, &meeting, 64)?;
     assert!(rt; meeting.have_met());
     Ok(())
 }

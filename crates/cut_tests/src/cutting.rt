@@ -1,10 +1,12 @@
 //! Cuts to budgets of bytes in either form, and the contexts that a service sends on.
 
-use crate::atom_texts::{bytes_of, context_of, expect_atoms, expect_bytes, list_of};
 use atom_list::AtomList;
 use forwarding::forward;
 use overflow_trim::{kept, trim, trim_context, trimmed_copy};
+use std::alloc::Global;
+use std::process::Abort;
 use std::test::Fail;
+use test_texts::{bytes_of, context_of, expect_atoms, expect_bytes, list_of};
 use wire_bytes::{ByteCode, ContextFault, Form, write};
 
 /// A field and two data: with their lengths three bytes, six and six.
@@ -29,26 +31,54 @@ static CUTS: [(Form, u64, usize, &str); 15] = [
     (Form::Two, 27, 3, ATOMS),
 ];
 
+/// That so many atoms of a list stay under a budget.
+fn expect_kept(rt: &impl Abort, form: Form, list: &AtomList, budget: u64, keep: usize) {
+    assert!(rt; form.least_budget() <= budget);
+    assert_eq!(rt;
+        kept(form, list, budget),
+        keep,
+        "under {budget} in {form:?}"
+    );
+}
+
+/// That the list of the atoms is cut to a budget as this.
+fn expect_cut(
+    rt: &impl Abort,
+    alloc: Global,
+    form: Form,
+    budget: u64,
+    left: &str,
+) -> Result<(), Fail> {
+    assert!(rt; form.least_budget() <= budget);
+    let mut list = list_of(alloc, ATOMS)?;
+    trim(form, &mut list, budget);
+    expect_atoms(alloc, &list, left)
+}
+
+/// That the context of the atoms is cut to a budget as this, and that it stays whole where a copy is cut.
+fn expect_context_cut(
+    rt: &impl Abort,
+    alloc: Global,
+    form: Form,
+    budget: u64,
+    left: &str,
+) -> Result<(), Fail> {
+    assert!(rt; form.least_budget() <= budget);
+    let mut context = context_of(alloc, ATOMS)?;
+    let copy = trimmed_copy(form, &context, budget)?;
+    expect_atoms(alloc, context.list(), ATOMS)?;
+    trim_context(form, &mut context, budget);
+    expect_atoms(alloc, context.list(), left)?;
+    expect_atoms(alloc, copy.list(), left)
+}
+
 #[test]
 fn cuts_to_budgets(rt: HostRuntime) -> Result<(), Fail> {
     let alloc = rt.alloc();
     for (form, budget, keep, left) in &CUTS {
-        let (form, budget) = (*form, *budget);
-        assert!(rt; form.least_budget() <= budget);
-        let mut list = list_of(&rt, alloc, ATOMS)?;
-        assert_eq!(rt;
-            kept(form, &list, budget),
-            *keep,
-            "under {budget} in {form:?}"
-        );
-        trim(form, &mut list, budget);
-        expect_atoms(&rt, alloc, &list, left)?;
-        let mut context = context_of(&rt, alloc, ATOMS)?;
-        let copy = trimmed_copy(form, &context, budget)?;
-        expect_atoms(&rt, alloc, context.list(), ATOMS)?;
-        trim_context(form, &mut context, budget);
-        expect_atoms(&rt, alloc, context.list(), left)?;
-        expect_atoms(&rt, alloc, copy.list(), left)?;
+        expect_kept(&rt, *form, &list_of(alloc, ATOMS)?, *budget, *keep);
+        expect_cut(&rt, alloc, *form, *budget, left)?;
+        expect_context_cut(&rt, alloc, *form, *budget, left)?;
     }
     Ok(())
 }
@@ -74,17 +104,11 @@ fn cuts_of_wide_lists(rt: HostRuntime) -> Result<(), Fail> {
     list.push(&[0])?;
     list.push(&vec![in alloc; 0u8; 65_536]?)?;
     for (form, budget, keep) in &WIDE_CUTS {
-        let (form, budget) = (*form, *budget);
-        assert!(rt; form.least_budget() <= budget);
-        assert_eq!(rt;
-            kept(form, &list, budget),
-            *keep,
-            "under {budget} in {form:?}"
-        );
+        expect_kept(&rt, *form, &list, *budget, *keep);
     }
     trim(Form::One, &mut list, 65_552);
-    expect_atoms(&rt, alloc, &list, "00 -")?;
-    expect_bytes(&rt, alloc, &write(alloc, Form::One, &list)?, "010000")
+    expect_atoms(alloc, &list, "00 -")?;
+    expect_bytes(alloc, &write(alloc, Form::One, &list)?, "010000")
 }
 
 /// A form, two received contexts, a budget, and what is sent on.
@@ -120,6 +144,31 @@ const NINE: &str = "02f800050000000009";
 
 const BOTH: &str = "02f800050000000007050000000009";
 
+/// That the merge of two received contexts is sent on so.
+fn expect_sent(
+    rt: &impl Abort,
+    alloc: Global,
+    form: Form,
+    received: (&str, &str),
+    budget: u64,
+    sent: &str,
+) -> Result<(), Fail> {
+    let (first, second) = received;
+    let (first, second) = (bytes_of(alloc, first)?, bytes_of(alloc, second)?);
+    assert!(rt; form.least_budget() <= budget);
+    let found = forward(alloc, form, &first, &second, budget)?;
+    expect_bytes(alloc, &found, sent)
+}
+
+#[test]
+fn sends_on(rt: HostRuntime) -> Result<(), Fail> {
+    let alloc = rt.alloc();
+    for (form, first, second, budget, sent) in &SENT {
+        expect_sent(&rt, alloc, *form, (first, second), *budget, sent)?;
+    }
+    Ok(())
+}
+
 /// Two received byte strings of which one is no context at least, and the refusal.
 static REFUSED: [(&str, &str, usize, ByteCode); 4] = [
     ("02f800050000000007", "8000", 0, ByteCode::LongForm),
@@ -128,30 +177,31 @@ static REFUSED: [(&str, &str, usize, ByteCode); 4] = [
     ("00", "ffffff020000000000000001", 4, ByteCode::BadCount),
 ];
 
-#[test]
-fn sends_on(rt: HostRuntime) -> Result<(), Fail> {
-    let alloc = rt.alloc();
-    for (form, first, second, budget, sent) in &SENT {
-        let (form, budget) = (*form, *budget);
-        let (first, second) = (bytes_of(alloc, first)?, bytes_of(alloc, second)?);
-        assert!(rt; form.least_budget() <= budget);
-        expect_bytes(
-            &rt,
-            alloc,
-            &forward(alloc, form, &first, &second, budget)?,
-            sent,
-        )?;
+/// That nothing is sent on for a fault of what was received.
+fn expect_refused(
+    rt: &impl Abort,
+    alloc: Global,
+    received: (&str, &str),
+    fault: ContextFault,
+) -> Result<(), Fail> {
+    let (first, second) = received;
+    let (one, other) = (bytes_of(alloc, first)?, bytes_of(alloc, second)?);
+    match forward(alloc, Form::One, &one, &other, 14) {
+        Err(found) => assert_eq!(rt; found, fault, "{first} and {second}"),
+        Ok(_sent) => panic!(rt; "{first} and {second} are sent"),
     }
+    Ok(())
+}
+
+#[test]
+fn refuses_to_send(rt: HostRuntime) -> Result<(), Fail> {
+    let alloc = rt.alloc();
     for (first, second, offset, code) in &REFUSED {
         let fault = ContextFault::At {
             offset: *offset,
             code: *code,
         };
-        let (one, other) = (bytes_of(alloc, first)?, bytes_of(alloc, second)?);
-        match forward(alloc, Form::One, &one, &other, 14) {
-            Err(found) => assert_eq!(rt; found, fault, "{first} and {second}"),
-            Ok(_sent) => panic!(&rt; "{first} and {second} are sent"),
-        }
+        expect_refused(&rt, alloc, (first, second), fault)?;
     }
     Ok(())
 }
