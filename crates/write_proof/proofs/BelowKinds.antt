@@ -1,37 +1,18 @@
 -- What it takes for a value to say no more than another, kind by kind.
-use Rattle.std.proofs.Common.{◌≡◌, ◌≢◌, inl, inr, ℕ, ◌≤◌, max, List, Some, refl, sym, ap, ◌∙◌, subst, arith}
-use Rattle.std.specs.FinMap.{IsAntisymmetric}
+use Rattle.std.proofs.Common.{◌≡◌, inl, inr, ℕ, ◌≤◌, max, List, sym, ap, ◌∙◌, subst, arith}
 use Rattle.std.specs.Coded.{Coded, coded_ℕ, coded_list}
-use Rattle.std.specs.declared.cmp.Ordering.{Ordering}
-use Rattle.std.specs.declared.cmp.Ordering.TheVariants.{Less, Equal, Greater}
 use Rattle.context_model.specs.KeyedMerge.{IsAt}
-use Rattle.context_model.specs.Merge.{first_of}
-use Rattle.context_model.specs.Orders.{IsIn, atom_cmp, by_order}
+use Rattle.context_model.specs.Orders.{IsIn, atom_cmp}
 use Rattle.context_model.proofs.GreedyElements.{Rises-unique}
 use Rattle.context_model.proofs.OrderLaws.{atoms_total, atoms_anti}
-use Rattle.bag_model.specs.declared.Pick.{Pick}
 use Rattle.bag_model.specs.Joins.{join, join_values, IsValueBelow, Proper}
-use Rattle.bag_model.specs.Scalars.{ScalarKind, ScalarValue, scalar_cmp, pick_cmp}
+use Rattle.bag_model.specs.Scalars.{ScalarKind, ScalarValue, scalar_cmp}
 use Rattle.bag_model.specs.ValueCode.{scalar_code}
-use Rattle.bag_model.specs.Values.{Value, Entries, Values, Scalar, Set, Counter, Map, Bag, pairs, value}
+use Rattle.bag_model.specs.Values.{Value, Entries, Values, Set, Counter, Map, Bag, pairs, value}
 use Rattle.bag_model.proofs.JoinUnionLaws.{joins_are_unions}
 use Rattle.bag_model.proofs.PairLaws.{pairs-injective}
-use Rattle.bag_model.proofs.ScalarOrder.{scalar_total, scalar_exact, pick_exact}
+use Rattle.bag_model.proofs.ScalarOrder.{scalar_total, scalar_exact}
 use Rattle.write_proof.proofs.Keyed.{union_same, same_union}
-
--- ---- scalars
-
-first_kept : (R : ScalarValue → ScalarValue → Ordering) → IsAntisymmetric R → (v w : ScalarValue) → (R v w ≢ Less) → first_of R (Some v) (Some w) ≡ Some w
-first_kept R exact v w stays = by (R v w) refl
-  where
-    by : (r : Ordering) → R v w ≡ r → by_order r (Some v) (Some v) (Some w) ≡ Some w
-    by Less e = absurd (stays e)
-    by Equal e = ap Some (exact v w e)
-    by Greater e = refl
-
--- A scalar that doesn't stay over another says no more.
-pub scalar_below : (pick : Pick) (v w : ScalarValue) → (pick_cmp pick v w ≢ Less) → IsValueBelow (Scalar pick (Some v)) (Scalar pick (Some w))
-scalar_below pick v w stays = ap (Scalar pick) (first_kept (pick_cmp pick) (pick_exact pick) v w stays)
 
 -- ---- sets
 
@@ -97,23 +78,5 @@ module _ (es fs : Entries) (p : Proper (Map es)) (q : Proper (Map fs)) where
 
 -- ---- bags
 
-bag_one : (vs ws : Values) → Bag vs ≡ Bag ws → vs ≡ ws
-bag_one vs ws e = cc e
-
 pub bag_below : (vs ws : Values) → join_values vs ws ≡ ws → IsValueBelow (Bag vs) (Bag ws)
 bag_below vs ws e = ap Bag e
-
-pub bag_within : (vs ws : Values) → IsValueBelow (Bag vs) (Bag ws) → join_values vs ws ≡ ws
-bag_within vs ws e = bag_one (join_values vs ws) ws e
-
-first_one : (v w : Value) (vs ws : Values) → value v vs ≡ value w ws → v ≡ w
-first_one v w vs ws e = cc e
-
-others_one : (v w : Value) (vs ws : Values) → value v vs ≡ value w ws → vs ≡ ws
-others_one v w vs ws e = cc e
-
-pub values_first : (v w : Value) (vs ws : Values) → join_values (value v vs) (value w ws) ≡ value w ws → IsValueBelow v w
-values_first v w vs ws e = first_one (join v w) w (join_values vs ws) ws e
-
-pub values_behind : (v w : Value) (vs ws : Values) → join_values (value v vs) (value w ws) ≡ value w ws → join_values vs ws ≡ ws
-values_behind v w vs ws e = others_one (join v w) w (join_values vs ws) ws e
