@@ -44,7 +44,6 @@ ghost use Rattle.baggage_cli.specs.Top.{TellsFiles, TellsAll, InputGives, Comes,
 ghost use Rattle.baggage_cli.specs.Under.{SaysTyped};
 
 use crate::building::build;
-use crate::verifying::check_certificate;
 use crate::commands::{Command, command_of};
 use crate::comparing::compare;
 use crate::delivery::{deliver, notify, refuse};
@@ -52,6 +51,7 @@ use crate::filters::filter_source;
 use crate::loading::run_load;
 use crate::refusals::{InputFault, Notice, Refusal};
 use crate::under::read_under;
+use crate::verifying::check_certificate;
 use bdl_check::laws;
 use def_evolve::fitting_tables_are_safe;
 use graph_report::laws::lists_have_one_report;

@@ -15,8 +15,8 @@ ghost use Rattle.write_proof.specs.Reaching.{pairs_of};
 ghost use Rattle.write_proof.specs.Verdicts.{IsVerdictOf};
 
 use crate::joins::known;
-use crate::used::used_steps;
 use crate::reaching::{Reach, reaching_steps};
+use crate::used::used_steps;
 use crate::verdicts::Verified;
 use atom_list::Context;
 use bag_decode::decode_slot;
