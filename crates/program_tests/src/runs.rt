@@ -18,13 +18,6 @@ pub fn graph(alloc: Global, joined: &str) -> Result<String, Fail> {
     Ok(text)
 }
 
-/// The words of a table, the lines of a graph, and its report, of a text that holds them.
-fn parts(case: &str) -> Result<(&str, &str, &str), Fail> {
-    let (first, report) = case.split_once('\n').unwrap_or((case, ""));
-    let (words, joined) = first.split_once(" | ").ok_or("a graph")?;
-    Ok((words, joined, report))
-}
-
 /// Runs a graph under a definition.
 fn runs<R: Abort + Threads + Sync>(
     rt: &R,
@@ -38,7 +31,7 @@ fn runs<R: Abort + Threads + Sync>(
 }
 
 /// A file `t` with the printed table of a definition.
-fn printed(rt: &(impl Abort + Threads + Sync), alloc: Global, words: &str) -> Result<String, Fail> {
+fn printed<R: Abort + Threads + Sync>(rt: &R, alloc: Global, words: &str) -> Result<String, Fail> {
     let print = format!(in alloc; "table {words}")?;
     let table = output_of(rt, alloc, print.as_str(), "")?;
     Ok(format!(in alloc; "t|{}", str::from_utf8(table.as_slice())?)?)
@@ -46,7 +39,8 @@ fn printed(rt: &(impl Abort + Threads + Sync), alloc: Global, words: &str) -> Re
 
 /// Runs one graph with its report, under the definition and under its printed table.
 fn report_holds<R: Abort + Threads + Sync>(rt: &R, alloc: Global, case: &str) -> Result<(), Fail> {
-    let (words, joined, report) = parts(case)?;
+    let (first, report) = case.split_once('\n').unwrap_or((case, ""));
+    let (words, joined) = first.split_once(" | ").ok_or("a graph")?;
     let end = if report.is_empty() { "" } else { "\n" };
     let text = format!(in alloc; "{report}{end}")?;
     let input = graph(alloc, joined)?;
