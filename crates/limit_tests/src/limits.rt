@@ -251,7 +251,7 @@ static WIDE_VALUE: Long = (
     "\"}\nhops exact 0{}\ndebug exact off\nload exact {}\n",
 );
 
-/// Calls the program with these files and this input, and compares its answer_of, what it writes, and what it leaves of the input.
+/// Calls the program with these files and this input, and compares its answer, what it writes, and what it leaves of the input.
 fn holds<R: Abort + Threads + Sync>(
     rt: &R,
     alloc: Global,

@@ -6,7 +6,7 @@ use std::process::Abort;
 use std::test::Fail;
 use std::thread::Threads;
 
-/// A call: its words, its input, the status that the program must answer_of, and what it must write: to the output with status 0,
+/// A call: its words, its input, the status that the program must answer, and what it must write: to the output with status 0,
 /// and to the errors otherwise. Nothing may stand on the other one.
 pub type Row = (&'static str, &'static str, u8, &'static str);
 
