@@ -9,6 +9,7 @@
 #![tactic(auto)]
 
 mod copies;
+mod in_place;
 mod joins;
 pub mod laws;
 mod lists;
