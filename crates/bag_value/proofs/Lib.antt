@@ -3,3 +3,4 @@ pub mod ListLaws
 pub mod Unions
 pub mod Joining
 mod Searching
+mod Placing

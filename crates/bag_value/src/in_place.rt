@@ -1,21 +1,25 @@
 //! Joins of values in place: what the other says is joined to what is there, and nothing else is copied. All that wants
 //! memory is done before the first change, so that want of memory leaves what is there unchanged.
 
-ghost use Rattle.std.specs.Prelude.{◌≡◌, OnOk, OnErr};
+ghost use Rattle.std.specs.Prelude.{◌≡◌, length, IfOk, OnOk, OnErr};
 ghost use Rattle.std.specs.Option.{option_map};
 ghost use Rattle.context_model.specs.Merge.{first_of};
-ghost use Rattle.bag_model.specs.Joins.{Alike, join};
+ghost use Rattle.bag_model.specs.Joins.{Alike, AreAlike, AreProper, join, join_values};
 ghost use Rattle.bag_model.specs.Scalars.{pick_cmp};
 ghost use Rattle.scalar_types.specs.KindViews.{kind_of};
 ghost use Rattle.scalar_types.specs.Scalars.{value_of};
-ghost use Rattle.bag_value.specs.Vals.{plain};
+ghost use Rattle.bag_value.specs.InPlace.{AreForFields, with_news};
+ghost use Rattle.bag_value.specs.Vals.{plain, plain_values};
 
 use crate::joins::{copied_scalar, theirs_stays};
+use crate::lists::Vals;
 use crate::vals::{ScalarSet, Val};
 use bag_model::Pick;
 use counter_type::Lattice;
 use outside::Memory;
 use scalar_types::Scalar;
+use std::alloc::Global;
+use std::collections::VecDeque;
 
 impl Val {
     /// Joins the other value to this one. Want of memory leaves this one unchanged.
@@ -40,13 +44,52 @@ impl Val {
                 *ours = joined;
                 Ok(())
             }
-            (Val::Bag(ours), Val::Bag(theirs)) => {
-                let joined = ours.joined(theirs)?;
-                *ours = joined;
-                Ok(())
-            }
+            (Val::Bag(ours), Val::Bag(theirs)) => ours.join_in_place(theirs),
             _ => unreachable!(),
         }
+    }
+}
+
+impl Vals {
+    /// Joins the other values to these, field by field. Want of memory leaves these unchanged.
+    fn join_in_place(&mut self, other: &Vals) -> Result<(), Memory>
+        requires { AreAlike self.old other.now }
+        ensures ok { OnOk result (self.new ≡ join_values self.old other.now) }
+        ensures err { OnErr result (self.new ≡ self.old) }
+    {
+        let alloc = *self.items.allocator();
+        let news = brought(alloc, self.items.as_slice(), other.items.as_slice())?;
+        put_in_place(&mut self.items, VecDeque::from(news));
+        Ok(())
+    }
+}
+
+/// The joins of the fields of which theirs say something, each with its field.
+fn brought(alloc: Global, ours: &[Val], theirs: &[Val]) -> Result<Vec<(usize, Val)>, Memory>
+    requires ours { AreProper (plain_values ours.now) }
+    requires theirs { AreProper (plain_values theirs.now) }
+    requires alike { AreAlike (plain_values ours.now) (plain_values theirs.now) }
+    ensures fields { IfOk result (λ news. AreForFields (length ours.now) news.items) }
+    ensures joined { IfOk result (λ news. plain_values (with_news ours.now news.items) ≡ join_values (plain_values ours.now) (plain_values theirs.now)) }
+{
+    let mut news = Vec::new(alloc);
+    for at in 0..ours.len() {
+        let our = &ours[at];
+        let their = &theirs[at];
+        if !their.says_nothing() {
+            news.push((at, our.joined(their)?))?;
+        }
+    }
+    Ok(news)
+}
+
+/// Puts each of the news in place of the value at its field. It takes no memory.
+fn put_in_place(values: &mut Vec<Val>, mut news: VecDeque<(usize, Val)>)
+    requires { AreForFields (length values.old.items) news.items }
+    ensures { values.new.items ≡ with_news values.old.items news.items }
+{
+    while let Some((at, value)) = news.pop_front() {
+        values[at] = value;
     }
 }
 
