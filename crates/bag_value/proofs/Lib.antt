@@ -4,3 +4,4 @@ pub mod Unions
 pub mod Joining
 mod Searching
 mod Placing
+mod Merging

@@ -39,11 +39,7 @@ impl Val {
             }
             (Val::Set(ours), Val::Set(theirs)) => join_set(ours, theirs),
             (Val::Counter(ours), Val::Counter(theirs)) => ours.join(theirs),
-            (Val::Map(ours), Val::Map(theirs)) => {
-                let joined = ours.joined(theirs)?;
-                *ours = joined;
-                Ok(())
-            }
+            (Val::Map(ours), Val::Map(theirs)) => ours.join_in_place(theirs),
             (Val::Bag(ours), Val::Bag(theirs)) => ours.join_in_place(theirs),
             _ => unreachable!(),
         }

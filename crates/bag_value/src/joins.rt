@@ -101,7 +101,7 @@ impl Vals {
 }
 
 /// Adds copies of the entries at the end.
-fn append(into: &mut Vec<Entry>, entries: &[Entry]) -> Result<(), Memory>
+pub(crate) fn append(into: &mut Vec<Entry>, entries: &[Entry]) -> Result<(), Memory>
     ensures { OnOk result (into.new.items ≡ into.old.items ++ entries.now) }
 {
     for entry in entries {

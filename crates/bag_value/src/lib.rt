@@ -13,6 +13,8 @@ mod in_place;
 mod joins;
 pub mod laws;
 mod lists;
+mod merges;
+mod moves;
 mod sharing;
 mod vals;
 
