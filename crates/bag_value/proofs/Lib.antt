@@ -3,3 +3,5 @@ pub mod ListLaws
 pub mod Unions
 pub mod Joining
 mod Searching
+mod Placing
+mod Merging

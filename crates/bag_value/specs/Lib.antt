@@ -1,3 +1,4 @@
 pub mod Vals
 pub mod Lists
 pub mod ValLaws
+pub mod InPlace

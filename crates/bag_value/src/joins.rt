@@ -1,6 +1,6 @@
 //! Joins of values, built from copies, so that want of memory leaves what is joined unchanged.
 
-ghost use Rattle.std.specs.Prelude.{◌≡◌, ◌++◌, IfOk, OnOk};
+ghost use Rattle.std.specs.Prelude.{◌≡◌, ◌++◌, true, false, IfOk, OnOk};
 ghost use Rattle.std.specs.Option.{option_map};
 ghost use Rattle.context_model.specs.Merge.{first_of};
 ghost use Rattle.bag_model.specs.Joins.{Alike, AlikeEntries, AreAlike, join, join_entries, join_values};
@@ -9,6 +9,7 @@ ghost use Rattle.scalar_types.specs.KindViews.{kind_of};
 ghost use Rattle.scalar_types.specs.Scalars.{value_of};
 ghost use Rattle.bag_value.specs.Vals.{plain};
 
+use crate::in_place::join_set;
 use crate::lists::{Entries, Entry, Vals};
 use crate::vals::{ScalarSet, Val};
 use bag_model::Pick;
@@ -46,7 +47,7 @@ impl Val {
 impl Entries {
     /// The keys of both, and at a common key the join of its values.
     #[cycle(join)]
-    fn joined(&self, other: &Entries) -> Result<Entries, Memory>
+    pub(crate) fn joined(&self, other: &Entries) -> Result<Entries, Memory>
         requires { AlikeEntries self.now other.now }
         ensures { IfOk result (λ joined. joined ≡ join_entries self.now other.now) }
     {
@@ -85,7 +86,7 @@ impl Entries {
 impl Vals {
     /// The joins of both, field by field.
     #[cycle(join)]
-    fn joined(&self, other: &Vals) -> Result<Vals, Memory>
+    pub(crate) fn joined(&self, other: &Vals) -> Result<Vals, Memory>
         requires { AreAlike self.now other.now }
         ensures { IfOk result (λ joined. joined ≡ join_values self.now other.now) }
     {
@@ -100,7 +101,7 @@ impl Vals {
 }
 
 /// Adds copies of the entries at the end.
-fn append(into: &mut Vec<Entry>, entries: &[Entry]) -> Result<(), Memory>
+pub(crate) fn append(into: &mut Vec<Entry>, entries: &[Entry]) -> Result<(), Memory>
     ensures { OnOk result (into.new.items ≡ into.old.items ++ entries.now) }
 {
     for entry in entries {
@@ -117,15 +118,37 @@ fn scalar_that_stays(
 ) -> Result<Option<Scalar>, Memory>
     ensures { IfOk result (λ stays. option_map value_of stays ≡ first_of (pick_cmp pick) (option_map value_of ours.now) (option_map value_of theirs.now)) }
 {
+    if theirs_stays(pick, ours, theirs) {
+        copied_scalar(theirs)
+    } else {
+        copied_scalar(ours)
+    }
+}
+
+/// Whether of the scalars that are there theirs is the one that stays, and not ours.
+pub(crate) fn theirs_stays(pick: Pick, ours: &Option<Scalar>, theirs: &Option<Scalar>) -> bool
+    ensures theirs { (result ≡ true) → (option_map value_of theirs.now ≡ first_of (pick_cmp pick) (option_map value_of ours.now) (option_map value_of theirs.now)) }
+    ensures ours { (result ≡ false) → (option_map value_of ours.now ≡ first_of (pick_cmp pick) (option_map value_of ours.now) (option_map value_of theirs.now)) }
+{
     match (ours, theirs) {
-        (None, None) => Ok(None),
-        (Some(our), None) => Ok(Some(our.copy()?)),
-        (None, Some(their)) => Ok(Some(their.copy()?)),
+        (None, None) => false,
+        (Some(_), None) => false,
+        (None, Some(_)) => true,
         (Some(our), Some(their)) => match order_by(pick, our, their) {
-            Ordering::Less => Ok(Some(our.copy()?)),
-            Ordering::Equal => Ok(Some(our.copy()?)),
-            Ordering::Greater => Ok(Some(their.copy()?)),
+            Ordering::Less => false,
+            Ordering::Equal => false,
+            Ordering::Greater => true,
         },
+    }
+}
+
+/// The same scalar again, where there is one.
+pub(crate) fn copied_scalar(scalar: &Option<Scalar>) -> Result<Option<Scalar>, Memory>
+    ensures { IfOk result (λ copied. copied ≡ scalar.now) }
+{
+    match scalar {
+        None => Ok(None),
+        Some(scalar) => Ok(Some(scalar.copy()?)),
     }
 }
 
@@ -144,11 +167,8 @@ fn union_of(ours: &ScalarSet, theirs: &ScalarSet) -> Result<ScalarSet, Memory>
     requires { kind_of ours.now.codec ≡ kind_of theirs.now.codec }
     ensures { IfOk result (λ union. plain (Val.Set union) ≡ join (plain (Val.Set ours.now)) (plain (Val.Set theirs.now))) }
 {
-    // These tell the proof that the elements are in order.
-    let _ = ours.is_bottom();
-    let _ = theirs.is_bottom();
     let mut union = ours.copy()?;
-    union.join(theirs)?;
+    join_set(&mut union, theirs)?;
     Ok(union)
 }
 

@@ -9,9 +9,12 @@
 #![tactic(auto)]
 
 mod copies;
+mod in_place;
 mod joins;
 pub mod laws;
 mod lists;
+mod merges;
+mod moves;
 mod sharing;
 mod vals;
 

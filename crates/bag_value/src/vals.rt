@@ -90,8 +90,7 @@ impl Lattice for Val {
     ghost laws = { val_laws };
 
     fn join(&mut self, other: &Val) -> Result<(), Memory> {
-        let joined = self.joined(other)?;
-        *self = joined;
+        self.join_in_place(other)?;
         Ok(())
     }
 
