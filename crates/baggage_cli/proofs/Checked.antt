@@ -6,7 +6,7 @@ use Rattle.bag_model.specs.Shapes.{Nodes}
 use Rattle.bdl_load.specs.Loading.{Holding}
 use Rattle.baggage_cli.specs.declared.refusals.Refusal.{Refusal}
 use Rattle.baggage_cli.specs.Verifying.{BringsAndChecks, Checks}
-use Rattle.baggage_cli.specs.Commands.{Origin}
+use Rattle.command_line.specs.Commands.{Origin}
 use Rattle.baggage_cli.specs.Outcomes.{outcome_of}
 use Rattle.baggage_cli.specs.Scene.{Change, IsSame}
 use Rattle.baggage_cli.specs.Tables.{Obtains, Brings}

@@ -7,7 +7,7 @@ use Rattle.bdl_load.specs.Loading.{Holding}
 use Rattle.baggage_cli.specs.declared.refusals.Notice.TheVariants.{Memory}
 use Rattle.baggage_cli.specs.declared.refusals.Refusal.{Refusal}
 use Rattle.baggage_cli.specs.declared.refusals.Refusal.TheVariants.{Plain}
-use Rattle.baggage_cli.specs.Commands.{Origin}
+use Rattle.command_line.specs.Commands.{Origin}
 use Rattle.baggage_cli.specs.Comparing.{ComparesTables, Compares}
 use Rattle.baggage_cli.specs.Outcomes.{outcome_of}
 use Rattle.baggage_cli.specs.Scene.{Change, Halfway, until, since}

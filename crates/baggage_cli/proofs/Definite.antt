@@ -31,7 +31,7 @@ use Rattle.text_lines.specs.Lines.{Line, lines_of}
 use Rattle.text_lines.specs.Readings.{Reading, IsDefinite, AllSay, IsFirstBad}
 use Rattle.text_lines.proofs.HexLaws.{hex_lines_definite}
 use Rattle.text_lines.proofs.ReadingLaws.{all_say_one, first_bad_one, good_not_bad, none_bad, at_most_definite}
-use Rattle.baggage_cli.specs.Commands.{Origin, Form, as_lines, as_json, Purpose, decoding, running, explaining, Filter, trimming, merging, carrying, collecting, Task, alone, load, build, under, compare, checking}
+use Rattle.command_line.specs.Commands.{Origin, Form, as_lines, as_json, Purpose, decoding, running, explaining, Filter, trimming, merging, carrying, collecting, Task, alone, load, build, under, compare, checking}
 use Rattle.baggage_cli.specs.declared.merging.TheConstants.{LINES_MAX}
 use Rattle.baggage_cli.specs.declared.refusals.InputCode.TheVariants.{Form as Excess, TooManyLines}
 use Rattle.baggage_cli.specs.declared.refusals.InputFault.{InputFault}

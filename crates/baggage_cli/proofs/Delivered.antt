@@ -1,7 +1,7 @@
 -- How a refusal is delivered.
 use Rattle.std.proofs.Common.{inl, inr, ℕ, List, Some, Err, refl}
 use Rattle.bdl_load.specs.Loading.{Holding}
-use Rattle.baggage_cli.specs.Commands.{Task, alone, load, build, under, compare, checking}
+use Rattle.command_line.specs.Commands.{Task, alone, load, build, under, compare, checking}
 use Rattle.baggage_cli.specs.declared.refusals.Notice.TheVariants.{Memory}
 use Rattle.baggage_cli.specs.declared.refusals.Refusal.{Refusal}
 use Rattle.baggage_cli.specs.declared.refusals.Refusal.TheVariants.{Input, Definition, Table, Plain}

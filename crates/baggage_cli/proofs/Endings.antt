@@ -16,7 +16,7 @@ use Rattle.baggage_cli.specs.declared.refusals.Refusal.TheVariants.{Input, Plain
 use Rattle.baggage_cli.specs.Building.{product_text}
 use Rattle.baggage_cli.specs.Verifying.{VerdictUnder, BringsAndChecks}
 use Rattle.baggage_cli.specs.Comparing.{ComparesTables}
-use Rattle.baggage_cli.specs.Commands.{Origin, compiled, printed, Product, decoding, running, explaining, Filter, trimming, merging, carrying, collecting, Task, alone, load, build, under, compare, checking, ReadsSource, FetchesFiles}
+use Rattle.command_line.specs.Commands.{Origin, compiled, printed, Product, decoding, running, explaining, Filter, trimming, merging, carrying, collecting, Task, alone, load, build, under, compare, checking, ReadsSource, FetchesFiles}
 use Rattle.baggage_cli.specs.Delivery.{Delivers}
 use Rattle.baggage_cli.specs.Explaining.{IsUnexplained}
 use Rattle.baggage_cli.specs.Filters.{FiltersLines, FilterGives}

@@ -32,7 +32,7 @@ use Rattle.write_proof.specs.declared.verdicts.Verified.{Verified}
 use Rattle.baggage_cli.specs.Building.{product_text}
 use Rattle.baggage_cli.specs.Carrying.{byte_lines}
 use Rattle.baggage_cli.specs.Collecting.{CollectsLines}
-use Rattle.baggage_cli.specs.Commands.{Origin, compiled, Product, Form, as_json, Purpose, decoding, running, explaining, trimming, carrying, Task, alone, trim, merge, carry, collect, load, build, under, compare, checking, decode, run_json, evolve, why, verify, ReadsSource, FetchesFiles}
+use Rattle.command_line.specs.Commands.{Origin, compiled, Product, Form, as_json, Purpose, decoding, running, explaining, trimming, carrying, Task, alone, trim, merge, carry, collect, load, build, under, compare, checking, decode, run_json, evolve, why, verify, ReadsSource, FetchesFiles}
 use Rattle.baggage_cli.specs.Verifying.{verified_line, IsVerified, ChecksLines, VerdictUnder, TruthWhereYes}
 use Rattle.baggage_cli.specs.Explaining.{IsExplainedAt, IsExplained, ExplainsLines}
 use Rattle.baggage_cli.specs.Comparing.{verdict_line, SafeWhereItFits}

@@ -1,4 +1,3 @@
-pub mod Numbers
 pub mod Inputs
 pub mod OnlyLines
 pub mod ContextLines
@@ -11,7 +10,6 @@ pub mod Obtained
 pub mod TableLaws
 pub mod Brought
 pub mod Printed
-pub mod FewWords
 pub mod HexLengths
 pub mod Delivered
 pub mod Definite

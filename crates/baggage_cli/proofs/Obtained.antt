@@ -12,7 +12,7 @@ use Rattle.bdl_check.specs.Compiler.{IsFirstFaultOf}
 use Rattle.baggage_cli.specs.declared.refusals.Notice.TheVariants.{LibraryFailed, Memory}
 use Rattle.baggage_cli.specs.declared.refusals.Refusal.{Refusal}
 use Rattle.baggage_cli.specs.declared.refusals.Refusal.TheVariants.{Plain}
-use Rattle.baggage_cli.specs.Commands.{Origin, compiled, printed}
+use Rattle.command_line.specs.Commands.{Origin, compiled, printed}
 use Rattle.baggage_cli.specs.Outcomes.{Outcome, outcome_of, Then}
 use Rattle.baggage_cli.specs.Refusals.{refusal_of}
 use Rattle.baggage_cli.specs.Scene.{Change, NeverFell, HasFailed}

@@ -7,7 +7,7 @@ use Rattle.bdl_load.specs.Loading.{Holding}
 use Rattle.baggage_cli.specs.declared.refusals.Notice.TheVariants.{LibraryFailed, Memory}
 use Rattle.baggage_cli.specs.declared.refusals.Refusal.{Refusal}
 use Rattle.baggage_cli.specs.declared.refusals.Refusal.TheVariants.{Plain}
-use Rattle.baggage_cli.specs.Commands.{printed}
+use Rattle.command_line.specs.Commands.{printed}
 use Rattle.baggage_cli.specs.Outcomes.{Outcome}
 use Rattle.baggage_cli.specs.Scene.{Change}
 use Rattle.baggage_cli.specs.Tables.{IsUntaken, IsUnprinted, PrintedGives, TableGives, Obtains, Brings}

@@ -7,7 +7,7 @@ use Rattle.bdl_lexer.specs.declared.TheConstants.{MAX_SOURCE}
 use Rattle.bdl_load.specs.Loading.{Holding, OfLibrary}
 use Rattle.baggage_cli.specs.declared.refusals.Refusal.{Refusal}
 use Rattle.baggage_cli.specs.Building.{product_text}
-use Rattle.baggage_cli.specs.Commands.{Origin, Task, alone, load, build, under, compare, checking}
+use Rattle.command_line.specs.Commands.{Origin, Task, alone, load, build, under, compare, checking}
 use Rattle.baggage_cli.specs.Comparing.{IsVerdictLine}
 use Rattle.baggage_cli.specs.Laws.{Laws}
 use Rattle.baggage_cli.specs.Outcomes.{Outcome}

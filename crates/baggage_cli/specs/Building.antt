@@ -5,7 +5,7 @@ use Rattle.bag_model.specs.Shapes.{Nodes}
 use Rattle.bag_model.specs.Slots.{slots_of}
 use Rattle.bdl_load.specs.Loading.{Holding}
 use Rattle.table_text.specs.TableTexts.{table_text}
-use Rattle.baggage_cli.specs.Commands.{Origin, Product, slot_line, whole_text}
+use Rattle.command_line.specs.Commands.{Origin, Product, slot_line, whole_text}
 use Rattle.baggage_cli.specs.Outcomes.{Outcome, Builds, Then}
 use Rattle.baggage_cli.specs.Scene.{Change}
 use Rattle.baggage_cli.specs.Tables.{Obtains}

@@ -5,7 +5,7 @@ use Rattle.def_evolve.specs.Evolution.{IsSafe}
 use Rattle.def_evolve.specs.Verdicts.{IsVerdict, verdict_text}
 use Rattle.def_evolve.specs.declared.verdicts.Verdict.{Verdict}
 use Rattle.def_evolve.specs.declared.verdicts.Verdict.TheVariants.{Fits}
-use Rattle.baggage_cli.specs.Commands.{Origin}
+use Rattle.command_line.specs.Commands.{Origin}
 use Rattle.baggage_cli.specs.Outcomes.{Outcome, OrMemory, Use, Then, ThenUses}
 use Rattle.baggage_cli.specs.Tables.{Obtains}
 

@@ -1,7 +1,7 @@
 -- What an input comes to by itself.
 use Rattle.std.specs.Prelude.{ℕ, List}
 use Rattle.text_lines.specs.Lines.{Line}
-use Rattle.baggage_cli.specs.Commands.{Filter, trimming, merging, carrying, collecting}
+use Rattle.command_line.specs.Commands.{Filter, trimming, merging, carrying, collecting}
 use Rattle.baggage_cli.specs.Carrying.{CarriesLines}
 use Rattle.baggage_cli.specs.Collecting.{CollectsLines}
 use Rattle.baggage_cli.specs.Merging.{MergesLines}

@@ -1,4 +1,3 @@
-pub mod Commands
 pub mod Refusals
 pub mod Scene
 pub mod Outcomes

@@ -4,7 +4,7 @@ use Rattle.std.specs.Fmt.{decimal}
 use Rattle.trace_model.specs.Graphs.{Graph}
 use Rattle.graph_text.specs.Reading.{IsGraphOf}
 use Rattle.load_maker.specs.Loads.{load_table, load_text}
-use Rattle.baggage_cli.specs.Commands.{as_lines}
+use Rattle.command_line.specs.Commands.{as_lines}
 use Rattle.baggage_cli.specs.Outcomes.{Outcome, OrMemory}
 use Rattle.baggage_cli.specs.Running.{IsRunReport}
 

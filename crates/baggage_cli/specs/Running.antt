@@ -16,7 +16,7 @@ use Rattle.graph_text.specs.declared.faults.LineFault.{LineFault}
 use Rattle.graph_text.specs.declared.faults.LineFault.TheVariants as lines
 use Rattle.baggage_cli.specs.declared.refusals.InputFault.{InputFault}
 use Rattle.baggage_cli.specs.declared.refusals.InputFault.TheVariants as inputs
-use Rattle.baggage_cli.specs.Commands.{Form, as_lines, as_json}
+use Rattle.command_line.specs.Commands.{Form, as_lines, as_json}
 use Rattle.baggage_cli.specs.Outcomes.{Outcome}
 use Rattle.baggage_cli.specs.Reading.{ReadsLines}
 

@@ -13,7 +13,7 @@ use Rattle.table_text.specs.TableTexts.{table_text}
 use Rattle.baggage_cli.specs.declared.refusals.Notice.TheVariants.{LibraryFailed, Memory}
 use Rattle.baggage_cli.specs.declared.refusals.Refusal.{Refusal}
 use Rattle.baggage_cli.specs.declared.refusals.Refusal.TheVariants.{Definition, Table, Plain}
-use Rattle.baggage_cli.specs.Commands.{Origin, compiled, printed}
+use Rattle.command_line.specs.Commands.{Origin, compiled, printed}
 use Rattle.baggage_cli.specs.Outcomes.{Use}
 use Rattle.baggage_cli.specs.Refusals.{blamed}
 use Rattle.baggage_cli.specs.Scene.{Change, NeverFell, HasFailed}

@@ -13,7 +13,7 @@ use Rattle.text_carrier.specs.Collecting.{Collects}
 use Rattle.baggage_cli.specs.Carrying.{AreOfContext, byte_lines}
 use Rattle.baggage_cli.specs.Verifying.{VerdictUnder, Checks}
 use Rattle.baggage_cli.specs.Comparing.{Compares}
-use Rattle.baggage_cli.specs.Commands.{Task, Origin, ReadsSource, FetchesFiles, alone, load, build, under, compare, checking}
+use Rattle.command_line.specs.Commands.{Task, Origin, ReadsSource, FetchesFiles, alone, load, build, under, compare, checking}
 use Rattle.baggage_cli.specs.Delivery.{Notifies, Delivers}
 use Rattle.baggage_cli.specs.Filters.{FilterGives}
 use Rattle.baggage_cli.specs.Loading.{LoadGives}

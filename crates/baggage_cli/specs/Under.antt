@@ -5,7 +5,7 @@ use Rattle.bdl_load.specs.Loading.{Holding}
 use Rattle.text_lines.specs.declared.TheConstants.{INPUT_MAX}
 use Rattle.text_lines.specs.Lines.{Line, lines_of}
 use Rattle.text_lines.specs.Readings.{AllSay}
-use Rattle.baggage_cli.specs.Commands.{Origin, Purpose, decoding, running, explaining}
+use Rattle.command_line.specs.Commands.{Origin, Purpose, decoding, running, explaining}
 use Rattle.baggage_cli.specs.Decoding.{DecodesLines}
 use Rattle.baggage_cli.specs.Explaining.{ExplainsLines}
 use Rattle.baggage_cli.specs.Outcomes.{Outcome, Then}

@@ -9,7 +9,7 @@ use Rattle.write_proof.specs.CodeNames.{code_name}
 use Rattle.write_proof.specs.Verdicts.{IsVerdictOf, TellsTruth}
 use Rattle.write_proof.specs.declared.verdicts.Verified.{Verified}
 use Rattle.write_proof.specs.declared.verdicts.Verified.TheVariants.{Yes, No}
-use Rattle.baggage_cli.specs.Commands.{Origin}
+use Rattle.command_line.specs.Commands.{Origin}
 use Rattle.baggage_cli.specs.Outcomes.{Outcome, Then, ThenUses}
 use Rattle.baggage_cli.specs.Reading.{ReadsAll, Within}
 use Rattle.baggage_cli.specs.Running.{GraphGives}

@@ -2,13 +2,13 @@
 
 ghost use Rattle.std.specs.Prelude.{◌≡◌, IfOk};
 ghost use Rattle.baggage_cli.specs.Building as spec;
-ghost use Rattle.baggage_cli.specs.Commands.{origin_of, product_of};
+ghost use Rattle.command_line.specs.Commands.{origin_of, product_of};
 ghost use Rattle.baggage_cli.specs.Outcomes.{outcome_of};
 ghost use Rattle.baggage_cli.specs.Scene.{change};
 
-use crate::commands::{Origin, Product};
 use crate::refusals::Refusal;
 use crate::tables::obtain;
+use command_line::{Origin, Product};
 use field_table::Table;
 use outside::{Library, Memory};
 use std::alloc::Global;

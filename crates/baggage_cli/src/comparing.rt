@@ -1,15 +1,15 @@
 //! The command that compares two tables.
 
 ghost use Rattle.std.specs.Prelude.{◌≡◌, IfOk};
-ghost use Rattle.baggage_cli.specs.Commands.{origin_of};
+ghost use Rattle.command_line.specs.Commands.{origin_of};
 ghost use Rattle.baggage_cli.specs.Comparing as spec;
 ghost use Rattle.baggage_cli.specs.Comparing.{IsVerdictLine, Compares};
 ghost use Rattle.baggage_cli.specs.Outcomes.{outcome_of};
 ghost use Rattle.baggage_cli.specs.Scene.{change};
 
-use crate::commands::Origin;
 use crate::refusals::Refusal;
 use crate::tables::obtain;
+use command_line::Origin;
 use def_evolve::{Verdict, evolve};
 use field_table::Table;
 use outside::{Library, Memory};

@@ -1,7 +1,7 @@
 //! The commands that make something of an input by itself.
 
 ghost use Rattle.text_lines.specs.Lines.{lines_of};
-ghost use Rattle.baggage_cli.specs.Commands.{HasWidth, filter_of};
+ghost use Rattle.command_line.specs.Commands.{HasWidth, filter_of};
 ghost use Rattle.baggage_cli.specs.Filters.{FiltersLines, FilterGives};
 ghost use Rattle.baggage_cli.specs.Outcomes.{outcome_of, OrMemory};
 ghost use Rattle.baggage_cli.specs.Reading.{ReadsAll};
@@ -9,11 +9,11 @@ ghost use Rattle.baggage_cli.specs.Scene.{change};
 
 use crate::carrying::carried_lines;
 use crate::collecting::collected_line;
-use crate::commands::Filter;
 use crate::merging::merged_line;
 use crate::reading::read_input;
 use crate::refusals::Refusal;
 use crate::trimming::trimmed_line;
+use command_line::Filter;
 use outside::Source;
 use std::alloc::Global;
 

@@ -4,7 +4,6 @@
 mod building;
 mod carrying;
 mod collecting;
-mod commands;
 mod comparing;
 mod decoding;
 mod delivery;

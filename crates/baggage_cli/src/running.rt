@@ -4,13 +4,13 @@ ghost use Rattle.std.specs.Prelude.{◌≡◌, ◌<◌, ℕ, length, IfOk};
 ghost use Rattle.text_lines.specs.Lines.{lines_of};
 ghost use Rattle.trace_model.specs.Graphs.{IsTypedContext};
 ghost use Rattle.trace_model.specs.Runs.{list_at};
-ghost use Rattle.baggage_cli.specs.Commands.{form_of};
+ghost use Rattle.command_line.specs.Commands.{form_of};
 ghost use Rattle.baggage_cli.specs.Outcomes.{outcome_of, OrMemory};
 ghost use Rattle.baggage_cli.specs.Running.{IsReportAs, RunsLines};
 
-use crate::commands::Form;
 use crate::refusals::Refusal;
 use atom_list::Context;
+use command_line::Form;
 use field_table::Table;
 use graph_report::report;
 use graph_text::read_graph;

@@ -2,15 +2,15 @@
 
 ghost use Rattle.std.specs.Prelude.{◌≡◌, ◌⊎◌, ◌≤◌, ℕ, Some, Err, length, IfOk};
 ghost use Rattle.bdl_lexer.specs.declared.TheConstants.{MAX_SOURCE};
-ghost use Rattle.baggage_cli.specs.Commands.{origin_of, printed};
+ghost use Rattle.command_line.specs.Commands.{origin_of, printed};
 ghost use Rattle.baggage_cli.specs.Scene.{change};
 ghost use Rattle.baggage_cli.specs.Outcomes.{outcome_of, OrMemory};
 ghost use Rattle.baggage_cli.specs.Tables.{Brings, FileGives, PrintedGives, Obtains};
 
-use crate::commands::Origin;
 use crate::refusals::{Notice, Refusal};
 use bdl_check::{DefCode, compile};
 use bdl_lexer::MAX_SOURCE;
+use command_line::Origin;
 use field_table::Table;
 use outside::{Library, LibraryFault, Memory, Text};
 use std::alloc::Global;

@@ -25,7 +25,7 @@ ghost use Rattle.text_lines.specs.declared.TheConstants.{INPUT_MAX};
 ghost use Rattle.text_lines.specs.HexLines.{hex_line};
 ghost use Rattle.write_proof.specs.Verdicts.{IsVerdictOf};
 ghost use Rattle.write_proof.specs.declared.verdicts.Verified.{Verified};
-ghost use Rattle.baggage_cli.specs.Commands.{Task, task_of, command_of, trim, merge, carry, collect, load, check, print, decode, run, run_json, run_table, evolve, why, verify, ReadsSource, FetchesFiles, IsWithinLimits};
+ghost use Rattle.command_line.specs.Commands.{Task, task_of, command_of, trim, merge, carry, collect, load, check, print, decode, run, run_json, run_table, evolve, why, verify, ReadsSource, FetchesFiles, IsWithinLimits};
 ghost use Rattle.baggage_cli.specs.Refusals.{input_status, input_line, notice_line, line_of};
 ghost use Rattle.baggage_cli.specs.Scene.{change, scene_of, HasNoFault};
 ghost use Rattle.baggage_cli.specs.Laws.{Laws};
@@ -44,7 +44,6 @@ ghost use Rattle.baggage_cli.specs.Top.{TellsFiles, TellsAll, InputGives, Comes,
 ghost use Rattle.baggage_cli.specs.Under.{SaysTyped};
 
 use crate::building::build;
-use crate::commands::{Command, command_of};
 use crate::comparing::compare;
 use crate::delivery::{deliver, notify, refuse};
 use crate::filters::filter_source;
@@ -53,6 +52,7 @@ use crate::refusals::{InputFault, Notice, Refusal};
 use crate::under::read_under;
 use crate::verifying::check_certificate;
 use bdl_check::laws;
+use command_line::{Command, command_of};
 use def_evolve::fitting_tables_are_safe;
 use graph_report::laws::lists_have_one_report;
 use graph_text::laws::{lines_are_definite, texts_give_recorded_graphs};

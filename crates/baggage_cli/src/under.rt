@@ -1,19 +1,19 @@
 //! The commands that read the source under a table.
 
 ghost use Rattle.text_lines.specs.Lines.{lines_of};
-ghost use Rattle.baggage_cli.specs.Commands.{origin_of, purpose_of};
+ghost use Rattle.command_line.specs.Commands.{origin_of, purpose_of};
 ghost use Rattle.baggage_cli.specs.Outcomes.{outcome_of, OrMemory};
 ghost use Rattle.baggage_cli.specs.Reading.{ReadsAll};
 ghost use Rattle.baggage_cli.specs.Scene.{change};
 ghost use Rattle.baggage_cli.specs.Under.{LinesGive, InputUnder, ReadsUnder};
 
-use crate::commands::{Origin, Purpose};
 use crate::decoding::decoded_block;
 use crate::explaining::explained;
 use crate::reading::read_input;
 use crate::refusals::Refusal;
 use crate::running::run_report;
 use crate::tables::obtain;
+use command_line::{Origin, Purpose};
 use field_table::Table;
 use outside::{Gate, Library, Source};
 use std::alloc::Global;

@@ -4,15 +4,15 @@ ghost use Rattle.std.specs.Prelude.{◌≡◌, IfOk};
 ghost use Rattle.text_lines.specs.Lines.{lines_of};
 ghost use Rattle.baggage_cli.specs.Verifying as spec;
 ghost use Rattle.baggage_cli.specs.Verifying.{BringsAndChecks, Checks, ChecksLines, VerdictUnder};
-ghost use Rattle.baggage_cli.specs.Commands.{origin_of};
+ghost use Rattle.command_line.specs.Commands.{origin_of};
 ghost use Rattle.baggage_cli.specs.Outcomes.{outcome_of, OrMemory};
 ghost use Rattle.baggage_cli.specs.Reading.{ReadsAll};
 ghost use Rattle.baggage_cli.specs.Scene.{change};
 
-use crate::commands::Origin;
 use crate::reading::read_input;
 use crate::refusals::Refusal;
 use crate::tables::{bring, obtain};
+use command_line::Origin;
 use field_table::Table;
 use graph_text::read_graph;
 use outside::{Library, Memory, Source};

@@ -1,5 +1,5 @@
 use Rattle.baggage_cli.specs.Building.{product_text}
-use Rattle.baggage_cli.specs.Commands.{origin_of, product_of}
+use Rattle.command_line.specs.Commands.{origin_of, product_of}
 use Rattle.baggage_cli.specs.Outcomes.{Builds}
 use Rattle.baggage_cli.specs.Scene.{change}
 use Rattle.baggage_cli.proofs.Obtained.{unobtained}

@@ -1,5 +1,5 @@
 use Rattle.std.proofs.Common.{inl, inr, Ok, refl}
-use Rattle.baggage_cli.specs.Commands.{origin_of}
+use Rattle.command_line.specs.Commands.{origin_of}
 use Rattle.baggage_cli.specs.Scene.{change, Halfway}
 use Rattle.baggage_cli.proofs.Compared.{memory_came, second_unobtained, compared}
 use Rattle.baggage_cli.proofs.comparing.compare.Goals as goal

@@ -1,4 +1,4 @@
-use Rattle.baggage_cli.specs.Commands.{filter_of}
+use Rattle.command_line.specs.Commands.{filter_of}
 use Rattle.baggage_cli.specs.Filters.{FiltersLines}
 use Rattle.baggage_cli.specs.Scene.{change}
 use Rattle.baggage_cli.proofs.Inputs.{unread}

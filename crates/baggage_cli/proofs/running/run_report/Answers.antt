@@ -1,7 +1,7 @@
 use Rattle.std.proofs.Common.{◌≡◌, inr, ℕ, ◌<◌, length, sym, subst}
 use Rattle.trace_model.specs.Graphs.{IsTypedContext}
 use Rattle.trace_model.specs.Runs.{Lists, list_at}
-use Rattle.baggage_cli.specs.Commands.{form_of}
+use Rattle.command_line.specs.Commands.{form_of}
 use Rattle.baggage_cli.specs.Running.{IsReportAs, IsRunReport}
 use Rattle.baggage_cli.proofs.GraphInputs.{refused_text, graph_gave}
 use Rattle.baggage_cli.proofs.running.run_report.Goals as goal

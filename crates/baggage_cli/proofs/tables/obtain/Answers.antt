@@ -1,5 +1,5 @@
 use Rattle.std.proofs.Common.{Err, ap, subst, sym}
-use Rattle.baggage_cli.specs.Commands.{origin_of}
+use Rattle.command_line.specs.Commands.{origin_of}
 use Rattle.baggage_cli.specs.Scene.{change}
 use Rattle.baggage_cli.specs.Tables.{Obtains}
 use Rattle.baggage_cli.proofs.Obtained.{uncompiled}

@@ -1,5 +1,5 @@
 use Rattle.std.proofs.Common.{refl, subst}
-use Rattle.baggage_cli.specs.Commands.{task_of}
+use Rattle.command_line.specs.Commands.{task_of}
 use Rattle.baggage_cli.specs.Scene.{change, scene_of}
 use Rattle.baggage_cli.specs.Top.{Answers}
 use Rattle.baggage_cli.proofs.Delivered.{refused}

@@ -1,4 +1,4 @@
-use Rattle.baggage_cli.specs.Commands.{compiled, printed, slot_line, whole_text, as_lines}
+use Rattle.command_line.specs.Commands.{compiled, printed, slot_line, whole_text, as_lines}
 use Rattle.baggage_cli.specs.Scene.{change, scene_of}
 use Rattle.baggage_cli.proofs.Calls.{files_kept, counts_kept, steady_call, unread_call, quiet_call, sink_call, words_call, unasked_call, untouched_call}
 use Rattle.baggage_cli.proofs.Facts.{trim_appends, merge_appends, carry_appends, collect_appends, decode_appends, run_appends, run_json_appends, load_appends, build_appends, evolve_appends, why_appends, verify_appends, has_asked, ended_source, left_told, fault_told, refusal_told, input_told, bad_told, failed_told, memory_told, completes, part_told, unfetched_files, unread_input}

@@ -1,5 +1,5 @@
 use Rattle.std.proofs.Common.{refl, subst, sym}
-use Rattle.baggage_cli.specs.Commands.{task_of}
+use Rattle.command_line.specs.Commands.{task_of}
 use Rattle.baggage_cli.specs.Outcomes.{outcome_of}
 use Rattle.baggage_cli.specs.Scene.{change}
 use Rattle.baggage_cli.specs.Top.{Comes}

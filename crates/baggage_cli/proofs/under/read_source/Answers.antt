@@ -1,6 +1,6 @@
 use Rattle.std.proofs.Common.{ℕ, List, inl, inr, subst}
 use Rattle.text_lines.specs.Lines.{lines_of}
-use Rattle.baggage_cli.specs.Commands.{purpose_of}
+use Rattle.command_line.specs.Commands.{purpose_of}
 use Rattle.baggage_cli.specs.Outcomes.{outcome_of}
 use Rattle.baggage_cli.specs.Scene.{change}
 use Rattle.baggage_cli.specs.Under.{LinesGive}

@@ -1,5 +1,5 @@
 use Rattle.std.proofs.Common.{refl}
-use Rattle.baggage_cli.specs.Commands.{origin_of, purpose_of}
+use Rattle.command_line.specs.Commands.{origin_of, purpose_of}
 use Rattle.baggage_cli.specs.Reading.{ReadsAll}
 use Rattle.baggage_cli.specs.Scene.{change, IsSame}
 use Rattle.baggage_cli.specs.Under.{InputUnder}

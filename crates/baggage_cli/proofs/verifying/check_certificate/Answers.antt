@@ -1,5 +1,5 @@
 use Rattle.std.proofs.Common.{inr, refl}
-use Rattle.baggage_cli.specs.Commands.{origin_of}
+use Rattle.command_line.specs.Commands.{origin_of}
 use Rattle.baggage_cli.specs.Scene.{change, Halfway}
 use Rattle.baggage_cli.proofs.Checked.{table_unobtained}
 use Rattle.baggage_cli.proofs.verifying.check_certificate.Goals as goal

@@ -11,7 +11,7 @@ use Rattle.std.proofs.lemmas.Fmt.{decimal_is_IsNumeral}
 use Rattle.std.proofs.lemmas.Slice.Eq.{bytes_eq-Decides}
 use Rattle.graph_lines.specs.Reading.{IsNumberText}
 use Rattle.decimal_text.specs.Answers.{IsSomeOf}
-use Rattle.baggage_cli.specs.Commands.{number_of, step_of}
+use Rattle.command_line.specs.Commands.{number_of, step_of}
 
 -- The number that a text says, by what `parse` answers.
 by_parse : {E : Type 0} (word : List ℕ) (r : Result ℕ E) → OkIff r ((all_ascii_digits word ≡ true) × (0 < length word) × (digits_value 10 word < 2 ^ 32)) (digits_value 10 word)

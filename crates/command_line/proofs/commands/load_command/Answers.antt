@@ -1,6 +1,6 @@
 use Rattle.std.proofs.Common.{arith}
-use Rattle.baggage_cli.proofs.Numbers.{positive_at}
-use Rattle.baggage_cli.proofs.commands.load_command.Goals as goal
+use Rattle.command_line.proofs.Numbers.{positive_at}
+use Rattle.command_line.proofs.commands.load_command.Goals as goal
 
 -- A number of that form isn't 0.
 pub returns-clause-range : goal.returns-clause-range

@@ -2,7 +2,7 @@
 
 ghost use Rattle.std.specs.Prelude.{◌≡◌, [], ◌∷◌, IfSome};
 ghost use Rattle.std.specs.Option.{option_map};
-ghost use Rattle.baggage_cli.specs.Commands as spec;
+ghost use Rattle.command_line.specs.Commands as spec;
 
 use load_maker::ROUNDS_MAX;
 use outside::Words;

@@ -1,8 +1,8 @@
 use Rattle.std.proofs.Common.{◌≡◌, length, Some, rules, sym, ap, ◌∙◌}
 use Rattle.std.specs.List.{slice_get}
-use Rattle.baggage_cli.specs.Commands.{command_of}
-use Rattle.baggage_cli.proofs.FewWords.{two_words, three_words, four_words, five_words}
-use Rattle.baggage_cli.proofs.commands.command_of.Goals as goal
+use Rattle.command_line.specs.Commands.{command_of}
+use Rattle.command_line.proofs.FewWords.{two_words, three_words, four_words, five_words}
+use Rattle.command_line.proofs.commands.command_of.Goals as goal
 
 pub returns-in_ok-get-in-2-clause-task : goal.returns-in_ok-get-in-2-clause-task
 returns-in_ok-get-in-2-clause-task c =

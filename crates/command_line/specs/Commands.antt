@@ -6,18 +6,18 @@ use Rattle.std.specs.Int.NonZero.{non_zero_u32_get}
 use Rattle.std.specs.Str.{all_ascii_digits}
 use Rattle.std.specs.Str.Parse.{digits_value}
 use Rattle.text_carrier.specs.declared.TheConstants.{WIDTH_MIN, WIDTH_MAX}
-use Rattle.baggage_cli.specs.declared.commands.Command as code_commands
-use Rattle.baggage_cli.specs.declared.commands.Command.TheVariants as code
-use Rattle.baggage_cli.specs.declared.commands.Filter.{Filter as CodeFilter}
-use Rattle.baggage_cli.specs.declared.commands.Filter.TheVariants.{Trim, Merge, Carry, Collect}
-use Rattle.baggage_cli.specs.declared.commands.Origin as code_origins
-use Rattle.baggage_cli.specs.declared.commands.Origin.TheVariants.{Bag, Printed}
-use Rattle.baggage_cli.specs.declared.commands.Product.{Product as CodeProduct}
-use Rattle.baggage_cli.specs.declared.commands.Product.TheVariants.{SlotLine, WholeText}
-use Rattle.baggage_cli.specs.declared.commands.Form.{Form as CodeForm}
-use Rattle.baggage_cli.specs.declared.commands.Form.TheVariants.{Text, Json}
-use Rattle.baggage_cli.specs.declared.commands.Purpose as code_purposes
-use Rattle.baggage_cli.specs.declared.commands.Purpose.TheVariants.{Decode, Run, Explain}
+use Rattle.command_line.specs.declared.commands.Command as code_commands
+use Rattle.command_line.specs.declared.commands.Command.TheVariants as code
+use Rattle.command_line.specs.declared.commands.Filter.{Filter as CodeFilter}
+use Rattle.command_line.specs.declared.commands.Filter.TheVariants.{Trim, Merge, Carry, Collect}
+use Rattle.command_line.specs.declared.commands.Origin as code_origins
+use Rattle.command_line.specs.declared.commands.Origin.TheVariants.{Bag, Printed}
+use Rattle.command_line.specs.declared.commands.Product.{Product as CodeProduct}
+use Rattle.command_line.specs.declared.commands.Product.TheVariants.{SlotLine, WholeText}
+use Rattle.command_line.specs.declared.commands.Form.{Form as CodeForm}
+use Rattle.command_line.specs.declared.commands.Form.TheVariants.{Text, Json}
+use Rattle.command_line.specs.declared.commands.Purpose as code_purposes
+use Rattle.command_line.specs.declared.commands.Purpose.TheVariants.{Decode, Run, Explain}
 use Rattle.load_maker.specs.declared.TheConstants.{ROUNDS_MAX}
 
 -- Where a table comes from: it is that of the bag of this name, in the definition whose root is this file, or the one whose

@@ -1,7 +1,7 @@
 use Rattle.std.proofs.Common.{◌≡◌, ◌≢◌, get_or, Some, slice_get, sym, ◌∙◌, ap}
 use Rattle.std.proofs.lemmas.Option.{get_or_from_slice_get}
-use Rattle.baggage_cli.proofs.Numbers.{parsed}
-use Rattle.baggage_cli.proofs.commands.read_number.Goals as goal
+use Rattle.command_line.proofs.Numbers.{parsed}
+use Rattle.command_line.proofs.commands.read_number.Goals as goal
 
 pub returns : goal.returns
 returns c =
