@@ -1,4 +1,5 @@
-//! Joins of values, built from copies, so that want of memory leaves what is joined unchanged.
+//! Joins of two values as a new one, built from copies: those of the fields of a bag and of the keys of a map that the other
+//! says something of.
 
 ghost use Rattle.std.specs.Prelude.{◌≡◌, ◌++◌, true, false, IfOk, OnOk};
 ghost use Rattle.std.specs.Option.{option_map};

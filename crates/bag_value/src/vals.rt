@@ -73,7 +73,8 @@ impl Val {
 /// union, a counter to the greater count of each writer, a map key by key and a bag field by field.
 ///
 /// Two are alike where they are of one variant, two sets of one kind, the values of two maps at a common key and those of
-/// two bags field by field. Want of memory leaves a value unchanged.
+/// two bags field by field. Want of memory leaves a value unchanged. Of a bag and of a map only the fields and the keys of which
+/// the other says something are copied.
 impl Lattice for Val {
     ghost use Rattle.bag_model.specs.Joins.{Alike, IsBottom, Proper};
     ghost use Rattle.bag_value.specs.Vals.{plain, val_joined};
