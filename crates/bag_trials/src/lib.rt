@@ -3,7 +3,3 @@
 
 #[cfg(test)]
 mod codec_tests;
-#[cfg(test)]
-mod dice;
-#[cfg(test)]
-mod random_values;

@@ -1,37 +1,11 @@
 //! Random graphs, each shown step against plain values that are joined over the steps that reach it.
 
-ghost use Rattle.std.specs.Prelude.{◌<◌};
-
 use program_calls::{FILES, Objects, answer_of};
+use random_bags::Dice;
 use std::alloc::Global;
 use std::process::Abort;
 use std::test::Fail;
 use std::thread::Threads;
-
-/// A generator of numbers: SplitMix64 (Steele, Lea, Flood 2014).
-#[derive(Drop)]
-struct Dice {
-    state: u64,
-}
-
-impl Dice {
-    /// The next number.
-    fn next(&mut self) -> u64 {
-        self.state = self.state.wrapping_add(0x9e37_79b9_7f4a_7c15);
-        let mut mixed = self.state;
-        mixed = (mixed ^ (mixed >> 30)).wrapping_mul(0xbf58_476d_1ce4_e5b9);
-        mixed = (mixed ^ (mixed >> 27)).wrapping_mul(0x94d0_49bb_1331_11eb);
-        mixed ^ (mixed >> 31)
-    }
-
-    /// A number below this one, which isn't 0.
-    fn below(&mut self, bound: usize) -> usize
-        requires { 0 < bound }
-        ensures { result < bound }
-    {
-        (self.next() % bound as u64) as usize
-    }
-}
 
 /// What tags, writers and keys are called.
 static NAMES: [&str; 3] = ["a", "b", "c"];
@@ -442,7 +416,7 @@ fn graph_holds<R: Abort + Threads + Sync>(
 
 #[test]
 fn random_graphs_show_the_truth(rt: HostRuntime) -> Result<(), Fail> {
-    let mut dice = Dice { state: 20 };
+    let mut dice = Dice::new(20);
     for _ in 0..200 {
         let exact = graph_holds(&rt, rt.alloc(), &mut dice, false)?;
         assert_eq!(rt; exact, 6 * 13);
@@ -452,7 +426,7 @@ fn random_graphs_show_the_truth(rt: HostRuntime) -> Result<(), Fail> {
 
 #[test]
 fn random_trims_show_no_more_than_the_truth(rt: HostRuntime) -> Result<(), Fail> {
-    let mut dice = Dice { state: 24 };
+    let mut dice = Dice::new(24);
     let mut exact = 0_usize;
     for _ in 0..300 {
         exact = exact.saturating_add(graph_holds(&rt, rt.alloc(), &mut dice, true)?);

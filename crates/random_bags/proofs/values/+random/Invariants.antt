@@ -1,5 +1,5 @@
 use Rattle.std.proofs.Common.{◌+◌, ◌*◌}
-use Rattle.bag_trials.proofs.random_values.+random.Given as goal
+use Rattle.random_bags.proofs.values.+random.Given as goal
 
 abbrev pub decreases-random_value : goal.decreases-random_value
 decreases-random_value l = 2 * l.levels

@@ -160,7 +160,7 @@ fn map_of(alloc: Global, first: Entry, second: Entry) -> Result<Entries, Memory>
 
 /// A value of a shape. One in four says nothing, and so does each that stands this many levels deep.
 #[cycle(random)]
-pub fn random_value(
+fn random_value(
     alloc: Global,
     dice: &mut Dice,
     shape: &Shape,
