@@ -160,12 +160,7 @@ fn map_of(alloc: Global, first: Entry, second: Entry) -> Result<Entries, Memory>
 
 /// A value of a shape. One in four says nothing, and so does each that stands this many levels deep.
 #[cycle(random)]
-fn random_value(
-    alloc: Global,
-    dice: &mut Dice,
-    shape: &Shape,
-    levels: usize,
-) -> Result<Val, Fail> {
+fn random_value(alloc: Global, dice: &mut Dice, shape: &Shape, levels: usize) -> Result<Val, Fail> {
     if levels == 0 || dice.below(4) == 0 {
         return Ok(bottom_of(alloc, shape)?);
     }
