@@ -7,7 +7,7 @@ use Rattle.bag_encode.specs.Encoding.{bag_values}
 use Rattle.bag_model.specs.Encodings.{EncodingsReadBack, IsEncoding, IsEncodingOf}
 use Rattle.bag_model.specs.Joins.{join}
 use Rattle.bag_model.specs.MergeReadings.{MergesReadAsJoins}
-use Rattle.bag_model.specs.NormalForms.{NormalKeepsValues}
+use Rattle.bag_model.specs.NormalFormLaws.{NormalKeepsValues}
 use Rattle.bag_model.specs.Readings.{PathsOf, Reads}
 use Rattle.bag_model.specs.Shapes as shapes
 use Rattle.bag_model.specs.Shapes.{Nodes}

@@ -3,7 +3,7 @@
 ghost use Rattle.std.specs.Prelude.{◌≡◌, ◌↔◌, ◌<◌, List, [], length, IfOk};
 ghost use Rattle.context_model.specs.Atoms.{Atom};
 ghost use Rattle.context_model.specs.Ended.{IsEnded, field_path};
-ghost use Rattle.bag_model.specs.Normal.{IsNormalOf};
+ghost use Rattle.bag_model.specs.NormalForm.{IsNormalOf};
 ghost use Rattle.bag_model.specs.Readings.{PathsOf, Reads};
 ghost use Rattle.bag_model.specs.Shapes as shapes;
 ghost use Rattle.bag_model.specs.Slots.{SlotAt, slots_of};

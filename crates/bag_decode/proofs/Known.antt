@@ -3,7 +3,7 @@ use Rattle.std.proofs.Common.{◌≡◌, ℕ, ◌<◌, ◌≤◌, ◌^◌, ◌�
 use Rattle.std.specs.Option.{is_some}
 use Rattle.std.proofs.lemmas.List.{append-nil}
 use Rattle.context_model.specs.Atoms.{Atom}
-use Rattle.context_model.specs.Merge.{AllBelow}
+use Rattle.context_model.specs.GreedyMerge.{AllBelow}
 use Rattle.context_model.specs.Orders.{Path, IsIn}
 use Rattle.context_model.specs.Paths.{atom_at}
 use Rattle.context_model.specs.Varints.{unsigned_varint}

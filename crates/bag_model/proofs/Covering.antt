@@ -15,7 +15,7 @@ use Rattle.bag_model.specs.Shapes.{Shape, Nodes, Taint, Scalar, Set, Counter, Ma
 use Rattle.bag_model.specs.Values.{Value, Values, Taint, Scalar, Set, Counter, Map, Bag, no_value, value, pairs}
 use Rattle.bag_model.specs.Readings.{datum_path, key_path, node_path, HasScalar, HasCount, IsGreatest, Reads, ReadsEach}
 use Rattle.bag_model.specs.Typed.{IsCount, IsTyped, AreTyped}
-use Rattle.bag_model.specs.Normal.{Keeping, EachDatum, LeastDatum, GreatestDatum, kept_by, GivesWay}
+use Rattle.bag_model.specs.NormalForm.{Keeping, EachDatum, LeastDatum, GreatestDatum, kept_by, GivesWay}
 use Rattle.bag_model.proofs.ScalarOrder.{pick_total}
 use Rattle.bag_model.proofs.SpellingOrder.{spelling-order}
 use Rattle.bag_model.proofs.NumberCodes.{unsigned_code}

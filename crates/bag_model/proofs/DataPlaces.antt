@@ -11,7 +11,7 @@ use Rattle.bag_model.specs.Tables.{IsShape, AreFields, levels, levels_under}
 use Rattle.bag_model.specs.Slots.{SlotAt, slots_in, slots_of, within}
 use Rattle.bag_model.specs.Readings.{datum_path, key_path, node_path}
 use Rattle.bag_model.specs.Encodings.{IsUsed, AreUsed}
-use Rattle.bag_model.specs.Normal.{Keeping, EachDatum, LeastDatum, GreatestDatum, HoldsData, SomeHoldsData, GivesWay, kept_by}
+use Rattle.bag_model.specs.NormalForm.{Keeping, EachDatum, LeastDatum, GreatestDatum, HoldsData, SomeHoldsData, GivesWay, kept_by}
 use Rattle.bag_model.proofs.PathsApart.{key_one-below}
 use Rattle.bag_model.proofs.Finite.{bytes_at, bytes_at-there, bytes_at-back, in_append}
 use Rattle.bag_model.proofs.Existence.{Among}

@@ -4,7 +4,7 @@ use Rattle.std.specs.Cmp.{IsTotalOrder, tied_itself}
 use Rattle.std.specs.Ordering.{ordering_reverse}
 use Rattle.context_model.specs.Paths.{paths}
 use Rattle.context_model.specs.Orders.{Path, atom_cmp, IsIn, Rises, by_order}
-use Rattle.context_model.specs.Merge.{greedy_merge, first_of}
+use Rattle.context_model.specs.GreedyMerge.{greedy_merge, first_of}
 use Rattle.context_model.specs.KeyedMerge.{keys_of, EachPair}
 use Rattle.context_model.specs.Varints.{unsigned_varint}
 use Rattle.context_model.proofs.OrderLaws.{atoms_total, atoms_anti}

@@ -3,7 +3,7 @@ use Rattle.std.proofs.Common.{◌≡◌, List, [], ◌∷◌, Option, Some, None
 use Rattle.std.specs.Cmp.{IsTotalOrder}
 use Rattle.std.specs.FinMap.{IsAntisymmetric}
 use Rattle.context_model.specs.Orders.{by_order}
-use Rattle.context_model.specs.Merge.{greedy_merge, first_of}
+use Rattle.context_model.specs.GreedyMerge.{greedy_merge, first_of}
 use Rattle.context_model.proofs.GreedyLaws.{greedy-comm, greedy-assoc, greedy-idem}
 
 -- It is the first of the greedy merge of two lists of at most one value.

@@ -17,14 +17,14 @@ use Rattle.bag_model.specs.Slots.{SlotAt, slots_in, slots_of, within}
 use Rattle.bag_model.specs.Tables.{AreFields, IsShape, IsTable}
 use Rattle.bag_model.specs.Views.{View}
 use Rattle.bag_model.specs.Readings.{datum_path, node_path, PathsOf}
-use Rattle.bag_model.specs.Normal.{IsSuperseded, IsNormalOf}
+use Rattle.bag_model.specs.NormalForm.{IsSuperseded, IsNormalOf}
 use Rattle.bag_model.specs.GoneData.{LeavesItsHeader, GoneDataLeaveHeaders}
 use Rattle.bag_model.proofs.Finite.{in_append}
 use Rattle.bag_model.proofs.LayoutLaws.{fields_apart}
 use Rattle.bag_model.proofs.SlotNumbers.{numbers_few}
 use Rattle.bag_model.proofs.SlotsBelow.{in_map, get_in, slot_path, slot_path-within}
 use Rattle.bag_model.proofs.DataPlaces.{HoldsData-below}
-use Rattle.bag_model.proofs.NormalLaws.{normal_left}
+use Rattle.bag_model.proofs.NormalFormLaws.{normal_left}
 
 -- ---- of two slots of a table neither stands below the other
 

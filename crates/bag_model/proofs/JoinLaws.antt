@@ -2,7 +2,7 @@
 use Rattle.std.proofs.Common.{◌≡◌, inl, inr, ℕ, ◌^◌, ◌<◌, max, Bool, true, false, ◌||◌, List, refl, sym, ap, ◌∙◌, subst, arith}
 use Rattle.std.specs.List.{AllByRecursion}
 use Rattle.context_model.specs.Orders.{atom_cmp, Rises}
-use Rattle.context_model.specs.Merge.{greedy_merge, first_of}
+use Rattle.context_model.specs.GreedyMerge.{greedy_merge, first_of}
 use Rattle.context_model.specs.KeyedMerge.{merge_with, keys_of, EachPair, IsAt}
 use Rattle.context_model.proofs.OrderLaws.{atoms_total, atoms_anti}
 use Rattle.context_model.proofs.GreedyLaws.{greedy-comm, greedy-assoc, greedy-idem}

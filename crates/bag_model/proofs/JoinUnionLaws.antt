@@ -4,7 +4,7 @@ use Rattle.std.specs.Cmp.{IsTotalOrder, tied_itself}
 use Rattle.std.specs.List.{slice_get}
 use Rattle.std.specs.Ordering.{ordering_reverse}
 use Rattle.context_model.specs.Orders.{atom_cmp, Rises, by_order}
-use Rattle.context_model.specs.Merge.{greedy_merge, first_of}
+use Rattle.context_model.specs.GreedyMerge.{greedy_merge, first_of}
 use Rattle.context_model.specs.KeyedMerge.{merge_with, keys_of, IsUnion}
 use Rattle.context_model.proofs.OrderLaws.{atoms_total, atoms_anti}
 use Rattle.context_model.proofs.GreedyElements.{IsIn-greedy}

@@ -31,10 +31,10 @@ pub mod IllTyped
 pub mod Covering
 pub mod SlotsBelow
 pub mod DataPlaces
-pub mod NormalLaws
+pub mod NormalFormLaws
 pub mod GoneDataLaws
 pub mod EachSlot
 pub mod PlacedSlots
 pub mod SpellingTests
-pub mod NormalRows
+pub mod NormalFormRows
 pub mod ForeignLaws

@@ -2,7 +2,7 @@
 use Rattle.std.proofs.Common.{◌≡◌, inl, inr, ℕ, ◌^◌, ◌<◌, max, [], ◌∷◌, ◌++◌, append_assoc, Option, Some, None, Less, Equal, Greater, refl, sym, ap, ◌∙◌, subst, arith, Ordering}
 use Rattle.std.specs.List.{AllByRecursion}
 use Rattle.context_model.specs.Orders.{Path, atom_cmp, Rises, by_order}
-use Rattle.context_model.specs.Merge.{first_of}
+use Rattle.context_model.specs.GreedyMerge.{first_of}
 use Rattle.context_model.specs.KeyedMerge.{keys_of, EachPair}
 use Rattle.context_model.proofs.OrderLaws.{atoms_total, atoms_anti}
 use Rattle.context_model.proofs.GreedyElements.{All-from, All-greedy}

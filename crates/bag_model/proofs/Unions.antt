@@ -5,7 +5,7 @@ use Rattle.std.specs.Ordering.{ordering_reverse}
 use Rattle.context_model.specs.Kinds.{atom_of}
 use Rattle.context_model.specs.Kinds.Kind.{Indexed, Keyed}
 use Rattle.context_model.specs.Orders.{Path, atom_cmp, IsIn, Rises, by_order}
-use Rattle.context_model.specs.Merge.{first_of}
+use Rattle.context_model.specs.GreedyMerge.{first_of}
 use Rattle.context_model.specs.KeyedMerge.{merge_with, keys_of, EachPair, IsUnion}
 use Rattle.context_model.specs.Varints.{unsigned_varint}
 use Rattle.context_model.proofs.OrderLaws.{atoms_total, atoms_anti}

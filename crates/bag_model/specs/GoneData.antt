@@ -10,7 +10,7 @@ use Rattle.bag_model.specs.Slots.{SlotAt, slots_of}
 use Rattle.bag_model.specs.Tables.{IsTable}
 use Rattle.bag_model.specs.Views.{View, Knows}
 use Rattle.bag_model.specs.Readings.{PathsOf}
-use Rattle.bag_model.specs.Normal.{IsNormalOf}
+use Rattle.bag_model.specs.NormalForm.{IsNormalOf}
 
 -- The atom at this place stands under the header of a slot that the view knows. The header stays, and it is beyond each slot
 -- that the atom is beyond.

@@ -2,7 +2,7 @@
 use Rattle.std.specs.Prelude.{◌≡◌, ◌||◌, false, max, [], None}
 use Rattle.std.specs.List.{AllByRecursion}
 use Rattle.context_model.specs.Orders.{atom_cmp, Rises, by_order}
-use Rattle.context_model.specs.Merge.{greedy_merge, first_of}
+use Rattle.context_model.specs.GreedyMerge.{greedy_merge, first_of}
 use Rattle.context_model.specs.KeyedMerge.{merge_with, keys_of, IsAt}
 use Rattle.bag_model.specs.Scalars.{ScalarValue, scalar_cmp, pick_cmp, IsScalarOf}
 use Rattle.bag_model.specs.Values.{Value, Entries, Values, Taint, Scalar, Set, Counter, Map, Bag, no_entry, entry, no_value, value, pairs, AreCounts}

@@ -16,7 +16,7 @@ pub mod Typed
 pub mod MergeReadings
 pub mod ValueCode
 pub mod Encodings
-pub mod Normal
-pub mod NormalForms
+pub mod NormalForm
+pub mod NormalFormLaws
 pub mod GoneData
 pub mod SlotValues

@@ -7,7 +7,7 @@ use Rattle.context_model.specs.Orders.{Path, IsIn}
 use Rattle.context_model.specs.Paths.{paths}
 use Rattle.context_model.proofs.PlacesOf.{path_there, front_is_path}
 use Rattle.bag_model.specs.declared.Pick.{Pick}
-use Rattle.bag_model.specs.Normal.{Keeping, EachDatum, GreatestDatum, kept_by, HoldsData, SomeHoldsData, GivesWay}
+use Rattle.bag_model.specs.NormalForm.{Keeping, EachDatum, GreatestDatum, kept_by, HoldsData, SomeHoldsData, GivesWay}
 use Rattle.bag_model.specs.Readings.{PathsOf, key_path, node_path}
 use Rattle.bag_model.specs.Scalars.{ScalarKind}
 use Rattle.bag_model.specs.Shapes.{Shape, Nodes, Field, fields, Taint, Scalar, Set, Counter, Map, Bag, no_node, node}

@@ -6,7 +6,7 @@ use Rattle.context_model.specs.Orders.{Path, path_cmp, IsIn}
 use Rattle.context_model.specs.Paths.{path_at, paths}
 use Rattle.context_model.specs.WellFormed.{IsWellFormed}
 use Rattle.context_model.proofs.PlacesOf.{path_there, paths_rise, last_is}
-use Rattle.bag_model.specs.Normal.{Keeping, LeastDatum, GreatestDatum}
+use Rattle.bag_model.specs.NormalForm.{Keeping, LeastDatum, GreatestDatum}
 use Rattle.bag_walks.specs.Parts.{IsBehind, IsDataPart, Stands}
 use Rattle.bag_walks.specs.Gathering.{IsDatumAt, IsFirstDatum, IsLastDatum}
 use Rattle.bag_walks.specs.SupersededPlaces.{IsLater, IsEarlier}

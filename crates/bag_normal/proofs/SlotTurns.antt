@@ -9,7 +9,7 @@ use Rattle.context_model.specs.Ended.{field_path_from}
 use Rattle.context_model.specs.Orders.{Path, IsIn}
 use Rattle.context_model.specs.WithoutData.{AreDataPlaces}
 use Rattle.context_model.proofs.PlacesOf.{last_is}
-use Rattle.bag_model.specs.Normal.{IsSupersededAt}
+use Rattle.bag_model.specs.NormalForm.{IsSupersededAt}
 use Rattle.bag_model.specs.Readings.{PathsOf}
 use Rattle.bag_model.specs.Shapes.{Shape, Nodes, Field, fields, Bag, no_node, node}
 use Rattle.bag_model.specs.Slots.{SlotAt, slots_of, slots_in, starts, within}

@@ -7,7 +7,7 @@ use Rattle.context_model.specs.Orders.{Path}
 use Rattle.bag_model.specs.Shapes.{Shape}
 use Rattle.bag_model.specs.Slots.{SlotAt, slots_in}
 use Rattle.bag_model.specs.Views.{View, Knows}
-use Rattle.bag_model.specs.Normal.{Keeping, HoldsData}
+use Rattle.bag_model.specs.NormalForm.{Keeping, HoldsData}
 use Rattle.bag_model.specs.Readings.{key_path}
 use Rattle.bag_walks.specs.SupersededPlaces.{GoesAt}
 

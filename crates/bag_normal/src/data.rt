@@ -2,7 +2,7 @@
 
 ghost use Rattle.std.specs.Prelude.{◌≤◌, length, OnOk, IfOk};
 ghost use Rattle.context_model.specs.Paths.{path_before};
-ghost use Rattle.bag_model.specs.Normal.{LeastDatum, GreatestDatum, kept_by};
+ghost use Rattle.bag_model.specs.NormalForm.{LeastDatum, GreatestDatum, kept_by};
 ghost use Rattle.bag_walks.specs.Parts.{IsBehind, IsDataPart};
 ghost use Rattle.bag_normal.specs.Known.{GivesWayAt};
 ghost use Rattle.bag_normal.specs.Data.{RisesUpTo, AddsPlaces, IsDatumBetween};

@@ -2,7 +2,7 @@
 
 ghost use Rattle.std.specs.Prelude.{◌≡◌, ◌+◌, ◌<◌, ◌≤◌, length, OnOk, IfOk};
 ghost use Rattle.context_model.specs.Paths.{path_before};
-ghost use Rattle.bag_model.specs.Normal.{GreatestDatum};
+ghost use Rattle.bag_model.specs.NormalForm.{GreatestDatum};
 ghost use Rattle.bag_model.specs.Shapes.{Bag};
 ghost use Rattle.bag_model.specs.Tables.{IsShape, AreFields, levels, levels_under};
 ghost use Rattle.bag_walks.specs.Parts.{IsBehind, IsSegment};

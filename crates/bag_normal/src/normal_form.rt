@@ -3,7 +3,7 @@
 ghost use Rattle.std.specs.Prelude.{◌↔◌, ℕ, IfOk};
 ghost use Rattle.std.specs.Ordering.{nat_cmp};
 ghost use Rattle.context_model.specs.Orders.{IsIn, Rises};
-ghost use Rattle.bag_model.specs.Normal.{IsNormalOf, IsSupersededAt};
+ghost use Rattle.bag_model.specs.NormalForm.{IsNormalOf, IsSupersededAt};
 ghost use Rattle.field_table.specs.Views.{view_of};
 
 use crate::known::add_known_fields;

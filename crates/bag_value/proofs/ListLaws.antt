@@ -3,7 +3,7 @@ use Rattle.std.specs.Prelude.{◌≡◌, ℕ, zero, suc, ◌+◌, ◌<◌, List,
 use Rattle.std.proofs.Common.{refl, sym, ap, ◌∙◌, subst, arith, inl, inr, get_or, drop}
 use Rattle.std.proofs.lemmas.List.{map-append}
 use Rattle.context_model.specs.Orders.{Rises}
-use Rattle.context_model.specs.Merge.{AllBelow}
+use Rattle.context_model.specs.GreedyMerge.{AllBelow}
 use Rattle.context_model.specs.KeyedMerge.{keys_of, IsAt}
 use Rattle.context_model.proofs.MergeSteps.{drop-place}
 use Rattle.context_model.proofs.Rising.{Rises-push}

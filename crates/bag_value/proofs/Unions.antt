@@ -1,7 +1,7 @@
 -- The union of two sets of the code is the join of their plain values.
 use Rattle.std.specs.Prelude.{◌≡◌, List, [], ◌∷◌, map}
 use Rattle.std.proofs.Common.{refl, sym, ap, ◌∙◌, subst}
-use Rattle.context_model.specs.Merge.{greedy_merge}
+use Rattle.context_model.specs.GreedyMerge.{greedy_merge}
 use Rattle.context_model.proofs.GreedyMap.{map-greedy}
 use Rattle.bag_model.specs.Values as model
 use Rattle.bag_model.specs.Scalars.{scalar_cmp}

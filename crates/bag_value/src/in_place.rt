@@ -3,7 +3,7 @@
 
 ghost use Rattle.std.specs.Prelude.{◌≡◌, length, IfOk, OnOk, OnErr};
 ghost use Rattle.std.specs.Option.{option_map};
-ghost use Rattle.context_model.specs.Merge.{first_of};
+ghost use Rattle.context_model.specs.GreedyMerge.{first_of};
 ghost use Rattle.bag_model.specs.Joins.{Alike, AreAlike, AreProper, join, join_values};
 ghost use Rattle.bag_model.specs.Scalars.{pick_cmp};
 ghost use Rattle.scalar_types.specs.KindViews.{kind_of};

@@ -3,7 +3,7 @@
 
 ghost use Rattle.std.specs.Prelude.{◌≡◌, ◌++◌, true, false, IfOk, OnOk};
 ghost use Rattle.std.specs.Option.{option_map};
-ghost use Rattle.context_model.specs.Merge.{first_of};
+ghost use Rattle.context_model.specs.GreedyMerge.{first_of};
 ghost use Rattle.bag_model.specs.Joins.{Alike, AlikeEntries, AreAlike, join, join_entries, join_values};
 ghost use Rattle.bag_model.specs.Scalars.{pick_cmp};
 ghost use Rattle.scalar_types.specs.KindViews.{kind_of};

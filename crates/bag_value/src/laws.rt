@@ -8,7 +8,7 @@ ghost use Rattle.bag_model.specs.JoinUnions.{JoinsAreUnions, BottomSaysNothing};
 ghost use Rattle.bag_model.specs.MergeReadings.{MergesReadAsJoins};
 ghost use Rattle.bag_model.specs.Encodings.{EncodingsReadBack};
 ghost use Rattle.bag_model.specs.Typed.{TypedListsSay, TypedWhereNoneMisspells};
-ghost use Rattle.bag_model.specs.NormalForms.{NormalFormKeeps};
+ghost use Rattle.bag_model.specs.NormalFormLaws.{NormalFormKeeps};
 ghost use Rattle.bag_model.specs.GoneData.{GoneDataLeaveHeaders};
 ghost use Rattle.bag_model.specs.SlotValues.{SlotsReadApart, OnlyFits};
 

@@ -3,7 +3,7 @@
 ghost use Rattle.std.specs.Prelude.{◌≡◌, ◌↔◌, ◌++◌, [], ◌∷◌, length, map, slice_get, IsTrue, OnOk, OnErr};
 ghost use Rattle.std.specs.Option.{option_map};
 ghost use Rattle.context_model.specs.KeyedMerge.{Finds, keys_of};
-ghost use Rattle.context_model.specs.Merge.{AllBelow};
+ghost use Rattle.context_model.specs.GreedyMerge.{AllBelow};
 ghost use Rattle.bag_model.specs.Joins.{AreBottom, AreProper, Proper};
 ghost use Rattle.bag_model.specs.Scalars.{scalar_cmp};
 ghost use Rattle.bag_model.specs.Values.{values_list, pairs, no_entry, no_value};

@@ -10,7 +10,8 @@ ghost use Rattle.bag_value.specs.Vals.{pair_of, plain_entries};
 
 use crate::joins::append;
 use crate::lists::{Entries, Entry};
-use crate::moves::{move_first, move_rest, replace_first, room_for};
+use crate::moves::replace_first;
+use counter_type::moves::{move_first, move_rest, room_for};
 use outside::Memory;
 use std::alloc::Global;
 use std::cmp::Ordering;

@@ -7,7 +7,7 @@ use Rattle.std.proofs.lemmas.Cmp.{tied_itself}
 use Rattle.std.proofs.lemmas.List.{append-nil}
 use Rattle.context_model.specs.Atoms.{Atom}
 use Rattle.context_model.specs.KeyedMerge.{keys_of, EachPair}
-use Rattle.context_model.specs.Merge.{AllBelow}
+use Rattle.context_model.specs.GreedyMerge.{AllBelow}
 use Rattle.context_model.specs.Orders.{Path, atom_cmp, path_cmp, IsIn}
 use Rattle.context_model.specs.Paths.{is_header, level, atom_at, path_at}
 use Rattle.context_model.specs.Varints.{unsigned_varint}

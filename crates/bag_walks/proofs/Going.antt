@@ -8,7 +8,7 @@ use Rattle.context_model.specs.Orders.{Path, atom_cmp}
 use Rattle.context_model.specs.Paths.{atom_at}
 use Rattle.context_model.proofs.OrderLaws.{atoms_total}
 use Rattle.context_model.proofs.PlacesOf.{last_is}
-use Rattle.bag_model.specs.Normal.{Keeping, LeastDatum, GreatestDatum, GivesWay}
+use Rattle.bag_model.specs.NormalForm.{Keeping, LeastDatum, GreatestDatum, GivesWay}
 use Rattle.bag_walks.specs.Parts.{IsBehind, IsDataPart, Stands}
 use Rattle.bag_walks.specs.Gathering.{IsDatumAt}
 use Rattle.bag_walks.specs.SupersededPlaces.{GoesAt, IsLater, IsEarlier}

@@ -6,7 +6,7 @@ use Rattle.context_model.specs.Atoms.{Atom}
 use Rattle.context_model.specs.Kinds.{atom_of}
 use Rattle.context_model.specs.Kinds.Kind.{Indexed, Keyed}
 use Rattle.context_model.specs.KeyedMerge.{keys_of}
-use Rattle.context_model.specs.Merge.{AllBelow}
+use Rattle.context_model.specs.GreedyMerge.{AllBelow}
 use Rattle.context_model.specs.Orders.{Path, atom_cmp, IsIn, Rises}
 use Rattle.context_model.specs.Paths.{is_header, level, atom_at}
 use Rattle.context_model.proofs.Rising.{Rises-push}

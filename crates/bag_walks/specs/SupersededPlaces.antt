@@ -4,7 +4,7 @@ use Rattle.context_model.specs.Atoms.{Atom}
 use Rattle.context_model.specs.Orders.{Path}
 use Rattle.context_model.specs.Paths.{path_at}
 use Rattle.bag_model.specs.Readings.{PathsOf, datum_path}
-use Rattle.bag_model.specs.Normal.{Keeping, GivesWay}
+use Rattle.bag_model.specs.NormalForm.{Keeping, GivesWay}
 use Rattle.bag_walks.specs.Gathering.{IsDatumAt}
 
 -- At this place stands a datum of q that gives way to another one of q.

@@ -6,7 +6,7 @@ use Rattle.std.proofs.lemmas.Result.{IfOk-weaker}
 use Rattle.context_model.specs.Atoms.{Atom}
 use Rattle.context_model.specs.ByteCodes.{ByteCode}
 use Rattle.context_model.specs.Orders.{atom_cmp}
-use Rattle.context_model.specs.Merge.{greedy_merge}
+use Rattle.context_model.specs.GreedyMerge.{greedy_merge}
 use Rattle.context_model.specs.Merged.{IsMerged, MergesFew, MergesInGroups}
 use Rattle.context_model.specs.ContextFault.{IsContextOf}
 use Rattle.wire_bytes.specs.Reading.{byte_code_of}

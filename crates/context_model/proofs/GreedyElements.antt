@@ -6,7 +6,7 @@ use Rattle.std.specs.FinMap.{IsAntisymmetric}
 use Rattle.std.specs.declared.cmp.Ordering.{Ordering}
 use Rattle.std.specs.declared.cmp.Ordering.TheVariants.{Less, Equal, Greater}
 use Rattle.context_model.specs.Orders.{IsIn, Rises}
-use Rattle.context_model.specs.Merge.{greedy_merge}
+use Rattle.context_model.specs.GreedyMerge.{greedy_merge}
 use Rattle.context_model.proofs.TwoLists.{two_lists}
 use Rattle.context_model.proofs.GreedyLaws.{greedy-from}
 use Rattle.context_model.proofs.Rising.{greedy-right_empty, greedy-less, greedy-equal, greedy-greater, Rises-before, Rises-tail, not_behind}

@@ -4,7 +4,7 @@ use Rattle.std.specs.Cmp.{IsTotalOrder}
 use Rattle.std.specs.declared.cmp.Ordering.{Ordering}
 use Rattle.std.specs.declared.cmp.Ordering.TheVariants.{Equal}
 use Rattle.context_model.specs.Orders.{IsIn}
-use Rattle.context_model.specs.Merge.{greedy_merge}
+use Rattle.context_model.specs.GreedyMerge.{greedy_merge}
 use Rattle.context_model.specs.KeyedMerge.{merge_with, keys_of, IsAt}
 use Rattle.context_model.proofs.MergeLaws.{keys_of-merge_with, with-comm, with-assoc, with-idem, with-from, From, EachPair-from}
 

@@ -3,7 +3,7 @@ use Rattle.std.proofs.Common.{◌≡◌, List, ◌∷◌, map, refl, sym, ◌∙
 use Rattle.std.specs.declared.cmp.Ordering.{Ordering}
 use Rattle.std.specs.declared.cmp.Ordering.TheVariants.{Less, Equal, Greater}
 use Rattle.context_model.specs.Orders.{IsIn}
-use Rattle.context_model.specs.Merge.{greedy_merge}
+use Rattle.context_model.specs.GreedyMerge.{greedy_merge}
 use Rattle.context_model.proofs.TwoLists.{two_lists}
 use Rattle.context_model.proofs.Rising.{greedy-right_empty, greedy-less, greedy-equal, greedy-greater}
 

@@ -7,7 +7,7 @@ use Rattle.std.specs.Ordering.{ordering_then, ordering_reverse}
 use Rattle.context_model.specs.Atoms.{Atom}
 use Rattle.context_model.specs.Orders.{Path, atom_cmp, path_cmp}
 use Rattle.context_model.specs.Paths.{is_header, level, header_count, depth_after, path_after, paths_after}
-use Rattle.context_model.specs.Merge.{greedy_merge}
+use Rattle.context_model.specs.GreedyMerge.{greedy_merge}
 use Rattle.context_model.proofs.OrderLaws.{atoms_total, atoms_anti, paths_total}
 use Rattle.context_model.proofs.TwoLists.{two_lists}
 use Rattle.context_model.proofs.Rising.{greedy-right_empty, greedy-less, greedy-equal, greedy-greater}

@@ -2,7 +2,7 @@
 use Rattle.std.proofs.Common.{◌≡◌, List, [], ◌∷◌, refl, arith}
 use Rattle.context_model.specs.Atoms.{Atom}
 use Rattle.context_model.specs.Orders.{atom_cmp}
-use Rattle.context_model.specs.Merge.{greedy_merge}
+use Rattle.context_model.specs.GreedyMerge.{greedy_merge}
 use Rattle.context_model.specs.declared.Form.TheVariants.{One}
 use Rattle.context_model.specs.Framing.{base_128, bytes_of}
 use Rattle.context_model.specs.Kinds.Kind.{Datum, Indexed, Keyed}

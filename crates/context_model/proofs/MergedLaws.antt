@@ -6,7 +6,7 @@ use Rattle.context_model.specs.Kinds.{HasKind}
 use Rattle.context_model.specs.Orders.{Path, atom_cmp, path_cmp, IsIn}
 use Rattle.context_model.specs.Paths.{depth_after, path_after, paths_after, paths}
 use Rattle.context_model.specs.WellFormed.{IsWellFormed}
-use Rattle.context_model.specs.Merge.{greedy_merge}
+use Rattle.context_model.specs.GreedyMerge.{greedy_merge}
 use Rattle.context_model.specs.Merged.{HasPaths, SomeHasPath, IsMerged, merge_of, last_atom, PathsTellLists, HasOneMerge, HasLastAtoms, MergesGreedily, MergesFew, MergesOneByOne, MergesInGroups, MergesOfMerges, MergesMembers, KeepsElements, KeepsAtoms, StaysWithinLimit}
 use Rattle.context_model.proofs.OrderLaws.{atoms_total, atoms_anti, paths_total, paths_anti}
 use Rattle.context_model.proofs.GreedyElements.{All-at, All-from, IsIn-greedy, All-greedy, Rises-unique}

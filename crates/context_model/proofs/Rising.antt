@@ -5,7 +5,7 @@ use Rattle.std.specs.declared.cmp.Ordering.{Ordering}
 use Rattle.std.specs.declared.cmp.Ordering.TheVariants.{Less, Equal, Greater}
 use Rattle.std.specs.Ordering.{ordering_reverse}
 use Rattle.context_model.specs.Orders.{IsIn, Rises}
-use Rattle.context_model.specs.Merge.{greedy_merge, AllBelow}
+use Rattle.context_model.specs.GreedyMerge.{greedy_merge, AllBelow}
 use Rattle.context_model.proofs.TwoLists.{two_lists}
 
 -- a is below the first element

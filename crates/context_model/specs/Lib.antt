@@ -4,7 +4,7 @@ pub mod Ended
 pub mod Framing
 pub mod Kinds
 pub mod KeyedMerge
-pub mod Merge
+pub mod GreedyMerge
 pub mod Nearest
 pub mod Orders
 pub mod Paths

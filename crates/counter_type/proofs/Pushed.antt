@@ -1,6 +1,6 @@
 -- A writer behind all others keeps the writers in order.
 use Rattle.std.proofs.Common.{◌≡◌, ◌<◌, ◌^◌, ℕ, List, [], ◌∷◌, ◌++◌}
-use Rattle.context_model.specs.Merge.{AllBelow}
+use Rattle.context_model.specs.GreedyMerge.{AllBelow}
 use Rattle.context_model.specs.KeyedMerge.{EachPair, keys_of}
 use Rattle.context_model.proofs.Rising.{Rises-push}
 use Rattle.context_model.specs.Orders.{Rises, atom_cmp}

@@ -2,7 +2,7 @@
 
 ghost use Rattle.std.specs.Prelude.{◌≡◌, ◌≤◌, ℕ, max, List, [], ◌∷◌, ◌++◌, length, sum_by, IfOk, OnOk, OnErr, slice_get};
 ghost use Rattle.std.specs.Option.{option_map};
-ghost use Rattle.context_model.specs.Merge.{AllBelow};
+ghost use Rattle.context_model.specs.GreedyMerge.{AllBelow};
 ghost use Rattle.context_model.specs.KeyedMerge.{Finds, IsUnion, keys_of};
 ghost use Rattle.context_model.specs.Orders.{atom_cmp};
 ghost use Rattle.counter_type.specs.Counts.{IsCounted, counts_joined};

@@ -13,7 +13,7 @@ mod counts;
 pub mod entries;
 mod keys;
 mod lattice;
-mod moves;
+pub mod moves;
 mod sharing;
 
 pub use counts::{Counts, counts_join_is_union};

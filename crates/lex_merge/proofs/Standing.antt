@@ -4,7 +4,7 @@ use Rattle.context_model.specs.Atoms.{Atom}
 use Rattle.context_model.specs.Orders.{Path, atom_cmp, IsIn}
 use Rattle.context_model.specs.Paths.{paths}
 use Rattle.context_model.specs.WellFormed.{IsWellFormed}
-use Rattle.context_model.specs.Merge.{greedy_merge}
+use Rattle.context_model.specs.GreedyMerge.{greedy_merge}
 use Rattle.context_model.specs.Merged.{SomeHasPath, IsMerged, merge_of}
 use Rattle.context_model.proofs.OrderLaws.{atoms_total}
 use Rattle.context_model.proofs.GreedyLaws.{greedy-assoc}

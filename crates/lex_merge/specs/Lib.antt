@@ -1,4 +1,4 @@
 pub mod Laws
 pub mod Many
 pub mod Runs
-pub use Rattle.context_model.specs.Merge
+pub use Rattle.context_model.specs.GreedyMerge

@@ -4,7 +4,7 @@ use Rattle.std.specs.declared.cmp.Ordering.TheVariants.{Greater}
 use Rattle.context_model.specs.Atoms.{Atom}
 use Rattle.context_model.specs.Orders.{atom_cmp}
 use Rattle.context_model.specs.Paths.{atom_at}
-use Rattle.context_model.specs.Merge.{greedy_merge}
+use Rattle.context_model.specs.GreedyMerge.{greedy_merge}
 use Rattle.atom_list.specs.Builder.{Built, room_of}
 
 -- The merge of what two lists have from these places on.

@@ -10,7 +10,7 @@
 
 ghost use Rattle.std.specs.Prelude.{◌≡◌, [], ◌∷◌, IfOk};
 ghost use Rattle.context_model.specs.Orders.{atom_cmp};
-ghost use Rattle.context_model.specs.Merge.{greedy_merge};
+ghost use Rattle.context_model.specs.GreedyMerge.{greedy_merge};
 ghost use Rattle.context_model.specs.Merged.{IsMerged};
 ghost use Rattle.lex_merge.specs.Runs.{IsMergeRun, HasMergeRoom};
 

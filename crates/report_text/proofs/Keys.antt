@@ -1,6 +1,6 @@
 -- Entries whose keys come before a key.
 use Rattle.std.proofs.Common.{◌≡◌, ℕ, zero, suc, ◌+◌, ◌<◌, List, [], ◌∷◌, map, length, take, get_or, Less, sym, subst, add-one, arith}
-use Rattle.context_model.specs.Merge.{AllBelow}
+use Rattle.context_model.specs.GreedyMerge.{AllBelow}
 use Rattle.context_model.specs.KeyedMerge.{keys_of}
 use Rattle.bag_model.specs.Scalars.{ScalarValue, scalar_cmp}
 use Rattle.scalar_types.specs.Scalars.{value_of}

@@ -6,7 +6,7 @@ use Rattle.std.specs.declared.cmp.Ordering.{Ordering}
 use Rattle.std.specs.declared.cmp.Ordering.TheVariants.{Less, Equal, Greater}
 use Rattle.std.proofs.Common.{refl, sym, ◌∙◌, ap, subst}
 use Rattle.counter_type.specs.Lattice.{LatticeLaws}
-use Rattle.context_model.specs.Merge.{first_of}
+use Rattle.context_model.specs.GreedyMerge.{first_of}
 use Rattle.set_map_types.specs.Picks.{HeldOne, IfThere, one_proper, one_joined, SameCodecOfOne, IsAbsent}
 
 module _ {V : Type 0} (R : V → V → Ordering) (total : IsTotalOrder R) where

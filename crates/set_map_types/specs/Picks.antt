@@ -1,7 +1,7 @@
 use Rattle.std.specs.Prelude.{◌≡◌, ℕ, List, Option, Some, None}
 use Rattle.std.specs.Ordering.{flip_args}
 use Rattle.std.specs.declared.cmp.Ordering.{Ordering}
-use Rattle.context_model.specs.Merge.{first_of}
+use Rattle.context_model.specs.GreedyMerge.{first_of}
 use Rattle.set_map_types.specs.SetsAndMaps.{value_cmp}
 
 -- a codec, and one of its values or none

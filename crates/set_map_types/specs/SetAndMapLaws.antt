@@ -10,7 +10,7 @@ use Rattle.std.proofs.lemmas.Map.Lookups.{exact_bytes}
 use Rattle.scalar_types.specs.Codec.{OneValue}
 use Rattle.counter_type.specs.Lattice.{LatticeLaws}
 use Rattle.context_model.specs.Orders.{IsIn}
-use Rattle.context_model.specs.Merge.{greedy_merge, AllBelow}
+use Rattle.context_model.specs.GreedyMerge.{greedy_merge, AllBelow}
 use Rattle.context_model.specs.KeyedMerge.{merge_with, keys_of, IsAt, AtOneKey, IsUnion}
 use Rattle.context_model.proofs.Rising.{Rises-greedy, Rises-push}
 use Rattle.context_model.proofs.GreedyLaws.{greedy-comm, greedy-assoc, greedy-idem, greedy-from}

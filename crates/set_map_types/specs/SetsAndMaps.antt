@@ -4,7 +4,7 @@ use Rattle.std.specs.Ordering.{on}
 use Rattle.std.specs.declared.cmp.Ordering.{Ordering}
 use Rattle.context_model.specs.Orders.{atom_cmp}
 use Rattle.counter_type.specs.Entries.{AreKeys, AreEntries}
-use Rattle.context_model.specs.Merge.{greedy_merge}
+use Rattle.context_model.specs.GreedyMerge.{greedy_merge}
 use Rattle.context_model.specs.KeyedMerge.{merge_with, AtOneKey}
 
 -- A codec, and what is held of its values, in order.

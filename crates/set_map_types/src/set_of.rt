@@ -3,7 +3,7 @@
 ghost use Rattle.std.specs.Prelude.{◌≡◌, ◌↔◌, ◌⊎◌, List, [], ◌∷◌, ◌++◌, length, slice_get, IsTrue, IfOk, OnOk, OnErr};
 ghost use Rattle.std.specs.Option.{option_copied};
 ghost use Rattle.context_model.specs.Orders.{IsIn};
-ghost use Rattle.context_model.specs.Merge.{AllBelow};
+ghost use Rattle.context_model.specs.GreedyMerge.{AllBelow};
 ghost use Rattle.set_map_types.specs.SetsAndMaps.{Held, set_joined, set_proper, value_cmp};
 
 use crate::codec_keys::CodecKeys;

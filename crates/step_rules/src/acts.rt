@@ -1,7 +1,7 @@
 //! What each act gives.
 
 ghost use Rattle.std.specs.Prelude.{map, IfOk};
-ghost use Rattle.bag_model.specs.Normal.{IsNormalOf};
+ghost use Rattle.bag_model.specs.NormalForm.{IsNormalOf};
 ghost use Rattle.bag_value.specs.Vals.{plain};
 ghost use Rattle.field_table.specs.Views.{view_of};
 ghost use Rattle.recorded_graph.specs.Plain.{act_of};

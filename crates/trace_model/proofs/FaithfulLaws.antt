@@ -19,7 +19,7 @@ use Rattle.bag_model.specs.Views.{View}
 use Rattle.bag_model.specs.Readings.{Reads, PathsOf, SaysValues}
 use Rattle.bag_model.specs.Typed.{AreTyped}
 use Rattle.bag_model.specs.Encodings.{AreUsed, IsForeign}
-use Rattle.bag_model.specs.Normal.{IsNormalOf}
+use Rattle.bag_model.specs.NormalForm.{IsNormalOf}
 use Rattle.bag_model.proofs.PathSets.{Both, FewerBelow}
 use Rattle.bag_model.proofs.TypedLaws.{AreTyped-fewer}
 use Rattle.bag_model.proofs.Covering.{Reads-covers, ReadsEach-covers}
@@ -28,7 +28,7 @@ use Rattle.bag_model.proofs.Unions.{Reads-alike, Reads-union}
 use Rattle.bag_model.proofs.Uniqueness.{Reads-unique, ReadsEach-unique}
 use Rattle.bag_model.proofs.MergeReadingLaws.{PathsOf-headers}
 use Rattle.bag_model.proofs.SlotsBelow.{in_map, get_in}
-use Rattle.bag_model.proofs.NormalLaws.{normal_form_keeps}
+use Rattle.bag_model.proofs.NormalFormLaws.{normal_form_keeps}
 use Rattle.bag_model.proofs.EachSlot.{ReadsSlot, each_slot-at, ReadsEach-slots}
 use Rattle.trace_model.specs.Graphs.{Act, Start, Recv, Set, Branch, Forward, Trim, Join, Step, Graph, parents_of, HasStep, view_at, form_at}
 use Rattle.trace_model.specs.Runs.{list_at, parents_lists, Gives}

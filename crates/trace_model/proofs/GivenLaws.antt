@@ -16,11 +16,11 @@ use Rattle.bag_model.specs.Views.{View}
 use Rattle.bag_model.specs.Readings.{PathsOf}
 use Rattle.bag_model.specs.Typed.{AreTyped}
 use Rattle.bag_model.specs.Encodings.{IsEncodingOf}
-use Rattle.bag_model.specs.Normal.{IsNormalOf}
+use Rattle.bag_model.specs.NormalForm.{IsNormalOf}
 use Rattle.bag_model.proofs.TypedLaws.{AreTyped-fewer}
 use Rattle.bag_model.proofs.LayoutLaws.{encodings_read_back}
 use Rattle.bag_model.proofs.MergeReadingLaws.{merges_read_as_joins}
-use Rattle.bag_model.proofs.NormalLaws.{normal_form_keeps}
+use Rattle.bag_model.proofs.NormalFormLaws.{normal_form_keeps}
 use Rattle.bag_model.proofs.EachSlot.{only_fits}
 use Rattle.trace_model.specs.Graphs.{Start, Recv, Set, Branch, Forward, Trim, Join, IsTypedContext}
 use Rattle.trace_model.specs.Runs.{list_at, IsNormalMerge, GivesContexts}

@@ -26,7 +26,7 @@ use Rattle.bag_model.specs.Tables.{IsTable}
 use Rattle.bag_model.specs.Views.{View, All, Nothing, Only}
 use Rattle.bag_model.specs.Readings.{PathsOf}
 use Rattle.bag_model.specs.Encodings.{InLayouts, IsEncoding, FitsAtoms}
-use Rattle.bag_model.specs.Normal.{Keeping, EachDatum, SomeHoldsData, GivesWay, IsSuperseded, IsNormalOf}
+use Rattle.bag_model.specs.NormalForm.{Keeping, EachDatum, SomeHoldsData, GivesWay, IsSuperseded, IsNormalOf}
 use Rattle.bag_model.proofs.Finite.{bytes_at-back}
 use Rattle.bag_model.proofs.SlotsBelow.{get_in}
 use Rattle.bag_model.proofs.DataPlaces.{slots_place}

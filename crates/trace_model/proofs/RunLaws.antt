@@ -10,9 +10,9 @@ use Rattle.bag_model.specs.Shapes.{Nodes}
 use Rattle.bag_model.specs.SlotValues.{only}
 use Rattle.bag_model.specs.Tables.{IsTable}
 use Rattle.bag_model.specs.Views.{View}
-use Rattle.bag_model.specs.Normal.{IsNormalOf}
+use Rattle.bag_model.specs.NormalForm.{IsNormalOf}
 use Rattle.bag_model.proofs.LayoutLaws.{encodings_read_back}
-use Rattle.bag_model.proofs.NormalLaws.{normal_form_keeps}
+use Rattle.bag_model.proofs.NormalFormLaws.{normal_form_keeps}
 use Rattle.trace_model.specs.Graphs.{Act, Start, Recv, Set, Branch, Forward, Trim, Join, Step, Graph, parents_of, HasStep, view_at, IsActOf, IsRecorded, form_at}
 use Rattle.trace_model.specs.Runs.{list_at, parents_lists, IsNormalMerge, Gives, StepGives, RunsTo, IsRun, HasOneRun, RunsGrow}
 use Rattle.trace_model.proofs.ReachLaws.{one_step}

@@ -18,13 +18,13 @@ use Rattle.bag_model.specs.Tables.{IsTable}
 use Rattle.bag_model.specs.Views.{View}
 use Rattle.bag_model.specs.Readings.{PathsOf}
 use Rattle.bag_model.specs.Encodings.{InLayouts, IsEncoding, AreUsed}
-use Rattle.bag_model.specs.Normal.{IsNormalOf}
-use Rattle.bag_model.specs.NormalForms.{NormalKeepsList}
+use Rattle.bag_model.specs.NormalForm.{IsNormalOf}
+use Rattle.bag_model.specs.NormalFormLaws.{NormalKeepsList}
 use Rattle.bag_model.proofs.PathSets.{AnyOf, FewerBelow}
 use Rattle.bag_model.proofs.Covering.{Covers, Covers-alike, Covers-onwards, Covers-any}
 use Rattle.bag_model.proofs.ForeignLaws.{InLayouts-used}
 use Rattle.bag_model.proofs.Finite.{in_append_second}
-use Rattle.bag_model.proofs.NormalLaws.{normal_left, normal_covers, normal_form_keeps}
+use Rattle.bag_model.proofs.NormalFormLaws.{normal_left, normal_covers, normal_form_keeps}
 use Rattle.trace_model.proofs.LayoutFronts.{EndsPlainly, AreUsed-plain}
 use Rattle.trace_model.proofs.PlainEnds.{marker_path, marker_back, plain_or_marker, plain_last}
 use Rattle.trace_model.proofs.SlotParts.{slot_covered}

@@ -11,7 +11,7 @@ use Rattle.bag_model.specs.SlotValues.{only}
 use Rattle.bag_model.specs.Tables.{IsTable}
 use Rattle.bag_model.specs.Views.{View}
 use Rattle.bag_model.specs.Encodings.{IsEncoding}
-use Rattle.bag_model.specs.Normal.{IsNormalOf}
+use Rattle.bag_model.specs.NormalForm.{IsNormalOf}
 use Rattle.trace_model.specs.Graphs.{Act, Start, Recv, Set, Branch, Forward, Trim, Join, Step, Graph, parents_of, HasStep, form_at, view_at, IsTypedContext, IsActOf, IsRecorded}
 
 -- Lists of atoms; those of steps stand there by the numbers of the steps.

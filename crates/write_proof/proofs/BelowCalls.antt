@@ -8,7 +8,7 @@ use Rattle.std.specs.declared.cmp.Ordering.{Ordering}
 use Rattle.std.specs.declared.cmp.Ordering.TheVariants.{Less, Equal, Greater}
 use Rattle.std.proofs.lemmas.Bool.{cases_lt}
 use Rattle.context_model.specs.KeyedMerge.{IsAt}
-use Rattle.context_model.specs.Merge.{first_of}
+use Rattle.context_model.specs.GreedyMerge.{first_of}
 use Rattle.context_model.specs.Orders.{IsIn, by_order}
 use Rattle.context_model.proofs.MergeLaws.{EachPair-at}
 use Rattle.bag_model.specs.Joins.{Alike, join, join_values, IsValueBelow, Proper}

@@ -3,7 +3,7 @@ use Rattle.std.proofs.Common.{◌≡◌, ◌⊎◌, inl, inr, ◌↔◌, ℕ, ze
 use Rattle.std.specs.List.{slice_get}
 use Rattle.std.proofs.lemmas.Bool.{cases_lt}
 use Rattle.context_model.specs.KeyedMerge.{keys_of, IsAt}
-use Rattle.context_model.specs.Merge.{first_of}
+use Rattle.context_model.specs.GreedyMerge.{first_of}
 use Rattle.context_model.specs.Orders.{IsIn, atom_cmp}
 use Rattle.context_model.proofs.MergeLaws.{EachPair-at, IsIn-keys_of, IsAt-unique}
 use Rattle.context_model.proofs.OrderLaws.{atoms_total}

@@ -6,7 +6,7 @@ use Rattle.std.specs.Option.{option_map}
 use Rattle.std.proofs.lemmas.Bool.{cases_lt, eqb-true, eq-eqb}
 use Rattle.std.proofs.lemmas.List.{map-append, take_all, take_more}
 use Rattle.context_model.specs.KeyedMerge.{keys_of, IsAt, Finds}
-use Rattle.context_model.specs.Merge.{first_of}
+use Rattle.context_model.specs.GreedyMerge.{first_of}
 use Rattle.context_model.specs.Orders.{IsIn, atom_cmp}
 use Rattle.context_model.proofs.MergeLaws.{EachPair-at, IsIn-keys_of, IsAt-unique}
 use Rattle.context_model.proofs.OrderLaws.{atoms_total}

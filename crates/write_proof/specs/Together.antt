@@ -3,7 +3,7 @@ use Rattle.std.specs.Borrow.{Bor}
 use Rattle.std.specs.Prelude.{◌≡◌, ℕ, ◌≤◌, true, List, [], ◌∷◌, map, Some}
 use Rattle.std.specs.List.{slice_get}
 use Rattle.context_model.specs.KeyedMerge.{keys_of, IsAt}
-use Rattle.context_model.specs.Merge.{first_of}
+use Rattle.context_model.specs.GreedyMerge.{first_of}
 use Rattle.context_model.specs.Orders.{IsIn}
 use Rattle.bag_model.specs.Scalars.{ScalarValue, pick_cmp}
 use Rattle.bag_model.specs.Shapes.{Shape}

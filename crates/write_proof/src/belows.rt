@@ -3,7 +3,7 @@
 ghost use Rattle.std.specs.Prelude.{◌≡◌, ◌↔◌, ◌<◌, ◌≤◌, ℕ, List, length, map, IsTrue};
 ghost use Rattle.std.specs.Option.{option_map};
 ghost use Rattle.context_model.specs.KeyedMerge.{IsAt};
-ghost use Rattle.context_model.specs.Merge.{first_of};
+ghost use Rattle.context_model.specs.GreedyMerge.{first_of};
 ghost use Rattle.context_model.specs.Orders.{IsIn};
 ghost use Rattle.bag_model.specs.declared.Pick.TheVariants as pick;
 ghost use Rattle.bag_model.specs.Joins.{Alike, IsValueBelow, Proper, join_values};

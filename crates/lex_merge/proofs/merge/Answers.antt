@@ -2,7 +2,7 @@ use Rattle.std.proofs.Common.{◌≡◌, List, [], ◌∷◌, sym, subst, ◌∙
 use Rattle.context_model.specs.Atoms.{Atom}
 use Rattle.context_model.specs.Orders.{atom_cmp}
 use Rattle.context_model.specs.WellFormed.{IsWellFormed}
-use Rattle.context_model.specs.Merge.{greedy_merge}
+use Rattle.context_model.specs.GreedyMerge.{greedy_merge}
 use Rattle.context_model.specs.Merged.{IsMerged}
 use Rattle.context_model.proofs.MergedLaws.{merges_greedily}
 use Rattle.lex_merge.proofs.merge.Goals as goal

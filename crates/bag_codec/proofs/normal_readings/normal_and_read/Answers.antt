@@ -1,6 +1,6 @@
 use Rattle.std.proofs.Common.{List, sym, ap, ◌∙◌, subst}
 use Rattle.context_model.specs.Atoms.{Atom}
-use Rattle.bag_model.specs.Normal.{IsNormalOf}
+use Rattle.bag_model.specs.NormalForm.{IsNormalOf}
 use Rattle.bag_value.specs.Vals.{plain, val_of}
 use Rattle.bag_value.specs.ValLaws.{val_back}
 use Rattle.field_table.specs.Views.{view_of}

@@ -1,7 +1,7 @@
 use Rattle.std.proofs.Common.{◌≡◌, ◌↔◌, List, sym, subst}
 use Rattle.context_model.specs.Atoms.{Atom}
 use Rattle.context_model.specs.Ended.{IsEnded, field_path}
-use Rattle.bag_model.specs.Normal.{IsNormalOf}
+use Rattle.bag_model.specs.NormalForm.{IsNormalOf}
 use Rattle.bag_model.specs.Slots.{slots_of}
 use Rattle.bag_model.proofs.SlotsBelow.{get_in}
 use Rattle.bag_scan.specs.declared.states.State.TheVariants.{Exact}

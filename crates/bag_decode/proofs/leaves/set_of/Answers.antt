@@ -1,5 +1,5 @@
 use Rattle.std.proofs.Common.{◌≡◌, ◌+◌, drop, map, refl, sym, ap, ◌∙◌, subst, arith}
-use Rattle.context_model.specs.Merge.{AllBelow}
+use Rattle.context_model.specs.GreedyMerge.{AllBelow}
 use Rattle.context_model.specs.Paths.{atom_at, path_before}
 use Rattle.bag_model.specs.Scalars.{scalar_cmp, spelling}
 use Rattle.bag_model.specs.Typed.{IsSpelling}

@@ -1,6 +1,6 @@
 use Rattle.std.proofs.Common.{Some, arith}
 use Rattle.context_model.specs.Paths.{path_before}
-use Rattle.bag_model.specs.Normal.{GreatestDatum}
+use Rattle.bag_model.specs.NormalForm.{GreatestDatum}
 use Rattle.bag_walks.specs.Gathering.{IsLastDatum}
 use Rattle.bag_normal.specs.Data.{IsDatumBetween}
 use Rattle.bag_normal.specs.Known.{GivesWayAt}

@@ -2,7 +2,7 @@ use Rattle.std.proofs.Common.{◌≡◌, ℕ, ◌+◌, ◌<◌, List, sym, ap, �
 use Rattle.context_model.specs.Atoms.{Atom}
 use Rattle.context_model.specs.Paths.{path_before}
 use Rattle.bag_model.specs.declared.Pick.TheVariants.{Least, Greatest}
-use Rattle.bag_model.specs.Normal.{LeastDatum, GreatestDatum}
+use Rattle.bag_model.specs.NormalForm.{LeastDatum, GreatestDatum}
 use Rattle.bag_model.specs.Shapes as model
 use Rattle.bag_model.proofs.PathLaws.{is_field}
 use Rattle.scalar_types.specs.KindViews.{kind_of}

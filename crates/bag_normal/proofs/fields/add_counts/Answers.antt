@@ -1,6 +1,6 @@
 use Rattle.std.proofs.Common.{◌+◌, arith}
 use Rattle.context_model.specs.Paths.{path_before}
-use Rattle.bag_model.specs.Normal.{GreatestDatum}
+use Rattle.bag_model.specs.NormalForm.{GreatestDatum}
 use Rattle.bag_walks.proofs.Inside.{no_header_stays}
 use Rattle.bag_normal.specs.Known.{GivesWayAt}
 use Rattle.bag_normal.proofs.Places.{rises_on}

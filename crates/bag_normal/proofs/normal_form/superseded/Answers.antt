@@ -1,6 +1,6 @@
 use Rattle.std.proofs.Common.{List, [], subst}
 use Rattle.context_model.specs.Atoms.{Atom}
-use Rattle.bag_model.specs.Normal.{IsSupersededAt}
+use Rattle.bag_model.specs.NormalForm.{IsSupersededAt}
 use Rattle.bag_model.specs.Shapes as model
 use Rattle.field_table.specs.Views.{view_of}
 use Rattle.bag_normal.specs.Data.{AddsPlaces}

@@ -1,4 +1,4 @@
-use Rattle.bag_model.proofs.NormalLaws.{normal_form_keeps}
+use Rattle.bag_model.proofs.NormalFormLaws.{normal_form_keeps}
 use Rattle.bag_value.proofs.laws.normal_form_keeps.Goals as goal
 
 pub returns : goal.returns

@@ -1,7 +1,7 @@
 use Rattle.std.proofs.Common.{◌≡◌, sym, ◌∙◌, ap, subst, IfOk}
 use Rattle.std.specs.Option.{option_to_list}
 use Rattle.context_model.specs.Orders.{atom_cmp}
-use Rattle.context_model.specs.Merge.{greedy_merge}
+use Rattle.context_model.specs.GreedyMerge.{greedy_merge}
 use Rattle.context_model.specs.Merged.{merge_of}
 use Rattle.lex_merge.proofs.Standing.{merge_of-one}
 use Rattle.lex_merge.proofs.many.merge_next.Goals as goal

@@ -1,6 +1,6 @@
 use Rattle.std.proofs.Common.{map}
 use Rattle.std.proofs.lemmas.Result.{IfOk-weaker}
-use Rattle.bag_model.specs.Normal.{IsNormalOf}
+use Rattle.bag_model.specs.NormalForm.{IsNormalOf}
 use Rattle.field_table.specs.Views.{view_of}
 use Rattle.trace_model.specs.Runs.{list_at, IsNormalMerge}
 use Rattle.step_rules.proofs.Places.{all_within}

@@ -1,5 +1,5 @@
 use Rattle.std.proofs.Common.{List, ℕ, IfOk, subst}
-use Rattle.bag_model.specs.Normal.{IsNormalOf}
+use Rattle.bag_model.specs.NormalForm.{IsNormalOf}
 use Rattle.field_table.specs.Views.{view_of}
 use Rattle.step_rules.proofs.acts.normal_copy.Goals as goal
 

@@ -1,5 +1,5 @@
 use Rattle.std.proofs.lemmas.Result.{IfOk-weaker}
-use Rattle.bag_model.specs.Normal.{IsNormalOf}
+use Rattle.bag_model.specs.NormalForm.{IsNormalOf}
 use Rattle.bag_value.specs.Vals.{plain}
 use Rattle.field_table.specs.Views.{view_of}
 use Rattle.trace_model.specs.Runs.{IsNormalWrite}

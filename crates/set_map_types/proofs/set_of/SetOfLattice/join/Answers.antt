@@ -1,5 +1,5 @@
 use Rattle.std.proofs.Common.{◌≡◌, sym, subst}
-use Rattle.context_model.specs.Merge.{greedy_merge}
+use Rattle.context_model.specs.GreedyMerge.{greedy_merge}
 use Rattle.context_model.specs.KeyedMerge.{keys_of}
 use Rattle.context_model.proofs.MergeLaws.{keys_of-merge_with}
 use Rattle.set_map_types.specs.SetsAndMaps.{IsSet, value_cmp}

@@ -24,8 +24,8 @@ use Rattle.bag_model.specs.Views.{View}
 use Rattle.bag_model.specs.Readings.{datum_path, PathsOf, SaysValues}
 use Rattle.bag_model.specs.Typed.{AreTyped}
 use Rattle.bag_model.specs.Encodings.{AreUsed, IsForeign}
-use Rattle.bag_model.specs.Normal.{Keeping, SomeHoldsData, GivesWay, IsSuperseded, IsNormalOf}
-use Rattle.bag_model.specs.NormalForms.{NormalKeepsList, NormalFormKeeps}
+use Rattle.bag_model.specs.NormalForm.{Keeping, SomeHoldsData, GivesWay, IsSuperseded, IsNormalOf}
+use Rattle.bag_model.specs.NormalFormLaws.{NormalKeepsList, NormalFormKeeps}
 use Rattle.bag_model.proofs.PathSets.{FewerBelow}
 use Rattle.bag_model.proofs.TypedLaws.{AreTyped-fewer}
 use Rattle.bag_model.proofs.Uniqueness.{ReadsEach-unique}

@@ -13,7 +13,7 @@ use Rattle.bag_model.specs.Joins.{join}
 use Rattle.bag_model.specs.Slots.{slots_of}
 use Rattle.bag_model.specs.Views.{All, Nothing}
 use Rattle.bag_model.specs.Readings.{datum_path, PathsOf}
-use Rattle.bag_model.specs.Normal.{Keeping, LeastDatum, SomeHoldsData, GivesWay, IsSuperseded, IsSupersededAt, IsNormalOf}
+use Rattle.bag_model.specs.NormalForm.{Keeping, LeastDatum, SomeHoldsData, GivesWay, IsSuperseded, IsSupersededAt, IsNormalOf}
 use Rattle.bag_model.proofs.Finite.{bytes_at-back}
 use Rattle.bag_model.proofs.SlotsBelow.{get_in}
 use Rattle.bag_model.proofs.DataPlaces.{slots_place}

@@ -12,7 +12,7 @@ use Rattle.bag_model.specs.Views.{View}
 use Rattle.bag_model.specs.Readings.{PathsOf, SaysValues}
 use Rattle.bag_model.specs.Typed.{AreTyped}
 use Rattle.bag_model.specs.Encodings.{IsForeign}
-use Rattle.bag_model.specs.Normal.{IsNormalOf}
+use Rattle.bag_model.specs.NormalForm.{IsNormalOf}
 
 -- The normal form of a well-formed list is well formed, has the same ended slots and the same foreign paths, and a marker
 -- exactly where the list has one; and a list has one normal form.
