@@ -1,7 +1,7 @@
 -- What the first byte of an atom says of its kind, and the three clauses of an answer.
-use Rattle.std.proofs.Common.{◌≡◌, ℕ, ◌-◌, ◌*◌, ◌/◌, ◌%◌, ◌^◌, ◌<◌, ◌≤◌, ◌⊎◌, ◌↔◌, List, ◌∷◌, Result, Ok, Err, refl, ap, ◌∙◌, subst, arith, inl, inr, get_or}
+use Rattle.std.proofs.Common.{◌≡◌, ℕ, ◌-◌, ◌*◌, ◌/◌, ◌%◌, ◌^◌, ◌<◌, ◌≤◌, ◌⊎◌, ◌↔◌, List, ◌∷◌, Result, Ok, Err, refl, ap, ◌∙◌, subst, arith, get_or}
 use Rattle.context_model.specs.Varints.{unsigned_varint}
-use Rattle.context_model.specs.Kinds.{atom_of, IsKind, HasKind, IsIndexLike, HasBadPrefix, HasBadIndex}
+use Rattle.context_model.specs.Kinds.{atom_of, IsKind, HasKind, HasBadPrefix, HasBadIndex}
 use Rattle.context_model.specs.Kinds.{Kind as PlainKind}
 use Rattle.context_model.specs.Kinds.Kind.{Marker as PlainMarker, Datum as PlainDatum, Indexed as PlainIndexed, Keyed as PlainKeyed}
 use Rattle.context_model.proofs.KindLaws.{HasKind-unique}
@@ -25,13 +25,6 @@ kind_at atom k f e = record {
     has : HasKind atom
     has = record { kind = k; fits = f; spelled = e }
 
-pub bad_prefix : (atom : List ℕ) → HasBadPrefix atom → Answers atom (Err BadPrefix)
-bad_prefix atom b = record {
-  kind = λ kind. ((λ s. cc), λ (g, t). absurd (b.none g));
-  prefix = ((λ s. b), λ s. refl);
-  index = ((λ s. cc), λ i. absurd (b.other i.like));
-}
-
 pub bad_index : (atom : List ℕ) → HasBadIndex atom → Answers atom (Err BadIndex)
 bad_index atom b = record {
   kind = λ kind. ((λ s. cc), λ (g, t). absurd (b.none g));
@@ -53,21 +46,6 @@ starts first rest (PlainIndexed level number) f e =
     let t : rest ≡ unsigned_varint number = cc in
     indexed level number f.0 f.1 h t
 starts first rest (PlainKeyed level key) f e = let h : first ≡ 249 - 8 * level = cc in keyed level f h
-
--- no kind begins so
-pub no_start : (first : ℕ) (rest : List ℕ) → (first ≡ 0 → ⊥) → (first < 128) ⊎ ((128 ≤ first) × (first % 8 ≡ 0 → ⊥) × (first % 8 ≡ 1 → ⊥)) → HasBadPrefix (first ∷ rest)
-no_start first rest z h = record { none = λ f. by h (starts first rest f.kind f.fits f.spelled); other = λ i. like h i }
-  where
-    by : (first < 128) ⊎ ((128 ≤ first) × (first % 8 ≡ 0 → ⊥) × (first % 8 ≡ 1 → ⊥)) → StartsAs first rest → ⊥
-    by h (datum e) = z e
-    by (inl l) (indexed level number a b e t) = omega arith
-    by (inr g) (indexed level number a b e t) = g.1 (omega arith)
-    by (inl l) (keyed level a e) = omega arith
-    by (inr g) (keyed level a e) = g.2 (omega arith)
-
-    like : (first < 128) ⊎ ((128 ≤ first) × (first % 8 ≡ 0 → ⊥) × (first % 8 ≡ 1 → ⊥)) → IsIndexLike (first ∷ rest) → ⊥
-    like (inl l) i = let e : first ≡ 248 - 8 * i.level = cc (i.begins) in omega (arith, i.fits)
-    like (inr g) i = let e : first ≡ 248 - 8 * i.level = cc (i.begins) in g.1 (omega (arith, i.fits))
 
 pub level_below : (first : ℕ) → 128 ≤ first → (255 - first) / 8 < 16
 level_below first h = omega arith

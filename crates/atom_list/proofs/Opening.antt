@@ -10,7 +10,7 @@ use Rattle.context_model.specs.Kinds.{Kind as PlainKind}
 use Rattle.context_model.specs.Kinds.Kind.{Marker as PlainMarker, Datum as PlainDatum, Indexed as PlainIndexed, Keyed as PlainKeyed}
 use Rattle.context_model.specs.Orders.{Path, atom_cmp, path_cmp}
 use Rattle.context_model.specs.Paths.{is_header, level, header_count, path_after}
-use Rattle.context_model.specs.ByteCodes.ByteCode.{LevelJump, OutOfOrder}
+use Rattle.context_model.specs.ByteCodes.ByteCode.{OutOfOrder}
 use Rattle.context_model.specs.ShapeFault.{IsWrong}
 use Rattle.context_model.proofs.Following.{Fits-marker, header_count-length, next_bound, marker_kind}
 use Rattle.context_model.proofs.PathPlaces.{place_below, place_at, length_at, later_end, later_place}
@@ -169,16 +169,6 @@ header_opens list q above datum at a opened header upto few there =
       behind = inl (subst (λ p. length p ≡ length (kept ++ at ∷ [])) (sym path) (length_at n q a (omega arith) ∙ sym long));
     }
 
--- ---- before the first atom
-
-pub none_open : (list : List Atom) → IsOpenPath list [] [] None
-none_open list = record {
-  number = refl;
-  few = omega arith;
-  stand = λ k below. absurd (omega arith);
-  behind = inl refl;
-}
-
 -- ---- what the kind of an atom says of it
 
 pub told_datum : (a : Atom) → TellsKind a Datum → (payload : List ℕ) × (a ≡ 0 ∷ payload)
@@ -261,9 +251,6 @@ header_wrong list q above datum a n opened header below not_less =
       λ jump. (let l = header.level in let m = opened.number in let j = jump.1 in absurd (omega arith)),
       λ later. not_less (subst (λ k. atom_cmp (atom_at list (get_or above k 0)) a ≡ Less) header.level ((header_beside list q above datum a opened header.header at_level).0 later)),
     )
-
-pub header_jumps : (list : List Atom) (q : Path) (above : List ℕ) (datum : Option ℕ) (a : Atom) (n : ℕ) → IsOpenPath list q above datum → IsHeaderOf a n → (length above) < n → IsWrong LevelJump q a
-header_jumps list q above datum a n opened header over = (header.kind, (header.header, (let l = header.level in let m = opened.number in omega arith)))
 
 pub header_follows : (list : List Atom) (q : Path) (above : List ℕ) (datum : Option ℕ) (a : Atom) (n : ℕ) → IsOpenPath list q above datum → IsHeaderOf a n → n ≤ length above
     → (n < length above → atom_cmp (atom_at list (get_or above n 0)) a ≡ Less) → MayStandBehind q a

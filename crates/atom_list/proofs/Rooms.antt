@@ -30,10 +30,3 @@ room_of-front m n list below =
 -- A longer run.
 pub room_of-longer : (list : List Atom) (from m n : ℕ) → m ≤ n → room_of (slice_range list from m) ≤ room_of (slice_range list from n)
 room_of-longer list from m n below = room_of-front (m - from) (n - from) (drop from list) (omega arith)
-
-pub room_of_part : (list : List Atom) (from to : ℕ) → room_of (slice_range list from to) ≤ room_of list
-room_of_part list from to =
-    let back = drop from list in
-    let split = ap room_of (take-append-drop from list) in
-    let split' = ap room_of (take-append-drop (to - from) back) in
-    omega (arith, room_of-append (take from list) back, room_of-append (take (to - from) back) (drop (to - from) back))

@@ -107,9 +107,6 @@ walk_header list at headers walk within header = record {
 
 -- ---- the place of an atom
 
-place_made : (at n : ℕ) (above : List ℕ) → Place
-place_made at n above = record { at = at; level = n; above = above }
-
 same_place : (at at' n n' : ℕ) (above above' : List ℕ) (made : Place) → made ≡ record { at = at; level = n; above = above } → at ≡ at' → n ≡ n' → above ≡ above' → made ≡ record { at = at'; level = n'; above = above' }
 same_place at at' n n' above above' made e f g h = e ∙ (λ i. record { at = f i; level = g i; above = h i })
 

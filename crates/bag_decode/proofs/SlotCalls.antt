@@ -6,7 +6,7 @@ use Rattle.std.specs.Option.{option_map}
 use Rattle.context_model.specs.Atoms.{Atom}
 use Rattle.context_model.specs.Ended.{field_path}
 use Rattle.context_model.specs.Paths.{path_before}
-use Rattle.context_model.proofs.EndedSteps.{length-field_path}
+use Rattle.context_model.proofs.FieldPaths.{length-field_path}
 use Rattle.bag_model.specs.Readings.{PathsOf, Reads}
 use Rattle.bag_model.specs.Shapes.{Shape, Nodes}
 use Rattle.bag_model.specs.Slots.{SlotAt, slots_of}

@@ -7,7 +7,7 @@ use Rattle.context_model.specs.Kinds.{atom_of}
 use Rattle.context_model.specs.Kinds.Kind.{Indexed}
 use Rattle.context_model.specs.Orders.{Path}
 use Rattle.context_model.specs.Paths.{is_header, level}
-use Rattle.context_model.proofs.EndedSteps.{length-field_path}
+use Rattle.context_model.proofs.FieldPaths.{length-field_path}
 use Rattle.bag_model.specs.Readings.{PathsOf}
 use Rattle.bag_walks.specs.Parts.{IsBehind}
 use Rattle.bag_walks.specs.Slots.{IsSpanOf}

@@ -103,14 +103,3 @@ header_atoms h (tree a under next) some = ap (λ l. h ∷ l) (append-nil (atoms 
 pub said_atoms : (f : Field) (level : ℕ) (v : Value) → IsOfShape f.shape v → ¬ (IsBottom v) → one_field_atoms f level v ≡ atom_of (Indexed level f.number) ∷ atoms_of f.shape (level + 1) v
 said_atoms f level v o some =
     header_atoms (atom_of (Indexed level f.number)) (trees_of f.shape (level + 1) v) (λ e. some (bare_bottom f.shape (level + 1) v o e))
-
--- Values with one list are one.
-pub values_one : (vs ws : Values) → values_list vs ≡ values_list ws → vs ≡ ws
-values_one no_value no_value e = refl
-values_one no_value (value w ws) e = absurd (cc e)
-values_one (value v vs) no_value e = absurd (cc e)
-values_one (value v vs) (value w ws) e =
-    let first : v ≡ w = cc e in
-    let rest : values_list vs ≡ values_list ws = cc e in
-    let g = values_one vs ws rest in
-    λ i. value (first i) (g i)

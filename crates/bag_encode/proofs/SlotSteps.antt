@@ -23,10 +23,6 @@ pub headers_turn : (numbers : List ℕ) (i number : ℕ) → slice_get numbers i
 headers_turn numbers i number at =
     ap (field_path_from i) (dropped numbers i number at) ∙ ap (λ k. atom_of (Indexed i number) ∷ field_path_from k (drop (i + 1) numbers)) (sym (add-one i))
 
--- What is of the shape of the slot at a place is of the shape of any slot there.
-pub of_slot : (slots : List SlotAt) (slot : ℕ) (own : SlotAt) (v : Value) → slice_get slots slot ≡ Some own → IsOfShape own.shape v → (at : SlotAt) → slice_get slots slot ≡ Some at → IsOfShape at.shape v
-of_slot slots slot own v there is at here = let same : own ≡ at = cc in subst (λ (s : SlotAt). IsOfShape s.shape v) same is
-
 a_slot : (slots : List SlotAt) (i : ℕ) → i < length slots → (at : SlotAt) × (slice_get slots i ≡ Some at)
 a_slot [] i l = absurd (omega (arith, l))
 a_slot (at ∷ slots) zero l = (at, refl)

@@ -48,7 +48,3 @@ module _ {V : Type 0} {fits : V → Type 0} {code : V → List ℕ} {cmp : V →
   pub code_order : (v w : V) → fits v → fits w → slice_cmp nat_cmp (code v) (code w) ≡ cmp v w
   code_order v w p q =
       ap₂ (slice_cmp nat_cmp) (sym (append-nil (code v))) (sym (append-nil (code w))) ∙ keeps.order v w [] [] p q ∙ then-equal (cmp v w)
-
-  -- each value has its own code
-  pub code_one : (v w : V) → fits v → fits w → code v ≡ code w → v ≡ w
-  code_one v w p q e = code_apart v w [] [] p q (ap (λ l. l ++ []) e)

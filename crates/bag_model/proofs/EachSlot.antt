@@ -40,12 +40,6 @@ module _ (R : ℕ → SlotAt → Value → Type 0) where
   each_slot-rest i (x ∷ xs) ys (v ∷ vs) ws l f =
       let e : suc i + length xs ≡ i + suc (length xs) = omega arith in subst (λ n. EachSlot R n ys ws) e (each_slot-rest (suc i) xs ys vs ws (omega (arith, l)) f.1)
 
-  pub each_slot-length : (i : ℕ) (xs : List SlotAt) (vs : List Value) → EachSlot R i xs vs → length xs ≡ length vs
-  each_slot-length i [] [] f = refl
-  each_slot-length i [] (v ∷ vs) f = absurd f
-  each_slot-length i (x ∷ xs) [] f = absurd f
-  each_slot-length i (x ∷ xs) (v ∷ vs) f = ap (λ n. suc n) (each_slot-length (suc i) xs vs f.1)
-
   -- The value of one slot.
   pub each_slot-at : (i : ℕ) (xs : List SlotAt) (vs : List Value) (k : ℕ) (x : SlotAt) → EachSlot R i xs vs → slice_get xs k ≡ Some x → (v : Value) × (slice_get vs k ≡ Some v) × R (i + k) x v
   each_slot-at i [] vs k x f e = absurd (cc e)

@@ -33,9 +33,6 @@ fewer_step q a P Q f p b bytes i =
 pub same_step : (q : Path) (a : Atom) (P Q : Path → Type 0) → SameBelow q P Q → SameBelow (q ++ a ∷ []) P Q
 same_step q a P Q f = (fewer_step q a P Q f.0, fewer_step q a Q P f.1)
 
-pub same_back : (q : Path) (P Q : Path → Type 0) → SameBelow q P Q → SameBelow q Q P
-same_back q P Q f = (f.1, f.0)
-
 -- A set with nothing below q adds nothing there.
 pub same_first : (q : Path) (P Q : Path → Type 0) → ((a : Atom) (r : Path) → Q (q ++ a ∷ r) → ⊥) → SameBelow q P (Both P Q)
 same_first q P Q none = ((λ p b bytes i. inl i), λ p b bytes i. by p b bytes i)

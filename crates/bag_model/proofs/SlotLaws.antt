@@ -17,11 +17,6 @@ pub slots_of-list : (nodes : Nodes) → slots_of nodes ≡ slots_list (fields no
 slots_of-list no_node = refl
 slots_of-list (node name number shape nodes) = ap (λ l. map (within name number) (slots_in shape) ++ l) (slots_of-list nodes)
 
--- A list of fields is made of its fields.
-pub fields-from : (fs : List Field) → fields (nodes_from fs) ≡ fs
-fields-from [] = refl
-fields-from (f ∷ fs) = ap (λ l. f ∷ l) (fields-from fs)
-
 pub from-fields : (nodes : Nodes) → nodes_from (fields nodes) ≡ nodes
 from-fields no_node = refl
 from-fields (node name number shape nodes) = ap (node name number shape) (from-fields nodes)
@@ -43,11 +38,6 @@ pub starts-all : (fs : List Field) (i : ℕ) → length fs ≤ i → starts fs i
 starts-all [] i h = refl
 starts-all (f ∷ fs) zero h = absurd (omega (arith, h))
 starts-all (f ∷ fs) (suc i) h = omega (arith, starts-all fs i (omega (arith, h)), length-slots f fs)
-
-pub starts-more : (fs : List Field) (i : ℕ) → starts fs i ≤ starts fs (suc i)
-starts-more [] i = omega arith
-starts-more (f ∷ fs) zero = omega arith
-starts-more (f ∷ fs) (suc i) = omega (arith, starts-more fs i)
 
 pub get_front : {A : Type 0} (xs ys : List A) (i : ℕ) → i < length xs → slice_get (xs ++ ys) i ≡ slice_get xs i
 get_front [] ys i h = absurd (omega (arith, h))

@@ -5,7 +5,7 @@ use Rattle.context_model.specs.Kinds.{atom_of}
 use Rattle.context_model.specs.Kinds.Kind.{Indexed}
 use Rattle.context_model.specs.Orders.{Path, IsIn}
 use Rattle.context_model.specs.Ended.{AreHeaders, field_path_from, field_path}
-use Rattle.context_model.proofs.EndedSteps.{field_path-headers}
+use Rattle.context_model.proofs.FieldPaths.{field_path-headers}
 use Rattle.bag_model.specs.Shapes.{Shape, Nodes, Taint, Scalar, Set, Counter, Map, Bag, no_node, node}
 use Rattle.bag_model.specs.Tables.{levels, levels_under}
 use Rattle.bag_model.specs.Slots.{SlotAt, slots_in, slots_of, within}

@@ -7,24 +7,13 @@ use Rattle.context_model.specs.Orders.{Path, IsIn}
 use Rattle.context_model.specs.Paths.{paths}
 use Rattle.context_model.proofs.PlacesOf.{path_there, front_is_path}
 use Rattle.bag_model.specs.declared.Pick.{Pick}
-use Rattle.bag_model.specs.NormalForm.{Keeping, EachDatum, GreatestDatum, kept_by, HoldsData, SomeHoldsData, GivesWay}
+use Rattle.bag_model.specs.NormalForm.{Keeping, GreatestDatum, kept_by, HoldsData, SomeHoldsData}
 use Rattle.bag_model.specs.Readings.{PathsOf, key_path, node_path}
 use Rattle.bag_model.specs.Scalars.{ScalarKind}
-use Rattle.bag_model.specs.Shapes.{Shape, Nodes, Field, fields, Taint, Scalar, Set, Counter, Map, Bag, no_node, node}
+use Rattle.bag_model.specs.Shapes.{Shape, Nodes, Field, fields, Scalar, Counter, Map, Bag, no_node, node}
 use Rattle.bag_model.proofs.DataPlaces.{HoldsData-below}
 use Rattle.bag_normal.specs.Known.{GivesWayAt, IsSupersededIn, HoldsAtKey}
 use Rattle.bag_normal.proofs.FieldHeaders.{HoldsAtField}
-
--- ---- where each datum is kept
-
-none_of_each : (shape : Shape) (list : List Atom) (q : Path) (place : ℕ) (s : IsSupersededIn shape list q place) → s.keep ≡ EachDatum → ⊥
-none_of_each shape list q place s each = subst (λ k. GivesWay k s.way.goes.mine s.way.goes.other) each s.way.goes.way
-
-pub taint_none : (list : List Atom) (q : Path) (place : ℕ) → IsSupersededIn Taint list q place → ⊥
-taint_none list q place s = none_of_each Taint list q place s s.holds.0
-
-pub set_none : (kind : ScalarKind) (list : List Atom) (q : Path) (place : ℕ) → IsSupersededIn (Set kind) list q place → ⊥
-set_none kind list q place s = none_of_each (Set kind) list q place s s.holds.0
 
 -- ---- one path, or one behind each key
 

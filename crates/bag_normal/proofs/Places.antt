@@ -14,9 +14,6 @@ less_is m n h = grind (arith, nat_tests, h)
 
 -- ---- places that rise
 
-pub rises_none : (to : ℕ) → RisesUpTo [] to
-rises_none to = record { rises = tt; before = λ place none. absurd none }
-
 pub rises_on : (gone : List ℕ) (to next : ℕ) → to ≤ next → RisesUpTo gone to → RisesUpTo gone next
 rises_on gone to next l r = record { rises = r.rises; before = λ place i. let m = r.before place i in omega (arith, m) }
 
@@ -57,9 +54,6 @@ adds_both P Q before between after first second = record {
 }
 
 -- ---- data, place by place
-
-pub data_none : (list : List Atom) (from place : ℕ) → IsDatumBetween list from from place → ⊥
-data_none list from place d = omega (arith, d.from_on, d.up_to)
 
 between_more : (list : List Atom) (from to place : ℕ) → from ≤ to → IsDatumAt list to → (IsDatumBetween list from to place ⊎ (place ≡ to)) ↔ IsDatumBetween list from (to + 1) place
 between_more list from to place l is = (there, back)

@@ -12,7 +12,7 @@ use Rattle.bag_walks.proofs.Bridge.{headers_are}
 use Rattle.bag_walks.proofs.Sets.{stands_on}
 use Rattle.bag_walks.proofs.Turns.{stays_none, stays_whole, stays_higher, segment_whole}
 use Rattle.bag_normal.specs.Data.{AddsPlaces}
-use Rattle.bag_normal.proofs.Places.{adds_none, adds_both, adds_same}
+use Rattle.bag_normal.proofs.Places.{adds_both, adds_same}
 
 -- From the one place up to the other no wanted header stands, and no header of a lesser level.
 pub record PassesNone (W : Atom → Type 0) (list : List Atom) (depth from to : ℕ) : Type 0 where
@@ -36,16 +36,6 @@ pub record HoldsAtWanted (W : Atom → Type 0) (P : Atom → ℕ → Type 0) (pl
 pub record AddsBehind (W : Atom → Type 0) (P : Atom → ℕ → Type 0) (list : List Atom) (depth from to : ℕ) (before after : List ℕ) : Type 0 where
   pub stays : StaysBelow list depth from to
   pub adds : AddsPlaces (HoldsAtPassed W P list from to) before after
-
-pub behind_none : (W : Atom → Type 0) (P : Atom → ℕ → Type 0) (list : List Atom) (depth from : ℕ) (gone : List ℕ) → from ≤ length list → AddsBehind W P list depth from from gone gone
-behind_none W P list depth from gone within = record {
-  stays = stays_none list depth from within;
-  adds = adds_none (HoldsAtPassed W P list from from) gone (λ place h. let s = h.stands in omega (arith, s.from_on, s.up_to));
-}
-
--- Nothing stands between a place and itself.
-pub passes_none : (W : Atom → Type 0) (list : List Atom) (depth at : ℕ) → at ≤ length list → PassesNone W list depth at at
-passes_none W list depth at within = record { stays = stays_none list depth at within; none = λ k m n. absurd (omega arith) }
 
 -- The end of the list ends what stands below any path.
 pub segment_at_end : (list : List Atom) (depth at : ℕ) → at ≤ length list → length list ≤ at → IsSegment list depth at at

@@ -21,7 +21,7 @@ use Rattle.bag_walks.specs.Searches.{IsFirstBeyond}
 use Rattle.bag_walks.specs.Slots.{AddsEach, IsSpanOf}
 use Rattle.bag_walks.proofs.Absent.{IsBare}
 use Rattle.bag_walks.proofs.Bridge.{longer}
-use Rattle.bag_walks.proofs.EachSlot.{adds-none, adds-append, adds-within, adds-one}
+use Rattle.bag_walks.proofs.EachSlot.{adds-append, adds-within, adds-one}
 use Rattle.bag_scan.specs.Spans.{IsSpanAt, AddsSpans, AddsAbsent}
 use Rattle.bag_scan.specs.declared.spans.Span.{Span}
 
@@ -67,9 +67,6 @@ beyond_bare list q h stop bare first = record {
 
 bare_child : (P : Path → Type 0) (q : Path) (h : Atom) → IsBare P q → IsBare P (q ++ h ∷ [])
 bare_child P q h bare rest p = bare (h ∷ rest) (subst P (append_assoc q (h ∷ []) rest) p)
-
-pub absent_none : (stop : ℕ) (xs : List Span) → AddsAbsent (slots_list []) stop xs xs
-absent_none stop xs = λ list q none first. adds-none (IsSpanAt list) q xs
 
 -- One more field that isn't there.
 pub absent_field : (fs : List Field) (i stop : ℕ) (f : Field) (xs ys zs : List Span) → slice_get fs i ≡ Some f

@@ -23,9 +23,6 @@ pub record AreRight (Right : List ℕ → Type 0) (list : List Atom) (from to : 
   pub right : (k : ℕ) (x : List ℕ) → from ≤ k → k < to → atom_at list k ≡ 0 ∷ x → Right x
 
 module _ (Right : List ℕ → Type 0) (list : List Atom) (from : ℕ) where
-  pub right_none : AreRight Right list from from
-  right_none = record { right = λ k x l m is. absurd (omega arith) }
-
   pub right_more : (to : ℕ) → ((x : List ℕ) → atom_at list to ≡ 0 ∷ x → Right x) → AreRight Right list from to → AreRight Right list from (to + 1)
   right_more to here are = record {
     right = λ k x l m is. elim (cases_order k to) [

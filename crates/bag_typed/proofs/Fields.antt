@@ -21,7 +21,7 @@ use Rattle.bag_walks.specs.Parts.{IsBehind, StaysBelow, IsSegment}
 use Rattle.bag_walks.specs.Searches.{HasPassed}
 use Rattle.bag_walks.proofs.Absent.{IsBare}
 use Rattle.bag_walks.proofs.Sets.{index_header}
-use Rattle.bag_walks.proofs.Turns.{index_order, passed_none, stays_none, stays_whole, found_behind, found_next, found_stays, absent_next, absent_bare}
+use Rattle.bag_walks.proofs.Turns.{index_order, stays_whole, found_behind, found_next, found_stays, absent_next, absent_bare}
 use Rattle.bag_scan.specs.Searches.{IsFoundBehind, IsMissing}
 use Rattle.field_table.specs.declared.shapes.Slot.{Slot}
 use Rattle.field_table.specs.declared.shapes.Slots.{Slots}
@@ -91,13 +91,6 @@ pub record ClearsFields (nodes : Nodes) (list : List Atom) (q : Path) (from coun
   pub clear : (i : ℕ) (f : Field) → i < count → slice_get (fields nodes) i ≡ Some f → HasNone list (Misspells f.shape (node_path q f.number))
 
 module _ (nodes : Nodes) (list : List Atom) (q : Path) (from : ℕ) where
-  pub fields_none : from ≤ length list → ClearsFields nodes list q from 0 from
-  fields_none within = record {
-    stays = stays_none list (length q) from within;
-    passed = λ f at. passed_none list (length q) (field_header q f) from within;
-    clear = λ i f l at. absurd (omega arith);
-  }
-
   -- Where the walk has come to the last field, nothing misspells in any.
   pub fields_end : (count place : ℕ) → length (fields nodes) ≤ count → ClearsFields nodes list q from count place → HasNone list (SomeMisspells nodes q)
   fields_end count place all clears = record {

@@ -33,12 +33,6 @@ pub record ClearsKeys (M : List ℕ → Path → Type 0) (list : List Atom) (q :
   pub clear : (key : List ℕ) → Stands list (key_at q key) from to → HasNone list (M key)
 
 module _ (M : List ℕ → Path → Type 0) (list : List Atom) (q : Path) (from : ℕ) where
-  pub keys_none : from ≤ length list → ClearsKeys M list q from from
-  keys_none within = record {
-    stays = record { rises = omega arith; within = within; deep = λ k l m. absurd (omega arith) };
-    clear = λ key s. absurd (omega (arith, s.from_on, s.up_to));
-  }
-
   -- No other key stands on the way to the next one.
   pub keys_passed : (at to : ℕ) → ClearsKeys M list q from at → PassesNoKey list (length q) at to → ClearsKeys M list q from to
   keys_passed at to clears passes = record {

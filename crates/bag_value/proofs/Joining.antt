@@ -2,10 +2,10 @@
 use Rattle.std.specs.Prelude.{◌≡◌, ℕ, zero, suc, ◌+◌, ◌<◌, ◌≤◌, ◌⊎◌, List, [], ◌∷◌, ◌++◌, map, length}
 use Rattle.std.proofs.Common.{refl, sym, ap, ◌∙◌, subst, arith, inl, inr, get_or, drop, append_assoc}
 use Rattle.std.proofs.lemmas.List.{map-append, drop_all, append-nil, length-drop}
-use Rattle.std.specs.declared.cmp.Ordering.TheVariants.{Less, Equal, Greater}
+use Rattle.std.specs.declared.cmp.Ordering.TheVariants.{Equal}
 use Rattle.context_model.specs.KeyedMerge.{merge_with, IsAt}
 use Rattle.context_model.proofs.MergeLaws.{with-right_empty}
-use Rattle.context_model.proofs.MergeSteps.{drop-place, with_less, with_equal, with_greater}
+use Rattle.context_model.proofs.MergeSteps.{drop-place}
 use Rattle.bag_model.specs.Scalars.{ScalarValue, scalar_cmp}
 use Rattle.bag_model.specs.Values as model
 use Rattle.bag_model.specs.Values.{pairs, values_list, size_of, size_of_entries, size_of_values}
@@ -28,33 +28,6 @@ rest_merged es fs = merge_with scalar_cmp join (map pair_of es) (map pair_of fs)
 module _ (es fs : List Entry) (i j : ℕ) (e f : Entry)
     (in_first : i < length es) (in_second : j < length fs) (is_first : e ≡ get_or es i e) (is_second : f ≡ get_or fs j f)
     (out : List Entry) (so_far : map pair_of out ++ rest_merged (drop i es) (drop j fs) ≡ rest_merged es fs) where
-  left : drop i es ≡ e ∷ drop (i + 1) es
-  left = drop-place es i e in_first is_first
-
-  right : drop j fs ≡ f ∷ drop (j + 1) fs
-  right = drop-place fs j f in_second is_second
-
-  heads : map pair_of out ++ rest_merged (e ∷ drop (i + 1) es) (f ∷ drop (j + 1) fs) ≡ rest_merged es fs
-  heads = (let a = sym left in let b = sym right in λ t. map pair_of out ++ rest_merged (a t) (b t)) ∙ so_far
-
-  pub entries_less : scalar_cmp (value_of e.key) (value_of f.key) ≡ Less → map pair_of (out ++ e ∷ []) ++ rest_merged (drop (i + 1) es) (drop j fs) ≡ rest_merged es fs
-  entries_less h =
-      ap (λ l. l ++ rest_merged (drop (i + 1) es) (drop j fs)) (map-append pair_of out (e ∷ []))
-      ∙ ap (λ l. (map pair_of out ++ pair_of e ∷ []) ++ rest_merged (drop (i + 1) es) l) right
-      ∙ with_less scalar_cmp join (pair_of e) (pair_of f) (map pair_of (drop (i + 1) es)) (map pair_of (drop (j + 1) fs)) (map pair_of out) (rest_merged es fs) heads h
-
-  pub entries_equal : (d : Entry) → pair_of d ≡ (value_of e.key, join (plain e.value) (plain f.value)) → scalar_cmp (value_of e.key) (value_of f.key) ≡ Equal
-      → map pair_of (out ++ d ∷ []) ++ rest_merged (drop (i + 1) es) (drop (j + 1) fs) ≡ rest_merged es fs
-  entries_equal d made h =
-      ap (λ l. l ++ rest_merged (drop (i + 1) es) (drop (j + 1) fs)) (map-append pair_of out (d ∷ []) ∙ ap (λ p. map pair_of out ++ p ∷ []) made)
-      ∙ with_equal scalar_cmp join (pair_of e) (pair_of f) (map pair_of (drop (i + 1) es)) (map pair_of (drop (j + 1) fs)) (map pair_of out) (rest_merged es fs) heads h
-
-  pub entries_greater : scalar_cmp (value_of e.key) (value_of f.key) ≡ Greater → map pair_of (out ++ f ∷ []) ++ rest_merged (drop i es) (drop (j + 1) fs) ≡ rest_merged es fs
-  entries_greater h =
-      ap (λ l. l ++ rest_merged (drop i es) (drop (j + 1) fs)) (map-append pair_of out (f ∷ []))
-      ∙ ap (λ l. (map pair_of out ++ pair_of f ∷ []) ++ rest_merged l (drop (j + 1) fs)) left
-      ∙ with_greater scalar_cmp join (pair_of e) (pair_of f) (map pair_of (drop (i + 1) es)) (map pair_of (drop (j + 1) fs)) (map pair_of out) (rest_merged es fs) heads h
-
   -- The values at a common key are alike.
   pub entries_alike : AlikeEntries (plain_entries es) (plain_entries fs) → scalar_cmp (value_of e.key) (value_of f.key) ≡ Equal → Alike (plain e.value) (plain f.value)
   entries_alike alike h =

@@ -8,7 +8,6 @@ use Rattle.bag_model.specs.Scalars.{scalar_cmp, IsScalarOf, spelling}
 use Rattle.bag_model.specs.Scalars as scalars
 use Rattle.bag_model.specs.Joins.{Proper}
 use Rattle.bag_model.proofs.SpellingOrder.{spellings_keep_order}
-use Rattle.counter_type.specs.Counts.{IsCounted}
 use Rattle.scalar_types.specs.KindViews.{kind_of}
 use Rattle.scalar_types.specs.Scalars.{value_of}
 use Rattle.scalar_types.specs.declared.kinds.ScalarKind.{ScalarKind}
@@ -37,7 +36,3 @@ rising kind (v ∷ w ∷ vs) fit rises = (
 -- The scalars of a set rise and are of its kind.
 pub Proper-set : (set : Held ScalarKind Scalar) → set_proper kind_fits kind_spelling set → Proper (model.Value.Set (kind_of set.codec) (map value_of set.items))
 Proper-set set p = (rising (kind_of set.codec) set.items p.fit p.rise, all_fit (kind_of set.codec) set.items p.fit)
-
--- The writers of a counter rise, and each count has 64 bits.
-pub Proper-counter : (counts : List (List ℕ × ℕ)) → IsCounted counts → Proper (model.Value.Counter counts)
-Proper-counter counts p = (p.rise, p.bounded)

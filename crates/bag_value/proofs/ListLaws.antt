@@ -1,16 +1,15 @@
 -- The lists of the code against the plain ones.
 use Rattle.std.specs.Prelude.{◌≡◌, ℕ, zero, suc, ◌+◌, ◌<◌, List, [], ◌∷◌, ◌++◌, map, length, slice_get, Some}
-use Rattle.std.proofs.Common.{refl, sym, ap, ◌∙◌, subst, arith, inl, inr, get_or, drop}
+use Rattle.std.proofs.Common.{refl, sym, ap, ◌∙◌, subst, arith, inl, inr, get_or}
 use Rattle.std.proofs.lemmas.List.{map-append}
 use Rattle.context_model.specs.Orders.{Rises}
 use Rattle.context_model.specs.GreedyMerge.{AllBelow}
 use Rattle.context_model.specs.KeyedMerge.{keys_of, IsAt}
-use Rattle.context_model.proofs.MergeSteps.{drop-place}
 use Rattle.context_model.proofs.Rising.{Rises-push}
 use Rattle.bag_model.specs.Scalars.{ScalarValue, scalar_cmp}
 use Rattle.bag_model.specs.Values as model
 use Rattle.bag_model.specs.Values.{pairs, values_list}
-use Rattle.bag_model.specs.Joins.{Proper, AreProper, AreProperEntries, IsBottom, AreBottom}
+use Rattle.bag_model.specs.Joins.{Proper, AreProper, AreProperEntries}
 use Rattle.scalar_types.specs.Scalars.{value_of}
 use Rattle.bag_value.specs.declared.lists.Entry.{Entry}
 use Rattle.bag_value.specs.declared.vals.Val.{Val}
@@ -46,13 +45,6 @@ no_values (v ∷ vs) none = absurd (omega (arith, none))
 pub values_none : (vs : List Val) → plain_values vs ≡ model.Values.no_value → length vs ≡ 0
 values_none [] none = refl
 values_none (v ∷ vs) none = absurd (cc none)
-
--- All values say nothing exactly where those from a place on do and those before it.
-pub bottoms_behind : (vs : List Val) (i : ℕ) (v : Val) → i < length vs → v ≡ get_or vs i v → AreBottom (plain_values (drop i vs)) → IsBottom (plain v) × AreBottom (plain_values (drop (i + 1) vs))
-bottoms_behind vs i v h is all = subst (λ (l : List Val). AreBottom (plain_values l)) (drop-place vs i v h is) all
-
-pub bottoms_before : (vs : List Val) (i : ℕ) (v : Val) → i < length vs → v ≡ get_or vs i v → IsBottom (plain v) → AreBottom (plain_values (drop (i + 1) vs)) → AreBottom (plain_values (drop i vs))
-bottoms_before vs i v h is one rest = subst (λ (l : List Val). AreBottom (plain_values l)) (sym (drop-place vs i v h is)) (one, rest)
 
 -- ---- entries of a map
 

@@ -5,7 +5,7 @@ use Rattle.std.proofs.lemmas.List.{map-append, drop_all}
 use Rattle.std.specs.declared.cmp.Ordering.TheVariants.{Less, Equal, Greater}
 use Rattle.context_model.specs.KeyedMerge.{merge_with, brings, later, IsAt}
 use Rattle.context_model.proofs.Brought.{brings-right_empty, brings-less, brings-equal, brings-greater, brings-completes}
-use Rattle.context_model.proofs.MergeSteps.{drop-place, with_less, with_equal, with_greater, with_rests}
+use Rattle.context_model.proofs.MergeSteps.{drop-place, with_rests}
 use Rattle.bag_model.specs.Scalars.{ScalarValue, scalar_cmp}
 use Rattle.bag_model.specs.Values as model
 use Rattle.bag_model.specs.Values.{pairs}
@@ -82,22 +82,6 @@ brought_ends es fs out i j (inr none) so_far =
 -- What is left to merge.
 abbrev pub rest_placed : List Entry → List Entry → List (ScalarValue × model.Value)
 rest_placed es fs = merge_with scalar_cmp later (map pair_of es) (map pair_of fs)
-
-module _ (e f : Entry) (es fs out : List Entry) (whole : List (ScalarValue × model.Value)) (so_far : map pair_of out ++ rest_placed (e ∷ es) (f ∷ fs) ≡ whole) where
-  pub placed_less : scalar_cmp (value_of e.key) (value_of f.key) ≡ Less → map pair_of (out ++ e ∷ []) ++ rest_placed es (f ∷ fs) ≡ whole
-  placed_less h =
-      ap (λ l. l ++ rest_placed es (f ∷ fs)) (map-append pair_of out (e ∷ []))
-      ∙ with_less scalar_cmp later (pair_of e) (pair_of f) (map pair_of es) (map pair_of fs) (map pair_of out) whole so_far h
-
-  pub placed_equal : (d : Entry) → pair_of d ≡ (value_of e.key, plain f.value) → scalar_cmp (value_of e.key) (value_of f.key) ≡ Equal → map pair_of (out ++ d ∷ []) ++ rest_placed es fs ≡ whole
-  placed_equal d made h =
-      ap (λ l. l ++ rest_placed es fs) (map-append pair_of out (d ∷ []) ∙ ap (λ p. map pair_of out ++ p ∷ []) made)
-      ∙ with_equal scalar_cmp later (pair_of e) (pair_of f) (map pair_of es) (map pair_of fs) (map pair_of out) whole so_far h
-
-  pub placed_greater : scalar_cmp (value_of e.key) (value_of f.key) ≡ Greater → map pair_of (out ++ f ∷ []) ++ rest_placed (e ∷ es) fs ≡ whole
-  placed_greater h =
-      ap (λ l. l ++ rest_placed (e ∷ es) fs) (map-append pair_of out (f ∷ []))
-      ∙ with_greater scalar_cmp later (pair_of e) (pair_of f) (map pair_of es) (map pair_of fs) (map pair_of out) whole so_far h
 
 map-nothing : (es : List Entry) → length es ≤ 0 → length (map pair_of es) ≤ 0
 map-nothing [] none = none

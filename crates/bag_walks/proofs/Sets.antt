@@ -36,15 +36,9 @@ stands_on list a from to next l s = record { place = s.place; from_on = s.from_o
 pub stands_here : (list : List Atom) (a : Atom) (from to : ℕ) → from ≤ to → atom_at list to ≡ a → Stands list a from (to + 1)
 stands_here list a from to l is = record { place = to; from_on = l; up_to = omega arith; atom = is }
 
-pub stands_nowhere : (list : List Atom) (a : Atom) (from : ℕ) → Stands list a from from → ⊥
-stands_nowhere list a from s = absurd (omega (arith, s.from_on, s.up_to))
-
 -- ---- sets
 
 module _ (kind : ScalarKind) (list : List Atom) (from : ℕ) where
-  pub data_none : GathersData kind list from from []
-  data_none = record { rises = tt; each = λ v none. absurd none; all = λ x s. absurd (stands_nowhere list (0 ∷ x) from s) }
-
   -- An atom that is no datum brings nothing.
   pub data_other : (to : ℕ) (vs : List ScalarValue) → ((x : List ℕ) → atom_at list to ≡ 0 ∷ x → ⊥) → GathersData kind list from to vs → GathersData kind list from (to + 1) vs
   data_other to vs other holds = record {
@@ -113,21 +107,6 @@ pub key_back : (n : ℕ) (x y : List ℕ) → atom_of (Keyed n x) ≡ atom_of (K
 key_back n x y e = cc
 
 module _ (list : List Atom) (q : Path) (from : ℕ) where
-  pub counts_none : GathersCounts list q from from []
-  counts_none = record { rises = tt; keys = λ writer. ((λ none. absurd none), λ s. absurd (stands_nowhere list (atom_of (Keyed (length q) writer)) from s)); each = tt }
-
-  -- An atom that is no header of a key behind q brings nothing.
-  pub counts_other : (to : ℕ) (counts : List (List ℕ × ℕ)) → ((key : List ℕ) → atom_at list to ≡ atom_of (Keyed (length q) key) → ⊥)
-      → GathersCounts list q from to counts → GathersCounts list q from (to + 1) counts
-  counts_other to counts other holds = record {
-    rises = holds.rises;
-    keys = λ writer. (
-      λ i. stands_on list (atom_of (Keyed (length q) writer)) from to (to + 1) (omega arith) ((holds.keys writer).0 i),
-      λ s. elim (stands_more list (atom_of (Keyed (length q) writer)) from to s) [ inl before ↦ (holds.keys writer).1 before | inr here ↦ absurd (other writer here) ],
-    );
-    each = holds.each;
-  }
-
   pub counts_below : (to : ℕ) (counts : List (List ℕ × ℕ)) (writer : List ℕ) → length q < 16
       → IsBehind list q from → StaysBelow list (length q) from (to + 1) → GathersCounts list q from to counts → atom_at list to ≡ atom_of (Keyed (length q) writer)
       → AllBelow atom_cmp (keys_of counts) writer
@@ -171,14 +150,6 @@ module _ (list : List Atom) (q : Path) (from : ℕ) where
 -- ---- maps
 
 module _ (kind : ScalarKind) (shape : Shape) (list : List Atom) (q : Path) (from : ℕ) where
-  pub entries_none : GathersEntries kind shape list q from from []
-  entries_none = record {
-    rises = tt;
-    keys = λ v none. absurd none;
-    all = λ key s. absurd (stands_nowhere list (atom_of (Keyed (length q) key)) from s);
-    each = tt;
-  }
-
   -- Places without a header of a key behind q bring nothing.
   pub entries_other : (to next : ℕ) (es : List (ScalarValue × Value)) → to ≤ next → ((k : ℕ) (key : List ℕ) → to ≤ k → k < next → atom_at list k ≡ atom_of (Keyed (length q) key) → ⊥)
       → GathersEntries kind shape list q from to es → GathersEntries kind shape list q from next es

@@ -1,5 +1,5 @@
 -- Two tables that are taken one after the other.
-use Rattle.std.proofs.Common.{◌≡◌, inl, inr, ℕ, List, Result, Ok, Err, ap}
+use Rattle.std.proofs.Common.{◌≡◌, inr, ℕ, List, Result, Ok, Err, ap}
 use Rattle.std.specs.Global.{Vec}
 use Rattle.std.specs.Result.{IsErrAnd}
 use Rattle.bag_model.specs.Shapes.{Nodes}
@@ -13,12 +13,6 @@ use Rattle.baggage_cli.specs.Outcomes.{outcome_of}
 use Rattle.baggage_cli.specs.Scene.{Change, Halfway, until, since}
 use Rattle.baggage_cli.specs.Tables.{Obtains}
 use Rattle.baggage_cli.proofs.Obtained.{unobtained}
-
--- Where the first table is refused, that is the outcome.
-pub first_unobtained : (old new : Origin) (library : Change Holding) (requests : Change (List (List ℕ))) (refusal : Refusal) (result : Result (Vec ℕ) Refusal)
-    → IsErrAnd result (λ other. other ≡ refusal) → Obtains old library requests (Err refusal) → Compares old new library requests (outcome_of result)
-first_unobtained old new library requests refusal (Ok output) is obtains = absurd is
-first_unobtained old new library requests refusal (Err other) is obtains = inl (refusal, obtains, tt, ap Err is)
 
 module _ (old new : Origin) (library : Change Holding) (requests : Change (List (List ℕ))) (half : Halfway) (before : Nodes)
     (taken : Obtains old (until half.files half.faults library) (until half.asked half.faults requests) (Ok before)) where

@@ -153,9 +153,6 @@ read_done task scene answer (source_failed four reads failed said) some is = abs
 read_done task scene answer (memory_wanting six said) some is = absurd (omega arith)
 read_done task scene answer (sink_failed five failed) some is = absurd (omega arith)
 
-ok_same : (a b : List ℕ) → ◌≡◌ {A = Outcome} (Ok a) (Ok b) → a ≡ b
-ok_same a b e = cc e
-
 -- What one line of an input gave is what the line says.
 one_said : {A : Type 0} (reading : Reading A InputFault) (gives : A → List ℕ → Type 0) (input output : List ℕ) → Within (ReadsOne reading gives) input (Ok output)
     → (a : A) × ((length input ≤ INPUT_MAX) × AllSay reading [] (lines_of input) (a ∷ [])) × gives a output

@@ -1,5 +1,5 @@
 -- The chosen bag, by its size.
-use Rattle.std.proofs.Common.{◌≡◌, ℕ, ◌<◌, ◌≤◌, true, List, [], length, get_or, Some, None, refl, sym, ◌∙◌, ap, subst, arith}
+use Rattle.std.proofs.Common.{◌≡◌, ℕ, ◌<◌, ◌≤◌, true, List, [], get_or, Some, None, refl, sym, ◌∙◌, ap, subst, arith}
 use Rattle.std.specs.List.{slice_get}
 use Rattle.std.specs.Option.{option_and_then}
 use Rattle.std.proofs.lemmas.Option.{slice_get_within, slice_get-get_or}
@@ -65,15 +65,6 @@ chosen_size ds sizes name n bag s e number all =
     let count = all.count in
     bag_size ds c.d.file c.d.decl bag (get_or sizes n s) c.is
     (all.each n c.d (get_or sizes n s) c.at (slice_get-get_or sizes n s (omega (arith, within, count))))
-
--- Its number is within the sizes.
-pub chosen_within : (ds : List Placed) (sizes : List Size) (name : List ℕ) (n : ℕ) (bag : BagTree) → bag_named ds name ≡ Some bag
-    → number_named ds name ≡ Some n → AreSizes ds sizes → n < length sizes
-chosen_within ds sizes name n bag e number all =
-    let c = chosen ds name n bag e number in
-    let within = slice_get_within ds n c.d c.at in
-    let count = all.count in
-    omega (arith, within, count)
 
 bag_good : (ds : List Placed) (file : List ℕ) (decl : Decl) (bag : BagTree) → bag_in file decl ≡ Some bag → passes_decl (kind_named ds) decl ≡ true
     → IsSpelledDecl decl → AreGood ds bag.list

@@ -107,11 +107,6 @@ blames_files files before after root name loaded (held, names, told, asks, (load
     (held, names, told, asks, (IsFirstFaultOf.loaded loaded loads says, (all_loaded loaded, loads, all)))
 blames_files files before after root name loaded of Memory answer says is = subst (BlamesFirst files before after root name) (sym is) tt
 
--- An answer of a refusal isn't that the library failed.
-pub answer_not_failed : (refusal : Refusal) (answer : DefFault) → IsAnswerOf refusal answer → answer ≡ defs.Failed → ⊥
-answer_not_failed (At fault) answer is e = let same = sym is ∙ e in cc same
-answer_not_failed Memory answer is e = let same = sym is ∙ e in cc same
-
 -- What came of a library came of the files that it tells.
 pub told_files : (files : Files) (before after : Asked) (root : List ℕ) (Holds : Holding → Type 0) → CameOf files before after root Holds
     → IfSome files Holds

@@ -1,6 +1,5 @@
 -- The first fault of lists that stand one after another.
-use Rattle.std.proofs.Common.{◌≡◌, Bool, true, false, List, [], ◌∷◌, ◌++◌, None, Some, map, refl, if◌then◌else◌}
-use Rattle.std.specs.Option.{option_map}
+use Rattle.std.proofs.Common.{◌≡◌, Bool, true, false, List, [], ◌∷◌, ◌++◌, None, Some, refl, if◌then◌else◌}
 use Rattle.bdl_load.specs.declared.faults.Finding.{Finding}
 use Rattle.bdl_check.specs.Faults.{first, when}
 
@@ -9,11 +8,6 @@ pub first_when : (holds : Bool) (finding : Finding) (rest : List Finding)
     → first (when holds finding ++ rest) ≡ (if holds then Some finding else first rest)
 first_when true finding rest = refl
 first_when false finding rest = refl
-
--- The last fault.
-pub first_last : (holds : Bool) (finding : Finding) → first (when holds finding) ≡ (if holds then Some finding else None)
-first_last true finding = refl
-first_last false finding = refl
 
 -- Nothing stands in front.
 pub first_none : {A : Type 0} (xs ys : List A) → first xs ≡ None → first (xs ++ ys) ≡ first ys
@@ -24,8 +18,3 @@ first_none (x ∷ xs) ys e = absurd (cc)
 pub first_some : {A : Type 0} (xs ys : List A) (x : A) → first xs ≡ Some x → first (xs ++ ys) ≡ Some x
 first_some [] ys x e = absurd (cc)
 first_some (y ∷ xs) ys x e = e
-
--- The first of a list that is mapped.
-pub first_map : {A B : Type 0} (f : A → B) (xs : List A) → first (map f xs) ≡ option_map f (first xs)
-first_map f [] = refl
-first_map f (x ∷ xs) = refl

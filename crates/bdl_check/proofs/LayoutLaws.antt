@@ -1,5 +1,5 @@
 -- The fields of a bag one after another, as they are laid out.
-use Rattle.std.proofs.Common.{◌≡◌, ℕ, ◌+◌, ◌<◌, ◌≤◌, ◌==◌, ◌-◌, false, List, [], ◌∷◌, ◌++◌, length, get_or, take, drop, map, Some, sym, ◌∙◌, ap, subst, arith}
+use Rattle.std.proofs.Common.{◌≡◌, ℕ, ◌+◌, ◌<◌, ◌≤◌, ◌==◌, ◌-◌, false, List, [], ◌∷◌, ◌++◌, length, get_or, take, drop, map, sym, ◌∙◌, ap, subst, arith}
 use Rattle.std.specs.List.{AllByRecursion, IsDistinct}
 use Rattle.std.specs.List.Sorted.{IsPermutation, IsStrictlyIncreasing, IsNonDecreasing, IsNonDecreasingBy}
 use Rattle.std.proofs.lemmas.Bool.Decides.{nat_tests}
@@ -12,11 +12,10 @@ use Rattle.std.proofs.Math.ListN.{get_or-map}
 use Rattle.bag_model.specs.Scalars as scalars
 use Rattle.bag_model.specs.Shapes.{Shape, Nodes, Field, fields, node, no_node}
 use Rattle.bag_model.specs.Tables.{levels_under, levels}
-use Rattle.bdl_parser.specs.declared.trees.Spot.{Spot}
 use Rattle.bdl_parser.specs.Trees as trees
-use Rattle.bdl_parser.specs.Trees.{TypeTree, BagFieldTree}
-use Rattle.bdl_check.specs.Declarations.{Placed, named}
-use Rattle.bdl_check.specs.Layouts.{Layout, kind_in, IsShapeOf, IsFieldOf, AreFieldsOf, IsLaidOut, HasShapeIn, HasDeclShapeIn}
+use Rattle.bdl_parser.specs.Trees.{BagFieldTree}
+use Rattle.bdl_check.specs.Declarations.{Placed}
+use Rattle.bdl_check.specs.Layouts.{Layout, IsShapeOf, IsFieldOf, AreFieldsOf, IsLaidOut, HasShapeIn}
 use Rattle.bdl_check.proofs.BagSizes.{split_at}
 use Rattle.bdl_check.proofs.Insertions.{all_moved}
 use Rattle.bdl_check.proofs.LayoutRooms.{laid_out, in_order}
@@ -72,20 +71,6 @@ item_level f ds list sorted items nodes room i x l le p same lt at =
     middle_level ds (map f (take i items)) (f x) (map f (drop (i + 1) items)) room
     (subst (AllByRecursion (HasLevels ds room)) (ap (map f) (sym same) ∙ split_at f items i x lt at)
     (sorted_levels ds list (map f sorted) nodes room l le p))
-
--- The value of a map has a shape in one level less.
-pub map_level : (ds : List Placed) (key value : TypeTree) (spot : Spot) (room : ℕ) → HasShapeIn ds (trees.map key value spot) room
-    → (1 ≤ room) × (kind : scalars.ScalarKind) × (kind_in ds key ≡ Some kind) × HasShapeIn ds value (room - 1)
-map_level ds key value spot room h =
-    let a = h.1 in
-    let takes : levels_under h.0 ≡ 1 + levels_under a.1 = ap levels_under a.4 in
-    let within = h.2 in
-    (omega (arith, takes, within), a.0, a.2, (a.1, a.3, omega (arith, takes, within)))
-
--- A name has the shape of its declaration.
-pub name_level : (ds : List Placed) (text : List ℕ) (spot : Spot) (room : ℕ) → HasShapeIn ds (trees.leaf (trees.name text) spot) room
-    → (d : Placed) × (named ds text ≡ Some d) × HasDeclShapeIn ds d.decl room
-name_level ds text spot room h = (h.1.0, h.1.1, (h.0, h.1.2, h.2))
 
 -- ---- fields one after another
 

@@ -1,5 +1,5 @@
 -- The numbers of the declarations that declarations name.
-use Rattle.std.proofs.Common.{◌≡◌, ℕ, ◌<◌, ◌≤◌, Bool, true, false, cond, List, [], ◌∷◌, ◌++◌, Option, None, Some, All, length, map, take, nat_lt, get_or, slice_get, refl, sym, ◌∙◌, ap, subst, append_assoc, append-nil, inl, inr, ◌⊎◌, arith}
+use Rattle.std.proofs.Common.{◌≡◌, ℕ, ◌<◌, ◌≤◌, Bool, true, false, cond, List, [], ◌∷◌, ◌++◌, Option, None, Some, All, length, map, take, nat_lt, get_or, slice_get, refl, sym, ◌∙◌, ap, subst, append_assoc, inl, inr, ◌⊎◌, arith}
 use Rattle.std.proofs.lemmas.Bool.{ltb-true}
 use Rattle.std.proofs.lemmas.List.{length-map, take_all}
 use Rattle.std.proofs.lemmas.List.Elements.{All-cons, All-nil, All-map, filter_map-append}
@@ -86,12 +86,6 @@ field_added f whole row more rest left field is so_far added =
     ∙ append_assoc row (filter_map f (names_in field.kind)) (filter_map f (used left))
     ∙ ap (λ (end : List ℕ). row ++ end) (sym (filter_map-append f (names_in field.kind) (used left)))
     ∙ ap (λ (fields : List BagFieldTree). row ++ filter_map f (used fields)) (sym is) ∙ so_far
-
--- No field is left.
-pub fields_added : (f : List ℕ → Option ℕ) (whole row : List ℕ) (rest : List BagFieldTree) → rest ≡ [] → row ++ filter_map f (used rest) ≡ whole
-    → row ≡ whole
-fields_added f whole row rest is so_far = sym (append-nil row) ∙ ap (λ (fields : List BagFieldTree). row ++ filter_map f (used fields)) (sym is)
-    ∙ so_far
 
 -- What is had of each declaration as the code looks at them, is had of all.
 pub rows_are : {X : Type 0} (f : Placed → X) (ds : List Placed) (rows : List X) (items : List Declaration) (i : ℕ)

@@ -1,14 +1,12 @@
 -- Names that are declared one after another.
-use Rattle.std.proofs.Common.{◌≡◌, ℕ, ◌+◌, ◌<◌, ◌≤◌, drop, length, get_or, Bool, true, false, not, List, [], ◌∷◌, ◌++◌, Option, None, Some, refl, sym, ◌∙◌, ap, append_assoc, append-nil, if◌then◌else◌}
-use Rattle.std.proofs.lemmas.List.{drop_more, drop_all}
+use Rattle.std.proofs.Common.{◌≡◌, ℕ, ◌+◌, ◌<◌, ◌≤◌, drop, length, get_or, List, [], ◌∷◌, ◌++◌, Option, None, Some, refl, sym, ◌∙◌, ap, append_assoc, append-nil, if◌then◌else◌}
+use Rattle.std.proofs.lemmas.List.{drop_more}
 use Rattle.std.proofs.lemmas.List.Concat.{flat_map-cons}
 use Rattle.std.specs.Option.{is_some, option_map}
-use Rattle.bdl_load.specs.declared.faults.DefCode.TheVariants.{DuplicateName}
 use Rattle.bdl_load.specs.declared.faults.Fault.{Fault}
 use Rattle.bdl_load.specs.declared.files.LoadedFile.{LoadedFile}
-use Rattle.bdl_load.specs.Faults.{found, fault_in}
-use Rattle.bdl_check.specs.Checks.{faults_in, name_fault, name_faults, declaration_faults, placed_faults}
-use Rattle.bdl_check.specs.Declarations.{Placed, name_of, place_of, kind_of, named, kind_named, placed_in, all_placed}
+use Rattle.bdl_check.specs.Checks.{faults_in, name_fault, name_faults}
+use Rattle.bdl_check.specs.Declarations.{Placed, name_of, kind_of, named, kind_named, placed_in, all_placed}
 use Rattle.bdl_check.specs.Faults.{first}
 use Rattle.bdl_check.proofs.Firsts.{first_none, first_some}
 
@@ -34,9 +32,6 @@ pub record NamesLeft (now old left all : List Placed) : Type 0 where
   pub whole : now ++ left ≡ old ++ all
   pub same : first (name_faults now left) ≡ first (name_faults old all)
 
-pub names_begin : (old left all : List Placed) → left ≡ all → NamesLeft old old left all
-names_begin old left all e = record { whole = ap (λ (ds : List Placed). old ++ ds) e; same = ap (λ (ds : List Placed). first (name_faults old ds)) e }
-
 -- Some are declared without a fault.
 pub names_more : (now more old front rest left all : List Placed) → rest ≡ front ++ left → NamesLeft now old rest all
     → None ≡ first (name_faults now front) → more ≡ now ++ front →
@@ -58,39 +53,9 @@ names_found now old front rest left all fault is so_far some =
     ∙ ap first (sym (name_faults-append now front left))
     ∙ ap (λ (ds : List Placed). first (name_faults now ds)) (sym is) ∙ so_far.same
 
--- None is left.
-pub names_end : (now old rest all : List Placed) → rest ≡ [] → NamesLeft now old rest all → None ≡ first (name_faults old all)
-names_end now old rest all is so_far = ap (λ (ds : List Placed). first (name_faults now ds)) (sym is) ∙ so_far.same
-
-pub names_all : (now old rest all : List Placed) → rest ≡ [] → NamesLeft now old rest all → now ≡ old ++ all
-names_all now old rest all is so_far = sym (append-nil now) ∙ ap (λ (ds : List Placed). now ++ ds) (sym is) ∙ so_far.whole
-
--- The fault of one declaration's name.
-pub one_name : (now : List Placed) (d : Placed) (new : Bool) → new ≡ not (is_some (named now (name_of d.decl))) →
-    first (name_faults now (d ∷ [])) ≡ (if new then None else Some (fault_in d.file (found (place_of d.decl) DuplicateName)))
-one_name now d new e =
-    ap first (append-nil (faults_in d.file (name_fault (is_some (kind_named now (name_of d.decl))) d.decl)))
-    ∙ ap (λ (taken : Bool). first (faults_in d.file (name_fault taken d.decl))) (is_some-kind now (name_of d.decl))
-    ∙ by (is_some (named now (name_of d.decl))) new e
-  where
-    by : (taken new : Bool) → new ≡ not taken → first (faults_in d.file (name_fault taken d.decl)) ≡
-        (if new then None else Some (fault_in d.file (found (place_of d.decl) DuplicateName)))
-    by true true e = absurd (cc)
-    by true false e = refl
-    by false true e = refl
-    by false false e = absurd (cc)
-
 -- The declarations of the files that are left, where the next file is known.
 pub files_left : (files : List LoadedFile) (i : ℕ) (file : LoadedFile) → i < length files → file ≡ get_or files i file
     → all_placed (drop i files) ≡ placed_in file ++ all_placed (drop (i + 1) files)
 files_left files i file h e =
     ap all_placed (drop_more files i file h) ∙ flat_map-cons placed_in (get_or files i file) (drop (i + 1) files)
     ∙ ap (λ (next : LoadedFile). placed_in next ++ all_placed (drop (i + 1) files)) (sym e)
-
-pub no_files_left : (files : List LoadedFile) (i : ℕ) → length files ≤ i → all_placed (drop i files) ≡ []
-no_files_left files i h = ap all_placed (drop_all i files h)
-
--- No name has a fault, so the first fault is one of what the declarations say.
-pub behind_names : (ds : List Placed) (fault : Option Fault) → None ≡ first (name_faults [] ds)
-    → fault ≡ first (declaration_faults (kind_named ds) ds) → fault ≡ first (placed_faults ds)
-behind_names ds fault none e = e ∙ sym (first_none (name_faults [] ds) (declaration_faults (kind_named ds) ds) (sym none))

@@ -92,14 +92,6 @@ name_size ds sizes text spot n s count known p e =
     let found = slice_get-get_or sizes n s (omega (arith, within, count)) in
     decl_size ds text spot d.0 (get_or sizes n s) d.1 (known.0 n e d.0 (get_or sizes n s) there found)
 
--- A name that passes has a number within the sizes.
-pub name_number : (ds : List Placed) (sizes : List Size) (text : List ℕ) (spot : Spot) (n : ℕ) → length sizes ≡ length ds
-    → passes_type (kind_named ds) BagField (trees.leaf (trees.name text) spot) ≡ true → number_named ds text ≡ Some n → n < length sizes
-name_number ds sizes text spot n count p e =
-    let d = declared ds BagField text p in
-    let within = slice_get_within ds n d.0 (sym (named_at ds text n e) ∙ d.1) in
-    omega (arith, within, count)
-
 -- ---- bags
 
 -- A bag with no field.

@@ -42,9 +42,6 @@ form_starts (Number value) text form = number_starts value text form
 form_starts Text text form = record { byte = 34; more = form.inner ++ 34 ∷ []; is = form.is; kind_is = refl }
 form_starts (Sign byte) text form = record { byte = byte; more = []; is = form.is; kind_is = kind_sign byte form.sign }
 
-pub form_some : (class : TokenClass) (text : List ℕ) → HasTokenForm class text → 0 < length text
-form_some class text form = let s = form_starts class text form in omega (arith, ap length s.is)
-
 -- tokens of two kinds don't begin at one place
 apart : (k l : ℕ) (a b x y : List ℕ) → Starts k a → Starts l b → a ++ x ≡ b ++ y → (k ≡ l → ⊥) → length b ≤ length a
 apart k l a b x y p q e differ = absurd (differ (same_kind k l a b x y p q e))

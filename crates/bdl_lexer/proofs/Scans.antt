@@ -9,8 +9,8 @@ use Rattle.std.proofs.lemmas.List.Elements.{All-tail}
 use Rattle.std.proofs.lemmas.List.Sums.{fold-append, fold_more}
 use Rattle.bdl_lexer.specs.declared.TheConstants.{MAX_NUMBER}
 use Rattle.bdl_lexer.specs.declared.TokenClass.TheVariants.{Word, Number, Text, Sign}
-use Rattle.bdl_lexer.specs.Bytes.{is_blank, is_letter, is_word_byte, is_text_byte, is_line_byte, is_sign}
-use Rattle.bdl_lexer.specs.Faults.{IsOpenComment, IsOpenString, IsLargeNumber}
+use Rattle.bdl_lexer.specs.Bytes.{is_letter, is_word_byte, is_text_byte, is_line_byte, is_sign}
+use Rattle.bdl_lexer.specs.Faults.{IsOpenString, IsLargeNumber}
 use Rattle.bdl_lexer.specs.Scan.{value_of, IsNumberToken, EndsLine, HasNoClose}
 use Rattle.bdl_lexer.specs.Lexer.{StandsFirst, ClosesAt}
 use Rattle.bdl_lexer.proofs.Runs.{StopsAt, IsRun, run_of}
@@ -20,11 +20,6 @@ use Rattle.bdl_lexer.proofs.Longest.{letter_in_word, word_longest, number_longes
 run_some : (test : ℕ → Bool) (first : ℕ) (more : List ℕ) (n : ℕ) → test first ≡ true → IsRun test n (first ∷ more) → 0 < n
 run_some test first more zero passes run = absurd (let clash : true ≡ false = sym passes ∙ run.stops in cc)
 run_some test first more (suc n) passes run = omega arith
-
-pub blank_stands : (s : List ℕ) → 0 < length s → is_blank (get_or s 0 0) ≡ true → StandsFirst None 1 s
-blank_stands [] some e = absurd (omega arith)
-blank_stands (b ∷ more) some e =
-    record { some = omega arith; within = omega arith; piece = inl (record { byte = b; is = refl; blank = e }) }
 
 pub sign_stands : (s : List ℕ) → 0 < length s → is_sign (get_or s 0 0) ≡ true → StandsFirst (Some (Sign (get_or s 0 0))) 1 s
 sign_stands [] some e = absurd (omega arith)
@@ -200,8 +195,3 @@ pub block_comment_stands : (s : List ℕ) (at : ℕ) → 2 ≤ length s → get_
 block_comment_stands [] at some p q closes = absurd (omega arith)
 block_comment_stands (a ∷ []) at some p q closes = absurd (omega arith)
 block_comment_stands (a ∷ b ∷ more) at some p q closes = block_at a b more at (at + 4) p q closes (omega arith)
-
-pub comment_open : (s : List ℕ) → 2 ≤ length s → get_or s 0 0 ≡ 47 → get_or s 1 0 ≡ 42 → HasNoClose (drop 2 s) → IsOpenComment s
-comment_open [] some p q none = absurd (omega arith)
-comment_open (a ∷ []) some p q none = absurd (omega arith)
-comment_open (a ∷ b ∷ more) some p q none = record { inner = more; is = λ i. p i ∷ q i ∷ more; open_ = none }

@@ -46,9 +46,6 @@ pub record LexedTo (source : List ℕ) (tokens : List Token) (rest : List ℕ) (
   pub are : tokens ≡ tokens_from first_place pieces
   pub place_is : place ≡ place_behind first_place (text_of pieces)
 
-pub lexed_none : (source : List ℕ) → LexedTo source [] source first_place
-lexed_none source = record { pieces = []; begins = refl; are = refl; place_is = refl }
-
 pub lexed_more : (source : List ℕ) (tokens : List Token) (rest after : List ℕ) (place next : Place) (answer : Option Token) → LexedTo source tokens rest place → IsTaken rest place after next answer → LexedTo source (tokens ++ option_to_list answer) after next
 lexed_more source tokens rest after place next answer so_far step =
     let pieces = so_far.pieces in

@@ -78,11 +78,3 @@ pub breaks_held : (files : Files) (name source : List ℕ) (b : Finding) → len
 breaks_held files name source b short f s =
     let c = content files name source short f in
     record { source = c.file; told = c.told; first = fault_of_file c.file b (subst (λ (bytes : List ℕ). IsSourceFault bytes b) c.is s) }
-
-missing : (found : Option (List ℕ)) → None ≡ option_map fetched found → found ≡ None
-missing None e = refl
-missing (Some file) e = absurd (cc e)
-
-pub none_held : (files : Files) (name : List ℕ) → Fetches files name None → IsHeld files name None
-none_held None name f = tt
-none_held (Some held) name f = missing (held name) f

@@ -1,5 +1,5 @@
 -- Fields up to their brace, declarations up to the end, and a module.
-use Rattle.std.proofs.Common.{◌≡◌, ℕ, suc, ◌+◌, ◌<◌, Bool, true, false, ◌||◌, List, [], ◌∷◌, ◌++◌, length, codes, inl, inr, refl, sym, ap, ◌∙◌, subst, arith, length-append}
+use Rattle.std.proofs.Common.{◌≡◌, ℕ, suc, ◌+◌, ◌<◌, Bool, true, false, ◌||◌, List, [], ◌∷◌, ◌++◌, length, codes, refl, sym, ap, ◌∙◌, subst, arith, length-append}
 use Rattle.std.specs.Option.{is_some}
 use Rattle.bdl_parser.specs.declared.TheConstants.{MAX_NESTING}
 use Rattle.bdl_parser.specs.declared.parser.FormFault.{FormFault}
@@ -11,7 +11,7 @@ use Rattle.bdl_parser.specs.declared.trees.Module.{Module}
 use Rattle.bdl_parser.specs.declared.trees.Spot.{Spot}
 use Rattle.bdl_parser.specs.Grammar.{key, mark, a_type, a_bag, a_struct, a_decl, an_import, the_decls, a_module}
 use Rattle.bdl_parser.specs.Lexemes.{Lexeme}
-use Rattle.bdl_parser.specs.Refusals.{meets, IsTokenRefused, IsFormRefused, is_type_first}
+use Rattle.bdl_parser.specs.Refusals.{meets, IsFormRefused, is_type_first}
 use Rattle.grammar_model.specs.Forms.{Form, IsOne, token, made, Repeats, many, ended}
 use Rattle.grammar_model.specs.Stops.{first_passes, Taken}
 use Rattle.grammar_model.proofs.FormLaws.{IsLawful, IsEnder, ender_of}
@@ -31,16 +31,8 @@ read_shorter f first law ts a rest r =
 types_grow : (room : ℕ) → Grows (a_type room) (a_type (room + 1))
 types_grow room = let e : suc room ≡ room + 1 = omega arith in subst (λ m. Grows (a_type room) (a_type m)) e (grows_type room)
 
-brace : Family Spot
-brace n = token (mark 125)
-
 no_brace : (ts : List Lexeme) → meets (mark 125) ts ≡ false → AreNotHere (one (mark 125)) ts
 no_brace ts e n = not_here (token (mark 125)) (λ t. is_some (mark 125 t)) (law_token (mark 125)) ts e
-
-brace_here : (e : FormFault) (ts bad : List Lexeme) → meets (mark 125) ts ≡ true → IsTokenRefused (mark 125) e ts bad → (e ≡ (Wrong Expected) → ⊥) × (e ≡ (Wrong TypeNesting) → ⊥)
-brace_here (Wrong Expected) ts bad here r = absurd (let w : true ≡ false = sym here ∙ r.1 in cc)
-brace_here (Wrong TypeNesting) ts bad here r = absurd r
-brace_here Memory ts bad here r = (λ w. cc, λ w. cc)
 
 brace_ender : (n : ℕ) → IsEnder (token (mark 125)) (λ t. is_some (mark 125 t))
 brace_ender n = ender_of (token (mark 125)) (λ t. is_some (mark 125 t)) (law_token (mark 125))
@@ -50,11 +42,6 @@ module _ {A : Type 0} (F : Family A) (lawful : AreLawful F is_type_first) (grows
   fields_item room items e ts mid bad so_far open_ r =
       refused_made (λ (p : List A × Spot). p.0) (repeat_until F (one (mark 125))) room e ts bad
       (item_refused F (one (mark 125)) room is_type_first (λ t. is_some (mark 125 t)) lawful brace_ender (type_or_mark 125) (grows room (room + 1) (types_grow room)) items e ts mid bad so_far (no_brace mid open_) r)
-
-  pub fields_end : (room : ℕ) (e : FormFault) (ts mid bad : List Lexeme) → meets (mark 125) mid ≡ true → IsTokenRefused (mark 125) e mid bad → IsFormRefused (λ n. made (λ (p : List A × Spot). p.0) (many (F n) (token (mark 125)))) room e ts bad
-  fields_end room (Wrong Expected) ts mid bad here r = absurd (let w : true ≡ false = sym here ∙ r.1 in cc)
-  fields_end room (Wrong TypeNesting) ts mid bad here r = absurd r
-  fields_end room Memory ts mid bad here r = tt
 
   pub fields_taken : (room : ℕ) (items : List A) (ts mid rest : List Lexeme) (spot : Spot) → TakenItems F room ts items mid → IsOne (mark 125) mid spot rest → Taken (λ n. made (λ (p : List A × Spot). p.0) (many (F n) (token (mark 125)))) room ts items rest
   fields_taken room items ts mid rest spot so_far end =
@@ -89,12 +76,6 @@ none_of_two (t ∷ ts) p q = λ i. p i || q i
 
 pub no_decl : (room : ℕ) (ts : List Lexeme) → meets (key (codes "bag")) ts ≡ false → meets (key (codes "struct")) ts ≡ false → IsFormRefused a_decl room (Wrong Expected) ts ts
 no_decl room ts p q = λ n le. stops_here (a_decl n) is_decl_first (lawful_decl n) ts (none_of_two ts p q)
-
-pub decl_from_bag : (room : ℕ) (ts : List Lexeme) (decl : Decl) (rest : List Lexeme) → Taken a_bag room ts decl rest → Taken a_decl room ts decl rest
-decl_from_bag room ts decl rest t = λ n le. inl (t n le)
-
-pub decl_from_struct : (room : ℕ) (ts : List Lexeme) (decl : Decl) (rest : List Lexeme) → Taken a_struct room ts decl rest → Taken a_decl room ts decl rest
-decl_from_struct room ts decl rest t = λ n le. inr (t n le)
 
 -- declarations to the end
 

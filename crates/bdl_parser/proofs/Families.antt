@@ -97,9 +97,6 @@ module _ {A : Type 0} (F : Family A) (room : ℕ) where
   repeats_more f [] ts mid rest a e r = (rest, subst (λ xs. f.reads xs a rest) (sym e) r, refl)
   repeats_more f (x ∷ items) ts mid rest a e r = (e.0, e.1, repeats_more f items e.0 mid rest a e.2 r)
 
-  pub items_none : (ts : List Lexeme) → TakenItems F room ts [] ts
-  items_none ts n le = refl
-
   pub items_more : (items : List A) (ts mid rest : List Lexeme) (a : A) → TakenItems F room ts items mid → Taken F room mid a rest → TakenItems F room ts (items ++ a ∷ []) rest
   items_more items ts mid rest a so_far t n le = repeats_more (F n) items ts mid rest a (so_far n le) (t n le)
 

@@ -198,11 +198,3 @@ module _ (form : Form) where
       let down = a.longest j (let w = b.within in omega arith) b.framed in
       let same : i ≡ j = omega arith in
       (same, one_code form (drop i bytes) c d a.applies (subst (λ n. IsUnframed form (drop n bytes) d) (sym same) b.applies))
-
-  -- What is left behind an atom is shorter.
-  pub front_shorter : (bytes atom behind : List ℕ) → bytes ≡ frame form atom ++ behind → length behind < length bytes
-  front_shorter bytes atom behind e =
-      let some = frame_some atom [] in
-      let l = ap length e ∙ length-append (frame form atom) behind in
-      let k = length-append (frame form atom) [] in
-      omega arith

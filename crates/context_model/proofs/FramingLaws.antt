@@ -12,7 +12,7 @@ use Rattle.context_model.specs.declared.Form.TheVariants.{One, Two}
 use Rattle.outside.specs.declared.TheConstants.{ATOM_MAX}
 use Rattle.context_model.specs.Atoms.{Atom, AreAtoms}
 use Rattle.context_model.specs.Varints.{unsigned_form, unsigned_tail, unsigned_varint}
-use Rattle.context_model.specs.Framing.{base_128, length_code, frame, frames, head, head_len, has_long, written_in, size_of, offset_of}
+use Rattle.context_model.specs.Framing.{base_128, length_code, frame, frames, head, head_len, has_long, written_in, size_of}
 use Rattle.context_model.specs.Trimmed.{cut_at}
 use Rattle.context_model.proofs.VarintForms.{length-unsigned_form}
 
@@ -240,19 +240,3 @@ written-next form list i atom there =
     added : (form : Form) (front : List Atom) → written_in form (front ++ atom ∷ []) ≡ (if nat_lt LENGTH_MAX (length atom) then Two else written_in form front)
     added One front = ap (λ b. if b then Two else One) (long front) ∙ by (has_long front) (nat_lt LENGTH_MAX (length atom))
     added Two front = elim (nat_lt LENGTH_MAX (length atom)) as (λ b. Two ≡ (if b then Two else Two)) [ true ↦ refl | false ↦ refl ]
-
-pub size_of-next : (form : Form) (list : List Atom) (i : ℕ) (atom : Atom) → AreAtoms list → slice_get list i ≡ Some atom
-    → size_of form (take (i + 1) list) + head_len (written_in form (take i list)) ≡ size_of form (take i list) + length (frame One atom) + head_len (written_in form (take (i + 1) list))
-size_of-next form list i atom short there =
-    let before = size_by_frames form (take i list) (AreAtoms-take i list short) in
-    let after = size_by_frames form (take (i + 1) list) (AreAtoms-take (i + 1) list short) in
-    let next = frames_len-next One list i atom there in
-    omega arith
-
--- The bytes before an atom, by the frames of form one.
-pub offset_by_frames : (form : Form) (list : List Atom) (place : ℕ) → AreAtoms list → offset_of form list place ≡ head_len (written_in form list) + length (frames One (take place list))
-offset_by_frames form list place short = by (written_in form list)
-  where
-    by : (width : Form) → head_len width + length (frames width (take place list)) ≡ head_len width + length (frames One (take place list))
-    by One = refl
-    by Two = let same = frames_lens (take place list) (AreAtoms-take place list short) in omega arith

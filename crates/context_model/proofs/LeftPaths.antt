@@ -130,13 +130,6 @@ in_is_gone (g ∷ gone) i (inr j) = by (g == i) (in_is_gone gone i j)
     by true h = refl
     by false h = h
 
-pub gone_or_stays : (gone : List ℕ) (i : ℕ) → IsIn i gone ⊎ (IsIn i gone → ⊥)
-gone_or_stays gone i = by (is_gone gone i) refl
-  where
-    by : (t : Bool) → is_gone gone i ≡ t → IsIn i gone ⊎ (IsIn i gone → ⊥)
-    by true e = inl (gone_is_in gone i e)
-    by false e = inr (λ j. let clash : true ≡ false = sym (in_is_gone gone i j) ∙ e in cc)
-
 stays_so : (gone : List ℕ) (i : ℕ) → (IsIn i gone → ⊥) → is_gone gone i ≡ false
 stays_so gone i n = by (is_gone gone i) refl
   where

@@ -29,7 +29,7 @@ pub mod MergeSteps
 pub mod Finding
 pub mod ContextFronts
 pub mod Meets
-pub mod EndedSteps
+pub mod FieldPaths
 pub mod Places
 pub mod PlacesOf
 pub mod Lexicographic

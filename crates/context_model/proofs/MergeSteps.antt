@@ -2,37 +2,13 @@
 use Rattle.std.proofs.Common.{◌≡◌, ℕ, ◌+◌, ◌<◌, ◌≤◌, ◌⊎◌, inl, inr, List, [], ◌∷◌, ◌++◌, length, drop, get_or, refl, sym, ◌∙◌, ap, append_assoc, add-one, drop-cons, arith}
 use Rattle.std.proofs.lemmas.List.{drop_all, append-nil}
 use Rattle.std.specs.declared.cmp.Ordering.{Ordering}
-use Rattle.std.specs.declared.cmp.Ordering.TheVariants.{Less, Equal, Greater}
 use Rattle.context_model.specs.KeyedMerge.{merge_with, brings}
-use Rattle.context_model.proofs.MergeLaws.{with-right_empty, with-less, with-equal, with-greater}
-use Rattle.context_model.proofs.Brought.{brings-right_empty, brings-less, brings-equal, brings-greater}
+use Rattle.context_model.proofs.MergeLaws.{with-right_empty}
+use Rattle.context_model.proofs.Brought.{brings-right_empty}
 
 -- What is left at a place begins with the element there.
 pub drop-place : {A : Type 0} (xs : List A) (i : ℕ) (x : A) → i < length xs → x ≡ get_or xs i x → drop i xs ≡ x ∷ drop (i + 1) xs
 drop-place xs i x h is = drop-cons xs i x h ∙ (let a = sym is in let b = sym (add-one i) in λ t. a t ∷ drop (b t) xs)
-
-more : {A : Type 0} (out rest new whole : List A) (x : A) → rest ≡ x ∷ new → out ++ rest ≡ whole → (out ++ x ∷ []) ++ new ≡ whole
-more out rest new whole x e h = append_assoc out (x ∷ []) new ∙ ap (λ l. out ++ l) (sym e) ∙ h
-
-module _ {K X : Type 0} (R : K → K → Ordering) (f : X → X → X) (es ds : List (K × X)) (i j : ℕ) (e d : K × X)
-    (in_first : i < length es) (in_second : j < length ds) (is_first : e ≡ get_or es i e) (is_second : d ≡ get_or ds j d) (out whole : List (K × X)) (so_far : out ++ brings R f (drop i es) (drop j ds) ≡ whole) where
-  pub brings_less : R e.0 d.0 ≡ Less → out ++ brings R f (drop (i + 1) es) (drop j ds) ≡ whole
-  brings_less h =
-      let a = drop-place es i e in_first is_first in
-      let b = drop-place ds j d in_second is_second in
-      ap (λ l. out ++ brings R f (drop (i + 1) es) l) b ∙ ap (λ l. out ++ l) (sym ((λ t. brings R f (a t) (b t)) ∙ brings-less R f e d (drop (i + 1) es) (drop (j + 1) ds) h)) ∙ so_far
-
-  pub brings_equal : R e.0 d.0 ≡ Equal → (out ++ (d.0, f e.1 d.1) ∷ []) ++ brings R f (drop (i + 1) es) (drop (j + 1) ds) ≡ whole
-  brings_equal h =
-      let a = drop-place es i e in_first is_first in
-      let b = drop-place ds j d in_second is_second in
-      more out _ _ whole (d.0, f e.1 d.1) ((λ t. brings R f (a t) (b t)) ∙ brings-equal R f e d (drop (i + 1) es) (drop (j + 1) ds) h) so_far
-
-  pub brings_greater : R e.0 d.0 ≡ Greater → (out ++ d ∷ []) ++ brings R f (drop i es) (drop (j + 1) ds) ≡ whole
-  brings_greater h =
-      let a = drop-place es i e in_first is_first in
-      let b = drop-place ds j d in_second is_second in
-      more out _ _ whole d ((λ t. brings R f (a t) (b t)) ∙ brings-greater R f e d (drop (i + 1) es) (drop (j + 1) ds) h ∙ ap (λ l. d ∷ brings R f l (drop (j + 1) ds)) (sym a)) so_far
 
 module _ {K X : Type 0} (R : K → K → Ordering) (f : X → X → X) where
   -- Where nothing is left of one list, the rest of the second ends what is brought.
@@ -41,17 +17,6 @@ module _ {K X : Type 0} (R : K → K → Ordering) (f : X → X → X) where
   brings_rest es ds i j out whole (inr over) so_far =
       let b = drop_all j ds over in
       ap (λ l. out ++ l) (b ∙ sym (brings-right_empty R f (drop i es))) ∙ ap (λ l. out ++ brings R f (drop i es) l) (sym b) ∙ so_far
-
-module _ {K X : Type 0} (R : K → K → Ordering) (f : X → X → X) (e d : K × X) (es ds out whole : List (K × X)) (so_far : out ++ merge_with R f (e ∷ es) (d ∷ ds) ≡ whole) where
-  -- The steps of a merge that takes the heads of both lists.
-  pub with_less : R e.0 d.0 ≡ Less → (out ++ e ∷ []) ++ merge_with R f es (d ∷ ds) ≡ whole
-  with_less h = more out _ _ whole e (with-less R f e d es ds h) so_far
-
-  pub with_equal : R e.0 d.0 ≡ Equal → (out ++ (e.0, f e.1 d.1) ∷ []) ++ merge_with R f es ds ≡ whole
-  with_equal h = more out _ _ whole (e.0, f e.1 d.1) (with-equal R f e d es ds h) so_far
-
-  pub with_greater : R e.0 d.0 ≡ Greater → (out ++ d ∷ []) ++ merge_with R f (e ∷ es) ds ≡ whole
-  with_greater h = more out _ _ whole d (with-greater R f e d es ds h) so_far
 
 module _ {K X : Type 0} (R : K → K → Ordering) (f : X → X → X) where
   empty : {A : Type 0} (xs : List A) → length xs ≤ 0 → xs ≡ []

@@ -222,6 +222,3 @@ stays_within_limit lists a each f =
 
 pub keeps_elements : KeepsElements
 keeps_elements a b atom = IsIn-greedy atom_cmp atoms_total atoms_anti a b atom
-
-pub AreAtoms-greedy : (a b : List Atom) → AreAtoms a → AreAtoms b → AreAtoms (greedy_merge atom_cmp a b)
-AreAtoms-greedy = All-greedy atom_cmp atoms_total atoms_anti IsWithinLimit

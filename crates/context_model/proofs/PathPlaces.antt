@@ -1,7 +1,7 @@
 -- What stands at each place of a path, and how the next path compares, by one atom of the path before.
 use Rattle.std.proofs.Common.{◌≡◌, ℕ, zero, suc, ◌+◌, ◌<◌, ◌≤◌, ◌⊎◌, ◌↔◌, Bool, true, false, cond, nat_le, eqb, ◌&&◌, List, [], ◌∷◌, ◌++◌, length, take, slice_get, Option, Some, None, Ordering, Less, Equal, Greater, sym, refl, ap, ◌∙◌, subst, arith, inl, inr, le_refl, eq-eqb, ne_eqb}
 use Rattle.std.specs.Ordering.{ordering_then}
-use Rattle.std.proofs.lemmas.Bool.{cases_eq, cases_order}
+use Rattle.std.proofs.lemmas.Bool.{cases_eq}
 use Rattle.std.proofs.lemmas.Cmp.{tied_itself}
 use Rattle.context_model.specs.Atoms.{Atom}
 use Rattle.context_model.specs.Orders.{Path, atom_cmp, path_cmp}
@@ -143,10 +143,3 @@ IsNearestPlace-here list at a e h = record {
   level_is = refl;
   nearest_one = λ i other b l g k m. absurd (omega arith);
 }
-
-pub IsNearestPlace-unique : (list : List Atom) (at n i j : ℕ) → IsNearestPlace list at n i → IsNearestPlace list at n j → i ≡ j
-IsNearestPlace-unique list at n i j f g = elim (cases_order i j) [
-  | inl e ↦ e
-  | inr (inl h) ↦ absurd (f.nearest_one j g.atom h g.before g.there g.header g.level_is)
-  | inr (inr h) ↦ absurd (g.nearest_one i f.atom h f.before f.there f.header f.level_is)
-]

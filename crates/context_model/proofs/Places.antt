@@ -104,11 +104,6 @@ IsEnded-nowhere list s n m f u (inr (p, i, b)) =
 
 -- ---- how many atoms the front has
 
-pub front_of-length : (list : List Atom) → length (front_of list) ≤ length list
-front_of-length [] = omega arith
-front_of-length ([] ∷ list) = omega arith
-front_of-length ((b ∷ bytes) ∷ list) = let l : length (front_of list) ≤ length list = front_of-length list in omega arith
-
 -- a marker stands in a list exactly where its front is shorter
 pub front_of-marker : (list : List Atom) → (length (front_of list) < length list) ↔ HasMarker list
 front_of-marker list = (to list, from list)

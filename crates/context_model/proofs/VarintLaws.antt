@@ -347,6 +347,3 @@ pub signed_varint-prefix : (y z : ℤ) (s t : List ℕ) → FitsSigned w64 y →
 signed_varint-prefix y z s t hy hz e =
     int_cmp-IsAntisymmetric y z (tied (int_cmp y z) (slice_cmp nat_cmp s t)
     (sym (signed_varint-order y z s t hy hz) ∙ ap (λ l. slice_cmp nat_cmp l (signed_varint z ++ t)) e ∙ tied_itself nat_list_cmp_total (signed_varint z ++ t)))
-
-pub signed_varint-injective : (y z : ℤ) → FitsSigned w64 y → FitsSigned w64 z → signed_varint y ≡ signed_varint z → y ≡ z
-signed_varint-injective y z hy hz e = signed_varint-prefix y z [] [] hy hz (ap (λ l. l ++ []) e)

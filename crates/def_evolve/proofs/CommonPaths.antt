@@ -116,9 +116,6 @@ each_own own (Set kind) numbers e = both_leaves own (Set kind) numbers e refl
 each_own own Counter numbers e = both_leaves own Counter numbers e refl
 each_own own (Map key shape) numbers e = both_leaves own (Map key shape) numbers e refl
 
-none_in_leaf : (nodes : Nodes) (new : Shape) (numbers : List ℕ) → IsLeaf new → IsIn numbers ([] ∷ []) ⊎ ⊥ → AreBoth (Bag nodes) new numbers → ⊥
-none_in_leaf nodes new numbers e i b = no_empty_path nodes numbers b.0 ((leaf_path new numbers e).0 b.1)
-
 bag_and_leaf : (nodes : Nodes) (new : Shape) (numbers : List ℕ) → IsLeaf new → IsIn numbers [] ↔ AreBoth (Bag nodes) new numbers
 bag_and_leaf nodes new numbers e = ((λ none. elim none [ ]), λ b. absurd (no_empty_path nodes numbers b.0 ((leaf_path new numbers e).0 b.1)))
 

@@ -44,11 +44,6 @@ fields_from_place nodes zero ok = ok
 fields_from_place no_node (suc i) ok = tt
 fields_from_place (node name number shape nodes) (suc i) ok = fields_from_place nodes i ok.4
 
-pub among : (nodes : Nodes) (i : ℕ) (g : Field) → IsIn g (fields (nodes_from_place i nodes)) → IsIn g (fields nodes)
-among nodes zero g i = i
-among no_node (suc n) g i = i
-among (node name number shape nodes) (suc n) g i = inr (among nodes n g i)
-
 -- The field at a place is among them, and those behind it have greater numbers.
 pub get_in : (fs : List Field) (i : ℕ) (f : Field) → slice_get fs i ≡ Some f → IsIn f fs
 get_in [] i f e = absurd (cc e)

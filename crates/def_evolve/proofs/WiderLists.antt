@@ -58,14 +58,6 @@ module _ (kinds others : List ScalarKind) (i : ℕ) (x y : ScalarKind) (within :
       (sym (kind_word x (word_there kinds i x within is words))) (sym (kind_word y (word_there others i y also other more)))
       (subst₂ AreWider (words_turn kinds i x within is) (words_turn others i y also other), subst₂ AreWider (sym (words_turn kinds i x within is)) (sym (words_turn others i y also other)))
 
-pub wider_end : (words more : List model.Word) (i : ℕ) → length words ≤ i → length words ≡ length more → AreWider (drop i words) (drop i more)
-wider_end [] [] zero l e = tt
-wider_end [] [] (suc i) l e = tt
-wider_end [] (wider ∷ more) i l e = absurd (cc e)
-wider_end (word ∷ words) [] i l e = absurd (cc e)
-wider_end (word ∷ words) (wider ∷ more) zero l e = absurd (omega (arith, l))
-wider_end (word ∷ words) (wider ∷ more) (suc i) l e = wider_end words more i (omega (arith, l)) (cc e)
-
 -- ---- ways
 
 pub dotted_more : (x : List ℕ) (xs : List (List ℕ)) (y : List ℕ) → dotted ((x ∷ xs) ++ y ∷ []) ≡ dotted (x ∷ xs) ++ 46 ∷ y

@@ -40,9 +40,6 @@ module _ (nodes : Nodes) (small : length (slots_of nodes) ≤ MAX_FIELDS) where
   before_is zero h = sym (starts-zero (fields nodes))
   before_is (suc i) h = end_is i 0 (omega (arith, h))
 
-  all_slots : starts (fields nodes) (length (fields nodes)) ≡ length (slots_of nodes)
-  all_slots = starts-all (fields nodes) (length (fields nodes)) (omega arith) ∙ ap length (sym (slots_of-list nodes))
-
   -- Ends up to a number of a slot come before those beyond it.
   pub ends_part : (slot : ℕ) → IsPartitionedBy (λ e. leb e slot) (ends_after 0 (fields nodes))
   ends_part slot i j d upto within at =

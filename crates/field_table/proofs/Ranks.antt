@@ -46,10 +46,6 @@ pub less_before : (names : List (List ℕ)) (places : List ℕ) (name : List ℕ
     → (k : ℕ) → k < m + 1 → name_cmp (ranked names places k) name ≡ Less
 less_before names places name m order h less k below = not_behind (ranked names places k) (ranked names places m) name (sorted_upto names places order k m (omega (arith, below)) h) less
 
-pub not_less_behind : (names : List (List ℕ)) (places : List ℕ) (name : List ℕ) (m : ℕ) → IsNameOrder names places → m < length places → name_cmp (ranked names places m) name ≢ Less
-    → (k : ℕ) → m ≤ k → k < length places → name_cmp (ranked names places k) name ≢ Less
-not_less_behind names places name m order h more k above within less = more (not_behind (ranked names places m) (ranked names places k) name (sorted_upto names places order m k above within) less)
-
 is_less : (o : Ordering) → is_lt o ≡ true → o ≡ Less
 is_less Less e = refl
 is_less Equal e = absurd (cc e)

@@ -1,12 +1,11 @@
 -- Reports part by part.
-use Rattle.std.proofs.Common.{◌≡◌, zero, suc, ◌<◌, length, arith, ℕ, List, [], ◌∷◌, ◌++◌, refl, sym, ap, ◌∙◌, subst, append_assoc, codes}
+use Rattle.std.proofs.Common.{◌≡◌, ◌<◌, ℕ, List, [], ◌∷◌, ◌++◌, refl, sym, ap, ◌∙◌, subst, append_assoc, codes}
 use Rattle.std.specs.Fmt.{decimal}
 use Rattle.std.proofs.lemmas.List.{append-nil}
 use Rattle.context_model.specs.declared.Form.{Form}
-use Rattle.bag_model.specs.Shapes.{Nodes, no_node}
+use Rattle.bag_model.specs.Shapes.{Nodes}
 use Rattle.context_model.specs.Atoms.{Atom}
-use Rattle.context_model.specs.WellFormed.{IsWellFormed}
-use Rattle.trace_model.specs.Graphs.{Graph, step_form, IsTypedContext}
+use Rattle.trace_model.specs.Graphs.{Graph, step_form}
 use Rattle.trace_model.specs.Runs.{Lists, list_at}
 use Rattle.report_text.specs.Blocks.{IsBlock, HasOneBlock, AddsBlock}
 use Rattle.graph_report.specs.Reports.{step_text, AreReported, AddsStep}
@@ -41,8 +40,3 @@ one_report blocks nodes graph lists (n ∷ shows) a b (block, rest, is, others, 
     ∙ ap (λ t. step_text n t ++ rest) (blocks nodes (step_form graph n) (list_at lists n) block other is also)
     ∙ ap (λ t. step_text n other ++ t) (one_report blocks nodes graph lists shows rest end others too)
     ∙ sym all
-
--- Under a table without fields each list is typed.
-pub one_typed : (list : List Atom) → IsWellFormed list → (n : ℕ) → n < length (list ∷ []) → IsTypedContext no_node (list_at (list ∷ []) n)
-one_typed list w zero l = record { well_formed = w; typed = tt }
-one_typed list w (suc n) l = absurd (omega (arith, l))

@@ -13,11 +13,10 @@ use Rattle.bag_model.specs.Shapes.{Nodes}
 use Rattle.text_lines.specs.Readings.{NoneOf}
 use Rattle.trace_model.specs.Graphs as graphs
 use Rattle.trace_model.specs.Graphs.{Act, Graph, HasStep, IsGraph, IsSoundAct, StaysAt, form_at, parents_of}
-use Rattle.recorded_graph.specs.declared.graphs.TheConstants.{STEPS_MAX}
 use Rattle.recorded_graph.specs.Graphs.{MayBeNext}
 use Rattle.graph_lines.specs.Forms.{IsSound}
 use Rattle.graph_lines.specs.Statements as lines
-use Rattle.graph_lines.specs.Statements.{NamedView, NamedAct, Statement}
+use Rattle.graph_lines.specs.Statements.{NamedAct, Statement}
 use Rattle.graph_text.specs.Additions.{Addition, AddStep, MeansAct, StandsAtService, IsGood}
 use Rattle.graph_text.specs.Names.{names_of, service_named, service_at, steps_named, parents_named}
 use Rattle.graph_text.specs.Rules.{JoinsApart, HasNoBudget, Breaks, rules}
@@ -28,14 +27,6 @@ KeepsRules table graph line = NoneOf (Breaks table graph line) rules
 
 -- ---- a service, and a step that is shown
 
--- A good line declares a service of a new name.
-pub is_new : (table : Nodes) (graph : Graph) (form : WireForm) (name : List ℕ) (view : NamedView) → KeepsRules table graph (lines.Service form name view) → service_named graph name ≡ None
-is_new table graph form name view keeps = by (service_named graph name) refl
-  where
-    by : (found : Option ℕ) → service_named graph name ≡ found → found ≡ None
-    by None e = refl
-    by (Some n) e = absurd (keeps.1.1.1.0 (n, e))
-
 -- The steps that a good line names stand before it.
 pub is_earlier : (table : Nodes) (graph : Graph) (line : Statement) (n : ℕ) → KeepsRules table graph line → IsIn n (steps_named line) → n < length graph.steps
 is_earlier table graph line n keeps named = elim (cases_lt n (length graph.steps)) [ inl less ↦ less | inr more ↦ absurd (keeps.1.0 (n, named, more)) ]
@@ -44,11 +35,6 @@ pub is_shown : (table : Nodes) (graph : Graph) (n : ℕ) → KeepsRules table gr
 is_shown table graph n keeps = is_earlier table graph (lines.Show n) n keeps (inl refl)
 
 -- ---- a step
-
--- There is room for the step of a good line.
-pub has_room : (table : Nodes) (graph : Graph) (number : ℕ) (named : NamedAct) → KeepsRules table graph (lines.Step number named) → length graph.steps < STEPS_MAX
-has_room table graph number named keeps =
-    elim (cases_lt (length graph.steps) STEPS_MAX) [ inl less ↦ less | inr more ↦ absurd (keeps.1.1.1.1.1.1.1.1.1.0 more) ]
 
 -- A name that is found is that of a service.
 named_within : (graph : Graph) (name : List ℕ) (service : ℕ) → service_named graph name ≡ Some service → service < length graph.services

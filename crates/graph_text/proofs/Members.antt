@@ -40,10 +40,6 @@ all_from_each P xs each = λ k d h. each (get_or xs k d) (in_get xs k d h)
 
 -- ---- lists of which a loop has seen a front
 
--- Nothing was seen yet.
-pub each_none : {K : Type 0} (P : K → Type 0) (xs : List K) → (x : K) → IsIn x (take 0 xs) → P x
-each_none P xs x i = absurd i
-
 -- One element more was seen.
 pub each_more : {K : Type 0} (P : K → Type 0) (xs : List K) (i : ℕ) (d : K) → i < length xs
     → ((x : K) → IsIn x (take i xs) → P x) → P (get_or xs i d) → (x : K) → IsIn x (take (i + 1) xs) → P x

@@ -19,19 +19,9 @@ pub record Covers (ranges : List (ℕ × ℕ)) (slots : List ℕ) (next : ℕ) :
   pub below : (slot : ℕ) → IsIn slot slots → slot < next
   pub whole : (slot : ℕ) → ((range : ℕ × ℕ) → IsIn range ranges → range.0 ≤ slot) → slot < next → IsIn slot slots
 
-pub covers_none : Covers [] [] 0
-covers_none = record {
-  each = λ slot. (λ none. absurd none, λ some. absurd some.1);
-  below = λ slot none. absurd none;
-  whole = λ slot starts h. absurd (omega arith);
-}
-
 module _ (ranges : List (ℕ × ℕ)) (slots more : List ℕ) (next first end : ℕ) (covers : Covers ranges slots next)
     (order : (range : ℕ × ℕ) → IsIn range ranges → range.0 ≤ first)
     (pushed : (slot : ℕ) → IsIn slot more ↔ (IsIn slot slots ⊎ IsInRange (Some (max first next, end)) slot)) where
-  others : List (ℕ × ℕ)
-  others = ranges ++ (first, end) ∷ []
-
   -- A slot of the last range is known already, or is pushed.
   in_last : (slot : ℕ) → first ≤ slot → slot < end → IsIn slot more
   in_last slot low high = elim (cases_lt slot next) [

@@ -67,9 +67,6 @@ stand_part done some rest a f e = record {
 pub one_stands : (lists : List (List Atom)) (a : List Atom) → IsWellFormed a → StandFor (a ∷ []) lists → IsMerged lists a × (a ≡ merge_of lists)
 one_stands lists a well stand = (stand.merged a (merges_few.one a well), sym (merge_of-one a) ∙ stand.one_by_one)
 
-pub none_stands : (lists : List (List Atom)) (a : List Atom) → a ≡ [] → StandFor [] lists → IsMerged lists a × (a ≡ merge_of lists)
-none_stands lists a e stand = (subst (IsMerged lists) (sym e) (stand.merged [] merges_few.none), e ∙ stand.one_by_one)
-
 pub only_one : (lists rest : List (List Atom)) (list : List Atom) → lists ≡ rest ++ list ∷ [] → length lists ≤ 1 → lists ≡ list ∷ []
 only_one lists [] list e few = e
 only_one lists (x ∷ rest) list e few = let count = ap length e in let parts = length-append rest (list ∷ []) in absurd (omega arith)

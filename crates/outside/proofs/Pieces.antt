@@ -1,5 +1,5 @@
 -- What the loops and the objects in memory need of the front of a list and of the rest behind it.
-use Rattle.std.proofs.Common.{◌≡◌, ℕ, ◌+◌, ◌-◌, ◌≤◌, List, ◌++◌, length, take, drop, refl, sym, ◌∙◌, ap, append_assoc, length-append, length-drop, arith}
+use Rattle.std.proofs.Common.{◌≡◌, ℕ, ◌+◌, ◌-◌, ◌≤◌, List, ◌++◌, length, take, drop, refl, sym, ◌∙◌, ap, append_assoc, length-drop, arith}
 use Rattle.std.proofs.lemmas.List.{take_at, take_rest, take-append-drop, drop-drop, length-take-le}
 
 -- The bytes that a read puts at the front of a buffer are those that its source loses.
@@ -12,10 +12,6 @@ front_read content into new at count len fits same is =
     let front : take count (new ++ drop count into) ≡ take count (drop at content) = take_at new (drop count into) count l ∙ e in
     let back : drop count (drop at content) ≡ drop (at + count) content = drop-drop count at content in
     rw (front, ← back) (sym (take-append-drop count (drop at content)))
-
--- A list of n elements, put in front of the rest of a buffer, is as long as the buffer was.
-pub length-front : (into new : List ℕ) (count : ℕ) → length new ≡ count → count ≤ length into → length (new ++ drop count into) ≡ length into
-length-front into new count l fits = omega (arith, length-append new (drop count into), length-drop count into)
 
 -- What is written grows by what a write took.
 pub written_more : (piece done rest : List ℕ) (count : ℕ) → piece ≡ done ++ rest → piece ≡ (done ++ take count rest) ++ take (length rest - count) (drop count rest)

@@ -11,9 +11,6 @@ use Rattle.trace_model.specs.Graphs.{Graph}
 use Rattle.trace_model.specs.Runs.{Lists, list_at}
 use Rattle.par_ranks.specs.Rows.{IsGiven, AreMade}
 
-pub nothing_made : (nodes : Nodes) (graph : Graph) (lists : Lists) → AreMade nodes graph lists [] []
-nothing_made nodes graph lists = record { as_many = refl; each = λ k l. absurd (omega (arith, l)) }
-
 -- What was made for some steps and what was made for others.
 pub made_together : (nodes : Nodes) (graph : Graph) (lists : Lists) (some others : List ℕ) (a b : Lists) → AreMade nodes graph lists some a → AreMade nodes graph lists others b
     → AreMade nodes graph lists (some ++ others) (a ++ b)

@@ -28,9 +28,6 @@ pub record AreRunTo (nodes : Nodes) (graph : Graph) (row : List ℕ) (k : ℕ) (
   pub given : (j : ℕ) → j < k → IsGiven nodes graph new (get_or row j 0) (list_at new (get_or row j 0))
   pub kept : (n : ℕ) → ¬ (IsIn n row) → list_at new n ≡ list_at old n
 
-pub none_run : (nodes : Nodes) (graph : Graph) (row : List ℕ) (old : Lists) → AreRunTo nodes graph row 0 old old
-none_run nodes graph row old = record { as_many = refl; given = λ j l. absurd (omega (arith, l)); kept = λ n out. refl }
-
 -- One step more.
 pub one_run : (nodes : Nodes) (graph : Graph) (row : List ℕ) (k : ℕ) (old lists : Lists) (step : ℕ) (list : List Atom) → AreIndependent graph row → k < length row → step ≡ get_or row k 0 → step < length lists
     → IsGiven nodes graph lists step list → AreRunTo nodes graph row k old lists → AreRunTo nodes graph row (k + 1) old (set lists step list)

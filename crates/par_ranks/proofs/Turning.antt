@@ -1,5 +1,5 @@
 -- Turns, and rows of steps by their turns.
-use Rattle.std.proofs.Common.{◌≡◌, ◌⊎◌, inl, inr, ℕ, zero, suc, ◌+◌, ◌*◌, ◌<◌, ◌≤◌, List, [], ◌∷◌, ◌++◌, length, get_or, set, All, refl, sym, ap, ◌∙◌, subst, length-append, arith}
+use Rattle.std.proofs.Common.{◌≡◌, ◌⊎◌, inl, inr, ℕ, zero, suc, ◌+◌, ◌*◌, ◌<◌, ◌≤◌, List, [], ◌∷◌, ◌++◌, length, get_or, set, All, sym, ap, ◌∙◌, subst, length-append, arith}
 use Rattle.std.proofs.lemmas.Bool.{cases_eq, cases_lt}
 use Rattle.std.proofs.lemmas.List.{get_or_append_left, get_or_at, get_or-set_same, get_or-set_other}
 use Rattle.std.proofs.lemmas.Option.{slice_get_within}
@@ -64,20 +64,6 @@ pub row_within : (rows : List (List ℕ)) (turn n : ℕ) → IsIn n (row_at rows
 row_within [] turn n none = absurd none
 row_within (row ∷ rows) zero n i = omega arith
 row_within (row ∷ rows) (suc turn) n i = let l = row_within rows turn n i in omega (arith, l)
-
--- Rows without steps hold none of the first no steps.
-pub none_yet : (turns : List ℕ) (rows : List (List ℕ)) → ((turn : ℕ) → row_at rows turn ≡ []) → AreRows turns 0 rows
-none_yet turns rows empty = record {
-  own = λ turn n i. absurd (subst (λ (row : List ℕ). IsIn n row) (empty turn) i);
-  each = λ n l. absurd (omega (arith, l));
-}
-
--- A row without steps more.
-pub empty_more : (rows : List (List ℕ)) → ((turn : ℕ) → row_at rows turn ≡ []) → (turn : ℕ) → row_at (rows ++ [] ∷ []) turn ≡ []
-empty_more [] empty zero = refl
-empty_more [] empty (suc turn) = refl
-empty_more (row ∷ rows) empty zero = empty 0
-empty_more (row ∷ rows) empty (suc turn) = empty_more rows (λ t. empty (suc t)) turn
 
 module _ (turns : List ℕ) (m : ℕ) (rows : List (List ℕ)) (here : get_or turns m 0 < length rows) where
   abbrev turn : ℕ

@@ -134,9 +134,6 @@ more_services services steps shows service = λ i. record { services = map-appen
 pub more_steps : (services : List Service) (steps : List Step) (shows : List ℕ) (step : Step) → plain_graph services (steps ++ step ∷ []) shows ≡ with_step (plain_graph services steps shows) (step_of step)
 more_steps services steps shows step = λ i. record { services = map service_of services; steps = map-append step_of steps (step ∷ []) i; shows = shows }
 
-pub empty_kept : IsKeptGraph empty_graph
-empty_kept = record { sound = empty_sound; few = omega arith }
-
 pub service_kept : (services : List Service) (steps : List Step) (shows : List ℕ) (service : Service) → IsKeptGraph (plain_graph services steps shows) → IsKeptGraph (plain_graph (services ++ service ∷ []) steps shows)
 service_kept services steps shows service k =
     subst IsKeptGraph (sym (more_services services steps shows service))

@@ -18,9 +18,6 @@ get_more [] x (suc place) y is = absurd (cc is)
 get_more (z ∷ xs) x zero y is = inl is
 get_more (z ∷ xs) x (suc place) y is = elim (get_more xs x place y is) [ inl before ↦ inl before | inr here ↦ inr (ap suc here.0, here.1) ]
 
-pub none_placed : (IsRight : ℕ → Data → Type 0) → AreInPlace 0 IsRight []
-none_placed IsRight = (refl, λ place d is. absurd (cc is))
-
 -- One object more at the end.
 pub one_placed : (IsRight : ℕ → Data → Type 0) (count : ℕ) (objects : List Data) (d : Data) → AreInPlace count IsRight objects → IsRight count d → AreInPlace (count + 1) IsRight (objects ++ d ∷ [])
 one_placed IsRight count objects d (many, each) last = (

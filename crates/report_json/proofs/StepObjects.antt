@@ -8,7 +8,7 @@ use Rattle.text_model.specs.Commas.{comma_before}
 use Rattle.serde_json.specs.Data.{Data}
 use Rattle.serde_json.specs.Written.{compact_text, has_float}
 use Rattle.report_json.specs.JsonReports.{AreInPlace, IsSlotObject, IsStepObject, AddsStepObject, IsJsonReport}
-use Rattle.report_json.proofs.Placed.{row_text, row_more, row_closed, none_placed, one_placed, no_floats}
+use Rattle.report_json.proofs.Placed.{row_text, row_more, row_closed, one_placed, no_floats}
 
 -- ---- no float is in an object
 
@@ -27,9 +27,6 @@ abbrev pub IsBegun : Nodes → Graph → Lists → List ℕ → ℕ → List ℕ
 IsBegun nodes graph lists shows count text =
     (objects : List Data) × AreInPlace count (λ place d. IsStepObject nodes graph lists (slice_index shows place) d) objects
     × (text ≡ 91 ∷ row_text false objects)
-
-pub none_begun : (nodes : Nodes) (graph : Graph) (lists : Lists) (shows text : List ℕ) → text ≡ 91 ∷ [] → IsBegun nodes graph lists shows 0 text
-none_begun nodes graph lists shows text is = ([], none_placed (λ place d. IsStepObject nodes graph lists (slice_index shows place) d), is)
 
 -- A comma, but for the first, and the object of the next step.
 pub one_begun : (nodes : Nodes) (graph : Graph) (lists : Lists) (shows : List ℕ) (at n : ℕ) (before middle after : List ℕ) → IsBegun nodes graph lists shows at before → middle ≡ before ++ comma_before at

@@ -1,6 +1,5 @@
 mod Joined
 mod Grown
-mod Keys
 mod Parts
 mod Places
 mod Textless

@@ -9,7 +9,7 @@ use Rattle.scalar_types.specs.declared.scalars.Scalar.{Scalar}
 use Rattle.scalar_types.specs.KindViews.{word_of}
 use Rattle.scalar_types.specs.Scalars.{plain_of}
 use Rattle.scalar_types.specs.Codec.{Spells, IsSpelled}
-use Rattle.scalar_types.specs.Fronts.{Begins, BeginsWithSome}
+use Rattle.scalar_types.specs.Fronts.{Begins}
 
 -- The values are of the kinds.
 abbrev pub Fit : List ScalarKind → List Scalar → Type 0
@@ -40,14 +40,6 @@ FirstField kind rest v after = Begins (IsOfForm (form_of (word_of kind))) (field
 pub first_field : (kind : ScalarKind) (f : SpellingForm) → f ≡ form_of (word_of kind) → (rest : List ℕ) (v : Plain) (after : List ℕ)
     → Begins (IsOfForm f) (field_spelling f) rest v after → FirstField kind rest v after
 first_field kind f e rest v after b = subst (λ g. Begins (IsOfForm g) (field_spelling g) rest v after) e b
-
-pub no_first_field : (kind : ScalarKind) (f : SpellingForm) → f ≡ form_of (word_of kind) → (kinds : List ScalarKind) (rest : List ℕ)
-    → (BeginsWithSome (IsOfForm f) (field_spelling f) rest → ⊥) → FieldsSpelled (kind ∷ kinds) rest → ⊥
-no_first_field kind f e kinds rest none s = by s.0 s.1
-  where
-    by : (vs : List Plain) → SpellsFields (kind ∷ kinds) rest vs → ⊥
-    by [] s = s.fit
-    by (v ∷ vs) s = none (subst (λ g. BeginsWithSome (IsOfForm g) (field_spelling g) rest) (sym e) (v, (fields kinds vs, record { fit = s.fit.0; same = s.same })))
 
 -- a first field and the fields behind it
 pub fields_more : (kind : ScalarKind) (kinds : List ScalarKind) (rest after : List ℕ) (v : Plain) (vs : List Plain)

@@ -14,10 +14,6 @@ none_around : (outer : List OpenField) (nodes : Nodes) → length outer ≡ 0 �
 none_around [] nodes none = refl
 none_around (field ∷ outer) nodes none = absurd (omega (arith, none))
 
-none_level : (outer : List OpenField) (level : ℕ) → length outer ≡ 0 → AreOpen 0 outer level → level ≡ 0
-none_level [] level none are = are
-none_level (field ∷ outer) level none are = absurd (omega (arith, none))
-
 -- The lines are those of the outermost bag's fields.
 pub rows_finished : (builder : Builder) → depth_of builder ≡ 0 → rows_so_far builder ≡ rows_of 0 (nodes_of builder.bag.fields)
 rows_finished builder none = none_around builder.outer.items (nodes_of builder.bag.fields) none

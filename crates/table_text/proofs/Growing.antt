@@ -131,9 +131,6 @@ pub record IsNoted (builder : Builder) (row : CodeRow) (bag : OpenBag) : Type 0 
   pub level : bag.level ≡ builder.bag.level
 
 module _ (builder : Builder) (row : CodeRow) (bag : OpenBag) (next_row : IsNext builder row) (note : IsNoted builder row bag) where
-  nodes : Nodes
-  nodes = nodes_of builder.bag.fields
-
   bag_noted : IsBag bag builder.bag.level (fields (nodes_of bag.fields) ++ head_of row ∷ [])
   bag_noted = noted builder.bag bag builder.bag.level (head_of row) next_row.sound.bag note.fields_same note.names note.least note.level
 

@@ -1,5 +1,5 @@
 -- Lines that are refused, and those that are read one after another.
-use Rattle.std.proofs.Common.{◌≡◌, inl, inr, ℕ, ◌+◌, ◌^◌, ◌<◌, List, [], ◌∷◌, ◌++◌, reverse, refl, sym, ap, subst, ◌∙◌, append_assoc, append-nil, arith}
+use Rattle.std.proofs.Common.{◌≡◌, inl, inr, ℕ, ◌+◌, ◌^◌, ◌<◌, List, [], ◌∷◌, ◌++◌, reverse, refl, sym, ap, subst, ◌∙◌, append_assoc, arith}
 use Rattle.field_table.specs.Plain.{IsIndexedShape}
 use Rattle.text_lines.specs.Lines.{Line, numbered}
 use Rattle.text_lines.specs.Readings.{AllSay}
@@ -14,7 +14,7 @@ use Rattle.table_text.specs.Rows.{Row, SaysRow}
 use Rattle.table_text.specs.Rules.{deepest, IsGood, field_lines}
 use Rattle.text_lines.specs.FedLines.{fed_lines}
 use Rattle.table_text.specs.Reading.{lines_behind, IsRefusalBehind}
-use Rattle.table_text.specs.Views.{row_of, HasNoRow, IsRefused, IsAddRefused}
+use Rattle.table_text.specs.Views.{row_of, HasNoRow, IsRefused}
 
 pub sound_row : (text : List ℕ) (row : CodeRow) → SaysRow text (row_of row) → IsIndexedShape row.shape → IsSoundRow row
 sound_row text row says indexed = record { named = says.named; numbered = says.numbered; told = says.told; flat = says.flat; indexed = indexed }
@@ -30,18 +30,11 @@ unread_refused before text small (refusals.Code TooDeep) none = absurd none
 unread_refused before text small (refusals.Code TooManySlots) none = absurd none
 unread_refused before text small refusals.Memory none = tt
 
-pub add_refused : (before : List Row) (text : List ℕ) (row : Row) → SaysRow text row → (refusal : Refusal) → IsAddRefused before row refusal → IsRefused before text refusal
-add_refused before text row says (refusals.Code code) first = inr (row, says, first)
-add_refused before text row says refusals.Memory first = tt
-
 -- The lines so far said these rows, and the rest begins at this number.
 pub record HasSaid (text : List ℕ) (number : ℕ) (rest : List ℕ) (rows : List Row) : Type 0 where
   pub before : List Line
   pub split : lines_behind text ≡ before ++ numbered number (fed_lines rest)
   pub all : AllSay field_lines [] before rows
-
-pub said_none : (text : List ℕ) (rows : List Row) → rows ≡ [] → HasSaid text 2 text rows
-said_none text rows none = record { before = []; split = refl; all = subst (AllSay field_lines [] []) (sym none) tt }
 
 pub said_more : (text : List ℕ) (number : ℕ) (rest line behind : List ℕ) (rows next : List Row) → HasSaid text number rest rows → fed_lines rest ≡ line ∷ fed_lines behind
     → (row : Row) × IsGood (reverse rows) line row × (next ≡ rows ++ row ∷ []) → HasSaid text (number + 1) behind next
@@ -59,8 +52,3 @@ said_bad text number rest line behind rows said cut (refusals.Code code) bad =
     next_bad field_lines (lines_behind text) said.before (number, line) (numbered (number + 1) (fed_lines behind)) (numbered number (fed_lines rest)) rows code said.split
     (ap (numbered number) cut) said.all bad
 said_bad text number rest line behind rows said cut refusals.Memory bad = tt
-
-pub said_all : (text : List ℕ) (number : ℕ) (rest : List ℕ) (rows : List Row) → HasSaid text number rest rows → rest ≡ [] → AllSay field_lines [] (lines_behind text) rows
-said_all text number rest rows said none =
-    let whole : lines_behind text ≡ said.before = said.split ∙ ap (λ (l : List ℕ). said.before ++ numbered number (fed_lines l)) none ∙ append-nil said.before in
-    subst (λ (l : List Line). AllSay field_lines [] l rows) (sym whole) said.all

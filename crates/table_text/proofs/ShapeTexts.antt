@@ -258,16 +258,6 @@ map_cut : (maps : ℕ) (text word rest : List ℕ) → IsFree 32 word → text �
 map_cut maps text word rest free cut key value h =
     same_cut 32 word (word_text key) rest (shape_text value) free (word_free key) (sym cut ∙ h.2 ∙ append_assoc (word_text key) (codes " ") (shape_text value))
 
-pub map_no_space : (maps : ℕ) (text : List ℕ) → IsFree 32 text → (shape : Shape) → IsMapBehind maps text shape → ⊥
-map_no_space maps text free (Map (scalars.ScalarKind.One key) value) h =
-    free_there 32 text (word_text key) (shape_text value) free (h.2 ∙ append_assoc (word_text key) (codes " ") (shape_text value))
-map_no_space maps text free (Map (scalars.ScalarKind.Packed words) value) h = absurd h.0.0
-map_no_space maps text free Taint h = h
-map_no_space maps text free Counter h = h
-map_no_space maps text free (Scalar pick kind) h = h
-map_no_space maps text free (Set kind) h = h
-map_no_space maps text free (Bag nodes) h = h
-
 pub map_no_key : (maps : ℕ) (text word rest : List ℕ) → IsFree 32 word → text ≡ word ++ 32 ∷ rest → word_named word ≡ None → (shape : Shape) → IsMapBehind maps text shape → ⊥
 map_no_key maps text word rest free cut none (Map (scalars.ScalarKind.One key) value) h = no_word word none key (map_cut maps text word rest free cut key value h).0
 map_no_key maps text word rest free cut none (Map (scalars.ScalarKind.Packed words) value) h = absurd h.0.0

@@ -99,13 +99,6 @@ no_lines : (lines : List Line) (said : List Piece) → AllSay piece_lines [] lin
 no_lines [] said all none = refl
 no_lines (line ∷ lines) said all none = absurd (omega (arith, all_say-length piece_lines [] (line ∷ lines) said all, ap length none))
 
-pub line_fault : (lines : List Line) (fault : CarryFault) → IsLineFault lines fault → Collects lines (Err fault)
-line_fault lines (faults.At line code) is = is
-line_fault lines faults.NoLine is = absurd is
-line_fault lines (faults.Missing piece) is = absurd is
-line_fault lines faults.TooManyBytes is = absurd is
-line_fault lines faults.Memory is = tt
-
 pub order_fault : (lines : List Line) (said : List Piece) (fault : CarryFault) → AllSay piece_lines [] lines said → IsOrderFault said fault → Collects lines (Err fault)
 order_fault lines said (faults.At line code) all is = absurd is
 order_fault lines said faults.NoLine all is = no_lines lines said all is

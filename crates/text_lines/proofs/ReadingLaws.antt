@@ -20,11 +20,6 @@ first_of_none holds [] c none f = f
 first_of_none holds (code ∷ codes) c none (inl f) = none.0 f.1
 first_of_none holds (code ∷ codes) c none (inr f) = first_of_none holds codes c none.1 f.1
 
--- A condition that holds is the first behind those that don't.
-pub first_behind : {C : Type 0} (holds : C → Type 0) (front : List C) (c : C) (back : List C) → NoneOf holds front → holds c → IsFirstOf holds (front ++ c ∷ back) c
-first_behind holds [] c back none is = inl (refl, is)
-first_behind holds (code ∷ front) c back none is = inr (none.0, first_behind holds front c back none.1 is)
-
 -- ---- all lines
 
 -- Lines say as many things as they are.
@@ -187,16 +182,3 @@ at_most-all_say most extra reading earlier [] [] all = tt
 at_most-all_say most extra reading earlier [] (a ∷ said) all = absurd all
 at_most-all_say most extra reading earlier (line ∷ lines) [] all = absurd all
 at_most-all_say most extra reading earlier (line ∷ lines) (a ∷ said) all = (all.0.1, at_most-all_say most extra reading (earlier ++ a ∷ []) lines said all.1)
-
-few_all_say : {A F : Type 0} (most : ℕ) (extra : F) (reading : Reading A F) (earlier : List A) (lines : List Line) (said : List A)
-    → AllSay reading earlier lines said → length earlier + length said ≤ most → AllSay (at_most most extra reading) earlier lines said
-few_all_say most extra reading earlier [] [] all few = tt
-few_all_say most extra reading earlier [] (a ∷ said) all few = absurd all
-few_all_say most extra reading earlier (line ∷ lines) [] all few = absurd all
-few_all_say most extra reading earlier (line ∷ lines) (a ∷ said) all few =
-    let parts = length-append earlier (a ∷ []) in
-    ((omega arith, all.0), few_all_say most extra reading (earlier ++ a ∷ []) lines said all.1 (omega arith))
-
-pub all_say-at_most : {A F : Type 0} (most : ℕ) (extra : F) (reading : Reading A F) (lines : List Line) (said : List A)
-    → AllSay reading [] lines said → length said ≤ most → AllSay (at_most most extra reading) [] lines said
-all_say-at_most most extra reading lines said all few = few_all_say most extra reading [] lines said all (omega arith)

@@ -62,31 +62,11 @@ pub record IsBlank (graph : EdgeLists) (nodes : ℕ) : Type 0 where
   pub all : length graph ≡ nodes
   pub empty : (node : ℕ) (d : List ℕ) → node < length graph → length (get_or graph node d) ≡ 0
 
--- One more node without edges.
-pub blank_more : (graph : EdgeLists) (nodes : ℕ) (row : List ℕ) → length row ≡ 0 → IsBlank graph nodes → IsBlank (graph ++ row ∷ []) (nodes + 1)
-blank_more graph nodes row none h =
-    let long : length (graph ++ row ∷ []) ≡ length graph + 1 = length_push graph row in
-    record {
-      all = omega (arith, h.all);
-      empty = λ node d l. elim (cases_lt node (length graph)) [
-        | inl a ↦ ap (λ xs. length xs) (get_or_append_left graph (row ∷ []) d node a) ∙ h.empty node d a
-        | inr b ↦ ap (λ xs. length xs) (get_or_push graph row d node (omega arith)) ∙ none
-      ];
-    }
-
 -- The edges of the nodes below that one are turned round.
 pub record IsTurnedTo (graph turned : EdgeLists) (from : ℕ) : Type 0 where
   pub nodes : length turned ≡ length graph
   pub closed : IsClosed turned
   pub edges : (node to : ℕ) → node < from → HasEdge graph node to → HasEdge turned to node
-
--- No edge is turned round yet.
-pub turned_none : (graph turned : EdgeLists) (nodes : ℕ) → nodes ≡ length graph → IsBlank turned nodes → IsTurnedTo graph turned 0
-turned_none graph turned nodes all h = record {
-  nodes = h.all ∙ all;
-  closed = λ i d m j e n. absurd (omega (arith, h.empty i d m));
-  edges = λ node to l e. absurd (omega arith);
-}
 
 -- The edges of one more node are turned round.
 pub turned_next : (graph turned after : EdgeLists) (from : ℕ) (row : List ℕ) → row_of graph from ≡ row → IsTurnedTo graph turned from

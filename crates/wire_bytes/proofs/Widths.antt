@@ -1,5 +1,5 @@
 -- The form in which a list is written where form one is asked for.
-use Rattle.std.proofs.Common.{◌≡◌, ◌+◌, ◌*◌, ◌≤◌, true, false, ◌||◌, List, [], ◌∷◌, length, nat_lt, if◌then◌else◌, refl, ◌∙◌, ap, arith}
+use Rattle.std.proofs.Common.{◌≡◌, ◌+◌, ◌*◌, ◌≤◌, false, ◌||◌, List, [], ◌∷◌, length, nat_lt, if◌then◌else◌, refl, ◌∙◌, ap, arith}
 use Rattle.std.proofs.lemmas.Bool.Decides.{nat_tests}
 use Rattle.context_model.specs.declared.TheConstants.{LENGTH_MAX}
 use Rattle.context_model.specs.declared.Form.TheVariants.{One, Two}
@@ -12,12 +12,6 @@ bytes_narrow list none = ap (λ long. bytes_in (if long then Two else One) list)
   where
     none_of : has_long list ≡ false → false ≡ has_long list
     none_of e = cc
-
-pub bytes_wide : (list : List Atom) → has_long list ≡ true → bytes_in Two list ≡ bytes_of One list
-bytes_wide list some = ap (λ long. bytes_in (if long then Two else One) list) (some_of some)
-  where
-    some_of : has_long list ≡ true → true ≡ has_long list
-    some_of e = cc
 
 -- The room has three bytes for each atom beside its own.
 pub room_of-least : (list : List Atom) → 3 * length list ≤ room_of list

@@ -5,7 +5,7 @@ use Rattle.std.specs.FinMap.{IsAntisymmetric}
 use Rattle.std.specs.List.{slice_get}
 use Rattle.std.specs.Option.{option_map}
 use Rattle.std.specs.declared.cmp.Ordering.{Ordering}
-use Rattle.std.specs.declared.cmp.Ordering.TheVariants.{Less, Equal, Greater}
+use Rattle.std.specs.declared.cmp.Ordering.TheVariants.{Less, Equal}
 use Rattle.std.proofs.lemmas.Bool.{cases_lt}
 use Rattle.context_model.specs.KeyedMerge.{IsAt}
 use Rattle.context_model.specs.GreedyMerge.{first_of}
@@ -38,9 +38,6 @@ not_kept R total v w less e =
 
 pub kept_equal : (R : ScalarValue → ScalarValue → Ordering) → IsAntisymmetric R → (v w : ScalarValue) → R v w ≡ Equal → first_of R (Some v) (Some w) ≡ Some w
 kept_equal R exact v w e = ap (λ r. by_order r (Some v) (Some v) (Some w)) e ∙ ap Some (exact v w e)
-
-pub kept_greater : (R : ScalarValue → ScalarValue → Ordering) (v w : ScalarValue) → R v w ≡ Greater → first_of R (Some v) (Some w) ≡ Some w
-kept_greater R v w e = ap (λ r. by_order r (Some v) (Some v) (Some w)) e
 
 -- ---- places
 

@@ -3,28 +3,20 @@ use Rattle.std.proofs.Common.{◌≡◌, ◌≢◌, inl, inr, ◌↔◌, ℕ, ze
 use Rattle.std.specs.Prelude.{IfOk}
 use Rattle.std.specs.List.{slice_get}
 use Rattle.std.specs.Option.{option_map}
-use Rattle.context_model.specs.Atoms.{Atom}
 use Rattle.context_model.specs.Orders.{IsIn}
 use Rattle.bag_model.specs.Joins.{Alike, join, IsValueBelow}
-use Rattle.bag_model.specs.Readings.{PathsOf}
 use Rattle.bag_model.specs.Shapes.{Shape, Nodes}
 use Rattle.bag_model.specs.Slots.{SlotAt, slots_of}
-use Rattle.bag_model.specs.SlotValues.{HasSlot, SaysSlot}
+use Rattle.bag_model.specs.SlotValues.{HasSlot}
 use Rattle.bag_model.specs.Tables.{IsTable}
-use Rattle.bag_model.specs.Typed.{AreTyped}
 use Rattle.bag_model.specs.Values.{Value, bottom, IsOfShape}
 use Rattle.bag_model.proofs.BelowLaws.{below-bottom}
 use Rattle.bag_model.proofs.OfShape.{Alike-shape}
 use Rattle.bag_value.specs.declared.vals.Val.{Val}
 use Rattle.bag_value.specs.Vals.{plain, val_of}
 use Rattle.bag_value.specs.ValLaws.{plain_back}
-use Rattle.bag_decode.specs.Slots.{SaysAt}
-use Rattle.recorded_graph.specs.Plain.{act_of, step_of}
-use Rattle.recorded_graph.specs.declared.steps.Act.{Act}
-use Rattle.recorded_graph.specs.declared.steps.Act.TheVariants.{Start, Recv, Set, Branch, Forward, Trim, Join}
-use Rattle.recorded_graph.specs.declared.steps.Step.{Step}
-use Rattle.trace_model.specs.Contributions.{Contributes, IsLeastAbove}
-use Rattle.trace_model.specs.Graphs.{Graph, HasStep, view_at, IsActOf, IsTypedContext, IsGraph, IsOfTable, IsRecorded}
+use Rattle.trace_model.specs.Contributions.{IsLeastAbove}
+use Rattle.trace_model.specs.Graphs.{Graph, IsGraph, IsOfTable, IsRecorded}
 use Rattle.write_proof.specs.Belows.{AreOfOne}
 use Rattle.write_proof.specs.Contributions.{ContributesAt}
 use Rattle.write_proof.specs.Joins.{IsJoinAt}
@@ -35,9 +27,6 @@ use Rattle.write_proof.proofs.BelowCalls.{place_some, place_within}
 use Rattle.write_proof.proofs.FirstCalls.{speaks_one}
 use Rattle.write_proof.proofs.Contributing.{step_one, step_shape, join_none, join_single, join_both, join_one}
 
-some_slot : (a b : SlotAt) → Some a ≡ Some b → a ≡ b
-some_slot a b e = cc e
-
 some_shape : (a b : Shape) → Some a ≡ Some b → a ≡ b
 some_shape a b e = cc e
 
@@ -46,44 +35,6 @@ pub told_shape : (table : Nodes) (slot : ℕ) (at : SlotAt) (shape : Shape) → 
 told_shape table slot at shape there is = some_shape shape at.shape (is ∙ ap (option_map (λ (found : SlotAt). found.shape)) there)
 
 -- ---- what a step contributes
-
-module _ (table : Nodes) (graph : Graph) (slot n : ℕ) (own : Step) (has : HasStep graph n (step_of own)) where
-  pub received_typed : (received : List Atom) → IsOfTable table graph → own.act ≡ Recv received → AreTyped table (PathsOf received) []
-  received_typed received fits is =
-      let t : IsTypedContext table received = subst (λ (a : Act). IsActOf table (view_at graph own.service) (act_of a)) is (fits.acts n (step_of own) has) in
-      t.typed
-
-  -- An act contributes what it does.
-  contributes_act : (act : Act) (x : Shape → Value) → own.act ≡ act → ((at : SlotAt) → HasSlot table slot at → Contributes slot at (act_of act) (x at.shape)) → ContributesAt table graph slot n x
-  contributes_act act x is c = λ at there. (step_of own, has, subst (λ (a : Act). Contributes slot at (act_of a) (x at.shape)) (sym is) (c at there))
-
-  pub received_contributes : (received : List Atom) (v : Value) → own.act ≡ Recv received → SaysAt table received slot v → ContributesAt table graph slot n (λ _. v)
-  received_contributes received v is says =
-      contributes_act (Recv received) (λ _. v) is (λ at there. subst (λ (b : SlotAt). SaysSlot received b v) (some_slot says.0 at (sym says.1 ∙ there)) says.2)
-
-  pub write_contributes : (parent place : ℕ) (write : Val) → own.act ≡ Set parent place write → place ≡ slot → ContributesAt table graph slot n (λ _. plain write)
-  write_contributes parent place write is same = contributes_act (Set parent place write) (λ _. plain write) is (λ at there. inl (same, refl))
-
-  pub other_contributes : (parent place : ℕ) (write : Val) → own.act ≡ Set parent place write → place ≢ slot → ContributesAt table graph slot n bottom
-  other_contributes parent place write is other = contributes_act (Set parent place write) bottom is (λ at there. inr (other, refl))
-
-  pub nothing_contributes : ((received : List Atom) → own.act ≡ Recv received → ⊥) → ((parent place : ℕ) (write : Val) → own.act ≡ Set parent place write → ⊥) → ContributesAt table graph slot n bottom
-  nothing_contributes not_received not_written = by own.act refl
-    where
-      by : (act : Act) → own.act ≡ act → ContributesAt table graph slot n bottom
-      by Start e = contributes_act Start bottom e (λ at there. refl)
-      by (Recv received) e = absurd (not_received received e)
-      by (Set parent place write) e = absurd (not_written parent place write e)
-      by (Branch parent) e = contributes_act (Branch parent) bottom e (λ at there. refl)
-      by (Forward parent) e = contributes_act (Forward parent) bottom e (λ at there. refl)
-      by (Trim parent budget) e = contributes_act (Trim parent budget) bottom e (λ at there. refl)
-      by (Join parents) e = contributes_act (Join parents) bottom e (λ at there. refl)
-
--- Bottom of the slot's shape is what a step contributes that contributes nothing.
-pub bottom_contributes : (table : Nodes) (graph : Graph) (slot n : ℕ) (shape : Shape) (v : Value) → Some shape ≡ option_map (λ (found : SlotAt). found.shape) (slice_get (slots_of table) slot) → ContributesAt table graph slot n bottom
-    → v ≡ bottom shape → ContributesAt table graph slot n (λ _. v)
-bottom_contributes table graph slot n shape v is c same = λ at there.
-    subst (StepContributes graph slot at n) (sym (same ∙ ap bottom (told_shape table slot at shape there is))) (c at there)
 
 -- What a step contributes, by another name.
 pub same_contributes : (table : Nodes) (graph : Graph) (slot n : ℕ) (x y : Shape → Value) → ((shape : Shape) → x shape ≡ y shape) → ContributesAt table graph slot n x → ContributesAt table graph slot n y

@@ -20,9 +20,6 @@ module _ (graph : Graph) (slot : ℕ) (at : SlotAt) (said : List Entry) (code : 
   abbrev pub NoneBefore : ℕ → Type 0
   NoneBefore i = (k : ℕ) → k < i → AppliesAt graph slot at said code k → ⊥
 
-  pub none_first : NoneBefore 0
-  none_first k l = absurd (omega (arith, l))
-
   pub line_found : (i : ℕ) (entry : Entry) → NoneBefore i → slice_get said i ≡ Some entry → Applies graph slot at said code entry → IsFirstLine graph slot at said code (i + 1)
   line_found i entry before there applies = record { place = i; number = add-one i; applies = (entry, there, applies); first = before }
 

@@ -91,9 +91,6 @@ reached_here entries i x w child there is = reached_entry (map entry_of entries)
 
 -- ---- marks
 
-pub none_marked : (marks : List Bool) → ((k : ℕ) → get_or marks k false ≡ false) → AreMarksOf marks []
-none_marked marks none = λ k. ((λ m. absurd (let bad : true ≡ false = sym m ∙ none k in cc bad)), λ i. absurd i)
-
 pub one_marked : (marks : List Bool) (steps : List ℕ) (w : ℕ) → AreMarksOf marks steps → w < length marks → AreMarksOf (set marks w true) (steps ++ w ∷ [])
 one_marked marks steps w are l k = by (same_number k w)
   where

@@ -69,13 +69,6 @@ place_in zero (u ∷ ks) k l e = inl e
 place_in (suc i) (u ∷ ks) k l e = inr (place_in i ks k (omega (arith, l)) e)
 
 module _ (child : ℕ) (start : List (Option ℕ)) where
-  pub marked_none : (ks : List ℕ) → AreMarked (take 0 ks) child start start
-  marked_none ks = record { as_many = refl; marked = λ w i. absurd (none w ks i); others = λ w out. refl }
-    where
-      none : (v : ℕ) (vs : List ℕ) → IsIn v (take 0 vs) → ⊥
-      none v [] i = i
-      none v (u ∷ vs) i = i
-
   pub marked_more : (ks : List ℕ) (i k : ℕ) (now next : List (Option ℕ)) → i < length ks → k ≡ get_or ks i 0 → AreMarked (take i ks) child start now → length next ≡ length now → child_at next k ≡ Some child
       → ((w : ℕ) → w ≢ k → child_at next w ≡ child_at now w) → AreMarked (take (i + 1) ks) child start next
   marked_more ks i k now next l e m long here apart = subst (λ j. AreMarked (take j ks) child start next) (sym (add-one i)) (record {
@@ -185,9 +178,6 @@ each_push P [] k x each own = (own, tt)
 each_push P (pair ∷ pairs) k x each own = (each.0, each_push P pairs k x each.1 own)
 
 module _ (graph : Graph) (sound : IsGraph graph) (n : ℕ) where
-  pub reached_none : AreReachedTo graph n 0 []
-  reached_none = record { rises = tt; all = λ w. ((λ i. absurd i), λ r. let l = r.0 in omega (arith, l)); each = tt }
-
   -- The next step isn't on the way.
   pub reached_passed : (k : ℕ) (pairs : List (ℕ × ℕ)) → AreReachedTo graph n k pairs → (Reaches graph k n → ⊥) → AreReachedTo graph n (k + 1) pairs
   reached_passed k pairs are out = record { rises = are.rises; all = λ w. (there w, back w); each = are.each }

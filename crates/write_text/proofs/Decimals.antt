@@ -44,9 +44,6 @@ without_minus : (text : List ℕ) → ((rest : List ℕ) → text ≡ 45 ∷ res
 without_minus text none (pos n) q = (n, refl, q.0, omega (arith, ints, q.1))
 without_minus text none (negsuc n) q = absurd (none (decimal (suc n)) q.0)
 
-pub no_positive : (text : List ℕ) → ((rest : List ℕ) → text ≡ 45 ∷ rest → ⊥) → ((n : ℕ) → (text ≡ decimal n) × (n < 2 ^ 64) → ⊥) → (z : ℤ) → SaysSigned text z → ⊥
-no_positive text bare none z q = let w = without_minus text bare z q in none w.0 (w.2, omega (arith, w.3))
-
 pub positive_is : (text : List ℕ) (size : ℕ) (answer : Option ℤ) → ((rest : List ℕ) → text ≡ 45 ∷ rest → ⊥) → text ≡ decimal size → size < 2 ^ 64
     → IsSomeOf (λ z. (z ≡ pos size) × (size < 2 ^ 63)) answer → IsSomeOf (SaysSigned text) answer
 positive_is text size answer none d small h =

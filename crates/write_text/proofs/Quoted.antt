@@ -198,12 +198,6 @@ pub goes_nowhere : (whole done left : List ℕ) → GoesOn whole done left → (
     → (bytes rest : List ℕ) → InsideThen bytes rest whole → ⊥
 goes_nowhere whole done left goes bare none bytes rest p = let q = goes bytes rest p in no_more left bare none q.0 rest q.2
 
-pub back_first : (whole : List ℕ) → GivesBack whole [] whole
-back_first whole bytes rest p = p
-
-pub goes_first : (whole : List ℕ) → GoesOn whole [] whole
-goes_first whole bytes rest p = (bytes, refl, p)
-
 -- ---- what the code takes
 
 x_digits : (byte : ℕ) (rest text tail : List ℕ) → text ≡ 120 ∷ tail → EscapedThen byte rest text → (high low : ℕ) × AreDigitsOf byte high low × (tail ≡ high ∷ low ∷ rest)
@@ -223,19 +217,6 @@ escaped_digits text tail taken e t =
     (λ byte rest p. then_escaped byte rest text (inr (p.0, p.1, p.2, e ∙ ap (λ (l : List ℕ). 120 ∷ l) p.3)))
     (λ byte rest q. x_digits byte rest text tail e (escaped_then byte q.0 rest text q.1 q.2)) t
 
--- Behind a backslash, a byte that is neither a mark nor an x says nothing.
-pub no_escaped : (text tail : List ℕ) (first : ℕ) → text ≡ first ∷ tail → is_marked first ≡ false → (first ≡ 120 → ⊥)
-    → (byte : ℕ) (rest : List ℕ) → (escaped : List ℕ) × SaysEscaped byte escaped × (text ≡ escaped ++ rest) → ⊥
-no_escaped text tail first e unmarked other byte rest q =
-    elim (escaped_then byte q.0 rest text q.1 q.2) [
-      | inl v ↦ (
-          let two : byte ∷ rest ≡ first ∷ tail = sym v.0 ∙ e in
-          let one : byte ≡ first = cc two in
-          let computed : true ≡ false = sym v.1 ∙ ap is_marked one ∙ unmarked in
-          cc computed)
-      | inr v ↦ (let two : first ∷ tail ≡ 120 ∷ v.0 ∷ v.1 ∷ rest = sym e ∙ v.3 in let one : first ≡ 120 = cc two in other one)
-    ]
-
 behind_it : (byte : ℕ) (rest text tail : List ℕ) → text ≡ 92 ∷ tail → ByteThen byte rest text → (escaped : List ℕ) × SaysEscaped byte escaped × (tail ≡ escaped ++ rest)
 behind_it byte rest text tail e p =
     elim p [
@@ -252,21 +233,6 @@ byte_escaped text tail taken e t =
     (λ (byte : ℕ) (rest : List ℕ). (first : List ℕ) × SaysByte byte first × (text ≡ first ++ rest)) taken
     (λ byte rest p. then_byte byte rest text (inr (tail, escaped_then byte p.0 rest tail p.1 p.2, e)))
     (λ byte rest q. behind_it byte rest text tail e (byte_then byte q.0 rest text q.1 q.2)) t
-
--- A quotation mark and a byte below 32 say no byte.
-pub no_byte : (text tail : List ℕ) (first : ℕ) → text ≡ first ∷ tail → (first ≡ 92 → ⊥) → ((first < 32) ⊎ IsTrue (is_marked first))
-    → (byte : ℕ) (rest : List ℕ) → (piece : List ℕ) × SaysByte byte piece × (text ≡ piece ++ rest) → ⊥
-no_byte text tail first e other bad byte rest q =
-    elim (byte_then byte q.0 rest text q.1 q.2) [
-      | inl v ↦ (
-          let two : byte ∷ rest ≡ first ∷ tail = sym v.0 ∙ e in
-          let one : byte ≡ first = cc two in
-          elim bad [
-            | inl small ↦ omega (arith, small, one, v.1)
-            | inr marked ↦ (let computed : true ≡ false = sym marked ∙ ap is_marked (sym one) ∙ v.2 in cc computed)
-          ])
-      | inr v ↦ (let two : first ∷ tail ≡ 92 ∷ v.0 = sym e ∙ v.2 in let one : first ≡ 92 = cc two in other one)
-    ]
 
 -- All bytes of a string, where a quotation mark stands behind them.
 pub back_all : (whole done left rest : List ℕ) → GivesBack whole done left → left ≡ 34 ∷ rest → InsideThen done rest whole

@@ -128,9 +128,6 @@ abbrev pub FieldsOn : List Word → ℕ → List Plain → List ℕ → List ℕ
 FieldsOn words at done left whole = (vs : List Plain) (rest : List ℕ) → FieldsThen 0 words vs rest whole
     → (more : List Plain) × (vs ≡ done ++ more) × FieldsThen at (drop at words) more rest left
 
-pub fields_first : (words : List Word) (whole : List ℕ) → FieldsBack words 0 [] whole whole × FieldsOn words 0 [] whole whole
-fields_first words whole = (λ vs rest p. p, λ vs rest p. (vs, refl, p))
-
 -- The field that is next: its text stands behind the comma before it.
 pub record IsNext (words : List Word) (at : ℕ) (v : Plain) (left behind : List ℕ) : Type 0 where
   pub word : Word

@@ -4,15 +4,13 @@ use Rattle.std.specs.Prelude.{IsUtf8}
 use Rattle.std.proofs.lemmas.List.Elements.{recursion_from_All}
 use Rattle.context_model.specs.declared.Form.{Form as WireForm}
 use Rattle.bag_model.specs.Scalars as scalars
-use Rattle.bag_model.specs.Scalars.{Word, Plain, Signed, Unsigned, Text, Octets, ArePlainsOf, plain_bytes, spelling}
+use Rattle.bag_model.specs.Scalars.{Word, Plain, Text, Octets, ArePlainsOf, spelling}
 use Rattle.text_model.specs.Commas.{comma_joined}
 use Rattle.scalar_types.specs.declared.kinds.ScalarKind.{ScalarKind}
 use Rattle.scalar_types.specs.declared.kinds.ScalarKind.TheVariants as kinds
 use Rattle.scalar_types.specs.declared.kinds.KindList.{KindList}
-use Rattle.scalar_types.specs.declared.scalars.Scalar.{Scalar}
 use Rattle.scalar_types.specs.declared.scalars.Scalar.TheVariants as values
 use Rattle.scalar_types.specs.KindViews.{IsPlainWord, word_of}
-use Rattle.scalar_types.specs.Scalars.{IsPlain, plain_of, value_of}
 use Rattle.write_text.specs.Literals.{IsPlainText, ArePlainTexts, IsScalarText, IsLiteral, IsWriter, most_payload}
 use Rattle.write_text.specs.Ends.{IsNoStop, IsEnd, BeginsWithOne}
 use Rattle.write_text.proofs.Quoted.{InsideThen, inside_apart}
@@ -31,10 +29,6 @@ same_tail first text s r e h = let two : first ∷ s ≡ first ∷ r = sym e ∙
 pub string_begins : (bytes rest text tail : List ℕ) → text ≡ 34 ∷ tail → InsideThen bytes rest tail → IsUtf8 bytes → IsEnd rest → BeginsWithOne (StringFront bytes) text rest
 string_begins bytes rest text tail e p utf8 end =
     record { front = 34 ∷ (p.0 ++ 34 ∷ []); fact = (utf8, (p.0, p.1, refl)); same = e ∙ ap (λ (l : List ℕ). 34 ∷ l) p.2; end = end }
-
--- Without a quotation mark there is no string.
-pub no_string_open : (text : List ℕ) → ((tail : List ℕ) → text ≡ 34 ∷ tail → ⊥) → (bytes rest : List ℕ) → BeginsWithOne (StringFront bytes) text rest → ⊥
-no_string_open text none bytes rest p = let s = string_then bytes p.front rest text p.fact.1 p.same in none s.0 s.1
 
 pub no_string_inside : (text tail : List ℕ) → text ≡ 34 ∷ tail → ((bytes rest : List ℕ) → InsideThen bytes rest tail → ⊥) → (bytes rest : List ℕ) → BeginsWithOne (StringFront bytes) text rest → ⊥
 no_string_inside text tail e none bytes rest p =
@@ -82,14 +76,6 @@ is_str kinds.Str e = refl
 is_str (kinds.Packed words) e = absurd (cc e)
 is_str _ e = absurd (cc e)
 
-pub value_plain : (scalar : Scalar) → IsPlain scalar → value_of scalar ≡ scalars.ScalarValue.One (plain_of scalar)
-value_plain (values.Bool b) h = refl
-value_plain (values.Signed z) h = refl
-value_plain (values.Unsigned n) h = refl
-value_plain (values.Str bytes) h = refl
-value_plain (values.Bytes bytes) h = refl
-value_plain (values.Packed fields) h = absurd h
-
 -- ---- structs
 
 -- The texts of a struct's fields, with the closing parenthesis and the rest behind them.
@@ -112,9 +98,6 @@ struct_begins words vs rest text tail e t end =
 
 struct_inside : (words : List Word) (vs : List Plain) (rest text : List ℕ) → BeginsWithOne (StructFront words vs) text rest → (tail : List ℕ) × (text ≡ 40 ∷ tail) × FieldsThen 0 words vs rest tail
 struct_inside words vs rest text p = struct_then words vs p.front rest text p.fact p.same
-
-pub no_struct_open : (words : List Word) (text : List ℕ) → ((tail : List ℕ) → text ≡ 40 ∷ tail → ⊥) → (vs : List Plain) (rest : List ℕ) → BeginsWithOne (StructFront words vs) text rest → ⊥
-no_struct_open words text none vs rest p = let s = struct_inside words vs rest text p in none s.0 s.1
 
 pub no_struct_inside : (words : List Word) (text tail : List ℕ) → text ≡ 40 ∷ tail → ((vs : List Plain) (rest : List ℕ) → AreFieldTexts words vs rest tail → ⊥)
     → (vs : List Plain) (rest : List ℕ) → BeginsWithOne (StructFront words vs) text rest → ⊥
@@ -147,12 +130,6 @@ pub no_struct_scalar : (words : List Word) (text : List ℕ) → ((vs : List Pla
 no_struct_scalar words text none (scalars.ScalarValue.One v) rest p = absurd p.fact.0
 no_struct_scalar words text none (scalars.ScalarValue.Packed vs) rest p = none vs rest (record { front = p.front; fact = p.fact; same = p.same; end = p.end })
 
-pub word_scalar : (word : Word) (v : Plain) (text rest : List ℕ) → BeginsWithOne (IsWordText word v) text rest → BeginsWithOne (SaysScalar (scalars.ScalarKind.One word) (scalars.ScalarValue.One v)) text rest
-word_scalar word v text rest p = record { front = p.front; fact = p.fact; same = p.same; end = p.end }
-
-pub struct_scalar : (words : List Word) (vs : List Plain) (text rest : List ℕ) → BeginsWithOne (StructFront words vs) text rest → BeginsWithOne (SaysScalar (scalars.ScalarKind.Packed words) (scalars.ScalarValue.Packed vs)) text rest
-struct_scalar words vs text rest p = record { front = p.front; fact = p.fact; same = p.same; end = p.end }
-
 pub literal_begins : (form : WireForm) (kind : scalars.ScalarKind) (v : scalars.ScalarValue) (text rest : List ℕ) → BeginsWithOne (SaysScalar kind v) text rest → length (spelling kind v) ≤ most_payload form → BeginsWithOne (IsLiteral form kind v) text rest
 literal_begins form kind v text rest p short = record { front = p.front; fact = (p.fact.0, short, p.fact.1); same = p.same; end = p.end }
 
@@ -168,14 +145,6 @@ no_long_literal form kind text own behind here none v rest p =
     none (subst (λ (s : scalars.ScalarValue). length (spelling kind s) ≤ most_payload form) same.0 p.fact.1)
 
 -- ---- writers
-
-pub string_writer : (form : WireForm) (scalar : Scalar) (text rest : List ℕ) → BeginsWithOne (IsLiteral form string_kind (value_of scalar)) text rest → BeginsWithOne (IsWriter form (plain_bytes (plain_of scalar))) text rest
-string_writer form (values.Str bytes) text rest p = record { front = p.front; fact = inl p.fact; same = p.same; end = p.end }
-string_writer form _ text rest p = absurd p.fact.0
-
-pub octets_writer : (form : WireForm) (scalar : Scalar) (text rest : List ℕ) → BeginsWithOne (IsLiteral form bytes_kind (value_of scalar)) text rest → BeginsWithOne (IsWriter form (plain_bytes (plain_of scalar))) text rest
-octets_writer form (values.Bytes bytes) text rest p = record { front = p.front; fact = inr p.fact; same = p.same; end = p.end }
-octets_writer form _ text rest p = absurd p.fact.0
 
 pub no_writer : (form : WireForm) (text : List ℕ) → ((v : scalars.ScalarValue) (rest : List ℕ) → BeginsWithOne (IsLiteral form string_kind v) text rest → ⊥)
     → ((v : scalars.ScalarValue) (rest : List ℕ) → BeginsWithOne (IsLiteral form bytes_kind v) text rest → ⊥) → (bytes rest : List ℕ) → BeginsWithOne (IsWriter form bytes) text rest → ⊥

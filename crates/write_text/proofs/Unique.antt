@@ -51,9 +51,6 @@ literal_apart form kind v w text s r p q = scalar_apart kind v w text s r (liter
 pub whole_begins : (holds : List ℕ → Type 0) (text : List ℕ) → holds text → BeginsWithOne holds text []
 whole_begins holds text p = record { front = text; fact = p; same = sym (append-nil text); end = tt }
 
-pub begins_whole : (holds : List ℕ → Type 0) (text : List ℕ) → BeginsWithOne holds text [] → holds text
-begins_whole holds text p = subst holds (sym (append-nil p.front) ∙ sym p.same) p.fact
-
 pub one_literal : (form : WireForm) (kind : ScalarKind) (v w : ScalarValue) (text : List ℕ) → IsLiteral form kind v text → IsLiteral form kind w text → v ≡ w
 one_literal form kind v w text p q = (literal_apart form kind v w text [] [] (whole_begins (IsLiteral form kind v) text p) (whole_begins (IsLiteral form kind w) text q)).0
 

@@ -30,18 +30,6 @@ no_more_literal form kind text own behind here none v p =
 
 -- ---- counts
 
-pub count_is : (form : WireForm) (writer text rest digits : List ℕ) (count : ℕ) → BeginsWithOne (IsWriter form writer) text rest → rest ≡ 58 ∷ digits → digits ≡ decimal count → count < 2 ^ 64
-    → IsWrite form shapes.Shape.Counter (values.Value.Counter ((writer, count) ∷ [])) text
-count_is form writer text rest digits count p e d small = (
-  writer,
-  count,
-  p.front,
-  p.fact,
-  small,
-  p.same ∙ ap (λ l. p.front ++ l) (e ∙ ap (λ (l : List ℕ). 58 ∷ l) d) ∙ sym (append_assoc p.front (58 ∷ []) (decimal count)),
-  refl,
-)
-
 pub no_count : (form : WireForm) (text : List ℕ) → ((writer : List ℕ) (count : ℕ) → BeginsWithOne (IsWriter form writer) text (58 ∷ decimal count) → count < 2 ^ 64 → ⊥)
     → (counts : List (List ℕ × ℕ)) → IsWrite form shapes.Shape.Counter (values.Value.Counter counts) text → ⊥
 no_count form text none counts p =

@@ -8,7 +8,7 @@ use Rattle.context_model.specs.Kinds.{atom_of}
 use Rattle.context_model.specs.Kinds.Kind.{Indexed}
 use Rattle.context_model.specs.Ended.{field_path}
 use Rattle.context_model.specs.Orders.{atom_cmp}
-use Rattle.context_model.proofs.EndedSteps.{length-field_path}
+use Rattle.context_model.proofs.FieldPaths.{length-field_path}
 use Rattle.context_model.proofs.OrderLaws.{atoms_total}
 use Rattle.atom_list.specs.OpenPlaces.{atom_at}
 use Rattle.atom_list.proofs.Ending.{field_at, Stand, beyond_by_less, not_by_greater, beyond_by_equal, not_at_end}

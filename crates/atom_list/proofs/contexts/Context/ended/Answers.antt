@@ -6,7 +6,7 @@ use Rattle.context_model.specs.Paths.{is_header, level}
 use Rattle.context_model.specs.WellFormed.{IsWellFormed}
 use Rattle.context_model.specs.Ended.{IsBeyond, IsEnded, field_path}
 use Rattle.context_model.proofs.Beyond.{headers_of, beyond_headers, beyond_from_headers}
-use Rattle.context_model.proofs.EndedSteps.{field_path-headers}
+use Rattle.context_model.proofs.FieldPaths.{field_path-headers}
 use Rattle.atom_list.specs.OpenPlaces.{atom_at, path_before}
 use Rattle.atom_list.proofs.Walking.{fits_at}
 use Rattle.atom_list.proofs.Ending.{ended_at_marker, ended_unmarked, headers_length, open_other, open_header, within_push}
