@@ -2,6 +2,10 @@
 //! digits, with a dash for none; atoms are bytes with blanks between them, so that a dash among them is a marker.
 #![tactic(auto)]
 
+ghost use Rattle.std.specs.Prelude.{IfOk};
+ghost use Rattle.context_model.specs.WellFormed.{IsWellFormed};
+ghost use Rattle.text_lines.specs.HexLines.{IsHexOf};
+
 use atom_list::{AtomList, Context};
 use outside::ATOM_MAX;
 use std::alloc::Global;
@@ -9,7 +13,9 @@ use std::test::Fail;
 use text_lines::hex_bytes;
 
 /// The bytes that a text says.
-pub fn bytes_of(alloc: Global, digits: &str) -> Result<Vec<u8>, Fail> {
+pub fn bytes_of(alloc: Global, digits: &str) -> Result<Vec<u8>, Fail>
+    ensures { IfOk result (λ bytes. IsHexOf bytes.items digits.now) }
+{
     Ok(hex_bytes(alloc, digits.as_bytes())?)
 }
 
@@ -27,7 +33,9 @@ pub fn list_of(alloc: Global, atoms: &str) -> Result<AtomList, Fail> {
 }
 
 /// The context of these atoms.
-pub fn context_of(alloc: Global, atoms: &str) -> Result<Context, Fail> {
+pub fn context_of(alloc: Global, atoms: &str) -> Result<Context, Fail>
+    ensures { IfOk result IsWellFormed }
+{
     match Context::check(list_of(alloc, atoms)?) {
         Ok(context) => Ok(context),
         Err((fault, at, _list)) => Err(Fail::new(format_args!("{fault:?} at {at} of {atoms}"))),
@@ -35,7 +43,9 @@ pub fn context_of(alloc: Global, atoms: &str) -> Result<Context, Fail> {
 }
 
 /// Finds that the bytes are those that a text says, or fails.
-pub fn expect_bytes(alloc: Global, bytes: &[u8], digits: &str) -> Result<(), Fail> {
+pub fn expect_bytes(alloc: Global, bytes: &[u8], digits: &str) -> Result<(), Fail>
+    ensures { IfOk result (λ _. IsHexOf bytes.now digits.now) }
+{
     if bytes_of(alloc, digits)?.as_slice() == bytes {
         Ok(())
     } else {
