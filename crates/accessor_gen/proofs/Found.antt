@@ -1,5 +1,5 @@
 -- Accessors that are made one after another.
-use Rattle.std.proofs.Common.{◌≡◌, ◌⊎◌, ℕ, ◌-◌, ◌<◌, ◌≤◌, List, [], ◌∷◌, ◌++◌, Some, ◌∙◌}
+use Rattle.std.proofs.Common.{◌≡◌, ℕ, List, Some}
 use Rattle.std.specs.List.{slice_get}
 use Rattle.bag_model.specs.Shapes.{Nodes}
 use Rattle.accessor_gen.specs.Finding.{IsAccessorOf}

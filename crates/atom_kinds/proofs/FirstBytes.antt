@@ -1,5 +1,5 @@
 -- What the first byte of an atom says of its kind, and the three clauses of an answer.
-use Rattle.std.proofs.Common.{◌≡◌, ℕ, ◌-◌, ◌*◌, ◌/◌, ◌%◌, ◌^◌, ◌<◌, ◌≤◌, ◌⊎◌, ◌↔◌, List, ◌∷◌, Result, Ok, Err, refl, ap, ◌∙◌, subst, arith, get_or}
+use Rattle.std.proofs.Common.{◌≡◌, ℕ, ◌-◌, ◌*◌, ◌/◌, ◌%◌, ◌^◌, ◌<◌, ◌≤◌, ◌↔◌, List, ◌∷◌, Result, Ok, Err, refl, ap, ◌∙◌, subst, arith, get_or}
 use Rattle.context_model.specs.Varints.{unsigned_varint}
 use Rattle.context_model.specs.Kinds.{atom_of, IsKind, HasKind, HasBadPrefix, HasBadIndex}
 use Rattle.context_model.specs.Kinds.{Kind as PlainKind}

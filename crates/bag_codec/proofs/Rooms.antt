@@ -1,5 +1,5 @@
 -- How long the bytes of a struct's field are, byte by byte, and those of a struct, field by field.
-use Rattle.std.proofs.Common.{◌≡◌, ℕ, ◌+◌, List, [], ◌∷◌, length, map, length-append}
+use Rattle.std.proofs.Common.{◌≡◌, ℕ, ◌+◌, List, ◌∷◌, length, map, length-append}
 use Rattle.std.specs.List.{flat_map}
 use Rattle.bag_model.specs.Scalars.{escape, form_of, field_spelling, packed_spelling}
 use Rattle.scalar_types.specs.KindViews.{word_of}

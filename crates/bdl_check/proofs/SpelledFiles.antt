@@ -20,7 +20,7 @@ use Rattle.bdl_parser.specs.declared.trees.Spot.{Spot}
 use Rattle.bdl_parser.specs.Grammar.{key, mark, name_in, number_in, a_name, a_number, a_text, a_leaf, a_holding, held_of, map_of, a_type, a_bag_field, a_struct_field, bag_fields, struct_fields, a_bag, a_struct, an_import, the_decls, a_module}
 use Rattle.bdl_parser.specs.Lexemes.{What, Lexeme, word, number, quoted, sign, what_of, lexemes_of}
 use Rattle.bdl_parser.specs.Decls.{IsSpelledField, IsSpelledDecl, AreSpelledDecls}
-use Rattle.bdl_parser.specs.Trees.{TypeTree, BagFieldTree, StructFieldTree}
+use Rattle.bdl_parser.specs.Trees.{TypeTree}
 use Rattle.bdl_parser.specs.Trees as trees
 use Rattle.bdl_load.specs.declared.files.LoadedFile.{LoadedFile}
 use Rattle.bdl_load.specs.Loading.{Holding, Loading, Loads, Enters, Takes, all_loaded, stopped, loaded_as}

@@ -11,7 +11,7 @@ use Rattle.bdl_parser.specs.declared.trees.Spot.{Spot}
 use Rattle.bdl_parser.specs.Grammar.{is_word, is_mark, key, mark, a_name, a_number, a_text, a_leaf, leaf_in, holding_in, a_holding, held_of, map_of, a_type, a_bag_field, a_struct_field, bag_fields, struct_fields, a_bag, a_struct, a_decl, an_import, the_decls, a_module}
 use Rattle.bdl_parser.specs.Lexemes.{What, Lexeme, word, number, quoted, sign}
 use Rattle.bdl_parser.specs.Refusals.{is_type_first}
-use Rattle.bdl_parser.specs.Trees.{Leaf, TypeTree, BagFieldTree, StructFieldTree}
+use Rattle.bdl_parser.specs.Trees.{Leaf, TypeTree}
 use Rattle.bdl_parser.specs.Words.{leaf_of}
 use Rattle.grammar_model.specs.Forms.{Form, token, two, either, made, nothing, ended}
 use Rattle.grammar_model.proofs.ChoiceLaws.{lawful_either, lawful_many, ender_ended, ender_many}

@@ -1,5 +1,5 @@
 -- The path of a field is made of headers, one of each of its numbers.
-use Rattle.std.proofs.Common.{◌≡◌, ℕ, suc, ◌+◌, ◌<◌, ◌≤◌, ◌⊎◌, List, [], ◌∷◌, ◌++◌, length, refl, ap, ◌∙◌, arith, le-leb, ◌-◌, ◌*◌}
+use Rattle.std.proofs.Common.{◌≡◌, ℕ, suc, ◌+◌, ◌≤◌, List, [], ◌∷◌, length, refl, ap, arith, le-leb, ◌-◌, ◌*◌}
 use Rattle.context_model.specs.Ended.{AreHeaders, field_path_from}
 
 pub field_path-headers : (n : ℕ) (numbers : List ℕ) → n + length numbers ≤ 16 → AreHeaders (field_path_from n numbers)

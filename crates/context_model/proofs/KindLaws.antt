@@ -1,5 +1,5 @@
 -- At most one kind fits an atom, and what the first byte says of the kind.
-use Rattle.std.proofs.Common.{◌≡◌, ◌-◌, ◌*◌, ◌/◌, ◌^◌, ◌<◌, ◌≤◌, [], ◌∷◌, sym, refl, ap, ap₂, ◌∙◌, arith}
+use Rattle.std.proofs.Common.{◌≡◌, ◌-◌, ◌*◌, sym, refl, ap, ap₂, ◌∙◌, arith}
 use Rattle.context_model.specs.Atoms.{Atom}
 use Rattle.context_model.specs.Varints.{unsigned_varint}
 use Rattle.context_model.specs.Kinds.{Kind, atom_of, IsKind, HasKind}

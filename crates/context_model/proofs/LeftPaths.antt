@@ -1,6 +1,6 @@
 -- The paths of a list without some of its data: those of the places that stay, but for markers. A marker's path may change,
 -- since the datum before it may be gone.
-use Rattle.std.proofs.Common.{◌≡◌, ℕ, zero, suc, ◌+◌, ◌<◌, ◌⊎◌, ◌↔◌, Bool, true, false, cond, List, [], ◌∷◌, ◌++◌, length, take, sym, refl, ap, ◌∙◌, subst, arith, inl, inr, add-zero, zero-add, add-one, slice_get, Some, ◌==◌, ◌||◌, eqb-true, eq-eqb}
+use Rattle.std.proofs.Common.{◌≡◌, ℕ, zero, suc, ◌+◌, ◌<◌, ◌↔◌, Bool, true, false, cond, List, [], ◌∷◌, ◌++◌, length, take, sym, refl, ap, ◌∙◌, subst, arith, inl, inr, add-zero, zero-add, add-one, slice_get, Some, ◌==◌, ◌||◌, eqb-true, eq-eqb}
 use Rattle.std.specs.List.{list_any}
 use Rattle.context_model.specs.Atoms.{Atom}
 use Rattle.context_model.specs.Orders.{Path, IsIn}

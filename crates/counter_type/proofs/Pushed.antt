@@ -1,5 +1,5 @@
 -- A writer behind all others keeps the writers in order.
-use Rattle.std.proofs.Common.{◌≡◌, ◌<◌, ◌^◌, ℕ, List, [], ◌∷◌, ◌++◌}
+use Rattle.std.proofs.Common.{◌≡◌, ℕ, List, [], ◌∷◌, ◌++◌}
 use Rattle.context_model.specs.GreedyMerge.{AllBelow}
 use Rattle.context_model.specs.KeyedMerge.{EachPair, keys_of}
 use Rattle.context_model.proofs.Rising.{Rises-push}

@@ -5,7 +5,7 @@ use Rattle.std.specs.Fmt.{decimal}
 use Rattle.context_model.specs.Orders.{IsIn}
 use Rattle.bag_model.specs.declared.Pick.TheVariants.{Least, Greatest}
 use Rattle.bag_model.specs.Scalars as scalars
-use Rattle.bag_model.specs.Scalars.{Int32, Int64, Sint64, Uint32, Uint64, Fixed32, Fixed64, Str, Bytes, Unsigned}
+use Rattle.bag_model.specs.Scalars.{Int32, Int64, Sint64, Uint32, Uint64, Fixed32, Fixed64, Str, Unsigned}
 use Rattle.bag_model.specs.Shapes.{Shape, Nodes, Field, fields, Scalar, Set, Counter, Map, Bag, no_node, node}
 use Rattle.bag_model.specs.Values.{Value, Scalar, Set, Map, no_entry, no_value, value}
 use Rattle.def_evolve.specs.declared.verdicts.Change.TheVariants as changes

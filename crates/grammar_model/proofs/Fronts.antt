@@ -1,9 +1,9 @@
 -- Each front of a sentence, and of what begins a form, begins the form.
-use Rattle.std.proofs.Common.{◌≡◌, ℕ, suc, ◌+◌, ◌<◌, ◌≤◌, Bool, true, Option, Some, List, [], ◌∷◌, ◌++◌, ◌⊎◌, length, inl, inr, refl, sym, ap, ◌∙◌, subst, ⊎_elim, arith, append_assoc, length-append}
+use Rattle.std.proofs.Common.{◌≡◌, ◌+◌, ◌<◌, ◌≤◌, Bool, true, Option, List, [], ◌∷◌, ◌++◌, ◌⊎◌, length, inl, inr, refl, sym, ap, ◌∙◌, subst, ⊎_elim, arith, length-append}
 use Rattle.std.specs.Option.{is_some}
 use Rattle.std.proofs.str.Laws.{order}
-use Rattle.grammar_model.specs.Forms.{Form, IsOne, BeginsOne, token, AreTwo, BeginsSecond, two, either, made, Repeats, AreMany, BeginsMany, many, nothing, ended}
-use Rattle.grammar_model.proofs.FormLaws.{Framed, IsLawful}
+use Rattle.grammar_model.specs.Forms.{Form, BeginsOne, token, BeginsSecond, two, either, made, Repeats, BeginsMany, many, nothing, ended}
+use Rattle.grammar_model.proofs.FormLaws.{IsLawful}
 
 pub record IsFronted {T A : Type 0} (f : Form T A) : Type 0 where
   pub read : (ts : List T) (a : A) (rest p q : List T) → f.reads ts a rest → ts ≡ p ++ q → length rest ≤ length q → f.begins p

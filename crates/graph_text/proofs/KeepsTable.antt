@@ -15,7 +15,7 @@ use Rattle.bag_model.specs.Views as views
 use Rattle.bag_model.specs.Views.{View, Knows}
 use Rattle.bag_model.proofs.PathLaws.{reached_bound}
 use Rattle.trace_model.specs.Graphs as graphs
-use Rattle.trace_model.specs.Graphs.{Act, Graph, IsGraph, form_at, view_at, IsViewOf, IsActOf, IsOfTable, IsRecorded}
+use Rattle.trace_model.specs.Graphs.{Act, Graph, form_at, view_at, IsViewOf, IsActOf, IsRecorded}
 use Rattle.text_lines.specs.Lines.{Line, lines_of}
 use Rattle.text_lines.specs.Readings.{AllSay}
 use Rattle.write_text.specs.Writes.{IsWrite}

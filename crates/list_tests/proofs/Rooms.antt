@@ -1,5 +1,5 @@
 -- The room of atoms.
-use Rattle.std.proofs.Common.{◌≡◌, ℕ, ◌+◌, ◌-◌, ◌≤◌, List, [], ◌∷◌, ◌++◌, length, take, drop, slice_range, ap, arith}
+use Rattle.std.proofs.Common.{◌≡◌, ℕ, ◌+◌, ◌-◌, ◌≤◌, List, [], ◌∷◌, ◌++◌, take, drop, slice_range, ap, arith}
 use Rattle.std.proofs.lemmas.List.{take-append-drop}
 use Rattle.context_model.specs.Atoms.{Atom}
 use Rattle.atom_list.specs.Builder.{room_of}

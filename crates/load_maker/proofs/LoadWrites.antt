@@ -10,7 +10,7 @@ use Rattle.context_model.specs.Varints.{big_endian, unsigned_form, unsigned_tail
 use Rattle.context_model.proofs.Digits.{length-big_endian}
 use Rattle.bag_model.specs.declared.Pick.TheVariants.{Least}
 use Rattle.bag_model.specs.Scalars as scalars
-use Rattle.bag_model.specs.Scalars.{ScalarValue, Plain, Text, Unsigned}
+use Rattle.bag_model.specs.Scalars.{ScalarValue, Unsigned}
 use Rattle.bag_model.specs.Shapes as shapes
 use Rattle.bag_model.specs.Values as values
 use Rattle.bag_model.specs.Values.{Value}

@@ -1,6 +1,5 @@
 -- Where the lists of a step's parents stand.
-use Rattle.std.proofs.Common.{◌≡◌, inl, inr, ℕ, zero, suc, ◌+◌, ◌<◌, ◌≤◌, List, [], ◌∷◌, length, get_or, Some, sym, ap, ◌∙◌, subst, arith}
-use Rattle.context_model.specs.Orders.{IsIn}
+use Rattle.std.proofs.Common.{◌≡◌, inl, inr, ℕ, suc, ◌<◌, List, [], ◌∷◌, length, get_or, Some, sym, ap, ◌∙◌, subst, arith}
 use Rattle.trace_model.specs.Graphs.{Step, Graph, parents_of, HasStep}
 use Rattle.trace_model.specs.Runs.{Lists}
 use Rattle.step_rules.specs.Parents.{AreWithinLists, ArePlacesOf}

@@ -1,5 +1,5 @@
 -- From what begins some bytes to what is spelled by all of them.
-use Rattle.std.proofs.Common.{◌≡◌, ℕ, List, [], ◌++◌, sym, ◌∙◌}
+use Rattle.std.proofs.Common.{◌≡◌, ℕ, List, [], sym, ◌∙◌}
 use Rattle.std.proofs.lemmas.List.{append-nil}
 use Rattle.scalar_types.specs.Codec.{IsSpelled}
 use Rattle.scalar_types.specs.Fronts.{Begins, OneRest}

@@ -1,7 +1,7 @@
 -- What a kind's values spell: the same as the plain values of its word, or of its fields.
 use Rattle.std.proofs.Common.{◌≡◌, ◌↔◌, ℕ, List, Result, Ok, Err, IfOk, sym, refl, subst}
 use Rattle.bag_model.specs.Scalars as model
-use Rattle.bag_model.specs.Scalars.{Word, SpellingForm, Plain, form_of, IsOfForm, ArePlainsOf, IsScalarOf, plain_spelling, packed_spelling, spelling}
+use Rattle.bag_model.specs.Scalars.{Word, SpellingForm, form_of, IsOfForm, ArePlainsOf, IsScalarOf, plain_spelling, packed_spelling, spelling}
 use Rattle.scalar_types.specs.declared.kinds.ScalarKind.{ScalarKind}
 use Rattle.scalar_types.specs.declared.kinds.ScalarKind.TheVariants.{Packed}
 use Rattle.scalar_types.specs.declared.scalars.Scalar.{Scalar}

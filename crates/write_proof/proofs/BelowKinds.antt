@@ -8,7 +8,7 @@ use Rattle.context_model.proofs.OrderLaws.{atoms_total, atoms_anti}
 use Rattle.bag_model.specs.Joins.{join, join_values, IsValueBelow, Proper}
 use Rattle.bag_model.specs.Scalars.{ScalarKind, ScalarValue, scalar_cmp}
 use Rattle.bag_model.specs.ValueCode.{scalar_code}
-use Rattle.bag_model.specs.Values.{Value, Entries, Values, Set, Counter, Map, Bag, pairs, value}
+use Rattle.bag_model.specs.Values.{Value, Entries, Values, Set, Counter, Map, Bag, pairs}
 use Rattle.bag_model.proofs.JoinUnionLaws.{joins_are_unions}
 use Rattle.bag_model.proofs.PairLaws.{pairs-injective}
 use Rattle.bag_model.proofs.ScalarOrder.{scalar_total, scalar_exact}

@@ -1,6 +1,5 @@
 -- What some values say together is what their join says.
-use Rattle.std.proofs.Common.{◌≡◌, ◌⊎◌, inl, inr, ◌↔◌, ℕ, zero, suc, ◌≤◌, max, true, false, List, [], ◌∷◌, Option, Some, None, refl, sym, ap, ◌∙◌, subst, arith}
-use Rattle.std.specs.List.{slice_get}
+use Rattle.std.proofs.Common.{◌≡◌, ◌⊎◌, inl, inr, ◌↔◌, ℕ, zero, suc, max, true, false, List, [], ◌∷◌, Option, Some, None, refl, sym, ap, ◌∙◌, subst, arith}
 use Rattle.std.proofs.lemmas.Bool.{cases_lt}
 use Rattle.context_model.specs.KeyedMerge.{keys_of, IsAt}
 use Rattle.context_model.specs.GreedyMerge.{first_of}
@@ -13,13 +12,12 @@ use Rattle.bag_model.specs.Joins.{join, join_values, IsValueBelow}
 use Rattle.bag_model.specs.Scalars.{ScalarKind, ScalarValue, scalar_cmp, pick_cmp, IsScalarOf}
 use Rattle.bag_model.specs.Shapes.{Shape, Nodes, no_node, node}
 use Rattle.bag_model.specs.ValueCode.{scalar_code}
-use Rattle.bag_model.specs.Values.{Value, Entries, Values, Taint, Scalar, Set, Counter, Map, Bag, no_value, value, pairs, values_list, bottom, bottoms, IsOfShape, AreOfShapes}
-use Rattle.bag_model.proofs.BelowLaws.{below-itself, below-onwards, below-first, below-second, below-least, below-bottom}
+use Rattle.bag_model.specs.Values.{Value, Values, Taint, Scalar, Set, Counter, Map, Bag, no_value, value, pairs, bottom, bottoms, IsOfShape, AreOfShapes}
+use Rattle.bag_model.proofs.BelowLaws.{below-onwards, below-first, below-second, below-least, below-bottom}
 use Rattle.bag_model.proofs.FirstLaws.{first-assoc, first-comm, first-idem}
 use Rattle.bag_model.proofs.JoinUnionLaws.{joins_are_unions}
 use Rattle.bag_model.proofs.OfShape.{Proper-shape, IsOfShape-join, IsOfShape-bottom}
 use Rattle.bag_model.proofs.ScalarOrder.{scalar_total, pick_total, pick_exact}
-use Rattle.trace_model.specs.Contributions.{IsLeastAbove}
 use Rattle.trace_model.proofs.ContributedLaws.{least_one}
 use Rattle.write_proof.specs.Together.{Saying, TaintOn, StaysBeside, HasElement, CountsTo, HasKey, OfKey, OfField, Says, IsSaid, IsSaidBy, IsJoinOfAll}
 use Rattle.write_proof.proofs.BelowKinds.{name_code, set_below, counter_below, map_below, bag_below}

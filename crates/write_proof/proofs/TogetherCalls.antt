@@ -27,7 +27,7 @@ use Rattle.bag_value.specs.Vals.{plain, val_of}
 use Rattle.bag_value.specs.ValLaws.{plain_back}
 use Rattle.trace_model.proofs.ContributedLaws.{least_alike}
 use Rattle.write_proof.specs.Belows.{AreOfOne}
-use Rattle.write_proof.specs.Together.{Saying, TaintOn, StaysBeside, HasElement, CountsTo, HasKey, OfKey, OfField, Says, IsSaid, IsSaidBy, IsAtKey, IsOfField, AreOfOneShape, IsJoinOfAll, HaveOneJoin, values_of}
+use Rattle.write_proof.specs.Together.{Saying, TaintOn, StaysBeside, HasElement, CountsTo, HasKey, OfKey, OfField, Says, IsSaid, IsSaidBy, IsAtKey, IsOfField, AreOfOneShape, HaveOneJoin, values_of}
 use Rattle.write_proof.proofs.Keyed.{key_value}
 use Rattle.write_proof.proofs.Parts.{in_items, through_more, through_all}
 use Rattle.write_proof.proofs.Reached.{in_push, push_before, push_last}

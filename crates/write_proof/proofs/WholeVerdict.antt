@@ -18,7 +18,7 @@ use Rattle.text_model.specs.ValueTexts.{value_text}
 use Rattle.text_lines.specs.Lines.{Line}
 use Rattle.text_lines.specs.Readings.{AllSay}
 use Rattle.trace_model.specs.Graphs as model
-use Rattle.trace_model.specs.Graphs.{Act, Graph, HasStep, IsGraph, IsOfTable, IsRecorded}
+use Rattle.trace_model.specs.Graphs.{Act, Graph, IsGraph, IsOfTable, IsRecorded}
 use Rattle.write_proof.specs.declared.verdicts.VerifyCode.{VerifyCode}
 use Rattle.write_proof.specs.declared.verdicts.VerifyCode.TheVariants as codes
 use Rattle.write_proof.specs.declared.verdicts.Verified.{Verified}

@@ -1,6 +1,6 @@
 -- What some values say together.
 use Rattle.std.specs.Borrow.{Bor}
-use Rattle.std.specs.Prelude.{◌≡◌, ℕ, ◌≤◌, true, List, [], ◌∷◌, map, Some}
+use Rattle.std.specs.Prelude.{◌≡◌, ℕ, ◌≤◌, true, List, map, Some}
 use Rattle.std.specs.List.{slice_get}
 use Rattle.context_model.specs.KeyedMerge.{keys_of, IsAt}
 use Rattle.context_model.specs.GreedyMerge.{first_of}

@@ -1,4 +1,4 @@
-use Rattle.std.proofs.Common.{◌≡◌, ◌≤◌, ◌⊎◌, inl, inr, length, sym, arith}
+use Rattle.std.proofs.Common.{◌≤◌, ◌⊎◌, inl, inr, length, sym, arith}
 use borrow.Author.Tests.{eqb-true}
 use Rattle.context_model.specs.KeyedMerge.{merge_with, later}
 use Rattle.context_model.proofs.MergeSteps.{with_rests}

@@ -1,6 +1,6 @@
 use Rattle.std.proofs.Common.{◌∷◌, length, ap, sym, subst, vec_len, arith}
 use Rattle.std.proofs.lemmas.List.{length-map}
-use Rattle.bag_model.specs.Values.{Map, Bag, pairs, values_list, size_of}
+use Rattle.bag_model.specs.Values.{Map, pairs, values_list, size_of}
 use Rattle.scalar_types.specs.Scalars.{value_of}
 use Rattle.bag_value.specs.Vals.{plain, pair_of}
 use Rattle.write_proof.specs.Together.{AreOfOneShape, IsSaidBy, values_of}

@@ -1,4 +1,4 @@
-use Rattle.std.proofs.Common.{◌↔◌, ◌∷◌, IsTrue, map, refl, sym, ◌∙◌, ap, subst}
+use Rattle.std.proofs.Common.{◌↔◌, ◌∷◌, IsTrue, refl, sym, ◌∙◌, ap, subst}
 use Rattle.std.specs.Prelude.{IfOk}
 use Rattle.bag_value.specs.Vals.{plain}
 use Rattle.write_proof.specs.Together.{AreOfOneShape, IsSaidBy, values_of}

@@ -1,13 +1,8 @@
-use Rattle.std.proofs.Common.{ℕ, List, [], get_or, refl, sym, subst, arith}
+use Rattle.std.proofs.Common.{[], get_or, refl, sym, subst, arith}
 use Rattle.trace_model.specs.Graphs.{IsRecorded}
-use Rattle.bag_value.specs.Vals.{plain}
-use Rattle.field_table.specs.Plain.{shape_of}
-use Rattle.trace_model.specs.Contributions.{IsLeastAbove}
-use Rattle.write_proof.specs.WholeRules.{IsOfSteps}
 use Rattle.write_proof.specs.Used.{AreNewsAt, AreNewsOf}
 use Rattle.write_proof.proofs.Newly.{none_parts, news_none, news_taken}
 use Rattle.write_proof.proofs.Reached.{place_in, whole_taken}
-use Rattle.write_proof.proofs.ContributionCalls.{none_joined}
 use Rattle.write_proof.proofs.used.used_steps.Goals as goal
 
 pub loop-step-init : goal.loop-step-init
