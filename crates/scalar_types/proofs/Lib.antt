@@ -6,4 +6,5 @@ pub mod PackedSteps
 pub mod KindSpelled
 pub mod VarintFronts
 pub mod KindWords
+pub mod OneCode
 mod WordTexts
