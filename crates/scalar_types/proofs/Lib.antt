@@ -6,5 +6,4 @@ pub mod PackedSteps
 pub mod KindSpelled
 pub mod VarintFronts
 pub mod KindWords
-pub mod OneCode
 mod WordTexts

@@ -9,3 +9,4 @@ pub mod Escapes
 pub mod WordCodecs
 pub mod KindCodec
 pub mod Words
+pub mod OneCode

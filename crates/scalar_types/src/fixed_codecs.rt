@@ -17,7 +17,7 @@ pub struct Fixed {
 }
 
 impl Codec for Fixed {
-    ghost use Rattle.scalar_types.proofs.OneCode.{code_one};
+    ghost use Rattle.scalar_types.specs.OneCode.{code_one};
     ghost use Rattle.bag_model.proofs.NumberCodes.{fixed_code};
 
     type Value = u64;
@@ -139,7 +139,7 @@ impl SignedFixed {
 }
 
 impl Codec for SignedFixed {
-    ghost use Rattle.scalar_types.proofs.OneCode.{code_one};
+    ghost use Rattle.scalar_types.specs.OneCode.{code_one};
     ghost use Rattle.bag_model.proofs.NumberCodes.{signed_fixed_code};
 
     type Value = i64;

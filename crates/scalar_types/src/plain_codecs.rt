@@ -64,7 +64,7 @@ pub struct Flag;
 
 impl Codec for Flag {
     ghost use Rattle.bag_model.specs.Scalars.{truth_bytes};
-    ghost use Rattle.scalar_types.proofs.OneCode.{code_one};
+    ghost use Rattle.scalar_types.specs.OneCode.{code_one};
     ghost use Rattle.bag_model.proofs.NumberCodes.{truth_code};
 
     type Value = bool;

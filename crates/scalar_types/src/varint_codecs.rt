@@ -28,7 +28,7 @@ impl LexU {
 }
 
 impl Codec for LexU {
-    ghost use Rattle.scalar_types.proofs.OneCode.{code_one};
+    ghost use Rattle.scalar_types.specs.OneCode.{code_one};
     ghost use Rattle.bag_model.proofs.NumberCodes.{unsigned_code};
 
     type Value = u64;
@@ -112,7 +112,7 @@ impl LexI {
 }
 
 impl Codec for LexI {
-    ghost use Rattle.scalar_types.proofs.OneCode.{code_one};
+    ghost use Rattle.scalar_types.specs.OneCode.{code_one};
     ghost use Rattle.bag_model.proofs.NumberCodes.{signed_code};
 
     type Value = i64;
