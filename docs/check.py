@@ -68,9 +68,10 @@ def check_names():
 
 def check_excerpts():
     """Each block of code in the README, in LIBRARY and in HEADLINE stands in a source, line by line."""
-    stripped = ["\n".join(line.strip() for line in text_of(path).split("\n")) for path in sources(".rt")]
+    paths = sources(".rt") + ["examples/embed/embed.rs"]
+    stripped = ["\n".join(line.strip() for line in text_of(path).split("\n")) for path in paths]
     for document in ["README.md", "docs/LIBRARY.md", "docs/HEADLINE.md"]:
-        for kind, block in re.findall(r"(?ms)^```(rust|)\n(.*?)^```", text_of(document)):
+        for kind, block in re.findall(r"(?ms)^```(\w*)\n(.*?)^```", text_of(document)):
             if kind == "rust" or block.startswith("ensures "):
                 lines = "\n".join(line.strip() for line in block.strip().split("\n"))
                 if not any(lines in text for text in stripped):
