@@ -8,15 +8,39 @@ use std::test::Fail;
 use std::thread::Threads;
 
 /// The words of a line, which is cut at blanks.
-fn words_of(alloc: Global, line: &str) -> Result<Words, Fail> {
-    let mut words = Words::new(alloc);
+pub fn words_of(alloc: Global, line: &str) -> Result<Vec<&str>, Fail> {
+    let mut words = Vec::new(alloc);
     for word in line.split_whitespace() {
-        words.push(Text::of(alloc, word)?)?;
+        words.push(word)?;
     }
     Ok(words)
 }
 
-/// Calls the program with the words of this line, and answers its status. Its steps pass the gate.
+/// Calls the program with these words, and answers its status. Its steps pass the gate.
+fn call_with<R: Threads + Sync, G: Gate>(
+    rt: &R,
+    alloc: Global,
+    gate: &G,
+    words: &[&str],
+    objects: &mut Objects,
+) -> Result<u8, Fail> {
+    let mut texts = Words::new(alloc);
+    for word in words {
+        texts.push(Text::of(alloc, word)?)?;
+    }
+    Ok(baggage_top(
+        rt,
+        alloc,
+        gate,
+        &texts,
+        &mut objects.library,
+        &mut objects.source,
+        &mut objects.out,
+        &mut objects.errs,
+    ))
+}
+
+/// Calls the program with the words of this line, which is cut at blanks, and answers its status. Its steps pass the gate.
 pub fn call<R: Threads + Sync, G: Gate>(
     rt: &R,
     alloc: Global,
@@ -25,16 +49,7 @@ pub fn call<R: Threads + Sync, G: Gate>(
     objects: &mut Objects,
 ) -> Result<u8, Fail> {
     let words = words_of(alloc, line)?;
-    Ok(baggage_top(
-        rt,
-        alloc,
-        gate,
-        &words,
-        &mut objects.library,
-        &mut objects.source,
-        &mut objects.out,
-        &mut objects.errs,
-    ))
+    call_with(rt, alloc, gate, words.as_slice(), objects)
 }
 
 /// What a call came to: its status, what it wrote to the output and to the errors, and what it left of the input.
@@ -46,24 +61,34 @@ pub struct Answer {
     pub left: Vec<u8>,
 }
 
-/// Calls the program with the words of this line. Its steps pass an open gate.
+/// What a call with this status came to.
+fn answer(alloc: Global, status: u8, objects: &mut Objects) -> Result<Answer, Fail> {
+    Ok(Answer {
+        status,
+        out: Vec::from_slice(alloc, objects.out.taken())?,
+        errs: Vec::from_slice(alloc, objects.errs.taken())?,
+        left: objects.left(alloc)?,
+    })
+}
+
+/// Calls the program with these words, of which one may be empty or have blanks. Its steps pass an open gate.
+pub fn answer_to<R: Threads + Sync>(
+    rt: &R,
+    alloc: Global,
+    words: &[&str],
+    objects: &mut Objects,
+) -> Result<Answer, Fail> {
+    let status = call_with(rt, alloc, &Open, words, objects)?;
+    answer(alloc, status, objects)
+}
+
+/// Calls the program with the words of this line, which is cut at blanks. Its steps pass an open gate.
 pub fn answer_of<R: Threads + Sync>(
     rt: &R,
     alloc: Global,
     line: &str,
     objects: &mut Objects,
 ) -> Result<Answer, Fail> {
-    let status = call(rt, alloc, &Open, line, objects)?;
-    Ok(Answer {
-        status,
-        out: Vec::from_slice(alloc, objects.out.taken())?,
-        errs: Vec::from_slice(alloc, objects.errs.taken())?,
-        left: objects.left(alloc),
-    })
-}
-
-/// Whether a call with this status must leave the input as it was: it answers before it reads, or doesn't read.
-pub fn leaves_input(line: &str, status: u8) -> bool {
-    let silent = ["check", "table", "load", "evolve"];
-    status == 1 || status == 7 || silent.iter().any(|name| line.starts_with(*name))
+    let words = words_of(alloc, line)?;
+    answer_to(rt, alloc, words.as_slice(), objects)
 }

@@ -1,11 +1,13 @@
-//! A call of the program over objects in memory, for the crates of tests.
+//! A call of the program over objects in memory, and what it must come to, for the crates of tests.
 #![tactic(auto)]
 
 mod calls;
 mod objects;
+mod rows;
 
-pub use calls::{Answer, answer_of, call, leaves_input};
+pub use calls::{Answer, answer_of, answer_to, call, words_of};
 pub use objects::{Objects, asked, library_of};
+pub use rows::{holds, is_told, output_of};
 
 /// The definitions that most calls are made with. In a text of files each one begins with its name and a bar, and an empty
 /// line stands between two.

@@ -13,12 +13,15 @@ pub struct Objects {
     pub errs: MemorySink,
 }
 
-/// A library with these files, whose fetches of these numbers fail.
+/// A library with these files, whose fetches of these numbers fail. A file is its name, a bar and what it holds; an empty text
+/// is none.
 pub fn library_of(alloc: Global, files: &str, failing: &[u64]) -> Result<MemoryLibrary, Fail> {
     let mut library = MemoryLibrary::new(alloc, Vec::from_slice(alloc, failing)?);
     for file in files.split("\n\n") {
-        if let Some((name, content)) = file.split_once('|') {
-            library.add(name, content.as_bytes())?;
+        match file.split_once('|') {
+            Some((name, content)) => library.add(name, content.as_bytes())?,
+            None if file.is_empty() => {}
+            None => return Err(Fail::new("a file without a bar")),
         }
     }
     Ok(library)
@@ -37,11 +40,8 @@ impl Objects {
     }
 
     /// What is left of the source.
-    pub fn left(&mut self, alloc: Global) -> Vec<u8> {
-        match read_all(alloc, &mut self.source, 1 << 30) {
-            Ok(left) => left,
-            Err(_) => Vec::new(alloc),
-        }
+    pub fn left(&mut self, alloc: Global) -> Result<Vec<u8>, Fail> {
+        Ok(read_all(alloc, &mut self.source, 1 << 30)?)
     }
 }
 
