@@ -1,6 +1,6 @@
 //! Random graphs, each shown step against plain values that are joined over the steps that reach it.
 
-use program_calls::{FILES, Objects, answer_of};
+use program_calls::output_of;
 use random_bags::Dice;
 use std::alloc::Global;
 use std::process::Abort;
@@ -257,16 +257,24 @@ fn entries(text: &str) -> &str {
     }
 }
 
-/// The number of an entry with this key, if it is there.
-fn number_at(text: &str, key: &str) -> Option<usize> {
+/// What stands behind this key in an entry, if there is one with it.
+fn text_at<'a>(text: &'a str, key: &str) -> Option<&'a str> {
     for entry in entries(text).split(',') {
-        if let Some((found, number)) = entry.split_once(':') {
+        if let Some((found, value)) = entry.split_once(':') {
             if found == key {
-                return number.parse().ok();
+                return Some(value);
             }
         }
     }
     None
+}
+
+/// The number of an entry with this key, if it is there.
+fn number_at(text: &str, key: &str) -> Option<usize> {
+    match text_at(text, key) {
+        Some(number) => number.parse().ok(),
+        None => None,
+    }
 }
 
 /// What the value text of a slot says.
@@ -341,6 +349,15 @@ fn slot_text(alloc: Global, said: &Said, slot: usize) -> Result<String, Fail> {
     }
 }
 
+/// Each key in the text of loads is one of the truth, also where its value was cut off.
+fn has_true_keys(rt: &impl Abort, text: &str, truth: &Said) {
+    for at in 0..3 {
+        if text_at(text, QUOTED[at]).is_some() {
+            assert!(rt; truth.load[at].is_some(), "{text}");
+        }
+    }
+}
+
 /// Compares the line of a slot with what is true of it: an exact value is the truth, and none says more than the truth.
 fn slot_holds<R: Abort>(
     rt: &R,
@@ -354,7 +371,10 @@ fn slot_holds<R: Abort>(
     };
     let said = said_by(text, slot);
     let whole = slot_text(alloc, truth, slot)?;
-    // A key whose value was cut off is shown with a dash, and says nothing.
+    if slot == 4 {
+        has_true_keys(rt, text, truth);
+    }
+    // A key whose value was cut off is shown with a dash, and says nothing of a number.
     if !text.contains(":-") {
         assert_eq!(rt; slot_text(alloc, &said, slot)?.as_str(), text, "{line}");
     }
@@ -383,14 +403,6 @@ fn random_graph(alloc: Global, dice: &mut Dice, trims: bool) -> Result<Graph, Fa
     Ok(graph)
 }
 
-/// What the program reports of a graph.
-fn report_of<R: Abort + Threads + Sync>(rt: &R, alloc: Global, text: &str) -> Result<String, Fail> {
-    let mut objects = Objects::new(alloc, FILES, text.as_bytes())?;
-    let came = answer_of(rt, alloc, RUN, &mut objects)?;
-    assert_eq!(rt; came.status, 0);
-    Ok(String::from_utf8(came.out)?)
-}
-
 /// Runs a random graph and compares each slot with what is true of it. Answers how many values were called exact.
 fn graph_holds<R: Abort + Threads + Sync>(
     rt: &R,
@@ -399,7 +411,7 @@ fn graph_holds<R: Abort + Threads + Sync>(
     trims: bool,
 ) -> Result<usize, Fail> {
     let graph = random_graph(alloc, dice, trims)?;
-    let report = report_of(rt, alloc, graph.text.as_str())?;
+    let report = output_of(rt, alloc, RUN, graph.text.as_str())?;
     let mut exact = 0_usize;
     for (number, line) in report.lines().enumerate() {
         // A block has eight lines, the last six of which are those of the slots.
