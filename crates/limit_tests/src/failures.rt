@@ -6,7 +6,6 @@ use std::alloc::Global;
 use std::process::Abort;
 use std::test::Fail;
 use std::thread::Threads;
-use text_lines::INPUT_MAX;
 
 /// The files, with an empty line between two.
 static FILES: &str =
@@ -92,7 +91,7 @@ static TAKINGS: [Taking; 33] = [
 /// program would write to it.
 type Giving = (&'static str, &'static str, Object, &'static str);
 
-static GIVINGS: [Giving; 22] = [
+static GIVINGS: [Giving; 28] = [
     ("trim 10", LINE, Object::Output, "02f80005000000000700\n"),
     (
         "merge",
@@ -129,6 +128,19 @@ static GIVINGS: [Giving; 22] = [
         "",
         Object::Output,
         "breaks 0 Kind\n",
+    ),
+    (
+        "why q.bdl Req 0 id",
+        GRAPH,
+        Object::Output,
+        "why 0 id\nvalue -\n",
+    ),
+    ("verify q.bdl Req c", GRAPH, Object::Output, "no 1 Form\n"),
+    (
+        "runtable t",
+        GRAPH,
+        Object::Output,
+        "step 0\nbytes -\nid exact -\n",
     ),
     ("trim 0", LINE, Object::Errors, "words refused\n"),
     (
@@ -174,6 +186,24 @@ static GIVINGS: [Giving; 22] = [
         "",
         Object::Errors,
         "definition z 1:1 NoFile\n",
+    ),
+    (
+        "why q.bdl Req 1 id",
+        GRAPH,
+        Object::Errors,
+        "input line 0 StepRange\n",
+    ),
+    (
+        "verify q.bdl Req z",
+        GRAPH,
+        Object::Errors,
+        "definition z 1:1 NoFile\n",
+    ),
+    (
+        "decode q.bdl Req",
+        "0",
+        Object::Errors,
+        "input line 1 BadHex\n",
     ),
 ];
 
@@ -300,11 +330,11 @@ fn a_library_serves_after_a_failure(rt: HostRuntime) -> Result<(), Fail> {
     Ok(())
 }
 
-/// The read that fails of a source with the longest input and one byte more, the status, and what is told: that it is too long
-/// isn't known before the read behind it.
-static LONG_SOURCES: [(usize, u8, &str); 2] = [
-    (INPUT_MAX / 4096, 4, "source failed\n"),
-    (INPUT_MAX / 4096 + 1, 2, "input line 0 TooLong\n"),
+/// The read that fails, from 0, of a source that gives 4,096 bytes a read and has two more than the longest input, the status,
+/// and what is told. The reads before the first of these give the longest input, it gives one byte more, and then none is read.
+static LONG_SOURCES: [(u64, u8, &str); 2] = [
+    (4096, 4, "source failed\n"),
+    (4097, 2, "input line 0 TooLong\n"),
 ];
 
 #[test]
@@ -312,11 +342,12 @@ fn a_long_source_fails(rt: HostRuntime) -> Result<(), Fail> {
     let alloc = rt.alloc();
     for &(read, status, text) in &LONG_SOURCES {
         let mut objects = Objects::new(alloc, FILES, b"")?;
-        let content = vec![in alloc; b'#'; INPUT_MAX + 2]?;
-        objects.source = MemorySource::new(content, 4096, vec![in alloc; read as u64]?);
-        let came = answer_of(&rt, alloc, "merge", &mut objects)?;
-        assert_eq!(rt; came.status, status, "{read}");
-        assert_eq!(rt; came.errs.as_slice(), text.as_bytes(), "{read}");
+        let content = vec![in alloc; b'#'; 16_777_218]?;
+        objects.source = MemorySource::new(content, 4096, vec![in alloc; read]?);
+        let told = call(&rt, alloc, &Open, "merge", &mut objects)?;
+        assert_eq!(rt; told, status, "{read}");
+        assert_eq!(rt; objects.out.taken(), b"".as_slice(), "{read}");
+        assert_eq!(rt; objects.errs.taken(), text.as_bytes(), "{read}");
     }
     Ok(())
 }

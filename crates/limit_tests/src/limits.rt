@@ -1,11 +1,8 @@
 //! Inputs and files at the edge of what is read.
 
-use program_calls::{FILES, Objects, RUN, answer_of, leaves_input};
+use program_calls::{FILES, Objects, RUN, answer_of, holds};
 use std::alloc::Global;
-use std::process::Abort;
 use std::test::Fail;
-use std::thread::Threads;
-use text_lines::{DIGITS_MAX, INPUT_MAX};
 
 /// A long text: what stands before, so many copies of a piece, and what stands behind. In the copies `@` is the number of the copy,
 /// from 1 on, and `%` the next one.
@@ -43,25 +40,25 @@ fn put_copy(text: &mut String, piece: &str, number: usize) -> Result<(), Fail> {
 /// A call with a long input: its words, the input, its status, and what it writes.
 type Row = (&'static str, Long, u8, &'static str);
 
-static INPUTS: [Row; 27] = [
+static INPUTS: [Row; 29] = [
     // The longest lines.
-    ("trim 1", ("", "0", DIGITS_MAX, ""), 0, "00\n"),
-    ("trim 1", ("", "0", DIGITS_MAX, "\r\n"), 0, "00\n"),
+    ("trim 1", ("", "0", 2_097_152, ""), 0, "00\n"),
+    ("trim 1", ("", "0", 2_097_152, "\r\n"), 0, "00\n"),
     (
         "trim 1",
-        ("", "0", DIGITS_MAX + 1, ""),
+        ("", "0", 2_097_153, ""),
         2,
         "input line 1 HexTooLong\n",
     ),
     (
         "trim 1",
-        ("", "0", DIGITS_MAX + 1, "\r\n"),
+        ("", "0", 2_097_153, "\r\n"),
         2,
         "input line 1 HexTooLong\n",
     ),
     (
         "trim 1",
-        ("", "0", DIGITS_MAX + 2, ""),
+        ("", "0", 2_097_154, ""),
         2,
         "input line 1 HexTooLong\n",
     ),
@@ -72,31 +69,26 @@ static INPUTS: [Row; 27] = [
         "input line 1 HexTooLong\n",
     ),
     // The longest inputs.
-    ("merge", ("", "#", INPUT_MAX, ""), 0, "-\n"),
+    ("merge", ("", "#", 16_777_216, ""), 0, "-\n"),
     (
         "trim 9",
-        ("", "#", INPUT_MAX, ""),
+        ("", "#", 16_777_216, ""),
         2,
         "input line 0 NoLine\n",
     ),
     (
         "merge",
-        ("", "#", INPUT_MAX + 1, ""),
+        ("", "#", 16_777_217, ""),
         2,
         "input line 0 TooLong\n",
     ),
     (
         "trim 9",
-        ("", "#", INPUT_MAX + 1, ""),
+        ("", "#", 16_777_217, ""),
         2,
         "input line 0 TooLong\n",
     ),
-    (
-        RUN,
-        ("", "#", INPUT_MAX + 1, ""),
-        2,
-        "input line 0 TooLong\n",
-    ),
+    (RUN, ("", "#", 16_777_217, ""), 2, "input line 0 TooLong\n"),
     // The most lines.
     ("merge", ("", "02f800\n", 4096, ""), 0, "02f800\n"),
     (
@@ -105,11 +97,25 @@ static INPUTS: [Row; 27] = [
         2,
         "input line 4097 TooManyLines\n",
     ),
+    // An offset behind a length of two bytes.
     (
         "decode q.bdl Req",
         ("02f801800100", "61", 127, "0200ff"),
         3,
         "context line 1 offset 133 IllTyped\n",
+    ),
+    // The most bytes of pieces, which are no context, and one more.
+    (
+        "collect",
+        ("p 0 1 ", "////", 349_525, "/w==\n"),
+        3,
+        "context line 0 offset 0 AtomTooLong\n",
+    ),
+    (
+        "collect",
+        ("p 0 1 ", "////", 349_525, "//8=\n"),
+        2,
+        "input line 0 TooManyBytes\n",
     ),
     // The most steps and parents.
     (
@@ -251,31 +257,6 @@ static WIDE_VALUE: Long = (
     "\"}\nhops exact 0{}\ndebug exact off\nload exact {}\n",
 );
 
-/// Calls the program with these files and this input, and compares its answer, what it writes, and what it leaves of the input.
-fn holds<R: Abort + Threads + Sync>(
-    rt: &R,
-    alloc: Global,
-    files: &str,
-    line: &str,
-    input: &[u8],
-    status: u8,
-    text: &str,
-) -> Result<(), Fail> {
-    let mut objects = Objects::new(alloc, files, input)?;
-    let came = answer_of(rt, alloc, line, &mut objects)?;
-    let (out, errs) = if status == 0 { (text, "") } else { ("", text) };
-    let left = if leaves_input(line, status) {
-        input
-    } else {
-        b"".as_slice()
-    };
-    assert_eq!(rt; came.status, status, "{line} must write {text}");
-    assert_eq!(rt; came.out.as_slice(), out.as_bytes(), "{line}");
-    assert_eq!(rt; came.errs.as_slice(), errs.as_bytes(), "{line}");
-    assert_eq!(rt; came.left.as_slice(), left, "{line}");
-    Ok(())
-}
-
 #[test]
 fn long_inputs(rt: HostRuntime) -> Result<(), Fail> {
     let alloc = rt.alloc();
@@ -301,7 +282,7 @@ fn a_long_atom(rt: HostRuntime) -> Result<(), Fail> {
 #[test]
 fn what_is_left_of_a_long_input(rt: HostRuntime) -> Result<(), Fail> {
     let alloc = rt.alloc();
-    let input = spelled(alloc, &("", "#", INPUT_MAX, "\n-"))?;
+    let input = spelled(alloc, &("", "#", 16_777_216, "\n-"))?;
     let mut objects = Objects::new(alloc, FILES, input.as_bytes())?;
     let came = answer_of(&rt, alloc, "merge", &mut objects)?;
     assert_eq!(rt; came.status, 2);
