@@ -1,7 +1,7 @@
 //! Certificates, written and verified.
 
-use crate::calls::{Row, all_hold, is_told};
-use program_calls::{FILES, Objects, answer_of, asked};
+use crate::calls::{Row, all_hold};
+use program_calls::{FILES, Objects, answer_of, asked, is_told};
 use std::alloc::Global;
 use std::process::Abort;
 use std::test::Fail;
@@ -69,7 +69,6 @@ static WRITTEN: [Row; 20] = [
         "input line 0 NoSuchPath\n",
     ),
     ("why q.bdl Req 3 i-d.", CUT, 2, "input line 0 NoSuchPath\n"),
-    ("why m.bdl M 0 in", CUT, 2, "input line 3 NoSuchPath\n"),
     (
         "why m.bdl M 0 in",
         "service a all\nstart 0 a\n",
@@ -77,6 +76,7 @@ static WRITTEN: [Row; 20] = [
         "input line 0 NoSuchPath\n",
     ),
     // A line counts before them.
+    ("why m.bdl M 0 in", CUT, 2, "input line 3 NoSuchPath\n"),
     (
         "why q.bdl Req 6 ids",
         "service a all\nstart 0\n",
@@ -198,7 +198,7 @@ fn fetches<R: Abort + Threads + Sync>(rt: &R, alloc: Global, row: &Fetching) -> 
     let mut objects = objects_with(alloc, CERTIFICATE, input)?;
     let came = answer_of(rt, alloc, line, &mut objects)?;
     let left = if *status == 1 { *input } else { "" };
-    is_told(rt, &came, line, *status, text, left.as_bytes());
+    is_told(&came, line, *status, text, left.as_bytes())?;
     assert_eq!(rt; asked(alloc, &objects.library)?.as_str(), *names, "{line}");
     Ok(())
 }
@@ -210,7 +210,7 @@ fn certificates_are_written(rt: HostRuntime) -> Result<(), Fail> {
 }
 
 /// Verifies a certificate for the meeting, and compares the verdict.
-fn has_verdict<R: Abort + Threads + Sync>(
+fn has_verdict<R: Threads + Sync>(
     rt: &R,
     alloc: Global,
     certificate: &str,
@@ -218,8 +218,7 @@ fn has_verdict<R: Abort + Threads + Sync>(
 ) -> Result<(), Fail> {
     let mut objects = objects_with(alloc, certificate, MEETING)?;
     let came = answer_of(rt, alloc, "verify q.bdl Req c", &mut objects)?;
-    is_told(rt, &came, certificate, 0, verdict, b"");
-    Ok(())
+    is_told(&came, certificate, 0, verdict, b"")
 }
 
 #[test]

@@ -1,7 +1,7 @@
 //! Lines of contexts: what is trimmed and merged, and what is refused.
 
-use crate::calls::{Row, all_hold, holds};
-use program_calls::FILES;
+use crate::calls::{Row, all_hold};
+use program_calls::{FILES, holds};
 use std::test::Fail;
 
 /// Two values of one field.

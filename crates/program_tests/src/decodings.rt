@@ -6,7 +6,10 @@ use std::test::Fail;
 /// The words that decode a context of a request.
 const DECODE: &str = "decode q.bdl Req";
 
-static BLOCKS: [Row; 12] = [
+/// The words that decode a context of a bag whose one field is a greatest.
+const GREATEST: &str = "decode g.bdl G";
+
+static BLOCKS: [Row; 19] = [
     (
         DECODE,
         "-",
@@ -21,6 +24,13 @@ static BLOCKS: [Row; 12] = [
         "bytes 02f80005000000000702f80102006102006202f80202f17302000402f803010002f80402f178020005\n\
          id exact 7\ntags exact {\"a\",\"b\"}\nhops exact 4{0x73:4}\ndebug exact on\nload exact {\"x\":5}\n",
     ),
+    (
+        "decode wide.bdl Req",
+        "02f80005000000000702f80102006102006202f80202f17302000402f803010002f80402f17802000502f8050300812c",
+        0,
+        "bytes 02f80005000000000702f80102006102006202f80202f17302000402f803010002f80402f17802000502f8050300812c\n\
+         id exact 7\ntags exact {\"a\",\"b\"}\nhops exact 4{0x73:4}\ndebug exact on\nload exact {\"x\":5}\npeak exact 300\n",
+    ),
     // Of several values the least, and of several counts the greatest.
     (
         DECODE,
@@ -29,6 +39,34 @@ static BLOCKS: [Row; 12] = [
         "bytes 02f80005000000000705000000000902f80202f17302000402000902f174020001\n\
          id exact 7\ntags exact {}\nhops exact 10{0x73:9,0x74:1}\ndebug exact off\nload exact {}\n",
     ),
+    // Of several values the greatest, and a value before a marker.
+    (
+        GREATEST,
+        "02f800020007020009",
+        0,
+        "bytes 02f800020007020009\ntop exact 9\n",
+    ),
+    (
+        GREATEST,
+        "02f80002000700",
+        0,
+        "bytes 02f80002000700\ntop partial 7\n",
+    ),
+    // The least number of the field's type, the greatest one, and none.
+    (
+        GREATEST,
+        "02f800020000",
+        0,
+        "bytes 02f800020000\ntop exact 0\n",
+    ),
+    (
+        GREATEST,
+        "02f8000600f0ffffffff",
+        0,
+        "bytes 02f8000600f0ffffffff\ntop exact 4294967295\n",
+    ),
+    (GREATEST, "02f800", 0, "bytes 02f800\ntop exact -\n"),
+    (GREATEST, "-", 0, "bytes -\ntop exact -\n"),
     // Headers without data, and a key without a value.
     (
         DECODE,
@@ -92,7 +130,7 @@ static BLOCKS: [Row; 12] = [
     ("decode none.bdl B", "-", 0, "bytes -\n"),
 ];
 
-static REFUSALS: [Row; 23] = [
+static REFUSALS: [Row; 25] = [
     // The spelling of a number of 32 bits has four bytes.
     (
         DECODE,
@@ -133,6 +171,19 @@ static REFUSALS: [Row; 23] = [
     (
         DECODE,
         "02f80402f1780200ff",
+        3,
+        "context line 1 offset 6 IllTyped\n",
+    ),
+    // One more than the greatest number of 32 bits, and a byte that is no number.
+    (
+        GREATEST,
+        "02f8000600f100000000",
+        3,
+        "context line 1 offset 3 IllTyped\n",
+    ),
+    (
+        GREATEST,
+        "02f8000200070200ff",
         3,
         "context line 1 offset 6 IllTyped\n",
     ),

@@ -1,6 +1,6 @@
 //! Definitions that are checked.
 
-use crate::calls::holds;
+use program_calls::holds;
 use std::test::Fail;
 
 /// Files, each with its name and a bar before what it holds, and an empty line between two; the words that check them; and what

@@ -1,7 +1,6 @@
 //! A definition in place of an older one.
 
-use crate::calls::is_told;
-use program_calls::{Objects, answer_of, asked};
+use program_calls::{Objects, answer_of, asked, is_told};
 use std::alloc::Global;
 use std::process::Abort;
 use std::test::Fail;
@@ -143,7 +142,7 @@ fn evolves<R: Abort + Threads + Sync>(rt: &R, alloc: Global, row: &Row) -> Resul
     let (line, status, text, names) = row;
     let mut objects = Objects::new(alloc, FILES, b"-\n")?;
     let came = answer_of(rt, alloc, line, &mut objects)?;
-    is_told(rt, &came, line, *status, text, b"-\n");
+    is_told(&came, line, *status, text, b"-\n")?;
     assert_eq!(rt; asked(alloc, &objects.library)?.as_str(), *names, "{line}");
     Ok(())
 }

@@ -1,7 +1,7 @@
 //! Contexts that are carried as lines of pieces, and such lines that are collected.
 
-use crate::calls::{Row, all_hold, holds, output_of};
-use program_calls::FILES;
+use crate::calls::{Row, all_hold};
+use program_calls::{FILES, holds, output_of};
 use std::test::Fail;
 
 static CARRIED: [Row; 9] = [
@@ -84,7 +84,7 @@ static WIDTHS: [&str; 5] = ["carry 4", "carry 5", "carry 40", "carry 41", "carry
 fn what_is_carried_is_collected(rt: HostRuntime) -> Result<(), Fail> {
     for width in &WIDTHS {
         let pieces = output_of(&rt, rt.alloc(), width, LINE)?;
-        let pieces = pieces.as_slice();
+        let pieces = pieces.as_bytes();
         holds(&rt, rt.alloc(), FILES, "collect", pieces, 0, LINE)?;
     }
     Ok(())

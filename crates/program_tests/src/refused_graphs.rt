@@ -1,10 +1,9 @@
 //! Graphs one of whose lines is refused.
 
-use crate::calls::{Row, all_hold, holds};
+use crate::calls::{Row, all_hold};
 use crate::runs::graph;
-use program_calls::{FILES, RUN};
+use program_calls::{FILES, RUN, holds};
 use std::alloc::Global;
-use std::process::Abort;
 use std::test::Fail;
 use std::thread::Threads;
 
@@ -200,11 +199,7 @@ static GRAPHS: [Row; 14] = [
 ];
 
 /// Runs a graph whose fifth line is refused.
-fn fifth_is_refused<R: Abort + Threads + Sync>(
-    rt: &R,
-    alloc: Global,
-    row: &str,
-) -> Result<(), Fail> {
+fn fifth_is_refused<R: Threads + Sync>(rt: &R, alloc: Global, row: &str) -> Result<(), Fail> {
     let (line, refusal) = row.split_once(" => ").ok_or("a refusal")?;
     let status = if refusal.starts_with("input") { 2 } else { 3 };
     let before = graph(alloc, BEFORE)?;

@@ -1,8 +1,7 @@
 //! Graphs that are run, under definitions and under printed tables, and loads.
 
-use crate::calls::{holds, output_of};
 use crate::reports::REPORTS;
-use program_calls::{FILES, RUN};
+use program_calls::{FILES, RUN, holds, output_of};
 use std::alloc::Global;
 use std::process::Abort;
 use std::test::Fail;
@@ -19,7 +18,7 @@ pub fn graph(alloc: Global, joined: &str) -> Result<String, Fail> {
 }
 
 /// Runs a graph under a definition.
-fn runs<R: Abort + Threads + Sync>(
+fn runs<R: Threads + Sync>(
     rt: &R,
     alloc: Global,
     words: &str,
@@ -31,14 +30,14 @@ fn runs<R: Abort + Threads + Sync>(
 }
 
 /// A file `t` with the printed table of a definition.
-fn printed<R: Abort + Threads + Sync>(rt: &R, alloc: Global, words: &str) -> Result<String, Fail> {
+fn printed<R: Threads + Sync>(rt: &R, alloc: Global, words: &str) -> Result<String, Fail> {
     let print = format!(in alloc; "table {words}")?;
     let table = output_of(rt, alloc, print.as_str(), "")?;
-    Ok(format!(in alloc; "t|{}", str::from_utf8(table.as_slice())?)?)
+    Ok(format!(in alloc; "t|{table}")?)
 }
 
 /// Runs one graph with its report, under the definition and under its printed table.
-fn report_holds<R: Abort + Threads + Sync>(rt: &R, alloc: Global, case: &str) -> Result<(), Fail> {
+fn report_holds<R: Threads + Sync>(rt: &R, alloc: Global, case: &str) -> Result<(), Fail> {
     let (first, report) = case.split_once('\n').unwrap_or((case, ""));
     let (words, joined) = first.split_once(" | ").ok_or("a graph")?;
     let end = if report.is_empty() { "" } else { "\n" };
@@ -59,7 +58,7 @@ fn reports_of_graphs(rt: HostRuntime) -> Result<(), Fail> {
 }
 
 /// What is shown of a step that trims is the block of what the command `trim` leaves.
-fn is_trimmed<R: Abort + Threads + Sync>(
+fn is_trimmed<R: Threads + Sync>(
     rt: &R,
     alloc: Global,
     whole: &str,
@@ -67,11 +66,11 @@ fn is_trimmed<R: Abort + Threads + Sync>(
 ) -> Result<(), Fail> {
     let trim = format!(in alloc; "trim {budget}")?;
     let trimmed = output_of(rt, alloc, trim.as_str(), whole)?;
-    let block = output_of(rt, alloc, "decode q.bdl Req", str::from_utf8(&trimmed)?)?;
+    let block = output_of(rt, alloc, "decode q.bdl Req", trimmed.as_str())?;
     let input = format!(in alloc;
         "service a all\nstart 0 a\nrecv 1 a {whole}\ntrim 2 1 {budget}\nshow 2\n"
     )?;
-    let text = format!(in alloc; "step 2\n{}", str::from_utf8(&block)?)?;
+    let text = format!(in alloc; "step 2\n{block}")?;
     holds(rt, alloc, FILES, RUN, input.as_bytes(), 0, text.as_str())
 }
 
@@ -91,7 +90,7 @@ static JSON: &str =
 service a all / start 0 a => []"#;
 
 /// Runs one graph with its report as JSON.
-fn json_holds<R: Abort + Threads + Sync>(rt: &R, alloc: Global, row: &str) -> Result<(), Fail> {
+fn json_holds<R: Threads + Sync>(rt: &R, alloc: Global, row: &str) -> Result<(), Fail> {
     let (joined, report) = row.split_once(" => ").ok_or("a report")?;
     let input = graph(alloc, joined)?;
     let text = format!(in alloc; "{report}\n")?;
@@ -164,13 +163,13 @@ fn load_holds<R: Abort + Threads + Sync>(rt: &R, alloc: Global, row: &Load) -> R
     let (rounds, head, least, hits, seen) = row;
     let load = format!(in alloc; "load {rounds}")?;
     let output = output_of(rt, alloc, load.as_str(), "")?;
-    assert!(rt; output.starts_with(head.as_bytes()), "{rounds}");
+    assert!(rt; output.starts_with(*head), "{rounds}");
     let counts = counts(alloc, *rounds)?;
     let numbers = numbers(alloc, *seen)?;
     let tail = format!(in alloc;
         "\n{least}\nhits exact {hits}{{{counts}}}\nseen exact {{{numbers}}}\n"
     )?;
-    assert!(rt; output.ends_with(tail.as_bytes()), "{rounds}");
+    assert!(rt; output.ends_with(tail.as_str()), "{rounds}");
     Ok(())
 }
 

@@ -1,10 +1,8 @@
 //! Tables that are printed, and files that are no printed tables.
 
-use crate::calls::holds;
 use crate::runs::graph;
-use program_calls::FILES;
+use program_calls::{FILES, holds};
 use std::alloc::Global;
-use std::process::Abort;
 use std::test::Fail;
 use std::thread::Threads;
 
@@ -28,7 +26,7 @@ baggage table 1 / 0 0 a taint / 0 1 a taint => 3:1 DuplicateField"#;
 const INPUT: &[u8] = b"service a all\n";
 
 /// A file that is no printed table is refused.
-fn is_refused<R: Abort + Threads + Sync>(
+fn is_refused<R: Threads + Sync>(
     rt: &R,
     alloc: Global,
     content: &str,

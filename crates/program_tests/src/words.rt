@@ -1,7 +1,6 @@
 //! Words without a form.
 
-use crate::calls::is_told;
-use program_calls::{FILES, Objects, answer_of};
+use program_calls::{FILES, Objects, answer_to, is_told, words_of};
 use std::alloc::Global;
 use std::process::Abort;
 use std::test::Fail;
@@ -78,11 +77,25 @@ static REFUSED: [&str; 68] = [
     "run q.bdl Req 5 id",
 ];
 
+/// Words of which one is empty or has a blank, as no line has them.
+static UNCUT: [&[&str]; 5] = [
+    &[""],
+    &["trim", ""],
+    &["trim", "10 "],
+    &["trim 10"],
+    &["", "trim", "10"],
+];
+
 /// The program refuses the words, and the library and the source stay as they were.
-fn is_refused<R: Abort + Threads + Sync>(rt: &R, alloc: Global, line: &str) -> Result<(), Fail> {
+fn are_refused<R: Abort + Threads + Sync>(
+    rt: &R,
+    alloc: Global,
+    words: &[&str],
+) -> Result<(), Fail> {
     let mut objects = Objects::new(alloc, FILES, b"02f800\n")?;
-    let came = answer_of(rt, alloc, line, &mut objects)?;
-    is_told(rt, &came, line, 7, "words refused\n", b"02f800\n");
+    let came = answer_to(rt, alloc, words, &mut objects)?;
+    let line = format!(in alloc; "{words:?}")?;
+    is_told(&came, line.as_str(), 7, "words refused\n", b"02f800\n")?;
     let is_unasked = objects
         .library
         .asked()
@@ -93,8 +106,13 @@ fn is_refused<R: Abort + Threads + Sync>(rt: &R, alloc: Global, line: &str) -> R
 
 #[test]
 fn words_without_a_form(rt: HostRuntime) -> Result<(), Fail> {
+    let alloc = rt.alloc();
     for line in &REFUSED {
-        is_refused(&rt, rt.alloc(), line)?;
+        let words = words_of(alloc, line)?;
+        are_refused(&rt, alloc, words.as_slice())?;
+    }
+    for words in &UNCUT {
+        are_refused(&rt, alloc, words)?;
     }
     Ok(())
 }
