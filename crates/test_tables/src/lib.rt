@@ -5,20 +5,14 @@ use bdl_check::compile;
 use field_table::Table;
 use outside::SureLibrary;
 use std::alloc::Global;
-use std::process::Abort;
 use std::test::Fail;
 
 /// The table of a bag of a definition that stands in one file and has no fault.
-pub fn table_of(
-    rt: &impl Abort,
-    alloc: Global,
-    definition: &str,
-    bag: &str,
-) -> Result<Table, Fail> {
+pub fn table_of(alloc: Global, definition: &str, bag: &str) -> Result<Table, Fail> {
     let mut library = SureLibrary::new(alloc);
     library.add("bags.bdl", definition.as_bytes())?;
     match compile(alloc, &mut library, "bags.bdl", bag) {
         Ok(table) => Ok(table),
-        Err(_) => panic!(rt; "no table of {bag}: {definition}"),
+        Err(_) => Err(Fail::new(format_args!("no table of {bag}: {definition}"))),
     }
 }
