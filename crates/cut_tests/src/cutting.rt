@@ -83,6 +83,37 @@ fn cuts_to_budgets(rt: HostRuntime) -> Result<(), Fail> {
     Ok(())
 }
 
+/// That the list of the atoms, cut to the budgets of two rows in turn, is left as the row with the lesser budget says.
+fn expect_cut_twice(
+    rt: &impl Abort,
+    alloc: Global,
+    form: Form,
+    first: (u64, &str),
+    second: (u64, &str),
+) -> Result<(), Fail> {
+    assert!(rt; form.least_budget() <= first.0);
+    assert!(rt; form.least_budget() <= second.0);
+    let mut list = list_of(alloc, ATOMS)?;
+    trim(form, &mut list, first.0);
+    trim(form, &mut list, second.0);
+    let (_budget, left) = if first.0 <= second.0 { first } else { second };
+    expect_atoms(alloc, &list, left)
+}
+
+#[test]
+fn two_cuts_are_one(rt: HostRuntime) -> Result<(), Fail> {
+    let alloc = rt.alloc();
+    for (form, budget, _keep, left) in &CUTS {
+        for (other, budget_then, _keep, left_then) in &CUTS {
+            if form == other {
+                let (first, second) = ((*budget, *left), (*budget_then, *left_then));
+                expect_cut_twice(&rt, alloc, *form, first, second)?;
+            }
+        }
+    }
+    Ok(())
+}
+
 /// Forms, budgets, and how many atoms stay of one with a byte and one that is too long for form one.
 static WIDE_CUTS: [(Form, u64, usize); 9] = [
     (Form::One, 1, 0),
