@@ -4,8 +4,9 @@
  * a context is cut to it. Both are done on bytes, without any definition of what they mean. Who has the table of a definition reads and
  * writes single fields, as text. docs/FORMATS.md has the bytes, the tables and the texts.
  *
- * Each call is an export of the crate baggage_c and is proved to do what is said here: crates/baggage_c/src/exports.rt and
- * field_exports.rt have the statements. What no proof covers is what the caller owes, and nothing else:
+ * Behind each call stands an export of the crate baggage_c whose result is proved: crates/baggage_c/src/exports.rt and
+ * field_exports.rt have the statements. That this header says the same is read and tested. That memory is given back and that no state
+ * is kept is what Rattle's owned values give. The caller owes this:
  *
  * - A pointer and the length behind it, in a span too, are those of an array that can be read, or written where it is `room`, for the
  *   whole call, and that nobody else writes meanwhile. It may be null where the length is 0. No array has more than 2^63 - 1 bytes.
@@ -26,8 +27,9 @@
 extern "C" {
 #endif
 
-/* What a call came to. Form and budget are looked at before all else, and the room last; want of memory may come at any time between. Of the
- * other causes the first counts: of several contexts that of the first wrong one, and on a field in the order that the call names. */
+/* What a call came to. Form and budget are looked at before all else, and the room last; want of memory may come at any time behind form and
+ * budget. Of the other causes the first counts: of several contexts that of the first wrong one, and on a field in the order that the call
+ * names. */
 enum baggage_status {
     BAGGAGE_OK = 0,     /* done */
     BAGGAGE_FAULT = 1,  /* an input isn't the bytes of a context: the first such input, and its first fault */

@@ -1,7 +1,6 @@
 /* What a service in C does with contexts: merge two, cut one to a budget, send on what a channel carries, tell what is wrong with bytes,
  * and write and read a field by its name. It says nothing where all is as docs/FORMATS.md has it, and otherwise which line isn't. */
 #include <stdio.h>
-#include <stdlib.h>
 #include <string.h>
 
 #include "baggage.h"
@@ -93,9 +92,11 @@ static int writes_and_reads(void) {
     EXPECT(answer.status == BAGGAGE_OK && answer.code == BAGGAGE_EXACT && answer.size == 7);
     EXPECT(memcmp(room, "\"north\"", 7) == 0 && room[7] == 0xee);
 
-    /* Of the retries nothing is said; that may be because it was cut off. */
+    /* Of the retries nothing is said, and nothing was cut off. */
     answer = baggage_read_field(TEXT(TABLE), sent, sent_len, TEXT("retries"), room, sizeof room);
     EXPECT(answer.status == BAGGAGE_OK && answer.code == BAGGAGE_EXACT && answer.size == 3 && memcmp(room, "0{}", 3) == 0);
+
+    /* Behind a cut nobody can tell. */
     uint8_t cut[16];
     answer = baggage_trim(BAGGAGE_FORM_ONE, sent, sent_len, 9, cut, sizeof cut);
     EXPECT(answer.status == BAGGAGE_OK && answer.size == 4);

@@ -1,8 +1,7 @@
 /* forward A B N: sends on the contexts of the files A and B, N times, in form one and within 2^30 bytes. With N = 1 the result goes to
- * standard output. ../shared/tools/forward/measure_forward counts its instructions. */
+ * standard output. */
 #include <stdio.h>
 #include <stdlib.h>
-#include <string.h>
 
 #include "baggage.h"
 
