@@ -1,8 +1,7 @@
 -- The texts of all pieces, in order, and the bytes that they say.
-use Rattle.std.proofs.Common.{◌≡◌, ℕ, ◌+◌, ◌<◌, ◌≤◌, Option, None, Some, Result, Ok, Err, List, [], ◌∷◌, ◌++◌, length, map, take, refl, sym, ◌∙◌, ap, subst, arith}
+use Rattle.std.proofs.Common.{◌≡◌, ℕ, ◌+◌, ◌<◌, ◌≤◌, Result, Ok, Err, List, [], ◌∷◌, ◌++◌, length, length-append, map, take, refl, sym, ◌∙◌, ap, subst, arith}
 use Rattle.std.specs.Borrow.{Bor}
 use Rattle.std.specs.List.{All, flat_map, slice_index_or}
-use Rattle.std.specs.Option.{IsSome, option_map}
 use Rattle.std.specs.Result.{IfOk}
 use Rattle.std.proofs.lemmas.List.{get_or-map, get_or_default, length-map, map_push, take_more, take-map, flat_map_more}
 use Rattle.std.proofs.lemmas.List.Concat.{concat_is}
@@ -20,7 +19,7 @@ use Rattle.text_carrier.specs.declared.pieces.Pieces.{Pieces}
 use Rattle.text_carrier.specs.Pieces.{Piece}
 use Rattle.text_carrier.specs.Rules.{piece_lines}
 use Rattle.text_carrier.specs.Collecting.{AreWhole, Collects, SaySome}
-use Rattle.text_carrier.specs.Views.{AreTextsOf, IsData, IsDecoded, IsJoinFault, IsLineFault, IsOrderFault, IsRefused, Keeps, all_bytes, data_bytes, fault_at}
+use Rattle.text_carrier.specs.Views.{AreTextsOf, IsData, IsJoinFault, IsLineFault, IsOrderFault, IsRefused, Keeps, all_bytes, data_bytes, fault_at}
 use Rattle.text_carrier.proofs.Standard.{decoded_bytes}
 
 -- What borrowed texts are.
@@ -33,34 +32,25 @@ pub data_at : (texts : List (Bor (List ℕ))) (i : ℕ) (d : Bor (List ℕ)) →
 data_at texts i d within all =
     subst IsData (get_or-map (λ (t : Bor (List ℕ)). t.now) texts i d [] within) (All-get_or IsData (texts_of texts) i [] (omega (arith, length-map texts (λ (t : Bor (List ℕ)). t.now))) all)
 
-pub is_decoded : {V : Type 0} (items : V → List ℕ) (word : List ℕ) (o : Option V) → IsData word → IsDecoded word (option_map items o) → IsSome o
-is_decoded items word None (bytes, are, is) none = absurd (none bytes are is)
-is_decoded items word (Some v) told decoded = refl
-
-pub part_bytes : {V : Type 0} (items : V → List ℕ) (word : List ℕ) (o : Option V) (part : V) → o ≡ Some part → IsDecoded word (option_map items o) → items part ≡ data_bytes word
-part_bytes items word None part is decoded = absurd (cc is)
-part_bytes items word (Some v) part is decoded =
-    let same : v ≡ part = cc is in ap items (sym same) ∙ decoded_bytes word (items v) decoded.0 decoded.1
-
 -- ---- the first texts
 
-pub joined_more : (texts : List (Bor (List ℕ))) (i : ℕ) (d : Bor (List ℕ)) (bytes part : List ℕ) → i < length texts → bytes ≡ all_bytes (texts_of (take i texts)) → part ≡ data_bytes (slice_index_or texts i d).now
-    → bytes ++ part ≡ all_bytes (texts_of (take (i + 1) texts))
-joined_more texts i d bytes part within so_far next =
+pub joined_more : (texts : List (Bor (List ℕ))) (i : ℕ) (d : Bor (List ℕ)) (bytes more : List ℕ) → i < length texts → bytes ≡ all_bytes (texts_of (take i texts))
+    → more ≡ bytes ++ data_bytes (slice_index_or texts i d).now → more ≡ all_bytes (texts_of (take (i + 1) texts))
+joined_more texts i d bytes more within so_far next =
     let text = slice_index_or texts i d in
     let front = texts_of (take i texts) in
-    let more : texts_of (take (i + 1) texts) ≡ front ++ text.now ∷ [] = ap texts_of (take_more texts i d within) ∙ map_push (λ (t : Bor (List ℕ)). t.now) (take i texts) text in
-    ap (λ (bs : List ℕ). bs ++ part) so_far ∙ ap (λ (p : List ℕ). all_bytes front ++ p) next ∙ flat_map_more data_bytes [] front text.now ∙ ap all_bytes (sym more)
+    let one_more : texts_of (take (i + 1) texts) ≡ front ++ text.now ∷ [] = ap texts_of (take_more texts i d within) ∙ map_push (λ (t : Bor (List ℕ)). t.now) (take i texts) text in
+    next ∙ ap (λ (bs : List ℕ). bs ++ data_bytes text.now) so_far ∙ flat_map_more data_bytes [] front text.now ∙ ap all_bytes (sym one_more)
 
-pub joined_less : (texts : List (Bor (List ℕ))) (i : ℕ) (d : Bor (List ℕ)) (bytes part : List ℕ) → i < length texts → bytes ≡ all_bytes (texts_of (take i texts)) → part ≡ data_bytes (slice_index_or texts i d).now
-    → length bytes + length part ≤ length (all_bytes (texts_of texts))
-joined_less texts i d bytes part within so_far next =
+pub joined_less : (texts : List (Bor (List ℕ))) (i : ℕ) (d : Bor (List ℕ)) (bytes more : List ℕ) → i < length texts → bytes ≡ all_bytes (texts_of (take i texts))
+    → more ≡ bytes ++ data_bytes (slice_index_or texts i d).now → length more ≤ length (all_bytes (texts_of texts))
+joined_less texts i d bytes more within so_far next =
     let now : Bor (List ℕ) → List ℕ = λ t. t.now in
     let within' : i < length (texts_of texts) = omega (arith, length-map texts now) in
     let limit = length-flat_map-take data_bytes (texts_of texts) i [] within' in
     let front : length bytes ≡ length (flat_map data_bytes (take i (texts_of texts))) = ap length (so_far ∙ ap all_bytes (sym (take-map now i texts))) in
-    let here : length part ≡ length (data_bytes (slice_index_or (texts_of texts) i [])) = ap length (next ∙ ap data_bytes (sym (get_or-map now texts i d [] within))) in
-    omega (arith, limit, front, here)
+    let here : length (data_bytes (slice_index_or texts i d).now) ≡ length (data_bytes (slice_index_or (texts_of texts) i [])) = ap (λ word. length (data_bytes word)) (sym (get_or-map now texts i d [] within)) in
+    omega (arith, limit, front, here, ap length next, length-append bytes (data_bytes (slice_index_or texts i d).now))
 
 -- ---- all texts
 

@@ -1,11 +1,11 @@
 -- What is known of the base64 of the standard alphabet, with padding: it is consistent and strict, and none of its bytes is a space, a line feed or a carriage return.
-use Rattle.std.proofs.Common.{◌≡◌, ◌⊎◌, inl, inr, ℕ, ◌+◌, ◌*◌, ◌/◌, ◌%◌, ◌<◌, ◌≤◌, ◌==◌, nat_lt, true, false, Result, Ok, List, [], ◌∷◌, length, replicate, slice_index, codes, refl, sym, ◌∙◌, ap, subst, arith}
+use Rattle.std.proofs.Common.{◌≡◌, ◌⊎◌, inl, inr, ℕ, ◌+◌, ◌*◌, ◌/◌, ◌%◌, ◌<◌, ◌≤◌, ◌==◌, nat_lt, true, false, Result, Ok, List, [], ◌∷◌, ◌++◌, length, take, drop, replicate, slice_index, codes, refl, sym, ◌∙◌, ap, subst, arith}
 use Rattle.std.specs.List.{All}
 use Rattle.std.specs.Option.{unwrap_or}
 use Rattle.std.specs.Result.{result_ok}
 use Rattle.std.specs.Str.{bytes_eq}
 use Rattle.std.proofs.lemmas.Bool.{cases_lt, ltb-true, ne_eqb, cond-false, false_from_ne_true}
-use Rattle.std.proofs.lemmas.List.{get_or_past, length-append, length-replicate}
+use Rattle.std.proofs.lemmas.List.{append-nil, get_or_past, length-append, length-replicate, take-append-drop}
 use Rattle.std.proofs.lemmas.List.Elements.{All-nil, All-cons, All-append, All-replicate}
 use Rattle.std.proofs.lemmas.Slice.Eq.{bytes_eq-Decides}
 use Rattle.base64.specs.Engines.{standard}
@@ -17,7 +17,7 @@ use Rattle.base64.proofs.EngineFacts.{decode_of-encode_of, encode_of-nil}
 use Rattle.base64.proofs.RoundTrip.{length-encode_symbols}
 use Rattle.base64.proofs.Tables.{all_below_at}
 use Rattle.text_carrier.specs.Pieces.{data_text}
-use Rattle.text_carrier.specs.Views.{IsData, data_bytes}
+use Rattle.text_carrier.specs.Views.{data_bytes}
 
 pub consistent : IsConsistent standard
 consistent = refl
@@ -129,9 +129,18 @@ bytes_told (byte ∷ bytes) are =
     let read = ap (decode_of standard) (some_data all (omega arith)) ∙ decodes all are in
     cond-false (bytes_eq word (codes "-")) [] (unwrap_or (result_ok (decode_of standard word)) []) dashed ∙ ap (λ (r : Result (List ℕ) DecodeError). unwrap_or (result_ok r) []) read
 
--- The text of some bytes isn't empty, and says them.
-pub is_data : (word : List ℕ) → IsData word → 0 < length word
-is_data word (bytes, are, is) = subst (λ w. 0 < length w) (sym is) (data_some bytes)
+-- A dash says no bytes.
+pub dash_appended : (word bytes : List ℕ) → word ≡ codes "-" → bytes ≡ bytes ++ data_bytes word
+dash_appended word bytes is = sym (ap (λ (w : List ℕ). bytes ++ data_bytes w) is ∙ append-nil bytes)
 
+-- Any other word says what it is decoded to.
+pub decoded_appended : (word bytes more : List ℕ) (start : ℕ) → (word ≡ codes "-" → ⊥) → decode_of standard word ≡ Ok (drop start more) → take start more ≡ bytes → more ≡ bytes ++ data_bytes word
+decoded_appended word bytes more start other read front =
+    let dashed : bytes_eq word (codes "-") ≡ false = false_from_ne_true (bytes_eq word (codes "-")) (λ e. other ((bytes_eq-Decides word (codes "-")).0 e)) in
+    let found = ap (λ (r : Result (List ℕ) DecodeError). unwrap_or (result_ok r) []) read in
+    let said : data_bytes word ≡ drop start more = cond-false (bytes_eq word (codes "-")) [] (unwrap_or (result_ok (decode_of standard word)) []) dashed ∙ found in
+    sym (take-append-drop start more) ∙ ap (λ (bs : List ℕ). bs ++ drop start more) front ∙ ap (λ (bs : List ℕ). bytes ++ bs) (sym said)
+
+-- The text of some bytes says them.
 pub decoded_bytes : (word bytes : List ℕ) → IsBytes bytes → word ≡ data_text bytes → bytes ≡ data_bytes word
 decoded_bytes word bytes are is = sym (ap data_bytes is ∙ bytes_told bytes are)

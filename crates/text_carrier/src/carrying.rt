@@ -6,7 +6,6 @@ ghost use Rattle.text_carrier.specs.Pieces.{line_of, data_text};
 
 use crate::{CARRIED_MAX, WIDTH_MAX, WIDTH_MIN};
 use base64::engine::general_purpose::STANDARD;
-use itoa::Buffer;
 use outside::Memory;
 use std::alloc::Global;
 
@@ -27,18 +26,13 @@ fn put_line(place: usize, count: usize, bytes: &[u8], into: &mut String) -> Resu
     ensures { OnOk result (string_bytes into.new
         ≡ string_bytes into.old ++ (line_of place count (data_text bytes.now) ++ 10 ∷ [])) }
 {
-    let mut digits = Buffer::new();
-    into.push_str("p ")?;
-    into.push_str(digits.format(place))?;
-    into.push(' ')?;
-    into.push_str(digits.format(count))?;
-    into.push(' ')?;
+    write!(into, "p {place} {count} ")?;
     put_data(bytes, into)?;
     into.push('\n')?;
     Ok(())
 }
 
-/// The lines of the pieces of some bytes: `width` bytes each, and the last with the rest.
+/// The lines of the pieces of some bytes: `width` bytes each, and the last with the rest. No bytes are one piece, whose text is `-`.
 ///
 /// See `docs/FORMATS.md` for the form of a line. [`crate::collect`] reads them back, in any order.
 pub fn carry(alloc: Global, bytes: &[u8], width: usize) -> Result<Vec<u8>, Memory>

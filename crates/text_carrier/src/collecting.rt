@@ -10,7 +10,7 @@ ghost use Rattle.text_carrier.specs.Collecting.{Collects};
 ghost use Rattle.text_carrier.specs.Views.{Keeps, IsData, IsLineFault, IsJoinFault, all_bytes};
 
 use crate::CARRIED_MAX;
-use crate::data::decode;
+use crate::data::append_data;
 use crate::faults::CarryFault;
 use crate::pieces::Pieces;
 use std::alloc::Global;
@@ -39,11 +39,10 @@ fn join(alloc: Global, texts: &[&[u8]]) -> Result<Vec<u8>, CarryFault>
 {
     let mut bytes = Vec::new(alloc);
     for text in texts {
-        let part = decode(alloc, text)?.unwrap();
-        if part.len() > CARRIED_MAX - bytes.len() {
+        append_data(text, &mut bytes)?;
+        if CARRIED_MAX < bytes.len() {
             return Err(CarryFault::TooManyBytes);
         }
-        bytes.extend_from_slice(part.as_slice())?;
     }
     Ok(bytes)
 }

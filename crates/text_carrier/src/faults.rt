@@ -1,7 +1,7 @@
 //! Why lines give no bytes.
 
 use outside::Memory;
-use std::alloc::{AllocError, AllocFailed};
+use std::alloc::AllocFailed;
 use std::fmt;
 
 /// The rule that a line breaks. At one line the first of these counts.
@@ -19,7 +19,8 @@ pub enum CarryCode {
     Clash,
 }
 
-/// Why lines give no bytes. The first bad line counts before all else, and then the first of the others.
+/// Why lines give no bytes. The first bad line counts before all else, and then the first of the others; but want of memory
+/// may come before any of them.
 #[derive(Clone, Copy, Debug, PartialEq, Eq)]
 pub enum CarryFault {
     /// The line of this number, from 1, is the first bad one, and breaks this rule.
@@ -30,7 +31,7 @@ pub enum CarryFault {
     Missing { piece: u64 },
     /// The pieces have more than [`crate::CARRIED_MAX`] bytes in all.
     TooManyBytes,
-    /// There is no memory for the bytes.
+    /// There is no memory for the bytes, or for what is kept of the lines.
     Memory,
 }
 
@@ -76,17 +77,6 @@ impl From<Memory> for CarryFault {
     ghost from_gives = { λ _ fault. fault ≡ faults.Memory };
 
     fn from(_want: Memory) -> CarryFault {
-        CarryFault::Memory
-    }
-}
-
-impl From<AllocError> for CarryFault {
-    ghost use Rattle.std.specs.Prelude.{◌≡◌};
-    ghost use Rattle.text_carrier.specs.declared.faults.CarryFault.TheVariants as faults;
-
-    ghost from_gives = { λ _ fault. fault ≡ faults.Memory };
-
-    fn from(_error: AllocError) -> CarryFault {
         CarryFault::Memory
     }
 }
