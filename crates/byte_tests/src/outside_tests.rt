@@ -3,9 +3,8 @@
 ghost use Rattle.std.specs.Prelude.{◌≡◌, ◌+◌, ◌^◌, ◌<◌, length};
 
 use outside::{
-    FETCH_MAX, Gate, Library, LibraryFault, Memory, MemoryLibrary, MemorySink, MemorySource,
-    Octets, Open, ReadFault, Sink, Source, SureLibrary, SureSink, SureSource, Text, Words,
-    read_all, write_all,
+    Gate, Library, LibraryFault, Memory, MemoryLibrary, MemorySink, MemorySource, Octets, Open,
+    ReadFault, Sink, Source, SureLibrary, SureSink, SureSource, Text, Words, read_all, write_all,
 };
 use std::alloc::Global;
 use std::test::Fail;
@@ -212,8 +211,8 @@ fn files(rt: HostRuntime) -> Result<(), Fail> {
 fn long_files(rt: HostRuntime) -> Result<(), Fail> {
     let alloc = rt.alloc();
     let mut library = MemoryLibrary::new(alloc, Vec::new(alloc));
-    library.add("f", &vec![in alloc; b'a'; FETCH_MAX + 1]?)?;
+    library.add("f", &vec![in alloc; b'a'; 1_048_578]?)?;
     let found = fetches(alloc, &mut library, "f");
-    assert!(rt; matches!(&found, Ok(Some(file)) if file.len() == FETCH_MAX));
+    assert!(rt; matches!(&found, Ok(Some(file)) if file.len() == 1_048_577));
     Ok(())
 }

@@ -2,6 +2,8 @@
 
 use crate::unchanged::expect_unchanged;
 use field_calls::{FieldRefusal, State, read_field_into, write_field_into};
+use std::alloc::Global;
+use std::process::Abort;
 use std::test::Fail;
 use table_text::TableCode;
 use test_texts::{bytes_of, expect_bytes};
@@ -10,7 +12,7 @@ use wire_bytes::{ByteCode, Form};
 const TABLE: &str =
     "baggage table 1\n0 0 zone scalar string\n0 1 retries counter\n0 2 items map fixed64 bag\n1 0 coupons set string\n";
 
-/// The room that is tried in each test: as long as what is written, longer, and shorter.
+/// By how many bytes the rooms are longer than what is written. A room that is a byte shorter is tried by itself.
 static SPARE: [usize; 3] = [0, 1, 100];
 
 /// Contexts, a name, and what is read of the field.
@@ -108,7 +110,7 @@ fn writes_fields(rt: HostRuntime) -> Result<(), Fail> {
 }
 
 /// Tables, contexts, a name, and why nothing is read.
-static UNREAD: [(&str, &str, &str, FieldRefusal); 9] = [
+static UNREAD: [(&str, &str, &str, FieldRefusal); 10] = [
     (
         "",
         "80",
@@ -148,6 +150,16 @@ static UNREAD: [(&str, &str, &str, FieldRefusal); 9] = [
             code: ByteCode::CutBody,
         },
     ),
+    // the bytes end inside a length behind an ill-typed atom
+    (
+        TABLE,
+        "02f8000200ff80",
+        "zone",
+        FieldRefusal::Fault {
+            offset: 6,
+            code: ByteCode::CutLength,
+        },
+    ),
     (
         TABLE,
         "02f8000200ff",
@@ -162,34 +174,86 @@ static UNREAD: [(&str, &str, &str, FieldRefusal); 9] = [
     ),
 ];
 
-/// A name, a text, and why nothing is written.
-static UNWRITTEN: [(&str, &str, FieldRefusal); 4] = [
-    ("zones", "\"north\"", FieldRefusal::NoField),
-    ("zones", "north", FieldRefusal::NoField),
-    ("zone", "north", FieldRefusal::NoWrite),
-    ("retries", "\"me\"", FieldRefusal::NoWrite),
+/// Tables, a name, a text, and why nothing is written.
+static UNWRITTEN: [(&str, &str, &str, FieldRefusal); 6] = [
+    (
+        "",
+        "zone",
+        "north",
+        FieldRefusal::Table {
+            line: 1,
+            code: TableCode::Head,
+        },
+    ),
+    (
+        "baggage table 1\n0 0 zone scalar string",
+        "zones",
+        "north",
+        FieldRefusal::Table {
+            line: 2,
+            code: TableCode::Form,
+        },
+    ),
+    (TABLE, "zones", "\"north\"", FieldRefusal::NoField),
+    (TABLE, "zones", "north", FieldRefusal::NoField),
+    (TABLE, "zone", "north", FieldRefusal::NoWrite),
+    (TABLE, "retries", "\"me\"", FieldRefusal::NoWrite),
 ];
+
+/// That a read is refused so, whatever the room, which stays as it was.
+fn expect_unread(
+    rt: &impl Abort,
+    alloc: Global,
+    inputs: (&[u8], &[u8], &[u8]),
+    refusal: FieldRefusal,
+    row: usize,
+) -> Result<(), Fail> {
+    let (table, context, name) = inputs;
+    for room_len in [0, 100] {
+        let mut room = Vec::from_elem(alloc, 238u8, room_len)?;
+        let answer = read_field_into(alloc, table, context, name, &mut room);
+        assert_eq!(rt; answer, Err(refusal), "row {row}");
+        expect_unchanged(rt, &room, row);
+    }
+    Ok(())
+}
+
+/// That a write is refused so, whatever the room, which stays as it was.
+fn expect_unwritten(
+    rt: &impl Abort,
+    alloc: Global,
+    inputs: (&[u8], &[u8], &[u8]),
+    refusal: FieldRefusal,
+    row: usize,
+) -> Result<(), Fail> {
+    let (table, name, text) = inputs;
+    for room_len in [0, 100] {
+        let mut room = Vec::from_elem(alloc, 238u8, room_len)?;
+        let answer = write_field_into(alloc, Form::One, table, name, text, &mut room);
+        assert_eq!(rt; answer, Err(refusal), "row {row}");
+        expect_unchanged(rt, &room, row);
+    }
+    Ok(())
+}
 
 #[test]
 fn refuses_fields(rt: HostRuntime) -> Result<(), Fail> {
     let alloc = rt.alloc();
-    let mut room = Vec::from_elem(alloc, 238u8, 100)?;
     for (row, (table, context, name, refusal)) in UNREAD.iter().enumerate() {
         let context = bytes_of(alloc, context)?;
-        let name = name.as_bytes();
-        let answer = read_field_into(alloc, table.as_bytes(), &context, name, &mut room);
-        assert_eq!(rt; answer, Err(*refusal), "row {row}");
-        expect_unchanged(&rt, &room, row);
+        let inputs = (table.as_bytes(), context.as_slice(), name.as_bytes());
+        expect_unread(&rt, alloc, inputs, *refusal, row)?;
     }
-    // a name that isn't UTF-8 is that of no slot
-    let answer = read_field_into(alloc, TABLE.as_bytes(), &[], &[0xff], &mut room);
-    assert_eq!(rt; answer, Err(FieldRefusal::NoField));
-    for (row, (name, text, refusal)) in UNWRITTEN.iter().enumerate() {
-        let (name, text) = (name.as_bytes(), text.as_bytes());
-        let table = TABLE.as_bytes();
-        let answer = write_field_into(alloc, Form::One, table, name, text, &mut room);
-        assert_eq!(rt; answer, Err(*refusal), "row {row}");
-        expect_unchanged(&rt, &room, row);
+    for (row, (table, name, text, refusal)) in UNWRITTEN.iter().enumerate() {
+        let inputs = (table.as_bytes(), name.as_bytes(), text.as_bytes());
+        expect_unwritten(&rt, alloc, inputs, *refusal, row)?;
     }
     Ok(())
+}
+
+/// A name that isn't UTF-8 is that of no slot.
+#[test]
+fn no_slot_has_a_name_of_other_bytes(rt: HostRuntime) -> Result<(), Fail> {
+    let inputs = (TABLE.as_bytes(), b"".as_slice(), b"\xff".as_slice());
+    expect_unread(&rt, rt.alloc(), inputs, FieldRefusal::NoField, 0)
 }

@@ -16,10 +16,11 @@ fn cut(rt: &impl Abort, list: &mut AtomList, keep: usize) {
 }
 
 /// Lists, their bytes, how many atoms are kept before a marker, and what is left then.
-static CUTS: [(&str, &str, usize, &str); 3] = [
+static CUTS: [(&str, &str, usize, &str); 4] = [
     ("f800 0000000007 -", "02f80005000000000700", 1, "f800 -"),
     ("f800 0000000007 -", "02f80005000000000700", 0, "-"),
     ("f800 0001 f801", "02f80002000102f801", 2, "f800 0001 -"),
+    ("f800 0000000007", "02f800050000000007", 1, "f800 -"),
 ];
 
 /// That a list is cut as this, and that its copy isn't.
@@ -161,7 +162,7 @@ fn lists_that_grow(rt: HostRuntime) -> Result<(), Fail> {
     expect_atoms(alloc, &grown.finish()?, "f801")
 }
 
-/// The atoms of a list from a place on, in a list of their own.
+/// All atoms of a list, in a list of their own.
 fn rest_of(alloc: Global, list: &AtomList) -> Result<AtomList, Memory> {
     let room = list.room().ok_or(Memory)?;
     let mut built = Builder::with_room(alloc, room, list.len())?;
@@ -213,7 +214,7 @@ fn lists_of_other_lists(rt: HostRuntime) -> Result<(), Fail> {
 
 /// Contexts, how many atoms stand before their first marker, numbers of fields one in another, and whether the innermost
 /// is ended.
-static ENDED: [(&str, usize, &[u64], bool); 11] = [
+static ENDED: [(&str, usize, &[u64], bool); 13] = [
     ("f800 0007 -", 2, &[0], false),
     ("f800 0007 -", 2, &[1], false),
     ("f800 0007 f801 -", 3, &[0], true),
@@ -227,6 +228,9 @@ static ENDED: [(&str, usize, &[u64], bool); 11] = [
     (NESTED, 7, &[0, 9], true),
     ("-", 0, &[0], false),
     ("0001 0002 f800", 3, &[5], true),
+    // a field at the deepest level
+    (DEEPEST_CUT, 17, &[0; 16], false),
+    (DEEPEST_ENDED, 18, &[0; 16], true),
 ];
 
 /// A field that is open at level 0, a map below it, and another field.
@@ -254,6 +258,14 @@ fn ended_fields(rt: HostRuntime) -> Result<(), Fail> {
 /// The 16 headers of the levels from 0 to 15, and a datum below them.
 const DEEPEST: &str =
     "f800 f000 e800 e000 d800 d000 c800 c000 b800 b000 a800 a000 9800 9000 8800 8000 00";
+
+/// The same, cut behind the datum.
+const DEEPEST_CUT: &str =
+    "f800 f000 e800 e000 d800 d000 c800 c000 b800 b000 a800 a000 9800 9000 8800 8000 00 -";
+
+/// The same, cut behind the header that comes after the datum.
+const DEEPEST_ENDED: &str =
+    "f800 f000 e800 e000 d800 d000 c800 c000 b800 b000 a800 a000 9800 9000 8800 8000 00 8001 -";
 
 /// Contexts, places in them, and the places of the headers around each.
 static PLACES: [(&str, usize, &[usize]); 12] = [

@@ -5,6 +5,7 @@ ghost use Rattle.topological_order.specs.Graphs.{graph_of, IsClosed};
 
 use outside::Memory;
 use std::alloc::Global;
+use std::process::Abort;
 use std::test::Fail;
 use topological_order::{Sorted, topological_order};
 
@@ -73,6 +74,25 @@ fn chain(alloc: Global, len: usize) -> Result<Vec<Vec<usize>>, Memory> {
     Ok(graph)
 }
 
+/// Whether a node stands in an order, behind all that its row names.
+fn stands_behind(order: &[usize], node: usize, row: &[usize]) -> bool {
+    let Some(place) = order.iter().position(|other| *other == node) else {
+        return false;
+    };
+    let Some((before, _rest)) = order.split_at_checked(place) else {
+        return false;
+    };
+    row.iter().all(|to| before.contains(to))
+}
+
+/// That an order has each node of a graph once, behind all that its row names.
+fn expect_order(rt: &impl Abort, order: &[usize], rows: &[&[usize]]) {
+    assert_eq!(rt; order.len(), rows.len());
+    for (node, row) in rows.iter().enumerate() {
+        assert!(rt; stands_behind(order, node, row), "{node} in {rows:?}");
+    }
+}
+
 #[test]
 fn graphs_have_orders_or_cycles(rt: HostRuntime) -> Result<(), Fail> {
     let alloc = rt.alloc();
@@ -81,7 +101,7 @@ fn graphs_have_orders_or_cycles(rt: HostRuntime) -> Result<(), Fail> {
             Sorted::Cycle(node) => assert_eq!(rt; Some(node), *want, "{rows:?}"),
             Sorted::Order(order) => {
                 assert!(rt; want.is_none(), "{rows:?}");
-                assert_eq!(rt; order.len(), rows.len());
+                expect_order(&rt, &order, rows);
             }
         }
     }

@@ -172,6 +172,7 @@ fn kinds_are_compared(rt: HostRuntime) -> Result<(), Fail> {
     assert!(rt; !pair.is_same(&ScalarKind::Packed(KindList::new(alloc))));
     assert!(rt; !pair.is_same(&ScalarKind::Str) && !ScalarKind::Str.is_same(&pair));
     assert!(rt; ScalarKind::Str.is_same(&ScalarKind::Str));
+    assert!(rt; ScalarKind::Str.copy_codec()?.is_same(&ScalarKind::Str));
     assert!(rt; !ScalarKind::Str.is_same(&ScalarKind::Bytes));
     Ok(())
 }

@@ -23,6 +23,15 @@ const REQUEST: &str = "baggage table 1
 0 5 top greatest uint32
 ";
 
+/// The table of a bag without the field `top`.
+const FIVE: &str = "baggage table 1
+0 0 id scalar fixed32
+0 1 tags set string
+0 2 hops counter
+0 3 debug taint
+0 4 load map string scalar uint32
+";
+
 const NESTED: &str = "baggage table 1
 0 0 first taint
 0 5 sub bag
@@ -32,11 +41,16 @@ const NESTED: &str = "baggage table 1
 ";
 
 // The text of each table with the names of its accessors, and with names that none has.
-static NAMES: [(&str, &str, &str); 2] = [
+static NAMES: [(&str, &str, &str); 3] = [
     (
         REQUEST,
         "id tags hops debug load top",
         "i ids Req Req.id load. LOAD",
+    ),
+    (
+        FIVE,
+        "id tags hops debug load",
+        "top i ids Req Req.id load. LOAD",
     ),
     (
         NESTED,
