@@ -1,16 +1,17 @@
 //! Definitions, and what comes of one in place of another.
 
-use crate::verdicts::{table_of, verdict_on};
+use crate::verdicts::verdict_on;
 use def_evolve::{fitting_tables_are_safe, tables_have_one_verdict, wider_kinds_spell_alike};
 use std::test::Fail;
+use test_tables::table_of;
 
 /// A field of each kind but a bag.
 const MIXED: &str =
-    "bag B { fixed32 id = 0; set<string> tags = 1; counter hops = 2; taint debug = 3; map<string, uint32> load = 4; }";
+    "bag B { fixed32 id = 0; set<string> tags = 1; counter hops = 2; taint debug = 3; map<string, uint32> load = 4; greatest<uint32> top = 6; }";
 
 /// Definitions that may take the place of `MIXED` or not, and what comes of it.
 static GROWN: [(&str, &str); 13] = [
-    (MIXED, "ok 5"),
+    (MIXED, "ok 6"),
     (
         "bag B { fixed32 id = 0; set<string> tags = 1; counter hops = 2; taint debug = 3; map<string, uint64> load = 4; }",
         "ok 5",
@@ -292,9 +293,9 @@ static PAIRS: [(&str, &str, &str); 46] = [
 #[test]
 fn definitions_that_grew(rt: HostRuntime) -> Result<(), Fail> {
     let alloc = rt.alloc();
-    let old = table_of(&rt, alloc, MIXED)?;
+    let old = table_of(alloc, MIXED, "B")?;
     for (definition, wanted) in &GROWN {
-        let new = table_of(&rt, alloc, definition)?;
+        let new = table_of(alloc, definition, "B")?;
         let answer = verdict_on(alloc, &old, &new)?;
         assert_eq!(rt; answer.as_str(), *wanted, "{definition}");
     }
@@ -305,8 +306,8 @@ fn definitions_that_grew(rt: HostRuntime) -> Result<(), Fail> {
 fn definitions_in_place_of_others(rt: HostRuntime) -> Result<(), Fail> {
     let alloc = rt.alloc();
     for (before, after, wanted) in &PAIRS {
-        let old = table_of(&rt, alloc, before)?;
-        let new = table_of(&rt, alloc, after)?;
+        let old = table_of(alloc, before, "B")?;
+        let new = table_of(alloc, after, "B")?;
         let answer = verdict_on(alloc, &old, &new)?;
         assert_eq!(rt; answer.as_str(), *wanted, "{before} {after}");
     }

@@ -1,9 +1,10 @@
 //! Each scalar word in place of each.
 
-use crate::verdicts::{table_of, verdict_on};
+use crate::verdicts::verdict_on;
 use std::alloc::Global;
 use std::process::Abort;
 use std::test::Fail;
+use test_tables::table_of;
 
 /// The words of scalars, each with those that may take its place, between blanks.
 static WORDS: [(&str, &str); 13] = [
@@ -36,9 +37,9 @@ fn with_word(alloc: Global, kind: &str, word: &str) -> Result<String, Fail> {
 /// Each word may take the place of the others in a type as the table says. Where one may not, the answer is this.
 fn each_word(rt: &impl Abort, alloc: Global, kind: &str, breaks: &str) -> Result<(), Fail> {
     for (word, wider) in &WORDS {
-        let old = table_of(rt, alloc, with_word(alloc, kind, word)?.as_str())?;
+        let old = table_of(alloc, with_word(alloc, kind, word)?.as_str(), "B")?;
         for (other, _) in &WORDS {
-            let new = table_of(rt, alloc, with_word(alloc, kind, other)?.as_str())?;
+            let new = table_of(alloc, with_word(alloc, kind, other)?.as_str(), "B")?;
             let fits = wider.contains(format!(in alloc; " {other} ")?.as_str());
             let wanted = if fits { "ok 1" } else { breaks };
             let answer = verdict_on(alloc, &old, &new)?;
