@@ -1,28 +1,16 @@
 //! The whole way, from a definition to what is read behind services that know no type.
 
 use bag_codec::{State, Val};
-use bdl_check::compile;
 use checkout_client::{FieldFault, read_field, write_field};
 use field_table::Table;
 use forwarding::forward;
-use outside::SureLibrary;
 use scalar_types::Scalar;
 use std::alloc::Global;
-use std::process::Abort;
 use std::test::Fail;
+use test_tables::table_of;
 use wire_bytes::Form;
 
 const DEFINITION: &str = "bag Req { uint64 order = 0; set<string> coupons = 1; }";
-
-/// The table of the bag of a request.
-fn table_of(rt: &impl Abort, alloc: Global, definition: &str) -> Result<Table, Fail> {
-    let mut library = SureLibrary::new(alloc);
-    library.add("request.bdl", definition.as_bytes())?;
-    match compile(alloc, &mut library, "request.bdl", "Req") {
-        Ok(table) => Ok(table),
-        Err(_) => panic!(rt; "{definition}"),
-    }
-}
 
 /// The bytes that two branches send: the one writes the order, the other a coupon.
 fn branches(alloc: Global, table: &Table) -> Result<(Vec<u8>, Vec<u8>), Fail> {
@@ -58,7 +46,7 @@ fn coupons_of(alloc: Global, table: &Table, bytes: &[u8]) -> Result<(State, Stri
 #[test]
 fn two_branches_come_together(rt: HostRuntime) -> Result<(), Fail> {
     let alloc = rt.alloc();
-    let table = table_of(&rt, alloc, DEFINITION)?;
+    let table = table_of(alloc, DEFINITION, "Req")?;
     let (order, coupon) = branches(alloc, &table)?;
 
     // A service that knows no definition merges them. There is room for both, so all that is read is exact.
@@ -78,7 +66,7 @@ fn two_branches_come_together(rt: HostRuntime) -> Result<(), Fail> {
 #[test]
 fn what_is_cut_off_is_told(rt: HostRuntime) -> Result<(), Fail> {
     let alloc = rt.alloc();
-    let table = table_of(&rt, alloc, DEFINITION)?;
+    let table = table_of(alloc, DEFINITION, "Req")?;
     let (order, coupon) = branches(alloc, &table)?;
 
     // With a byte less the coupon is cut off. The reader is told that there may have been more coupons. The order is whole.
@@ -92,7 +80,7 @@ fn what_is_cut_off_is_told(rt: HostRuntime) -> Result<(), Fail> {
 #[test]
 fn refusals(rt: HostRuntime) -> Result<(), Fail> {
     let alloc = rt.alloc();
-    let table = table_of(&rt, alloc, DEFINITION)?;
+    let table = table_of(alloc, DEFINITION, "Req")?;
     assert!(rt; write_field(alloc, &table, "orders", "7")?.is_none());
     assert!(rt; write_field(alloc, &table, "order", "seven")?.is_none());
     let unknown = read_field(alloc, &table, b"", "orders");
