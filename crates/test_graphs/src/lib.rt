@@ -1,24 +1,24 @@
 //! Graphs and contexts from texts, and long texts of graphs, for the crates of tests.
 #![tactic(auto)]
 
+ghost use Rattle.std.specs.Prelude.{IfOk};
 ghost use Rattle.trace_model.specs.Graphs.{IsOfTable};
 
 use atom_list::Context;
 use field_table::Table;
 use graph_text::{Graph, read_graph};
 use std::alloc::Global;
-use std::process::Abort;
 use std::test::Fail;
 use text_lines::hex_bytes;
 use wire_bytes::read_context_owned;
 
 /// The graph of a text that says one.
-pub fn graph_of(rt: &impl Abort, alloc: Global, table: &Table, text: &str) -> Graph
-    ensures { IsOfTable table.now result }
+pub fn graph_of(alloc: Global, table: &Table, text: &str) -> Result<Graph, Fail>
+    ensures { IfOk result (IsOfTable table.now) }
 {
     match read_graph(alloc, table, text.as_bytes()) {
-        Ok(graph) => graph,
-        Err(fault) => panic!(rt; "{fault:?}"),
+        Ok(graph) => Ok(graph),
+        Err(fault) => Err(Fail::new(format_args!("{fault:?}"))),
     }
 }
 
@@ -28,9 +28,12 @@ pub fn context_of_bytes(alloc: Global, digits: &str) -> Result<Context, Fail> {
     Ok(read_context_owned(alloc, bytes)?)
 }
 
-/// The contexts whose digits stand in a text with this mark between them.
+/// The contexts whose digits stand in a text with this mark between them. An empty text says none.
 pub fn contexts_of_bytes(alloc: Global, joined: &str, mark: char) -> Result<Vec<Context>, Fail> {
     let mut contexts = Vec::new(alloc);
+    if joined.is_empty() {
+        return Ok(contexts);
+    }
     for digits in joined.split(mark) {
         contexts.push(context_of_bytes(alloc, digits)?)?;
     }
