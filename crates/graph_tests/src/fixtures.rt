@@ -1,59 +1,26 @@
-//! What several tests need: tables and graphs, each from a text, and long texts.
+//! What several tests need: definitions, and steps that are held to their rows.
 
-use bdl_check::compile;
-use field_table::Table;
-use graph_text::{Graph, read_graph};
-use outside::SureLibrary;
-use std::alloc::Global;
+use graph_text::Graph;
 use std::process::Abort;
-use std::test::Fail;
 
 /// A bag with a field of each type, and a small one with a bag inside.
-const DEFINITIONS: &str = "
+pub const DEFINITIONS: &str = "
 bag Request {
   fixed32 id = 0;
   set<string> tags = 1;
   counter hops = 2;
   taint debug = 3;
   map<string, uint32> load = 4;
+  greatest<uint32> top = 5;
 }
 bag Inner { bool ok = 2; counter n = 5; }
 bag Small { uint32 id = 0; Inner sub = 1; taint seen = 3; }
 ";
 
-/// The table of a bag.
-pub fn table_of(rt: &impl Abort, alloc: Global, bag: &str) -> Result<Table, Fail> {
-    let mut library = SureLibrary::new(alloc);
-    library.add("bags.bdl", DEFINITIONS.as_bytes())?;
-    match compile(alloc, &mut library, "bags.bdl", bag) {
-        Ok(table) => Ok(table),
-        Err(_) => panic!(rt; "no table of {bag}"),
-    }
-}
-
-/// The graph of a text that says one.
-pub fn graph_of(rt: &impl Abort, alloc: Global, table: &Table, text: &str) -> Graph {
-    match read_graph(alloc, table, text.as_bytes()) {
-        Ok(graph) => graph,
-        Err(fault) => panic!(rt; "{fault:?}"),
-    }
-}
-
-/// A text with a word so many times at the end.
-pub fn with_words(alloc: Global, text: &str, word: &str, times: usize) -> Result<String, Fail> {
-    let mut whole = String::from_str(alloc, text)?;
-    for _ in 0..times {
-        whole.push_str(word)?;
-    }
-    Ok(whole)
-}
-
-/// The text of a service that knows all, a start, and so many branches of that.
-pub fn star_text(alloc: Global, branches: usize) -> Result<String, Fail> {
-    let mut text = String::from_str(alloc, "service a all\nstart 0 a\n")?;
-    for branch in 0..branches {
-        let step = branch + 1;
-        text.push_str(format!(in alloc; "branch {step} 0\n")?.as_str())?;
-    }
-    Ok(text)
+/// Compares a step with its row.
+pub fn stands(rt: &impl Abort, graph: &Graph, number: usize, service: usize, parents: &[usize]) {
+    assert!(rt; number < graph.steps());
+    let step = graph.step(number);
+    assert_eq!(rt; step.service, service, "{number}");
+    assert_eq!(rt; step.act.parents(), parents, "{number}");
 }

@@ -1,5 +1,6 @@
 //! Graphs that grow step by step, and steps that may not follow.
 
+use crate::fixtures::stands;
 use atom_list::Context;
 use bag_value::Val;
 use context_model::Form;
@@ -106,14 +107,6 @@ fn seven_steps(rt: &impl Abort, alloc: Global) -> Result<Graph, Memory> {
         graph.add_show(number)?;
     }
     Ok(graph)
-}
-
-/// Compares a step with its row.
-fn stands(rt: &impl Abort, graph: &Graph, number: usize, service: usize, parents: &[usize]) {
-    assert!(rt; number < graph.steps());
-    let step = graph.step(number);
-    assert_eq!(rt; step.service, service, "{number}");
-    assert_eq!(rt; step.act.parents(), parents, "{number}");
 }
 
 #[test]

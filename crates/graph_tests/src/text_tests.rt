@@ -1,13 +1,15 @@
 //! Texts that say a graph, and texts that say none, with the first fault of each.
 
-use crate::fixtures::{graph_of, star_text, table_of, with_words};
+use crate::fixtures::{DEFINITIONS, stands};
 use field_table::Table;
 use graph_text::laws::{lines_are_definite, texts_have_one_graph};
-use graph_text::{Act, BUDGET_MAX, Graph, PARENTS_MAX, read_graph};
+use graph_text::{Act, Graph, PARENTS_MAX, read_graph};
 use recorded_graph::STEPS_MAX;
 use std::alloc::Global;
 use std::process::Abort;
 use std::test::Fail;
+use test_graphs::{graph_of, star_text, with_words};
+use test_tables::table_of;
 use text_lines::DIGITS_MAX;
 
 /// A line of each form, with comments, an empty line and a carriage return.
@@ -65,8 +67,8 @@ fn knows(rt: &impl Abort, graph: &Graph, number: usize, name: &str, known: &[boo
 
 #[test]
 fn services_of_each_form(rt: HostRuntime) -> Result<(), Fail> {
-    let table = table_of(&rt, rt.alloc(), "Small")?;
-    let graph = graph_of(&rt, rt.alloc(), &table, EACH_FORM);
+    let table = table_of(rt.alloc(), DEFINITIONS, "Small")?;
+    let graph = graph_of(rt.alloc(), &table, EACH_FORM)?;
     assert_eq!(rt; graph.services(), SERVICES.len());
     for (number, (name, known)) in SERVICES.iter().enumerate() {
         knows(&rt, &graph, number, name, known.as_slice());
@@ -74,18 +76,10 @@ fn services_of_each_form(rt: HostRuntime) -> Result<(), Fail> {
     Ok(())
 }
 
-/// Compares a step with its row.
-fn stands(rt: &impl Abort, graph: &Graph, number: usize, service: usize, parents: &[usize]) {
-    assert!(rt; number < graph.steps());
-    let step = graph.step(number);
-    assert_eq!(rt; step.service, service, "{number}");
-    assert_eq!(rt; step.act.parents(), parents, "{number}");
-}
-
 #[test]
 fn steps_of_each_form(rt: HostRuntime) -> Result<(), Fail> {
-    let table = table_of(&rt, rt.alloc(), "Small")?;
-    let graph = graph_of(&rt, rt.alloc(), &table, EACH_FORM);
+    let table = table_of(rt.alloc(), DEFINITIONS, "Small")?;
+    let graph = graph_of(rt.alloc(), &table, EACH_FORM)?;
     assert_eq!(rt; graph.steps(), STEPS.len());
     assert_eq!(rt; graph.shows(), [8, 0, 8].as_slice());
     for (number, &(service, parents)) in STEPS.iter().enumerate() {
@@ -96,23 +90,56 @@ fn steps_of_each_form(rt: HostRuntime) -> Result<(), Fail> {
     Ok(())
 }
 
-/// Whether the step of this number writes, cuts or receives what its line says.
-fn does_as_told(number: usize, act: &Act) -> bool {
-    match act {
-        Act::Set { slot, .. } => (number, *slot) == (1, 0) || (number, *slot) == (2, 2),
-        Act::Trim { budget, .. } => number == 5 && *budget == BUDGET_MAX,
-        Act::Recv(context) => context.list().len() == if number == 6 { 3 } else { 0 },
-        _ => true,
-    }
+/// What its steps do: the slot that is written stands behind `set`, the budget behind `trim`, and how many atoms are received
+/// behind `recv`.
+static ACTS: [&str; 10] = [
+    "start",
+    "set 0",
+    "set 2",
+    "branch",
+    "forward",
+    "trim 4294967295",
+    "recv 3",
+    "recv 0",
+    "join",
+    "start",
+];
+
+/// What a step does, as those rows say it.
+fn act_text(alloc: Global, act: &Act) -> Result<String, Fail> {
+    Ok(match act {
+        Act::Start => String::from_str(alloc, "start")?,
+        Act::Recv(context) => format!(in alloc; "recv {}", context.list().len())?,
+        Act::Set { slot, .. } => format!(in alloc; "set {slot}")?,
+        Act::Branch { .. } => String::from_str(alloc, "branch")?,
+        Act::Forward { .. } => String::from_str(alloc, "forward")?,
+        Act::Trim { budget, .. } => format!(in alloc; "trim {budget}")?,
+        Act::Join { .. } => String::from_str(alloc, "join")?,
+    })
+}
+
+/// Compares what a step does with its row.
+fn does(
+    rt: &impl Abort,
+    alloc: Global,
+    graph: &Graph,
+    number: usize,
+    told: &str,
+) -> Result<(), Fail> {
+    assert!(rt; number < graph.steps());
+    let act = act_text(alloc, &graph.step(number).act)?;
+    assert_eq!(rt; act.as_str(), told, "{number}");
+    Ok(())
 }
 
 #[test]
 fn what_steps_do(rt: HostRuntime) -> Result<(), Fail> {
-    let table = table_of(&rt, rt.alloc(), "Small")?;
-    let graph = graph_of(&rt, rt.alloc(), &table, EACH_FORM);
-    for number in 0..graph.steps() {
-        let is_right = does_as_told(number, &graph.step(number).act);
-        assert!(rt; is_right, "{number}");
+    let alloc = rt.alloc();
+    let table = table_of(alloc, DEFINITIONS, "Small")?;
+    let graph = graph_of(alloc, &table, EACH_FORM)?;
+    assert_eq!(rt; graph.steps(), ACTS.len());
+    for (number, told) in ACTS.iter().enumerate() {
+        does(&rt, alloc, &graph, number, told)?;
     }
     Ok(())
 }
@@ -126,9 +153,9 @@ static SHORT: [(&str, usize, usize); 3] = [
 
 #[test]
 fn texts_that_say_little(rt: HostRuntime) -> Result<(), Fail> {
-    let table = table_of(&rt, rt.alloc(), "Small")?;
+    let table = table_of(rt.alloc(), DEFINITIONS, "Small")?;
     for &(text, services, steps) in &SHORT {
-        let graph = graph_of(&rt, rt.alloc(), &table, text);
+        let graph = graph_of(rt.alloc(), &table, text)?;
         assert_eq!(rt; graph.services(), services, "{text}");
         assert_eq!(rt; graph.steps(), steps, "{text}");
     }
@@ -235,7 +262,7 @@ fn has_fault(
 #[test]
 fn lines_that_are_refused(rt: HostRuntime) -> Result<(), Fail> {
     let alloc = rt.alloc();
-    let table = table_of(&rt, alloc, "Small")?;
+    let table = table_of(alloc, DEFINITIONS, "Small")?;
     for row in REFUSED.split('\n') {
         let (code, line) = row.split_once(' ').ok_or("a row without a code")?;
         let text = format!(in alloc; "{FRONT}{line}\nhop\n")?;
@@ -252,7 +279,7 @@ fn are_refused(
     number: usize,
     rows: &[LongRow],
 ) -> Result<(), Fail> {
-    let table = table_of(rt, alloc, "Small")?;
+    let table = table_of(alloc, DEFINITIONS, "Small")?;
     for &(code, line, word, times) in rows {
         let start = format!(in alloc; "{front}{line}")?;
         let text = with_words(alloc, start.as_str(), word, times)?;
@@ -273,7 +300,7 @@ fn lines_of_services_that_write_in_form_two(rt: HostRuntime) -> Result<(), Fail>
 
 /// A text at the edge has no fault.
 fn is_read(rt: &impl Abort, alloc: Global, text: &str) -> Result<(), Fail> {
-    let table = table_of(rt, alloc, "Small")?;
+    let table = table_of(alloc, DEFINITIONS, "Small")?;
     assert!(rt; fault_of(alloc, &table, text)?.is_none());
     Ok(())
 }
@@ -296,7 +323,7 @@ type Received = (
     Option<&'static str>,
 );
 
-static RECEIVED: [Received; 11] = [
+static RECEIVED: [Received; 12] = [
     ("Small", "service a all", "02f800020007", None),
     (
         "Small",
@@ -358,12 +385,18 @@ static RECEIVED: [Received; 11] = [
         "02f8000400000007",
         Some("IllTyped { line: 2, offset: 3 }"),
     ),
+    (
+        "Request",
+        "service a all",
+        "02f80502000303008000",
+        Some("IllTyped { line: 2, offset: 6 }"),
+    ),
 ];
 
 /// Compares the fault of the text of a row.
 fn receives(rt: &impl Abort, alloc: Global, row: &Received) -> Result<(), Fail> {
     let &(bag, service, digits, wanted) = row;
-    let table = table_of(rt, alloc, bag)?;
+    let table = table_of(alloc, DEFINITIONS, bag)?;
     let name = service.split(' ').nth(1).unwrap_or("");
     let text = format!(in alloc; "{service}\nrecv 0 {name} {digits}\n")?;
     let fault = fault_of(alloc, &table, text.as_str())?;
