@@ -1,12 +1,13 @@
 //! Loads: how they look, and what the reader of graphs makes of them.
 
-use crate::fixtures::graph_of;
+use field_table::Table;
 use load_maker::laws::loads_are_accepted;
 use load_maker::{ROUNDS_MAX, make_load};
 use std::alloc::Global;
 use std::process::Abort;
 use std::test::Fail;
 use table_text::print_table;
+use test_graphs::graph_of;
 
 /// The text of the load of one round.
 const ONE_ROUND: &str = r#"service a all
@@ -73,6 +74,22 @@ static LOADS: [Row; 3] = [
     (1000, 1_052_626, 42_004, 42_001),
 ];
 
+/// Sees that the graph of a text has so many steps and shows the last of them.
+fn shows_its_last(
+    rt: &impl Abort,
+    alloc: Global,
+    table: &Table,
+    text: Vec<u8>,
+    steps: usize,
+) -> Result<(), Fail> {
+    let text = String::from_utf8(text)?;
+    let graph = graph_of(alloc, table, text.as_str())?;
+    assert_eq!(rt; graph.steps(), steps);
+    assert!(rt; 1 <= steps);
+    assert_eq!(rt; graph.shows(), [steps - 1].as_slice(), "{steps}");
+    Ok(())
+}
+
 /// Sees that the load of a row has the table and these sizes, and that its graph shows its last step.
 fn holds(rt: &impl Abort, alloc: Global, row: Row) -> Result<(), Fail> {
     let (rounds, bytes, lines, steps) = row;
@@ -83,11 +100,7 @@ fn holds(rt: &impl Abort, alloc: Global, row: Row) -> Result<(), Fail> {
     let feeds = text.iter().filter(|byte| **byte == b'\n').count();
     assert_eq!(rt; feeds, lines, "{rounds}");
     assert!(rt; rounds != 1 || text.as_slice() == ONE_ROUND.as_bytes());
-    let graph = graph_of(rt, alloc, &table, &text);
-    assert_eq!(rt; graph.steps(), steps, "{rounds}");
-    assert!(rt; 1 <= steps);
-    assert_eq!(rt; graph.shows(), [steps - 1].as_slice(), "{rounds}");
-    Ok(())
+    shows_its_last(rt, alloc, &table, text, steps)
 }
 
 #[test]

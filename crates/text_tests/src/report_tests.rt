@@ -1,6 +1,6 @@
 //! Reports of known lists, as text and as JSON. They aren't those of the graphs' own steps: a report tells what the lists say.
 
-use crate::fixtures::{are_typed, contexts_of, graph_of, table_of};
+use crate::fixtures::{are_typed, table_of};
 use field_table::Table;
 use graph_report::laws::lists_have_one_report;
 use graph_report::report;
@@ -9,6 +9,7 @@ use report_json::report_json;
 use std::alloc::Global;
 use std::process::Abort;
 use std::test::Fail;
+use test_graphs::{contexts_of_bytes, graph_of};
 
 /// A graph, the digits of a list for each step, joined by commas, and the report of the shown steps in its two forms.
 struct Row {
@@ -23,7 +24,8 @@ const FLAT: &str = "0 0 id scalar fixed32
 0 1 tags set string
 0 2 hops counter
 0 3 debug taint
-0 4 load map string scalar uint32";
+0 4 load map string scalar uint32
+0 5 top greatest uint32";
 
 /// Under that table reports of one step or of none: known values and absent ones, fields of which something may have been cut
 /// off, strings with quotation marks, backslashes, control characters and text beyond ASCII, and empty lists of steps that
@@ -52,8 +54,9 @@ tags exact {}
 hops exact 0{}
 debug exact off
 load exact {}
+top exact -
 ",
-        json: r#"[{"bytes":"02f800050000000007","fields":[{"path":"id","state":"exact","text":"7"},{"path":"tags","state":"exact","text":"{}"},{"path":"hops","state":"exact","text":"0{}"},{"path":"debug","state":"exact","text":"off"},{"path":"load","state":"exact","text":"{}"}],"step":1}]"#,
+        json: r#"[{"bytes":"02f800050000000007","fields":[{"path":"id","state":"exact","text":"7"},{"path":"tags","state":"exact","text":"{}"},{"path":"hops","state":"exact","text":"0{}"},{"path":"debug","state":"exact","text":"off"},{"path":"load","state":"exact","text":"{}"},{"path":"top","state":"exact","text":"-"}],"step":1}]"#,
     },
     Row {
         graph: "service a all
@@ -68,24 +71,26 @@ tags exact {}
 hops exact 0{}
 debug exact off
 load exact {}
+top exact -
 ",
-        json: r#"[{"bytes":"-","fields":[{"path":"id","state":"exact","text":"-"},{"path":"tags","state":"exact","text":"{}"},{"path":"hops","state":"exact","text":"0{}"},{"path":"debug","state":"exact","text":"off"},{"path":"load","state":"exact","text":"{}"}],"step":0}]"#,
+        json: r#"[{"bytes":"-","fields":[{"path":"id","state":"exact","text":"-"},{"path":"tags","state":"exact","text":"{}"},{"path":"hops","state":"exact","text":"0{}"},{"path":"debug","state":"exact","text":"off"},{"path":"load","state":"exact","text":"{}"},{"path":"top","state":"exact","text":"-"}],"step":0}]"#,
     },
     Row {
         graph: "service a all
 start 0 a
 show 0
 ",
-        lists: "02f80202f17702000302000502f803010002f80402f1780300812c",
+        lists: "02f80202f17702000302000502f803010002f80402f1780300812c02f805020007020009",
         report: r#"step 0
-bytes 02f80202f17702000302000502f803010002f80402f1780300812c
+bytes 02f80202f17702000302000502f803010002f80402f1780300812c02f805020007020009
 id exact -
 tags exact {}
 hops exact 5{0x77:5}
 debug exact on
 load exact {"x":300}
+top exact 9
 "#,
-        json: r#"[{"bytes":"02f80202f17702000302000502f803010002f80402f1780300812c","fields":[{"path":"id","state":"exact","text":"-"},{"path":"tags","state":"exact","text":"{}"},{"path":"hops","state":"exact","text":"5{0x77:5}"},{"path":"debug","state":"exact","text":"on"},{"path":"load","state":"exact","text":"{\"x\":300}"}],"step":0}]"#,
+        json: r#"[{"bytes":"02f80202f17702000302000502f803010002f80402f1780300812c02f805020007020009","fields":[{"path":"id","state":"exact","text":"-"},{"path":"tags","state":"exact","text":"{}"},{"path":"hops","state":"exact","text":"5{0x77:5}"},{"path":"debug","state":"exact","text":"on"},{"path":"load","state":"exact","text":"{\"x\":300}"},{"path":"top","state":"exact","text":"9"}],"step":0}]"#,
     },
     Row {
         graph: "service a all
@@ -100,8 +105,9 @@ tags partial {"a"}
 hops partial 0{}
 debug partial off
 load partial {}
+top partial -
 "#,
-        json: r#"[{"bytes":"02f8000005000000000902f801020061","fields":[{"path":"id","state":"partial","text":"9"},{"path":"tags","state":"partial","text":"{\"a\"}"},{"path":"hops","state":"partial","text":"0{}"},{"path":"debug","state":"partial","text":"off"},{"path":"load","state":"partial","text":"{}"}],"step":0}]"#,
+        json: r#"[{"bytes":"02f8000005000000000902f801020061","fields":[{"path":"id","state":"partial","text":"9"},{"path":"tags","state":"partial","text":"{\"a\"}"},{"path":"hops","state":"partial","text":"0{}"},{"path":"debug","state":"partial","text":"off"},{"path":"load","state":"partial","text":"{}"},{"path":"top","state":"partial","text":"-"}],"step":0}]"#,
     },
     Row {
         graph: "service a all
@@ -116,8 +122,9 @@ tags partial {}
 hops partial 0{}
 debug partial off
 load partial {}
+top partial -
 ",
-        json: r#"[{"bytes":"02f80005000000000702f80100","fields":[{"path":"id","state":"exact","text":"7"},{"path":"tags","state":"partial","text":"{}"},{"path":"hops","state":"partial","text":"0{}"},{"path":"debug","state":"partial","text":"off"},{"path":"load","state":"partial","text":"{}"}],"step":0}]"#,
+        json: r#"[{"bytes":"02f80005000000000702f80100","fields":[{"path":"id","state":"exact","text":"7"},{"path":"tags","state":"partial","text":"{}"},{"path":"hops","state":"partial","text":"0{}"},{"path":"debug","state":"partial","text":"off"},{"path":"load","state":"partial","text":"{}"},{"path":"top","state":"partial","text":"-"}],"step":0}]"#,
     },
     Row {
         graph: "service a all
@@ -132,8 +139,9 @@ tags exact {"a\"\\\x0a\x7fé","😀"}
 hops exact 0{}
 debug exact off
 load exact {}
+top exact -
 "#,
-        json: r#"[{"bytes":"02f801080061225c0a7fc3a90500f09f9880","fields":[{"path":"id","state":"exact","text":"-"},{"path":"tags","state":"exact","text":"{\"a\\\"\\\\\\x0a\\x7fé\",\"😀\"}"},{"path":"hops","state":"exact","text":"0{}"},{"path":"debug","state":"exact","text":"off"},{"path":"load","state":"exact","text":"{}"}],"step":0}]"#,
+        json: r#"[{"bytes":"02f801080061225c0a7fc3a90500f09f9880","fields":[{"path":"id","state":"exact","text":"-"},{"path":"tags","state":"exact","text":"{\"a\\\"\\\\\\x0a\\x7fé\",\"😀\"}"},{"path":"hops","state":"exact","text":"0{}"},{"path":"debug","state":"exact","text":"off"},{"path":"load","state":"exact","text":"{}"},{"path":"top","state":"exact","text":"-"}],"step":0}]"#,
     },
     Row {
         graph: "service a all
@@ -149,8 +157,9 @@ tags exact {}
 hops exact 0{}
 debug exact off
 load exact {}
+top exact -
 ",
-        json: r#"[{"bytes":"-","fields":[{"path":"id","state":"exact","text":"-"},{"path":"tags","state":"exact","text":"{}"},{"path":"hops","state":"exact","text":"0{}"},{"path":"debug","state":"exact","text":"off"},{"path":"load","state":"exact","text":"{}"}],"step":1}]"#,
+        json: r#"[{"bytes":"-","fields":[{"path":"id","state":"exact","text":"-"},{"path":"tags","state":"exact","text":"{}"},{"path":"hops","state":"exact","text":"0{}"},{"path":"debug","state":"exact","text":"off"},{"path":"load","state":"exact","text":"{}"},{"path":"top","state":"exact","text":"-"}],"step":1}]"#,
     },
     Row {
         graph: "service a all
@@ -168,6 +177,7 @@ tags exact {}
 hops exact 0{}
 debug exact off
 load exact {}
+top exact -
 step 2
 bytes -
 id exact -
@@ -175,8 +185,9 @@ tags exact {}
 hops exact 0{}
 debug exact off
 load exact {}
+top exact -
 ",
-        json: r#"[{"bytes":"-","fields":[{"path":"id","state":"exact","text":"-"},{"path":"tags","state":"exact","text":"{}"},{"path":"hops","state":"exact","text":"0{}"},{"path":"debug","state":"exact","text":"off"},{"path":"load","state":"exact","text":"{}"}],"step":1},{"bytes":"-","fields":[{"path":"id","state":"exact","text":"-"},{"path":"tags","state":"exact","text":"{}"},{"path":"hops","state":"exact","text":"0{}"},{"path":"debug","state":"exact","text":"off"},{"path":"load","state":"exact","text":"{}"}],"step":2}]"#,
+        json: r#"[{"bytes":"-","fields":[{"path":"id","state":"exact","text":"-"},{"path":"tags","state":"exact","text":"{}"},{"path":"hops","state":"exact","text":"0{}"},{"path":"debug","state":"exact","text":"off"},{"path":"load","state":"exact","text":"{}"},{"path":"top","state":"exact","text":"-"}],"step":1},{"bytes":"-","fields":[{"path":"id","state":"exact","text":"-"},{"path":"tags","state":"exact","text":"{}"},{"path":"hops","state":"exact","text":"0{}"},{"path":"debug","state":"exact","text":"off"},{"path":"load","state":"exact","text":"{}"},{"path":"top","state":"exact","text":"-"}],"step":2}]"#,
     },
 ];
 
@@ -282,8 +293,8 @@ start 0 a
 
 /// Sees that a row holds.
 fn holds(rt: &impl Abort, alloc: Global, table: &Table, row: &Row) -> Result<(), Fail> {
-    let graph = graph_of(rt, alloc, table, row.graph.as_bytes());
-    let lists = contexts_of(rt, alloc, row.lists)?;
+    let graph = graph_of(alloc, table, row.graph)?;
+    let lists = contexts_of_bytes(alloc, row.lists, ',')?;
     assert!(rt; lists.len() == graph.steps() && are_typed(table, lists.as_slice()));
     let text = report(alloc, table, &graph, lists.as_slice())?;
     assert_eq!(rt; text.as_slice(), row.report.as_bytes());

@@ -1,6 +1,6 @@
 //! Texts of known values.
 
-use crate::fixtures::{context_of, table_of};
+use crate::fixtures::table_of;
 use bag_typed::check_typed;
 use bag_value::Val;
 use field_table::Shape;
@@ -9,13 +9,14 @@ use scalar_types::{Scalar, ScalarKind, ScalarList};
 use std::alloc::Global;
 use std::process::Abort;
 use std::test::Fail;
+use test_graphs::context_of_bytes;
 use wire_bytes::Form;
 
 /// The lines of a table whose one field `a` is exact in a context, the digits of the context, and the text of its value.
 type Row = (&'static str, &'static str, &'static str);
 
 /// Values of each shape: those that aren't there, and the least and the greatest.
-static VALUES: [Row; 44] = [
+static VALUES: [Row; 48] = [
     ("0 0 a taint", "02f8000100", "on"),
     ("0 0 a taint", "-", "off"),
     ("0 0 a scalar bool", "-", "-"),
@@ -72,6 +73,14 @@ static VALUES: [Row; 44] = [
         "0 0 a scalar (int64,string,bytes,bool)",
         "02f8000b007f782c2200010a000100",
         r#"(-1,"x,\"",0x0a,false)"#,
+    ),
+    ("0 0 a greatest uint32", "-", "-"),
+    ("0 0 a greatest uint32", "02f8000200030300812c", "300"),
+    ("0 0 a greatest string", "02f800020061020062", r#""b""#),
+    (
+        "0 0 a greatest (string,int32)",
+        "02f800050061000180",
+        r#"("a",0)"#,
     ),
     ("0 0 a set uint64", "-", "{}"),
     ("0 0 a set uint64", "02f800020007", "{7}"),
@@ -138,7 +147,7 @@ static WIDE: [Row; 4] = [
 fn shows(rt: &impl Abort, alloc: Global, form: Form, row: Row) -> Result<(), Fail> {
     let (lines, digits, text) = row;
     let table = table_of(rt, alloc, lines)?;
-    let context = context_of(rt, alloc, digits);
+    let context = context_of_bytes(alloc, digits)?;
     assert!(rt; check_typed(&table, &context).is_ok(), "{digits}");
     let shown = block(alloc, &table, form, &context)?;
     let expected = format!(in alloc; "bytes {digits}\na exact {text}\n")?;

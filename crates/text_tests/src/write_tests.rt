@@ -127,7 +127,7 @@ const NO_FIELDS: &str = "0x00:on
 /// writes.
 type Row = (&'static str, &'static str, &'static [&'static str]);
 
-static WRITES: [Row; 20] = [
+static WRITES: [Row; 23] = [
     ("0 0 a taint", "on => on", &["\noff\nOn\non \no\n1"]),
     (
         "0 0 a scalar bool",
@@ -190,6 +190,13 @@ static WRITES: [Row; 20] = [
         "0x => 0x\n0xAb01 => 0xab01\n0xff00 => 0xff00",
         &["\n0\n0X00\n0x0\n0x0g\n00\n0x00 \n\"a\""],
     ),
+    (
+        "0 0 a greatest uint32",
+        UNSIGNED,
+        &["4294967296\n-1", NO_NUMBERS],
+    ),
+    ("0 0 a greatest string", STRINGS, &[NO_STRINGS]),
+    ("0 0 a greatest (bool,string,int32)", STRUCTS, &[NO_STRUCTS]),
     ("0 0 a set string", r#""a,b" => {"a,b"}"#, &[]),
     ("0 0 a set uint32", "", &["{5}\n5,6\n"]),
     ("0 0 a counter", COUNTS, &[NO_COUNTS]),
