@@ -1,81 +1,20 @@
 //! Gates that steps pass: steps of one rank are run beside one another, and each step passes once, however it is run.
 
-use crate::fixtures::{graph_of, star_text, table_of};
+use crate::fixtures::DEFINITIONS;
 use crate::graph_tables::{joins_text, mixed_text};
 use field_table::Table;
 use graph_runner::run_gated;
-use outside::Gate;
+use outside::{Gate, MeetingGate};
 use par_ranks::run_ranks;
 use std::alloc::Global;
 use std::process::Abort;
-use std::sync::atomic::{AtomicBool, AtomicUsize, Ordering};
+use std::sync::atomic::{AtomicUsize, Ordering};
 use std::test::Fail;
 use std::thread::Threads;
+use test_graphs::{graph_of, star_text};
+use test_tables::table_of;
 
-/// One of two pieces that meet: whether it is here, and whether it saw the other.
-#[derive(Drop)]
-struct Piece {
-    here: AtomicBool,
-    saw: AtomicBool,
-}
-
-impl Piece {
-    /// A piece that hasn't come yet.
-    fn new() -> Piece {
-        Piece {
-            here: AtomicBool::new(false),
-            saw: AtomicBool::new(false),
-        }
-    }
-
-    /// Comes, and looks for the other for a while.
-    fn meet(&self, other: &Piece) {
-        self.here.store(true, Ordering::SeqCst);
-        for _ in 0..100_000_000u32 {
-            if other.here.load(Ordering::SeqCst) {
-                self.saw.store(true, Ordering::SeqCst);
-                return;
-            }
-        }
-    }
-}
-
-/// A gate where the pieces of two steps meet. They do only where both run at the same time.
-#[derive(Drop)]
-struct Meeting {
-    steps: [usize; 2],
-    first: Piece,
-    last: Piece,
-}
-
-impl Meeting {
-    /// Where these two steps meet.
-    fn of(first: usize, last: usize) -> Meeting {
-        Meeting {
-            steps: [first, last],
-            first: Piece::new(),
-            last: Piece::new(),
-        }
-    }
-
-    /// Whether each saw the other.
-    fn took_place(&self) -> bool {
-        self.first.saw.load(Ordering::SeqCst) && self.last.saw.load(Ordering::SeqCst)
-    }
-}
-
-impl Gate for Meeting {
-    fn enter(&self, piece: usize) {
-        if piece == self.steps[0] {
-            self.first.meet(&self.last);
-        } else if piece == self.steps[1] {
-            self.last.meet(&self.first);
-        }
-    }
-}
-
-/// Runs a graph through a gate where two steps have to meet. Each list but those of the steps before the first of them has
-/// so many atoms.
+/// Runs a graph through a gate where two steps have to meet, of which one is the last step. Each list has so many atoms.
 fn meets<R: Abort + Threads + Sync>(
     rt: &R,
     alloc: Global,
@@ -84,11 +23,11 @@ fn meets<R: Abort + Threads + Sync>(
     last: usize,
     atoms: usize,
 ) -> Result<(), Fail> {
-    let table = table_of(rt, alloc, "Nothing")?;
-    let graph = graph_of(rt, alloc, &table, text);
-    let meeting = Meeting::of(first, last);
+    let table = table_of(alloc, DEFINITIONS, "Nothing")?;
+    let graph = graph_of(alloc, &table, text)?;
+    let meeting = MeetingGate::new(first, last);
     let lists = run_ranks(rt, alloc, &meeting, &table, &graph)?;
-    assert!(rt; meeting.took_place());
+    assert!(rt; meeting.have_met());
     assert_eq!(rt; lists.len().checked_sub(1), Some(last));
     assert!(rt; lists.iter().all(|list| list.list().len() == atoms));
     Ok(())
@@ -143,7 +82,7 @@ fn all_pass<R: Abort + Threads + Sync>(
     table: &Table,
     text: &str,
 ) -> Result<(), Fail> {
-    let graph = graph_of(rt, alloc, table, text);
+    let graph = graph_of(alloc, table, text)?;
     let ranks = Counting::new(alloc, graph.steps())?;
     let _lists = run_ranks(rt, alloc, &ranks, table, &graph)?;
     assert!(rt; ranks.each_passed_once());
@@ -156,7 +95,7 @@ fn all_pass<R: Abort + Threads + Sync>(
 #[test]
 fn each_step_passes_the_gate(rt: HostRuntime) -> Result<(), Fail> {
     let alloc = rt.alloc();
-    let table = table_of(&rt, alloc, "Nothing")?;
+    let table = table_of(alloc, DEFINITIONS, "Nothing")?;
     // A graph that is too small for threads, and one with joins of many parents.
     let small = star_text(alloc, 3)?;
     all_pass(&rt, alloc, &table, small.as_str())?;

@@ -1,6 +1,6 @@
 //! Runs of graphs in both ways, step after step and rank after rank: all lists are the same, and so are the reports.
 
-use crate::fixtures::{digits_of, graph_of, star_text, table_of, with_words};
+use crate::fixtures::{DEFINITIONS, digits_of};
 use crate::graph_tables::{
     FORMS, FORMS_REPORT, LOAD_REPORT, RECEIVED, RECEIVED_REPORT, TRACE, TRACE_REPORT, mixed_text,
 };
@@ -17,6 +17,8 @@ use std::alloc::Global;
 use std::process::Abort;
 use std::test::Fail;
 use std::thread::Threads;
+use test_graphs::{graph_of, star_text, with_words};
+use test_tables::table_of;
 
 /// Compares lists as bytes.
 fn are_alike(
@@ -41,7 +43,7 @@ fn run_both<R: Abort + Threads + Sync>(
     text: &str,
     wanted: &str,
 ) -> Result<Vec<Context>, Fail> {
-    let graph = graph_of(rt, alloc, table, text);
+    let graph = graph_of(alloc, table, text)?;
     let plain = run_all(alloc, table, &graph)?;
     let ranks = run_ranks(rt, alloc, &Open, table, &graph)?;
     assert_eq!(rt; plain.len(), graph.steps());
@@ -66,7 +68,7 @@ static GRAPHS: [(&str, &str, &str); 4] = [
 fn graphs_are_run_in_both_ways(rt: HostRuntime) -> Result<(), Fail> {
     let alloc = rt.alloc();
     for &(bag, text, wanted) in &GRAPHS {
-        let table = table_of(&rt, alloc, bag)?;
+        let table = table_of(alloc, DEFINITIONS, bag)?;
         let _lists = run_both(&rt, alloc, &table, text, wanted)?;
     }
     Ok(())
@@ -89,7 +91,7 @@ fn run_empty<R: Abort + Threads + Sync>(
     text: &str,
     steps: usize,
 ) -> Result<(), Fail> {
-    let table = table_of(rt, alloc, "Nothing")?;
+    let table = table_of(alloc, DEFINITIONS, "Nothing")?;
     let lists = run_both(rt, alloc, &table, text, "")?;
     assert_eq!(rt; lists.len(), steps);
     assert!(rt; lists.iter().all(|list| list.list().is_empty()));
@@ -112,7 +114,7 @@ fn a_join_of_the_most_parents_is_run_in_both_ways(rt: HostRuntime) -> Result<(),
 #[test]
 fn mixed_steps_are_run_in_both_ways(rt: HostRuntime) -> Result<(), Fail> {
     let alloc = rt.alloc();
-    let table = table_of(&rt, alloc, "Nothing")?;
+    let table = table_of(alloc, DEFINITIONS, "Nothing")?;
     let mixed = mixed_text(alloc)?;
     let lists = run_both(&rt, alloc, &table, mixed.as_str(), "")?;
     assert_eq!(rt; lists.len(), 400);
@@ -124,9 +126,9 @@ fn mixed_steps_are_run_in_both_ways(rt: HostRuntime) -> Result<(), Fail> {
 #[test]
 fn the_longest_graph_is_run(rt: HostRuntime) -> Result<(), Fail> {
     let alloc = rt.alloc();
-    let table = table_of(&rt, alloc, "Nothing")?;
+    let table = table_of(alloc, DEFINITIONS, "Nothing")?;
     let star = star_text(alloc, STEPS_MAX - 1)?;
-    let graph = graph_of(&rt, alloc, &table, star.as_str());
+    let graph = graph_of(alloc, &table, star.as_str())?;
     assert_eq!(rt; run_all(alloc, &table, &graph)?.len(), STEPS_MAX);
     Ok(())
 }

@@ -4,7 +4,7 @@ ghost use Rattle.std.specs.Prelude.{◌≡◌, length};
 ghost use Rattle.trace_model.specs.Graphs.{IsOfTable};
 ghost use Rattle.step_rules.specs.Parents.{AreWithinLists};
 
-use crate::fixtures::{context_of, digits_of, graph_of, table_of, with_words};
+use crate::fixtures::{DEFINITIONS, digits_of};
 use atom_list::Context;
 use field_table::Table;
 use graph_text::{Graph, PARENTS_MAX};
@@ -13,6 +13,8 @@ use std::process::Abort;
 use std::test::Fail;
 use std::thread::Threads;
 use step_rules::{run_step, run_step_alone};
+use test_graphs::{contexts_of_bytes, graph_of, with_words};
+use test_tables::table_of;
 
 /// Steps of each kind, at services that know all, nothing and one slot, and at one that writes in form two.
 const STEPS: &str = "service a all
@@ -41,11 +43,12 @@ trim 18 17 27
 trim 19 17 26
 trim 20 17 22
 trim 21 17 21
-trim 22 17 13";
+trim 22 17 13
+set 23 1 top 3";
 
 /// What steps give: the number of the step, the digits of the pool's lists, the places of the parents' lists, and the digits
-/// of the list. An id is 5 bytes, and of two the lesser is preferred; of two counts the greater.
-static GIVEN: [(usize, &str, &[usize], &str); 32] = [
+/// of the list. An id is 5 bytes, and of two the lesser is preferred; of two counts the greater, and of two tops.
+static GIVEN: [(usize, &str, &[usize], &str); 36] = [
     (0, "", &[], "-"),
     (0, "02f80000", &[], "-"),
     (1, "", &[], "02f800050000000005"),
@@ -70,6 +73,7 @@ static GIVEN: [(usize, &str, &[usize], &str); 32] = [
         &[1],
         "02f800050000000005",
     ),
+    (7, "- 02f8050200030300812c", &[1], "02f8050300812c"),
     (
         8,
         "02f800050000000005050000000006 -",
@@ -153,6 +157,9 @@ static GIVEN: [(usize, &str, &[usize], &str); 32] = [
     ),
     (21, "02f800050000000005050000000006", &[0], "02f80000"),
     (22, "02f800050000000005", &[0], "00"),
+    (23, "-", &[0], "02f805020003"),
+    (23, "02f805020002", &[0], "02f805020003"),
+    (23, "02f8050300812c", &[0], "02f8050300812c"),
 ];
 
 /// There are as many places as parents, and all are places of the pool.
@@ -202,22 +209,13 @@ fn gives<R: Abort + Threads + Sync>(
     has_digits(rt, alloc, &alone, digits, step)
 }
 
-/// The contexts whose digits stand behind one another.
-fn pool_of(alloc: Global, digits: &str) -> Result<Vec<Context>, Fail> {
-    let mut pool = Vec::new(alloc);
-    for word in digits.split_whitespace() {
-        pool.push(context_of(alloc, word)?)?;
-    }
-    Ok(pool)
-}
-
 #[test]
 fn steps_give_lists(rt: HostRuntime) -> Result<(), Fail> {
     let alloc = rt.alloc();
-    let table = table_of(&rt, alloc, "Request")?;
-    let graph = graph_of(&rt, alloc, &table, STEPS);
+    let table = table_of(alloc, DEFINITIONS, "Request")?;
+    let graph = graph_of(alloc, &table, STEPS)?;
     for &(step, pool, places, digits) in &GIVEN {
-        let pool = pool_of(alloc, pool)?;
+        let pool = contexts_of_bytes(alloc, pool, ' ')?;
         gives(
             &rt,
             alloc,
@@ -247,13 +245,13 @@ fn most_places(alloc: Global) -> Result<Vec<usize>, Fail> {
 #[test]
 fn the_most_parents_are_joined(rt: HostRuntime) -> Result<(), Fail> {
     let alloc = rt.alloc();
-    let table = table_of(&rt, alloc, "Nothing")?;
+    let table = table_of(alloc, DEFINITIONS, "Nothing")?;
     let start = "service n none\nstart 0 n\njoin 1";
     let text = with_words(alloc, start, " 0", PARENTS_MAX)?;
-    let graph = graph_of(&rt, alloc, &table, text.as_str());
+    let graph = graph_of(alloc, &table, text.as_str())?;
     let places = most_places(alloc)?;
     for &(pool, digits) in &MOST {
-        let pool = pool_of(alloc, pool)?;
+        let pool = contexts_of_bytes(alloc, pool, ' ')?;
         gives(
             &rt,
             alloc,
