@@ -1,11 +1,18 @@
 //! The certificates of steps.
 
-use crate::fixtures::{certificate_of, graph_of, table_of};
+use crate::fixtures::{DEFINITION, certificate_of, verdict_on};
+use field_table::Table;
+use std::alloc::Global;
+use std::process::Abort;
 use std::test::Fail;
+use test_graphs::graph_of;
+use test_tables::table_of;
 use write_proof::runs_have_certificates_that_verify;
 
-/// Graphs, each with a step, the path of a slot and the certificate for it.
-static CERTIFICATES: [(&str, usize, &str, &str); 11] = [
+/// A graph, a step, the path of a slot, and the certificate for it.
+type Row = (&'static str, usize, &'static str, &'static str);
+
+static CERTIFICATES: [Row; 12] = [
     (
         "service a all\nservice n none\nstart 0 a\nset 1 0 id 7\nset 2 0 id 9\nforward 3 1 n\nforward 4 2 n\njoin 5 3 4\n",
         5,
@@ -55,6 +62,13 @@ static CERTIFICATES: [(&str, usize, &str, &str); 11] = [
         "id",
         "why 2 id\nvalue 7\nreach 0 1\nreach 1 2\nuses 1\n",
     ),
+    // what step 3 writes is less than what step 2 does
+    (
+        "service a all\nstart 0 a\nset 1 0 top 3\nset 2 1 top 300\nset 3 2 top 5\n",
+        3,
+        "top",
+        "why 3 top\nvalue 300\nreach 0 1\nreach 1 2\nreach 2 3\nuses 1\nuses 2\n",
+    ),
     // what step 4 says, earlier steps say together and none of them alone
     (
         "service a all\nstart 0 a\nset 1 0 tags \"a\"\nset 2 1 tags \"b\"\nset 3 2 tags \"c\"\nrecv 4 a 02f801020061020063\njoin 5 3 4\n",
@@ -70,14 +84,23 @@ static CERTIFICATES: [(&str, usize, &str, &str); 11] = [
     ),
 ];
 
+/// Sees that the certificate of a row is written, and that it is verified.
+fn holds(rt: &impl Abort, alloc: Global, table: &Table, row: &Row) -> Result<(), Fail> {
+    let &(text, step, path, certificate) = row;
+    let graph = graph_of(alloc, table, text)?;
+    let own = certificate_of(rt, alloc, table, &graph, step, path)?;
+    assert_eq!(rt; own.as_slice(), certificate.as_bytes(), "{text}");
+    let verdict = verdict_on(alloc, table, &graph, certificate)?;
+    assert_eq!(rt; verdict.as_str(), "yes", "{text}");
+    Ok(())
+}
+
 #[test]
 fn certificates_of_steps(rt: HostRuntime) -> Result<(), Fail> {
     let alloc = rt.alloc();
-    let table = table_of(&rt, alloc)?;
-    for &(text, step, path, certificate) in &CERTIFICATES {
-        let graph = graph_of(&rt, alloc, &table, text);
-        let own = certificate_of(&rt, alloc, &table, &graph, step, path)?;
-        assert_eq!(rt; own.as_slice(), certificate.as_bytes(), "{text}");
+    let table = table_of(alloc, DEFINITION, "Req")?;
+    for row in &CERTIFICATES {
+        holds(&rt, alloc, &table, row)?;
     }
     runs_have_certificates_that_verify();
     Ok(())

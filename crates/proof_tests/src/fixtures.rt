@@ -1,41 +1,19 @@
-//! What the tests need: a table, graphs, and verdicts as texts.
+//! What the tests need: a definition, and certificates and verdicts as texts.
 
 ghost use Rattle.trace_model.specs.Graphs.{IsOfTable};
 
 use bag_scan::{State, state_of};
-use bdl_check::compile;
 use field_table::Table;
 use graph_runner::run_all;
-use graph_text::{Graph, read_graph};
-use outside::SureLibrary;
+use graph_text::Graph;
 use std::alloc::Global;
 use std::process::Abort;
 use std::test::Fail;
 use write_proof::{Verified, verify, why};
 
 /// A field of each kind.
-const DEFINITION: &str =
-    "bag Req { fixed32 id = 0; set<string> tags = 1; counter hops = 2; taint debug = 3; map<string, uint32> load = 4; }";
-
-/// The table of that bag.
-pub fn table_of(rt: &impl Abort, alloc: Global) -> Result<Table, Fail> {
-    let mut library = SureLibrary::new(alloc);
-    library.add("q.bdl", DEFINITION.as_bytes())?;
-    match compile(alloc, &mut library, "q.bdl", "Req") {
-        Ok(table) => Ok(table),
-        Err(_) => panic!(rt; "no table"),
-    }
-}
-
-/// The graph of a text that says one.
-pub fn graph_of(rt: &impl Abort, alloc: Global, table: &Table, text: &str) -> Graph
-    ensures { IsOfTable table.now result }
-{
-    match read_graph(alloc, table, text.as_bytes()) {
-        Ok(graph) => graph,
-        Err(fault) => panic!(rt; "{fault:?}"),
-    }
-}
+pub const DEFINITION: &str =
+    "bag Req { fixed32 id = 0; set<string> tags = 1; counter hops = 2; taint debug = 3; map<string, uint32> load = 4; greatest<uint32> top = 5; }";
 
 /// The verdict on a certificate.
 pub fn verdict_on(

@@ -1,8 +1,10 @@
 //! A certificate that uses many steps.
 
-use crate::fixtures::{certificate_of, graph_of, table_of, verdict_on};
+use crate::fixtures::{DEFINITION, certificate_of, verdict_on};
 use std::alloc::Global;
 use std::test::Fail;
+use test_graphs::graph_of;
+use test_tables::table_of;
 
 /// How many steps write, each an element of its own.
 const WRITES: usize = 2000;
@@ -34,8 +36,8 @@ fn certificate(alloc: Global) -> Result<String, Fail> {
 #[test]
 fn certificates_of_growing_values(rt: HostRuntime) -> Result<(), Fail> {
     let alloc = rt.alloc();
-    let table = table_of(&rt, alloc)?;
-    let graph = graph_of(&rt, alloc, &table, growing(alloc)?.as_str());
+    let table = table_of(alloc, DEFINITION, "Req")?;
+    let graph = graph_of(alloc, &table, growing(alloc)?.as_str())?;
     let expected = certificate(alloc)?;
     let own = certificate_of(&rt, alloc, &table, &graph, WRITES, "tags")?;
     assert_eq!(rt; own.as_slice(), expected.as_str().as_bytes());

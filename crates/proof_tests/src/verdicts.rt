@@ -1,7 +1,15 @@
 //! Certificates, and the verdicts on them.
 
-use crate::fixtures::{graph_of, table_of, verdict_on};
+ghost use Rattle.trace_model.specs.Graphs.{IsOfTable};
+
+use crate::fixtures::{DEFINITION, verdict_on};
+use field_table::Table;
+use graph_text::Graph;
+use std::alloc::Global;
+use std::process::Abort;
 use std::test::Fail;
+use test_graphs::graph_of;
+use test_tables::table_of;
 use write_proof::{
     certificates_have_one_verdict, certificates_that_verify_tell_the_truth, lines_are_definite,
 };
@@ -145,8 +153,8 @@ static VERDICTS: [(&str, &str); 64] = [
 #[test]
 fn certificates_with_their_verdicts(rt: HostRuntime) -> Result<(), Fail> {
     let alloc = rt.alloc();
-    let table = table_of(&rt, alloc)?;
-    let graph = graph_of(&rt, alloc, &table, JOINED);
+    let table = table_of(alloc, DEFINITION, "Req")?;
+    let graph = graph_of(alloc, &table, JOINED)?;
     for &(certificate, verdict) in &VERDICTS {
         let own = verdict_on(alloc, &table, &graph, certificate)?;
         assert_eq!(rt; own.as_str(), verdict, "{certificate}");
@@ -157,7 +165,7 @@ fn certificates_with_their_verdicts(rt: HostRuntime) -> Result<(), Fail> {
     Ok(())
 }
 
-/// The verdicts on so many lines of the certificate.
+/// The verdicts on fronts of the certificate that end with a line: on that without lines, on that of one line, and so on.
 static FRONTS: [&str; 9] = [
     "no 1 Form",
     "no 2 Form",
@@ -170,30 +178,47 @@ static FRONTS: [&str; 9] = [
     "yes",
 ];
 
-#[test]
-fn certificates_that_are_cut(rt: HostRuntime) -> Result<(), Fail> {
-    let alloc = rt.alloc();
-    let table = table_of(&rt, alloc)?;
-    let graph = graph_of(&rt, alloc, &table, JOINED);
-    let mut lines = 0;
-    let mut front = String::new(alloc);
-    for (at, letter) in CERTIFICATE.chars().enumerate() {
-        let own = verdict_on(alloc, &table, &graph, front.as_str())?;
-        if front.is_empty() || front.ends_with('\n') {
-            assert!(rt; lines < FRONTS.len());
-            assert_eq!(rt; own.as_str(), FRONTS[lines], "{at}");
-            lines += 1;
-        } else {
-            let verdict = format!(in alloc; "no {lines} Form")?;
-            assert_eq!(rt; own.as_str(), verdict.as_str(), "{at}");
-        }
-        front.push(letter)?;
+/// Compares the verdict on a front of the certificate with that of its lines. A front that ends inside a line has the fault of
+/// that line.
+fn front_is_judged(
+    rt: &impl Abort,
+    alloc: Global,
+    table: &Table,
+    graph: &Graph,
+    front: &str,
+) -> Result<(), Fail>
+    requires { IsOfTable table.now graph.now }
+{
+    let own = verdict_on(alloc, table, graph, front)?;
+    let lines = front.lines().count();
+    if front.is_empty() || front.ends_with('\n') {
+        assert!(rt; lines < FRONTS.len());
+        assert_eq!(rt; own.as_str(), FRONTS[lines], "{front}");
+    } else {
+        let verdict = format!(in alloc; "no {lines} Form")?;
+        assert_eq!(rt; own.as_str(), verdict.as_str(), "{front}");
     }
     Ok(())
 }
 
+#[test]
+fn certificates_that_are_cut(rt: HostRuntime) -> Result<(), Fail> {
+    let alloc = rt.alloc();
+    let table = table_of(alloc, DEFINITION, "Req")?;
+    let graph = graph_of(alloc, &table, JOINED)?;
+    let mut front = String::new(alloc);
+    for letter in CERTIFICATE.chars() {
+        front_is_judged(&rt, alloc, &table, &graph, front.as_str())?;
+        front.push(letter)?;
+    }
+    front_is_judged(&rt, alloc, &table, &graph, front.as_str())?;
+    // The whole certificate has the last of the verdicts, so all were looked at.
+    assert_eq!(rt; FRONTS.len().checked_sub(1), Some(front.lines().count()));
+    Ok(())
+}
+
 /// Graphs, each with a certificate and the verdict on it.
-static OTHERS: [(&str, &str, &str); 9] = [
+static OTHERS: [(&str, &str, &str); 10] = [
     // what is received is used, where it says something
     (
         "service a all\nrecv 0 a 02f800050000000007\nforward 1 0 a\n",
@@ -237,6 +262,11 @@ static OTHERS: [(&str, &str, &str); 9] = [
         "yes",
     ),
     (
+        "service a all\nstart 0 a\nset 1 0 top 3\nset 2 1 top 300\n",
+        "why 2 top\nvalue 3\nreach 0 1\nreach 1 2\nuses 1\n",
+        "no 1 TooMuch",
+    ),
+    (
         "service a all\nstart 0 a\nset 1 0 debug on\nbranch 2 1\n",
         "why 2 debug\nvalue off\nreach 0 1\nreach 1 2\n",
         "no 4 TooMuch",
@@ -246,9 +276,9 @@ static OTHERS: [(&str, &str, &str); 9] = [
 #[test]
 fn certificates_on_other_graphs(rt: HostRuntime) -> Result<(), Fail> {
     let alloc = rt.alloc();
-    let table = table_of(&rt, alloc)?;
+    let table = table_of(alloc, DEFINITION, "Req")?;
     for &(text, certificate, verdict) in &OTHERS {
-        let graph = graph_of(&rt, alloc, &table, text);
+        let graph = graph_of(alloc, &table, text)?;
         let own = verdict_on(alloc, &table, &graph, certificate)?;
         assert_eq!(rt; own.as_str(), verdict, "{certificate}");
     }
