@@ -45,17 +45,18 @@ fn counts_of_writers(rt: HostRuntime) -> Result<(), Fail> {
     Ok(())
 }
 
-/// Joins through the bound: in both orders, in both groupings, and twice.
-fn joins<L: Lattice>(rt: &impl Abort, a: &L, b: &L, c: &L) -> Result<(L, L), Fail>
+/// Joins through the bound: of two values in both orders, of the first of these joins with itself, and of three values in both
+/// groupings.
+fn joins<L: Lattice>(a: &L, b: &L, c: &L) -> Result<(L, L, L, L, L), Fail>
     requires first_two { L.alike a.now b.now }
     requires last_two { L.alike b.now c.now }
     requires ends { L.alike a.now c.now }
 {
     keeps_join_laws::<L>();
-    let (joined, _) = joins_commute(a, b)?;
-    assert_eq!(rt; join_repeats(&joined)?.is_bottom(), joined.is_bottom());
+    let (one, other) = joins_commute(a, b)?;
+    let twice = join_repeats(&one)?;
     let (first, second) = joins_regroup(a, b, c)?;
-    Ok((first, second))
+    Ok((one, other, twice, first, second))
 }
 
 #[test]
@@ -65,23 +66,37 @@ fn joins_of_counts(rt: HostRuntime) -> Result<(), Fail> {
     a.push(b"c", 1)?;
     let b = Counts::of(alloc, b"b", 2)?;
     let c = Counts::of(alloc, b"c", 5)?;
-    let (first, second) = joins(&rt, &a, &b, &c)?;
+    let (one, other, twice, first, second) = joins(&a, &b, &c)?;
+    seen(&rt, &one, &[(b"a", 3), (b"b", 2), (b"c", 1)]);
+    seen(&rt, &other, &[(b"a", 3), (b"b", 2), (b"c", 1)]);
+    seen(&rt, &twice, &[(b"a", 3), (b"b", 2), (b"c", 1)]);
     seen(&rt, &first, &[(b"a", 3), (b"b", 2), (b"c", 5)]);
     seen(&rt, &second, &[(b"a", 3), (b"b", 2), (b"c", 5)]);
-    let (back, _) = joins_commute(&c, &a)?;
-    seen(&rt, &back, &[(b"a", 3), (b"c", 5)]);
-    let mut alone = a.copy()?;
-    alone.join(&Counts::new(alloc))?;
-    seen(&rt, &alone, &[(b"a", 3), (b"c", 1)]);
     counts_join_is_union();
     Ok(())
 }
 
 #[test]
+fn joins_of_common_writers(rt: HostRuntime) -> Result<(), Fail> {
+    let alloc = rt.alloc();
+    let mut a = Counts::of(alloc, b"a", 3)?;
+    a.push(b"c", 1)?;
+    let c = Counts::of(alloc, b"c", 5)?;
+    let (back, _) = joins_commute(&c, &a)?;
+    seen(&rt, &back, &[(b"a", 3), (b"c", 5)]);
+    let mut alone = a.copy()?;
+    alone.join(&Counts::new(alloc))?;
+    seen(&rt, &alone, &[(b"a", 3), (b"c", 1)]);
+    Ok(())
+}
+
+#[test]
 fn joins_of_numbers_and_of_nothing(rt: HostRuntime) -> Result<(), Fail> {
-    let _ = joins(&rt, &(), &(), &())?;
-    let (greatest, again) = joins(&rt, &3_u64, &5, &4)?;
-    assert_eq!(rt; (greatest, again), (5, 5));
-    assert!(rt; 0_u64.is_bottom() && !greatest.is_bottom());
+    let _ = joins(&(), &(), &())?;
+    let (one, other, twice, first, second) = joins(&3_u64, &5, &4)?;
+    assert_eq!(rt; (one, other), (5, 5));
+    assert_eq!(rt; twice, 5);
+    assert_eq!(rt; (first, second), (5, 5));
+    assert!(rt; 0_u64.is_bottom() && !one.is_bottom());
     Ok(())
 }

@@ -121,6 +121,14 @@ fn maps_of_counts(rt: HostRuntime) -> Result<(), Fail> {
     Ok(())
 }
 
+/// A map has two keys, and at the key `k` the writer `w` has the count 3.
+fn has_both(rt: &impl Abort, alloc: Global, map: &MapOf<Utf8, Counts>) -> Result<(), Memory> {
+    assert_eq!(rt; map.len(), 2);
+    let key = Text::of(alloc, "k")?;
+    assert_eq!(rt; map.value(&key).expect(rt, "counts").get(b"w"), Some(3));
+    Ok(())
+}
+
 #[test]
 fn joins_of_maps(rt: HostRuntime) -> Result<(), Fail> {
     let alloc = rt.alloc();
@@ -134,9 +142,9 @@ fn joins_of_maps(rt: HostRuntime) -> Result<(), Fail> {
     let empty = MapOf::of(alloc, Utf8, Text::of(alloc, "l")?, Counts::new(alloc))?;
     assert!(rt; !empty.is_bottom());
     let (joined, _) = joins_commute(&map, &empty)?;
-    assert_eq!(rt; joined.copy()?.len(), 2);
+    has_both(&rt, alloc, &joined.copy()?)?;
     let (joined, _) = joins_regroup(&map, &none, &empty)?;
-    assert_eq!(rt; joined.len(), 2);
+    has_both(&rt, alloc, &joined)?;
     keeps_join_laws::<MapOf<Utf8, Counts>>();
     map_join_is_union::<Utf8, Counts>();
     Ok(())
@@ -163,6 +171,7 @@ fn maps_of_maps(rt: HostRuntime) -> Result<(), Fail> {
     let key = Text::of(alloc, "k")?;
     let inner = same.value(&key).expect(&rt, "a map");
     assert_eq!(rt; inner.len(), 1);
+    assert_eq!(rt; inner.value(&7).expect(&rt, "counts").get(b"w"), Some(3));
     assert!(rt; inner.codec().wide);
     assert!(rt; SetOf::of(alloc, LexU { wide: true }, 7)?.codec().wide);
     Ok(())
