@@ -1,38 +1,27 @@
 //! Tables, their fields and slots, and views.
 
-use bdl_check::compile;
 use field_table::{Shape, SlotSet, Slots, Table, View, name_paths_differ, ranges_are_exact};
-use outside::SureLibrary;
 use scalar_types::ScalarKind;
-use std::alloc::Global;
 use std::process::Abort;
 use std::test::Fail;
+use test_tables::table_of;
 
 // A field of each kind but a map and a bag.
 const MIXED: &str =
-    "bag Outer { fixed32 id = 0; set<string> tags = 1; counter hops = 2; taint debug = 3; }";
+    "bag Outer { fixed32 id = 0; set<string> tags = 1; counter hops = 2; taint debug = 3; greatest<uint32> top = 4; }";
 
 // A bag in a bag, its fields not in the order of their names.
 const NESTED: &str = "bag Inner { bool ok = 2; taint at = 5; } bag Outer { Inner sub = 1; }";
 
-/// The table of the bag `Outer` of a definition.
-fn table_of(rt: &impl Abort, alloc: Global, definition: &str) -> Result<Table, Fail> {
-    let mut library = SureLibrary::new(alloc);
-    library.add("t.bdl", definition.as_bytes())?;
-    match compile(alloc, &mut library, "t.bdl", "Outer") {
-        Ok(table) => Ok(table),
-        Err(_) => panic!(rt; "{definition}"),
-    }
-}
-
 type Names = (&'static str, Option<usize>, Option<(usize, usize)>);
 
 // Name paths, with the slot that each names, and with the slots of the field.
-static MIXED_NAMES: [Names; 10] = [
+static MIXED_NAMES: [Names; 11] = [
     ("id", Some(0), Some((0, 1))),
     ("tags", Some(1), Some((1, 2))),
     ("hops", Some(2), Some((2, 3))),
     ("debug", Some(3), Some((3, 4))),
+    ("top", Some(4), Some((4, 5))),
     ("", None, None),
     ("i", None, None),
     ("ids", None, None),
@@ -77,12 +66,17 @@ fn counts_slots(rt: &impl Abort, table: &Table, rows: &[Option<usize>]) {
 #[test]
 fn slots_of_fields(rt: HostRuntime) -> Result<(), Fail> {
     let alloc = rt.alloc();
-    let table = table_of(&rt, alloc, MIXED)?;
-    assert_eq!(rt; table.slots(), 4);
+    let table = table_of(&rt, alloc, MIXED, "Outer")?;
+    assert_eq!(rt; table.slots(), 5);
     names_slots(&rt, &table, &MIXED_NAMES);
-    counts_slots(&rt, &table, &[Some(0), Some(1), Some(2), Some(3), None]);
-    if 3 < table.slots() {
+    counts_slots(
+        &rt,
+        &table,
+        &[Some(0), Some(1), Some(2), Some(3), Some(4), None],
+    );
+    if 4 < table.slots() {
         assert!(rt; matches!(table.shape(1), Shape::Set(ScalarKind::Str)));
+        assert!(rt; matches!(table.shape(4), Shape::Greatest(ScalarKind::Uint32)));
         assert!(rt; table.numbers(3).as_slice() == [3].as_slice());
         assert!(rt; table.name(alloc, 2)?.as_str() == "hops");
     }
@@ -92,7 +86,7 @@ fn slots_of_fields(rt: HostRuntime) -> Result<(), Fail> {
 #[test]
 fn slots_of_nested_bags(rt: HostRuntime) -> Result<(), Fail> {
     let alloc = rt.alloc();
-    let table = table_of(&rt, alloc, NESTED)?;
+    let table = table_of(&rt, alloc, NESTED, "Outer")?;
     assert_eq!(rt; table.slots(), 2);
     names_slots(&rt, &table, &NESTED_NAMES);
     counts_slots(&rt, &table, &[None, Some(0), None]);

@@ -164,6 +164,8 @@ fn values_of_a_bag(rt: HostRuntime) -> Result<(), Fail> {
     let copied = values.copy()?;
     assert_eq!(rt; copied.len(), 2);
     assert_eq!(rt; copied.as_slice().len(), 2);
+    assert!(rt; matches!(copied.get(0), Some(Val::Taint(false))));
+    assert!(rt; matches!(copied.get(1), Some(Val::Taint(true))));
     assert!(rt; copied.get(2).is_none());
     assert!(rt; !Val::Bag(copied).is_bottom());
     Ok(())
@@ -182,7 +184,9 @@ fn entries_of_a_map(rt: HostRuntime) -> Result<(), Fail> {
     let copied = entries.copy()?;
     assert_eq!(rt; copied.len(), 1);
     assert_eq!(rt; copied.as_slice().len(), 1);
-    assert!(rt; copied.get(0).is_some());
+    let entry = copied.get(0).expect(&rt, "an entry");
+    assert!(rt; matches!(entry.key, Scalar::Unsigned(1)));
+    assert!(rt; matches!(entry.value, Val::Taint(false)));
     assert!(rt; !Val::Map(copied).is_bottom());
     Ok(())
 }
