@@ -8,10 +8,9 @@ use bag_codec::{
     state_of,
 };
 use bag_value::laws::values_of_one_shape_are_joined;
-use bdl_check::compile;
 use counter_type::Lattice;
 use field_table::{Table, View};
-use outside::{Memory, SureLibrary};
+use outside::Memory;
 use random_bags::{Dice, random_bag, random_definition};
 use report_text::put_value;
 use scalar_types::{KindList, ScalarKind};
@@ -19,23 +18,14 @@ use set_map_types::SetOf;
 use std::alloc::Global;
 use std::process::Abort;
 use std::test::Fail;
+use test_tables::table_of;
 use wire_bytes::{Form, write};
 
 /// How deep a value may be. No bag here is so deep.
 const LEVELS: usize = 8;
 
-/// The table of the bag `Outer` of a definition.
-fn table_of<R: Abort>(rt: &R, alloc: Global, definition: &str) -> Result<Table, Fail> {
-    let mut library = SureLibrary::new(alloc);
-    library.add("r.bdl", definition.as_bytes())?;
-    match compile(alloc, &mut library, "r.bdl", "Outer") {
-        Ok(table) => Ok(table),
-        Err(_) => panic!(rt; "{definition}"),
-    }
-}
-
 /// The encoding of a value, which can be encoded.
-fn encoded(alloc: Global, table: &Table, value: &Val) -> Result<Context, Fail> {
+pub(crate) fn encoded(alloc: Global, table: &Table, value: &Val) -> Result<Context, Fail> {
     if can_encode(table, value) {
         Ok(encode(alloc, table, value)?)
     } else {
@@ -44,7 +34,7 @@ fn encoded(alloc: Global, table: &Table, value: &Val) -> Result<Context, Fail> {
 }
 
 /// The join of two values, each of which can be encoded.
-fn join_of(table: &Table, ours: &Val, theirs: &Val) -> Result<Val, Fail> {
+pub(crate) fn join_of(table: &Table, ours: &Val, theirs: &Val) -> Result<Val, Fail> {
     // The proof rests on this law.
     values_of_one_shape_are_joined();
     if can_encode(table, ours) && can_encode(table, theirs) {
@@ -70,7 +60,7 @@ fn merge_all(alloc: Global, dice: &mut Dice, contexts: Vec<Context>) -> Result<C
 }
 
 /// A line for each field of the table with what a value has there.
-fn fields_of(alloc: Global, table: &Table, value: &Val) -> Result<Vec<u8>, Fail> {
+pub(crate) fn fields_of(alloc: Global, table: &Table, value: &Val) -> Result<Vec<u8>, Fail> {
     let Val::Bag(values) = value else {
         return Err(Fail::from("no bag"));
     };
@@ -85,7 +75,7 @@ fn fields_of(alloc: Global, table: &Table, value: &Val) -> Result<Vec<u8>, Fail>
 }
 
 /// A line for each slot of the table with what a context says of it. No slot may have been cut off.
-fn slots_of<R: Abort>(
+pub(crate) fn slots_of<R: Abort>(
     rt: &R,
     alloc: Global,
     table: &Table,
@@ -175,7 +165,7 @@ fn joins_as_merged<R: Abort>(
     dice: &mut Dice,
     definition: &str,
 ) -> Result<(), Fail> {
-    let table = table_of(rt, alloc, definition)?;
+    let table = table_of(rt, alloc, definition, "Outer")?;
     let mut joined = bottom(alloc, &table)?;
     let mut contexts = Vec::new(alloc);
     for _ in 0..3 {
@@ -215,13 +205,14 @@ fn sets_name_the_kinds_of_their_fields(rt: HostRuntime) -> Result<(), Fail> {
     let alloc = rt.alloc();
     let packed =
         "struct Packed { string a; int32 b; } bag Outer { set<string> o = 0; set<Packed> p = 1; }";
-    let table = table_of(&rt, alloc, packed)?;
+    let table = table_of(&rt, alloc, packed, "Outer")?;
     assert!(rt; can_encode(&table, &two_sets(alloc, ScalarKind::Int32)?));
     assert!(rt; !can_encode(&table, &two_sets(alloc, ScalarKind::Sint32)?));
     let words = table_of(
         &rt,
         alloc,
         "bag Outer { set<string> o = 0; set<bytes> p = 1; }",
+        "Outer",
     )?;
     assert!(rt; !can_encode(&words, &two_sets(alloc, ScalarKind::Int32)?));
     Ok(())
