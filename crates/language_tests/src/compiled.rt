@@ -1,9 +1,10 @@
 //! Definitions with the texts of their tables.
 
-use crate::tables::{slots_of, table_of};
+use crate::tables::slots_of;
 use field_table::Table;
 use std::test::Fail;
 use table_text::TableText;
+use test_tables::table_of;
 
 // A definition of a bag `B`, the text of its table, and its slots.
 static COMPILED: [(&str, &str, &str); 8] = [
@@ -49,7 +50,7 @@ static COMPILED: [(&str, &str, &str); 8] = [
 fn compiled_tables_are_printed_and_read(rt: HostRuntime) -> Result<(), Fail> {
     let alloc = rt.alloc();
     for (definition, text, slots) in &COMPILED {
-        let table = table_of(alloc, definition, "B")?;
+        let table = table_of(&rt, alloc, definition, "B")?;
         assert_eq!(rt; table.print(alloc)?.as_slice(), text.as_bytes(), "{text}");
         let Ok(read) = Table::read(alloc, text.as_bytes()) else {
             return Err(Fail::from("a table's text"));

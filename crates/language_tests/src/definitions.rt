@@ -81,7 +81,7 @@ fn libraries_that_fail(rt: HostRuntime) -> Result<(), Fail> {
 
 // The pieces of a definition, and of the table of its bag `B` the count of slots and that of the fields of the least struct, or the
 // first fault.
-static LONG: [(&[Piece], &str); 6] = [
+static LONG: [(&[Piece], &str); 8] = [
     (
         &[("bag B { ", 1), ("bool f# = #; ", 16_384), ("}", 1)],
         "16384 slots",
@@ -133,6 +133,21 @@ static LONG: [(&[Piece], &str); 6] = [
             ("} bag B { In in = 0; }", 1),
         ],
         "3000 slots, 2000 fields",
+    ),
+    // Types inside one another.
+    (
+        &[("bag B { ", 1), ("set<", 32), ("bool s = 0; }", 1)],
+        "f 1:137 TypeNesting",
+    ),
+    (
+        &[
+            ("bag B { ", 1),
+            ("map<bool,", 31),
+            ("bool", 1),
+            (">", 31),
+            (" s = 0; }", 1),
+        ],
+        "f 1:5 TooDeep",
     ),
 ];
 
@@ -189,6 +204,25 @@ fn long_files(rt: HostRuntime) -> Result<(), Fail> {
     library.add("long", &long)?;
     let answer = answer_of(alloc, &mut library, "f", "A")?;
     assert_eq!(rt; answer.as_str(), "long 1:1 DefTooLong");
+    Ok(())
+}
+
+// What a file holds, and its fault.
+static NO_TEXT: [(&[u8], &str); 2] = [
+    (b"bag B { } // \xff\n", "f 1:14 NotUtf8"),
+    // It counts before all other faults.
+    (b"?\nbag B { } // \xc3\n", "f 2:14 NotUtf8"),
+];
+
+#[test]
+fn files_that_are_no_text(rt: HostRuntime) -> Result<(), Fail> {
+    let alloc = rt.alloc();
+    for (source, fault) in &NO_TEXT {
+        let mut library = SureLibrary::new(alloc);
+        library.add("f", source)?;
+        let answer = answer_of(alloc, &mut library, "f", "B")?;
+        assert_eq!(rt; answer.as_str(), *fault);
+    }
     Ok(())
 }
 

@@ -2,7 +2,7 @@
 
 use bdl_check::{DefFault, compile};
 use field_table::{Shape, Table};
-use outside::{Library, SureLibrary};
+use outside::Library;
 use scalar_types::ScalarKind;
 use std::alloc::Global;
 use std::test::Fail;
@@ -70,15 +70,5 @@ pub(crate) fn answer_of<L: Library>(
     match compiled(alloc, library, root, bag)? {
         Ok(table) => slots_of(alloc, &table),
         Err(fault) => Ok(fault),
-    }
-}
-
-/// The table of a bag of a definition of one file, which has no fault.
-pub(crate) fn table_of(alloc: Global, definition: &str, bag: &str) -> Result<Table, Fail> {
-    let mut library = SureLibrary::new(alloc);
-    library.add("f", definition.as_bytes())?;
-    match compiled(alloc, &mut library, "f", bag)? {
-        Ok(table) => Ok(table),
-        Err(_) => Err(Fail::from("a definition with a fault")),
     }
 }
