@@ -165,7 +165,7 @@ fn joins_as_merged<R: Abort>(
     dice: &mut Dice,
     definition: &str,
 ) -> Result<(), Fail> {
-    let table = table_of(rt, alloc, definition, "Outer")?;
+    let table = table_of(alloc, definition, "Outer")?;
     let mut joined = bottom(alloc, &table)?;
     let mut contexts = Vec::new(alloc);
     for _ in 0..3 {
@@ -205,11 +205,10 @@ fn sets_name_the_kinds_of_their_fields(rt: HostRuntime) -> Result<(), Fail> {
     let alloc = rt.alloc();
     let packed =
         "struct Packed { string a; int32 b; } bag Outer { set<string> o = 0; set<Packed> p = 1; }";
-    let table = table_of(&rt, alloc, packed, "Outer")?;
+    let table = table_of(alloc, packed, "Outer")?;
     assert!(rt; can_encode(&table, &two_sets(alloc, ScalarKind::Int32)?));
     assert!(rt; !can_encode(&table, &two_sets(alloc, ScalarKind::Sint32)?));
     let words = table_of(
-        &rt,
         alloc,
         "bag Outer { set<string> o = 0; set<bytes> p = 1; }",
         "Outer",

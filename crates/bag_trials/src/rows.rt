@@ -80,7 +80,7 @@ fn reads_as(
 #[test]
 fn contexts_are_read_and_written(rt: HostRuntime) -> Result<(), Fail> {
     let alloc = rt.alloc();
-    let table = table_of(&rt, alloc, REQ, "Req")?;
+    let table = table_of(alloc, REQ, "Req")?;
     for (atoms, lines) in &READ {
         reads_as(&rt, alloc, &table, atoms, lines)?;
     }
@@ -102,7 +102,7 @@ fn first_slot(alloc: Global, table: &Table, context: &Context) -> Result<Vec<u8>
 #[test]
 fn one_slot_is_read(rt: HostRuntime) -> Result<(), Fail> {
     let alloc = rt.alloc();
-    let table = table_of(&rt, alloc, REQ, "Req")?;
+    let table = table_of(alloc, REQ, "Req")?;
     let context = typed(&rt, alloc, &table, "f800 0000000007")?;
     assert_eq!(rt;
         first_slot(alloc, &table, &context)?.as_slice(),
@@ -139,7 +139,7 @@ fn stays(
 #[test]
 fn what_is_read_stays(rt: HostRuntime) -> Result<(), Fail> {
     let alloc = rt.alloc();
-    let table = table_of(&rt, alloc, REQ, "Req")?;
+    let table = table_of(alloc, REQ, "Req")?;
     for (atoms, lines) in &READ {
         stays(&rt, alloc, &table, atoms, lines)?;
     }
@@ -149,7 +149,7 @@ fn what_is_read_stays(rt: HostRuntime) -> Result<(), Fail> {
 #[test]
 fn bottom_has_no_atoms(rt: HostRuntime) -> Result<(), Fail> {
     let alloc = rt.alloc();
-    let table = table_of(&rt, alloc, REQ, "Req")?;
+    let table = table_of(alloc, REQ, "Req")?;
     let nothing = bottom(alloc, &table)?;
     has_lines(&rt, alloc, &table, &nothing, "-\n{}\n0{}\noff\n{}\n")?;
     assert!(rt; encoded(alloc, &table, &nothing)?.list().is_empty());
@@ -186,7 +186,7 @@ fn is_ill_typed(
 #[test]
 fn ill_typed_atoms(rt: HostRuntime) -> Result<(), Fail> {
     let alloc = rt.alloc();
-    let table = table_of(&rt, alloc, REQ, "Req")?;
+    let table = table_of(alloc, REQ, "Req")?;
     for (atoms, wanted) in &ILL_TYPED {
         is_ill_typed(&rt, alloc, &table, atoms, *wanted)?;
     }
@@ -225,7 +225,7 @@ fn merge_reads_as(
 #[test]
 fn merges_are_read(rt: HostRuntime) -> Result<(), Fail> {
     let alloc = rt.alloc();
-    let table = table_of(&rt, alloc, REQ, "Req")?;
+    let table = table_of(alloc, REQ, "Req")?;
     for (one, other, lines) in &MERGED {
         merge_reads_as(&rt, alloc, &table, (*one, *other), lines)?;
     }
@@ -283,7 +283,7 @@ fn has_normal(
 #[test]
 fn normal_forms(rt: HostRuntime) -> Result<(), Fail> {
     let alloc = rt.alloc();
-    let table = table_of(&rt, alloc, REQ, "Req")?;
+    let table = table_of(alloc, REQ, "Req")?;
     for (known, atoms) in &NORMAL {
         let view = view_of(alloc, *known)?;
         has_normal(&rt, alloc, &table, &view, atoms)?;
@@ -319,7 +319,7 @@ fn is_exact(
 #[test]
 fn states_of_normal_forms(rt: HostRuntime) -> Result<(), Fail> {
     let alloc = rt.alloc();
-    let table = table_of(&rt, alloc, REQ, "Req")?;
+    let table = table_of(alloc, REQ, "Req")?;
     for (atoms, slot, wanted) in &EXACT {
         is_exact(&rt, alloc, &table, atoms, *slot, *wanted)?;
     }
@@ -366,7 +366,7 @@ fn bag_of_word(alloc: Global, table: &Table, length: usize) -> Result<Val, Fail>
 fn words_have_room_in_atoms(rt: HostRuntime) -> Result<(), Fail> {
     let alloc = rt.alloc();
     for (definition, length, wanted) in &LONG {
-        let table = table_of(&rt, alloc, definition, "Outer")?;
+        let table = table_of(alloc, definition, "Outer")?;
         let value = bag_of_word(alloc, &table, *length)?;
         assert!(rt;
             can_encode(&table, &value) == *wanted,

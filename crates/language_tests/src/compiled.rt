@@ -50,7 +50,7 @@ static COMPILED: [(&str, &str, &str); 8] = [
 fn compiled_tables_are_printed_and_read(rt: HostRuntime) -> Result<(), Fail> {
     let alloc = rt.alloc();
     for (definition, text, slots) in &COMPILED {
-        let table = table_of(&rt, alloc, definition, "B")?;
+        let table = table_of(alloc, definition, "B")?;
         assert_eq!(rt; table.print(alloc)?.as_slice(), text.as_bytes(), "{text}");
         let Ok(read) = Table::read(alloc, text.as_bytes()) else {
             return Err(Fail::from("a table's text"));

@@ -66,7 +66,7 @@ fn counts_slots(rt: &impl Abort, table: &Table, rows: &[Option<usize>]) {
 #[test]
 fn slots_of_fields(rt: HostRuntime) -> Result<(), Fail> {
     let alloc = rt.alloc();
-    let table = table_of(&rt, alloc, MIXED, "Outer")?;
+    let table = table_of(alloc, MIXED, "Outer")?;
     assert_eq!(rt; table.slots(), 5);
     names_slots(&rt, &table, &MIXED_NAMES);
     counts_slots(
@@ -86,7 +86,7 @@ fn slots_of_fields(rt: HostRuntime) -> Result<(), Fail> {
 #[test]
 fn slots_of_nested_bags(rt: HostRuntime) -> Result<(), Fail> {
     let alloc = rt.alloc();
-    let table = table_of(&rt, alloc, NESTED, "Outer")?;
+    let table = table_of(alloc, NESTED, "Outer")?;
     assert_eq!(rt; table.slots(), 2);
     names_slots(&rt, &table, &NESTED_NAMES);
     counts_slots(&rt, &table, &[None, Some(0), None]);
