@@ -13,7 +13,7 @@ use text_carrier::{CarryCode, CarryFault};
 use text_lines::HexCode;
 use wire_bytes::ByteCode;
 
-/// What is wrong with an input as a whole, or with the number of its lines.
+/// What is wrong with an input that is no fault of digits, bytes, pieces or a graph's line.
 #[derive(Clone, Copy, Debug, PartialEq, Eq)]
 pub enum InputCode {
     /// The input is longer than a command reads.
@@ -39,7 +39,7 @@ pub enum InputCode {
 /// What is wrong with an input or a line of it.
 #[derive(Clone, Copy, Debug, PartialEq, Eq)]
 pub enum InputFault {
-    /// The input has no such line, or too much of it.
+    /// One of the codes of this crate.
     Code(InputCode),
     /// The line isn't one of hexadecimal digits.
     Hex(HexCode),
@@ -49,7 +49,8 @@ pub enum InputFault {
     Piece(CarryCode),
     /// No line says the piece of this number, the least of those that are missing.
     Missing { piece: u64 },
-    /// The bytes of the line, or those that it receives, aren't those of a list or a context.
+    /// The bytes of the line, those that it receives, or at line 0 those that pieces say, cease behind `offset` of them to be those
+    /// of a list or a context.
     Bytes { offset: usize, code: ByteCode },
     /// The atom behind so many of these bytes is no spelling of a value of the type that a table gives it.
     IllTyped { offset: u128 },

@@ -66,9 +66,10 @@ use text_carrier::laws::lines_collect_one_way;
 use trace_model::laws::{graphs_have_one_run, shown_values_are_honest};
 use write_proof::{certificates_have_one_verdict, certificates_that_verify_tell_the_truth};
 
-/// Tells that a definition has one table or one first fault, a list one block, and a text one graph or one first fault;
-/// that a graph has one run and one report, which shows the truth; that contexts are safe under a table that fits; and that a
-/// certificate has one verdict, and tells the truth where that is yes. It does nothing.
+/// Tells that a definition and the text of a table have one table or one first fault, that a printed table has no fault, that a
+/// list has one block, lines of pieces come to one thing, and a text has one graph or one first fault; that a graph has one run
+/// and one report of each form, which shows the truth; that contexts are safe under a table that fits; and that a certificate
+/// has one verdict, and tells the truth where that is yes. It does nothing.
 fn tell_laws()
     ensures { Laws }
 {
@@ -166,7 +167,7 @@ fn answer_words<R: Threads + Sync, G: Gate, L: Library, S: Source, K: Sink, E: S
 /// | `evolve OLD NEW BAG` | the definitions of both files, OLD's first | `ok C`, with the number of slots that are in both of the bag's tables, or `breaks PATH CODE`, with the first field that NEW's table breaks |
 /// | `why FILE BAG STEP PATH` | the definition, then a graph | the certificate for the slot `PATH` at step `STEP` |
 /// | `verify FILE BAG CERT` | the definition, then the file of a certificate, then a graph | `yes`, or `no LINE CODE` with the line of the certificate that breaks a rule |
-/// | `load N` | nothing | the report of a graph of `42 N + 1` steps, which is made here |
+/// | `load N` | nothing | the lines `load N` and `steps S`, and the report of a graph of `S = 42 N + 1` steps, which is made here |
 ///
 /// Files come from the library, and lines from the source; lines that are empty or begin with `#` are skipped. Where a
 /// definition, a table or the file of a certificate is refused, the source isn't read. A rank of steps and a join of many contexts may be cut into
