@@ -1,6 +1,12 @@
--- Lists of two words, of three, of four and of five.
+-- Lists of one word, of two, of three, of four and of five.
 use Rattle.std.proofs.Common.{◌≡◌, ℕ, List, [], ◌∷◌, length, Some, arith}
 use Rattle.std.specs.List.{slice_get}
+
+-- One word, by itself.
+pub one_word : (words : List (List ℕ)) (name : List ℕ) → length words ≡ 1 → slice_get words 0 ≡ Some name → words ≡ name ∷ []
+one_word [] name one first = absurd (omega arith)
+one_word (x ∷ []) name one first = cc first
+one_word (x ∷ y ∷ more) name one first = absurd (omega arith)
 
 -- Two words, by each of them.
 pub two_words : (words : List (List ℕ)) (name word : List ℕ) → length words ≡ 2 → slice_get words 0 ≡ Some name → slice_get words 1 ≡ Some word → words ≡ name ∷ word ∷ []

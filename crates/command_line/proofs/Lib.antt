@@ -1,2 +1,3 @@
 mod FewWords
+mod Limits
 mod Numbers

@@ -1,53 +1,63 @@
--- What `parse` reads of a number without sign or leading zero.
-use Rattle.std.proofs.Common.{◌≡◌, ◌≢◌, inl, inr, ℕ, ◌^◌, ◌<◌, Bool, true, false, true≢false, ◌==◌, ◌&&◌, not, List, [], ◌∷◌, length, get_or, nat_lt, if◌then◌else◌, Option, Some, None, Result, Ok, Err, IfSome, bytes_eq, refl, sym, ◌∙◌, ap, subst, arith}
+-- The numbers that words say.
+use Rattle.std.proofs.Common.{◌≡◌, ℕ, ◌^◌, ◌<◌, Bool, true, false, true≢false, ◌&&◌, List, nat_lt, if◌then◌else◌, Option, Some, None, Result, Ok, Err, IfSome, bytes_eq, refl, sym, ◌∙◌, ap, subst, arith}
+use Rattle.std.specs.Bool.{Decides}
 use Rattle.std.specs.Fmt.{decimal}
 use Rattle.std.specs.Result.{OkIff, result_ok}
-use Rattle.std.specs.Str.{all_ascii_digits}
-use Rattle.std.specs.Str.Parse.{digits_value, ParsesUnsigned}
-use Rattle.std.proofs.lemmas.Str.Parse.{parse_plain, numerals_by_value, tells_all_ascii_digits, digits_value-take-le}
-use Rattle.std.proofs.lemmas.Bool.{cases_Bool, cases_lt}
-use Rattle.std.proofs.lemmas.Bool.Decides.{nat_tests}
-use Rattle.std.proofs.lemmas.Fmt.{decimal_is_IsNumeral}
+use Rattle.std.specs.Str.Parse.{digits_value}
+use Rattle.std.proofs.lemmas.Bool.{and_parts, cond_both, ltb-true}
+use Rattle.std.proofs.lemmas.Bool.Decides.{Decides-and, Decides-ltb}
+use Rattle.std.proofs.lemmas.Fmt.{decimal_injective, decimal_is_IsNumeral}
 use Rattle.std.proofs.lemmas.Slice.Eq.{bytes_eq-Decides}
 use Rattle.graph_lines.specs.Reading.{IsNumberText}
 use Rattle.decimal_text.specs.Answers.{IsSomeOf}
 use Rattle.command_line.specs.Commands.{number_of, step_of}
 
--- The number that a text says, by what `parse` answers.
-by_parse : {E : Type 0} (word : List ℕ) (r : Result ℕ E) → OkIff r ((all_ascii_digits word ≡ true) × (0 < length word) × (digits_value 10 word < 2 ^ 32)) (digits_value 10 word)
-    → get_or word 0 0 ≢ 48 → result_ok r ≡ number_of word
+-- A fact holds of this number alone or of none, and a test tells which.
+told : (Holds : ℕ → Type 0) (number : ℕ) (test : Bool) (result : Option ℕ) → ((other : ℕ) → Holds other → other ≡ number) → Decides test (Holds number) → IsSomeOf Holds result
+    → result ≡ (if test then Some number else None)
+told Holds number true (Some other) only tells says = ap Some (only other says)
+told Holds number true None only tells none = absurd (none number (tells.0 refl))
+told Holds number false (Some other) only tells says = absurd (true≢false (sym (tells.1 (subst Holds (only other says) says))))
+told Holds number false None only tells none = refl
+
+-- The number whose digits a word is.
+value_of : (word : List ℕ) (n : ℕ) → n < 2 ^ 64 → word ≡ decimal n → n ≡ digits_value 10 word
+value_of word n few is = sym ((decimal_is_IsNumeral n few).1) ∙ ap (digits_value 10) (sym is)
+
+-- The word is the digits of a number from 1 to 4,294,967,295.
+abbrev pub IsCountText : List ℕ → ℕ → Type 0
+IsCountText word number = ((word ≡ decimal number) × (0 < number)) × (number < 2 ^ 32)
+
+-- The number that a word says, by what is read of it.
+pub number_read : (word : List ℕ) (result : Option ℕ) → IsSomeOf (IsCountText word) result → result ≡ number_of word
 unfolding number_of
-by_parse word (Ok n) (fits, is) first = grind (arith, nat_tests, fits.0, fits.1, fits.2, is)
-by_parse word (Err e) none first = elim (cases_Bool (all_ascii_digits word)) [
-  | inl digits ↦ elim (cases_lt 0 (length word)) [
-    | inl some ↦ elim (cases_lt (digits_value 10 word) (2 ^ 32)) [
-      | inl fits ↦ absurd (none (digits, some, fits))
-      | inr big ↦ grind (arith, nat_tests)
-    ]
-    | inr empty ↦ grind (arith, nat_tests)
-  ]
-  | inr other ↦ grind (arith, nat_tests)
-]
+number_read word result says =
+    let value = digits_value 10 word in
+    let same = bytes_eq word (decimal value) in
+    let some = nat_lt 0 value in
+    let few = nat_lt value (2 ^ 32) in
+    let front = Decides-and same some (bytes_eq-Decides word (decimal value)) (Decides-ltb 0 value) in
+    told (IsCountText word) value (same && some && few) result
+    (λ n is. let small = is.1 in value_of word n (omega (arith, small)) is.0.0) (Decides-and (same && some) few front (Decides-ltb value (2 ^ 32))) says
 
-pub parsed : {E : Type 0} (word : List ℕ) (r : Result ℕ E) → ParsesUnsigned 32 10 word r → get_or word 0 0 ≢ 43 → get_or word 0 0 ≢ 48 → result_ok r ≡ number_of word
-parsed word r p plus first = by_parse word r (parse_plain (numerals_by_value _ tells_all_ascii_digits) 32 word r p plus) first
+-- The number that is read of a word, where it has 32 bits.
+pub narrowed : {E : Type 0} (word : List ℕ) (number : ℕ) (r : Result ℕ E) → word ≡ decimal number → number < 2 ^ 64 → 0 < number → OkIff r (number < 2 ^ 32) number → result_ok r ≡ number_of word
+narrowed word number (Ok n) is few some (fits, same) = number_read word (Some n) ((cc (is, same), omega (arith, some, same)), omega (arith, fits, same))
+narrowed word number (Err e) is few some big = number_read word None (λ n says.
+    let small = says.1 in
+    let same = decimal_injective number n few (omega (arith, small)) (sym is ∙ says.0.0) in
+    big (omega (arith, same, small)))
 
--- A number without a leading zero isn't 0.
-first_counts : (c : ℕ) → c ≢ 48 → all_ascii_digits (c ∷ []) ≡ true → 0 < digits_value 10 (c ∷ [])
-first_counts c first digits = grind (arith, nat_tests)
-
+-- A number of that form isn't 0.
 pub positive : (word : List ℕ) → IfSome (number_of word) (λ n. 0 < n)
 unfolding number_of
-positive [] = tt
-positive (c ∷ cs) = by (nat_lt 0 (length (c ∷ cs)) && not (c == 48) && all_ascii_digits (c ∷ cs) && nat_lt (digits_value 10 (c ∷ cs)) (2 ^ 32)) refl
-  where
-    by : (b : Bool) → (nat_lt 0 (length (c ∷ cs)) && not (c == 48) && all_ascii_digits (c ∷ cs) && nat_lt (digits_value 10 (c ∷ cs)) (2 ^ 32)) ≡ b
-        → IfSome (if b then Some (digits_value 10 (c ∷ cs)) else None) (λ n. 0 < n)
-    by false e = tt
-    by true e =
-        let less = digits_value-take-le 10 (c ∷ cs) 1 (omega arith) in
-        let some : 0 < digits_value 10 (c ∷ []) = first_counts c (grind (arith, nat_tests)) (grind (arith, nat_tests)) in
-        omega arith
+positive word =
+    let value = digits_value 10 word in
+    let same = bytes_eq word (decimal value) in
+    let some = nat_lt 0 value in
+    let few = nat_lt value (2 ^ 32) in
+    cond_both (same && some && few) (Some value) None (λ number. IfSome number (λ n. 0 < n))
+    (λ e. ltb-true 0 value (and_parts same some (and_parts (same && some) few e).0).1) (λ e. tt)
 
 pub positive_at : (word : List ℕ) (n : ℕ) → Some n ≡ number_of word → 0 < n
 positive_at word n e = rw (← e) at (positive word)
@@ -57,31 +67,14 @@ positive_at word n e = rw (← e) at (positive word)
 small_step : (n : ℕ) → n < 10 ^ 10 → n < 2 ^ 64
 small_step n few = omega (arith, few)
 
--- The number whose digits a word is.
-step_value : (word : List ℕ) (n : ℕ) → IsNumberText word n → n ≡ digits_value 10 word
-step_value word n (few, is) = sym ((decimal_is_IsNumeral n (small_step n few)).1) ∙ ap (digits_value 10) (sym is)
-
--- The test of a word tells whether it is the digits of a number.
-test_tells : (word : List ℕ) → (bytes_eq word (decimal (digits_value 10 word)) && nat_lt (digits_value 10 word) (10 ^ 10)) ≡ true → IsNumberText word (digits_value 10 word)
-test_tells word e = elim (cases_Bool (bytes_eq word (decimal (digits_value 10 word)))) [
-  | inl same ↦ (grind (arith, nat_tests), (bytes_eq-Decides word (decimal (digits_value 10 word))).0 same)
-  | inr other ↦ absurd (true≢false (sym e ∙ ap (λ b. b && nat_lt (digits_value 10 word) (10 ^ 10)) other))
-]
-
-test_passes : (word : List ℕ) → IsNumberText word (digits_value 10 word) → (bytes_eq word (decimal (digits_value 10 word)) && nat_lt (digits_value 10 word) (10 ^ 10)) ≡ true
-test_passes word (few, is) =
-    let same = (bytes_eq-Decides word (decimal (digits_value 10 word))).1 is in
-    grind (arith, nat_tests, same, few)
-
-step_by : (word : List ℕ) (b : Bool) (result : Option ℕ) → (b ≡ true → IsNumberText word (digits_value 10 word)) → (IsNumberText word (digits_value 10 word) → b ≡ true)
-    → IsSomeOf (IsNumberText word) result → result ≡ (if b then Some (digits_value 10 word) else None)
-step_by word true (Some n) tells passes says = ap Some (step_value word n says)
-step_by word true None tells passes none = absurd (none (digits_value 10 word) (tells refl))
-step_by word false (Some n) tells passes says = absurd (true≢false (sym (passes (subst (IsNumberText word) (step_value word n says) says))))
-step_by word false None tells passes none = refl
-
 -- The number that a word says, by what is read of it.
 pub step_read : (word : List ℕ) (result : Option ℕ) → IsSomeOf (IsNumberText word) result → result ≡ step_of word
 unfolding step_of
 step_read word result says =
-    step_by word (bytes_eq word (decimal (digits_value 10 word)) && nat_lt (digits_value 10 word) (10 ^ 10)) result (test_tells word) (test_passes word) says
+    let value = digits_value 10 word in
+    let same = bytes_eq word (decimal value) in
+    let few = nat_lt value (10 ^ 10) in
+    let decides = Decides-and same few (bytes_eq-Decides word (decimal value)) (Decides-ltb value (10 ^ 10)) in
+    told (IsNumberText word) value (same && few) result
+    (λ n is. value_of word n (small_step n is.0) is.1)
+    (λ e. let both = decides.0 e in (both.1, both.0), λ is. decides.1 (is.1, is.0)) says

@@ -1,9 +1,8 @@
 -- What the words of a command line ask for.
-use Rattle.std.specs.Prelude.{ℕ, ◌^◌, ◌==◌, ◌&&◌, ◌||◌, not, List, [], ◌∷◌, length, nat_lt, slice_index, if◌then◌else◌, codes, bytes_eq, Option, Some, None, option_and_then, ◌≤◌}
+use Rattle.std.specs.Prelude.{ℕ, ◌^◌, ◌&&◌, ◌||◌, List, [], ◌∷◌, nat_lt, if◌then◌else◌, codes, bytes_eq, Option, Some, None, option_and_then, ◌≤◌}
 use Rattle.std.specs.Fmt.{decimal}
 use Rattle.std.specs.Option.{option_map}
 use Rattle.std.specs.Int.NonZero.{non_zero_u32_get}
-use Rattle.std.specs.Str.{all_ascii_digits}
 use Rattle.std.specs.Str.Parse.{digits_value}
 use Rattle.text_carrier.specs.declared.TheConstants.{WIDTH_MIN, WIDTH_MAX}
 use Rattle.command_line.specs.declared.commands.Command as code_commands
@@ -142,11 +141,10 @@ task_of (code.Verify origin certificate) = checking (origin_of origin) certifica
 
 -- ---- words
 
--- A number from 1 to 4,294,967,295 in decimal digits, without sign or leading zero.
+-- A number from 1 to 4,294,967,295, whose decimal digits the word is.
 unfoldable pub number_of : List ℕ → Option ℕ
 number_of word =
-    if nat_lt 0 (length word) && not (slice_index word 0 == 48) && all_ascii_digits word
-    && nat_lt (digits_value 10 word) (2 ^ 32)
+    if bytes_eq word (decimal (digits_value 10 word)) && nat_lt 0 (digits_value 10 word) && nat_lt (digits_value 10 word) (2 ^ 32)
     then Some (digits_value 10 word)
     else None
 

@@ -4,6 +4,7 @@ ghost use Rattle.std.specs.Prelude.{◌≡◌, [], ◌∷◌, IfSome};
 ghost use Rattle.std.specs.Option.{option_map};
 ghost use Rattle.command_line.specs.Commands as spec;
 
+use decimal_text::read_decimal;
 use load_maker::ROUNDS_MAX;
 use outside::Words;
 use std::num::NonZeroU32;
@@ -92,15 +93,14 @@ pub enum Command<'a> {
 }
 
 /// A number from 1 to 4,294,967,295, without sign or leading zero.
-#[tactic(auto, unfolding(crate::specs::Commands::number_of))]
 fn read_number(word: &str) -> Option<u32>
     ensures { result ≡ spec.number_of word.now }
 {
-    let first = *word.as_bytes().first()?;
-    if first == b'0' || first == b'+' {
+    let number = read_decimal(word.as_bytes())?;
+    if number == 0 {
         return None;
     }
-    word.parse::<u32>().ok()
+    u32::try_from(number).ok()
 }
 
 /// The number of a step: 1 to 10 decimal digits, without a leading zero unless it is `0`.
@@ -113,8 +113,7 @@ fn read_step(word: &str) -> Option<u64>
 /// The command that one word asks for.
 #[tactic(auto, unfolding(crate::specs::Commands::command_of))]
 fn bare_command(name: &str) -> Option<Command<'static>>
-    ensures task { option_map spec.task_of result ≡ spec.command_of (name.now ∷ []) }
-    ensures range { IfSome result (λ command. spec.IsWithinLimits (spec.task_of command)) }
+    ensures { option_map spec.task_of result ≡ spec.command_of (name.now ∷ []) }
 {
     match name {
         "merge" => Some(Command::Alone(Filter::Merge)),
@@ -125,8 +124,7 @@ fn bare_command(name: &str) -> Option<Command<'static>>
 
 /// The command that cuts to the budget of this word.
 fn trim_command(word: &str) -> Option<Command<'static>>
-    ensures task { option_map spec.task_of result ≡ option_map spec.trim (spec.number_of word.now) }
-    ensures range { IfSome result (λ command. spec.IsWithinLimits (spec.task_of command)) }
+    ensures { option_map spec.task_of result ≡ option_map spec.trim (spec.number_of word.now) }
 {
     let budget = NonZeroU32::new(read_number(word)?)?;
     Some(Command::Alone(Filter::Trim { budget }))
@@ -134,8 +132,7 @@ fn trim_command(word: &str) -> Option<Command<'static>>
 
 /// The command that carries a context in pieces of so many bytes as this word says.
 fn carry_command(word: &str) -> Option<Command<'static>>
-    ensures task { option_map spec.task_of result ≡ option_map spec.carry (spec.width_of word.now) }
-    ensures range { IfSome result (λ command. spec.IsWithinLimits (spec.task_of command)) }
+    ensures { option_map spec.task_of result ≡ option_map spec.carry (spec.width_of word.now) }
 {
     let width = read_number(word)?;
     if (width as usize) < WIDTH_MIN || WIDTH_MAX < width as usize {
@@ -146,8 +143,7 @@ fn carry_command(word: &str) -> Option<Command<'static>>
 
 /// The command that runs the load of so many rounds as this word says.
 fn load_command(word: &str) -> Option<Command<'static>>
-    ensures task { option_map spec.task_of result ≡ option_map spec.load (spec.rounds_of word.now) }
-    ensures range { IfSome result (λ command. spec.IsWithinLimits (spec.task_of command)) }
+    ensures { option_map spec.task_of result ≡ option_map spec.load (spec.rounds_of word.now) }
 {
     let rounds = read_number(word)?;
     if ROUNDS_MAX < rounds {
@@ -159,8 +155,7 @@ fn load_command(word: &str) -> Option<Command<'static>>
 /// The command that a word asks for with another.
 #[tactic(auto, unfolding(crate::specs::Commands::command_of))]
 fn numbered_command<'a>(name: &str, word: &'a str) -> Option<Command<'a>>
-    ensures task { option_map spec.task_of result ≡ spec.command_of (name.now ∷ word.now ∷ []) }
-    ensures range { IfSome result (λ command. spec.IsWithinLimits (spec.task_of command)) }
+    ensures { option_map spec.task_of result ≡ spec.command_of (name.now ∷ word.now ∷ []) }
 {
     match name {
         "trim" => trim_command(word),
@@ -177,19 +172,16 @@ fn numbered_command<'a>(name: &str, word: &'a str) -> Option<Command<'a>>
 /// The command that a word asks for with a file and a bag.
 #[tactic(auto, unfolding(crate::specs::Commands::command_of))]
 fn definition_command<'a>(name: &str, file: &'a str, bag: &'a str) -> Option<Command<'a>>
-    ensures task { option_map spec.task_of result ≡ spec.command_of (name.now ∷ file.now ∷ bag.now ∷ []) }
-    ensures range { IfSome result (λ command. spec.IsWithinLimits (spec.task_of command)) }
+    ensures { option_map spec.task_of result ≡ spec.command_of (name.now ∷ file.now ∷ bag.now ∷ []) }
 {
     let origin = Origin::Bag { file, bag };
-    let (slots, text) = (Product::SlotLine, Product::WholeText);
-    let (lines, json) = (Purpose::Run(Form::Text), Purpose::Run(Form::Json));
     match name {
         "check" => Some(Command::Build {
-            product: slots,
+            product: Product::SlotLine,
             origin,
         }),
         "table" => Some(Command::Build {
-            product: text,
+            product: Product::WholeText,
             origin,
         }),
         "decode" => Some(Command::Read {
@@ -197,11 +189,11 @@ fn definition_command<'a>(name: &str, file: &'a str, bag: &'a str) -> Option<Com
             origin,
         }),
         "run" => Some(Command::Read {
-            purpose: lines,
+            purpose: Purpose::Run(Form::Text),
             origin,
         }),
         "runjson" => Some(Command::Read {
-            purpose: json,
+            purpose: Purpose::Run(Form::Json),
             origin,
         }),
         _ => None,
@@ -216,8 +208,7 @@ fn two_file_command<'a>(
     second: &'a str,
     third: &'a str,
 ) -> Option<Command<'a>>
-    ensures task { option_map spec.task_of result ≡ spec.command_of (name.now ∷ file.now ∷ second.now ∷ third.now ∷ []) }
-    ensures range { IfSome result (λ command. spec.IsWithinLimits (spec.task_of command)) }
+    ensures { option_map spec.task_of result ≡ spec.command_of (name.now ∷ file.now ∷ second.now ∷ third.now ∷ []) }
 {
     match name {
         "evolve" => Some(Command::Compare {
@@ -237,8 +228,7 @@ fn two_file_command<'a>(
 
 /// The command that asks for the certificate of a slot at the step whose number this word says.
 fn why_command<'a>(file: &'a str, bag: &'a str, word: &str, path: &'a str) -> Option<Command<'a>>
-    ensures task { option_map spec.task_of result ≡ option_map (λ step. spec.why file.now bag.now step path.now) (spec.step_of word.now) }
-    ensures range { IfSome result (λ command. spec.IsWithinLimits (spec.task_of command)) }
+    ensures { option_map spec.task_of result ≡ option_map (λ step. spec.why file.now bag.now step path.now) (spec.step_of word.now) }
 {
     let step = read_step(word)?;
     Some(Command::Read {
@@ -256,8 +246,7 @@ fn place_command<'a>(
     word: &str,
     path: &'a str,
 ) -> Option<Command<'a>>
-    ensures task { option_map spec.task_of result ≡ spec.command_of (name.now ∷ file.now ∷ bag.now ∷ word.now ∷ path.now ∷ []) }
-    ensures range { IfSome result (λ command. spec.IsWithinLimits (spec.task_of command)) }
+    ensures { option_map spec.task_of result ≡ spec.command_of (name.now ∷ file.now ∷ bag.now ∷ word.now ∷ path.now ∷ []) }
 {
     match name {
         "why" => why_command(file, bag, word, path),
