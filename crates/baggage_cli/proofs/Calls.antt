@@ -6,9 +6,16 @@ use Rattle.baggage_cli.specs.declared.refusals.Notice.TheVariants.{WordsRefused}
 use Rattle.baggage_cli.specs.Delivery.{TellsLine, Delivers}
 use Rattle.baggage_cli.specs.Outcomes.{Outcome}
 use Rattle.baggage_cli.specs.Refusals.{notice_line}
-use Rattle.baggage_cli.specs.Scene.{Change, Scene, IsSame, IsSteady, NeverFell, HasFailed, Takes, KeepsCounts}
+use Rattle.baggage_cli.specs.Scene.{Change, Scene, IsSame, IsSteady, NeverFell, HasFailed, Takes}
 use Rattle.baggage_cli.specs.Top.{Comes, Answers}
 use Rattle.baggage_cli.proofs.Facts.{steady_done, unread_task, quiet_task, sink_told, never_seven}
+
+-- No count of faults fell.
+pub record KeepsCounts (scene : Scene) : Type 0 where
+  pub library : NeverFell scene.library
+  pub source : NeverFell scene.source
+  pub out : NeverFell scene.out
+  pub errs : NeverFell scene.errs
 
 -- ---- counts
 

@@ -45,7 +45,7 @@ use Rattle.baggage_cli.specs.Explaining.{IsPlace, IsNoPlace, IsUnexplained, IsEx
 use Rattle.baggage_cli.specs.Filters.{FiltersLines}
 use Rattle.baggage_cli.specs.Laws.{TableLaws, GraphLaws, Laws}
 use Rattle.baggage_cli.specs.Merging.{lists_of, merged_lines, IsMergeLine}
-use Rattle.baggage_cli.specs.Outcomes.{Outcome, GivesOne}
+use Rattle.baggage_cli.specs.Outcomes.{Outcome}
 use Rattle.baggage_cli.specs.Reading.{Framed, Within, RefusesLines, ReadsLines, only_one, ReadsOne, list_bytes, context_bytes, typed_bytes, cut_bytes, cut_lines, context_lines, typed_lines}
 use Rattle.baggage_cli.specs.Running.{input_fault, IsReportAs, IsRunReport, graph_inputs, GraphGives, RunsLines}
 use Rattle.baggage_cli.specs.Tables.{TableGives}
@@ -53,6 +53,10 @@ use Rattle.baggage_cli.specs.Top.{InputGives}
 use Rattle.baggage_cli.specs.Trimming.{trimmed_line}
 use Rattle.baggage_cli.specs.Under.{InputUnder}
 use Rattle.baggage_cli.proofs.GraphInputs.{lines_say}
+
+-- There is one outcome for an input.
+abbrev pub GivesOne : {A : Type 0} → (A → Outcome → Type 0) → Type 0
+GivesOne {A} gives = (input : A) (a b : Outcome) → gives input a → gives input b → a ≡ b
 
 -- ---- one fault for what is wrong
 

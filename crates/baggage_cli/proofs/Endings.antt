@@ -25,10 +25,10 @@ use Rattle.baggage_cli.specs.Outcomes.{Outcome, Then}
 use Rattle.baggage_cli.specs.Reading.{IsInputRead, ReadsAll}
 use Rattle.baggage_cli.specs.Refusals.{status_of, line_of, input_status, input_line, notice_line, piece_refusal}
 use Rattle.baggage_cli.specs.Scene.{Change, Halfway, until, since, Scene, IsSame, HasFailed, Takes}
-use Rattle.baggage_cli.specs.Tables.{IsUntaken, FileGives, IsUnprinted, TableGives, AsksForTable, AsksFront, CameFrom, TakesFrom, Obtains}
+use Rattle.baggage_cli.specs.Tables.{IsUntaken, FileGives, IsUnprinted, TableGives, AsksForTable, AsksFront, TakesFrom, Obtains}
 use Rattle.baggage_cli.specs.Top.{RefusesFiles, Answers}
 use Rattle.baggage_cli.specs.Under.{InputUnder}
-use Rattle.baggage_cli.proofs.Obtained.{obtained_table, brought_file}
+use Rattle.baggage_cli.proofs.Obtained.{CameFrom, obtained_table, brought_file}
 use Rattle.baggage_cli.proofs.ToldFiles.{OfFiles, FilesGive, came_told, rose_behind, first_refused, second_refused, both_compared, table_refused, file_refused, file_given}
 
 -- What an input gives for a task, with a table that came of the files of the library where the task reads under one.

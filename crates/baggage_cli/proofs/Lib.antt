@@ -3,6 +3,7 @@ pub mod OnlyLines
 pub mod ContextLines
 pub mod TypedLines
 pub mod CutLines
+pub mod Misread
 pub mod GraphInputs
 pub mod Explained
 pub mod Loads

@@ -16,7 +16,16 @@ use Rattle.command_line.specs.Commands.{Origin, compiled, printed}
 use Rattle.baggage_cli.specs.Outcomes.{Outcome, outcome_of, Then}
 use Rattle.baggage_cli.specs.Refusals.{refusal_of}
 use Rattle.baggage_cli.specs.Scene.{Change, NeverFell, HasFailed}
-use Rattle.baggage_cli.specs.Tables.{FileGives, TableGives, AsksForTable, AsksFront, CameFrom, AsksSome, Obtains, Brings}
+use Rattle.baggage_cli.specs.Tables.{FileGives, TableGives, AsksForTable, AsksFront, Obtains, Brings}
+
+-- It is so of the files of the library, which was asked for all names that the table needs, and for no others.
+abbrev pub CameFrom : Origin → Change Holding → Change (List (List ℕ)) → (Holding → Type 0) → Type 0
+CameFrom origin library requests Holds =
+    OfLibrary library.before requests.before requests.after (λ held names. Holds held × AsksForTable held origin names)
+
+-- The library was asked for the first names that the table needs.
+abbrev pub AsksSome : Origin → Change Holding → Change (List (List ℕ)) → Type 0
+AsksSome origin library requests = OfLibrary library.before requests.before requests.after (λ held names. AsksFront held origin names)
 
 -- ---- definitions
 

@@ -12,9 +12,9 @@ use Rattle.baggage_cli.specs.Comparing.{IsVerdictLine}
 use Rattle.baggage_cli.specs.Laws.{Laws}
 use Rattle.baggage_cli.specs.Outcomes.{Outcome}
 use Rattle.baggage_cli.specs.Scene.{Change, Halfway, until, since, Scene}
-use Rattle.baggage_cli.specs.Tables.{IsUntaken, FileGives, TableGives, AsksForTable, CameFrom, Obtains}
+use Rattle.baggage_cli.specs.Tables.{IsUntaken, FileGives, TableGives, AsksForTable, Obtains}
 use Rattle.baggage_cli.specs.Top.{InputGives, RefusesFiles, AsksNames}
-use Rattle.baggage_cli.proofs.Obtained.{no_ok, obtained_table}
+use Rattle.baggage_cli.proofs.Obtained.{CameFrom, no_ok, obtained_table}
 
 -- The library was asked for all that the task asks for, in order, and for nothing else.
 abbrev pub AskedAll : Holding → Task → Scene → Type 0

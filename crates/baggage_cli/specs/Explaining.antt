@@ -10,33 +10,27 @@ use Rattle.trace_model.specs.Runs.{Lists, IsRun}
 use Rattle.write_proof.specs.Certificates.{IsCertificate, IsEndedAt}
 use Rattle.write_proof.specs.Verdicts.{IsVerdictOf}
 use Rattle.write_proof.specs.declared.verdicts.Verified.TheVariants.{Yes}
-use Rattle.baggage_cli.specs.declared.refusals.InputCode.{InputCode}
 use Rattle.baggage_cli.specs.declared.refusals.InputCode.TheVariants.{StepRange, NoSuchPath, Partial}
-use Rattle.baggage_cli.specs.declared.refusals.InputFault.TheVariants.{Code}
 use Rattle.baggage_cli.specs.declared.refusals.Refusal.{Refusal}
-use Rattle.baggage_cli.specs.declared.refusals.Refusal.TheVariants.{Input}
 use Rattle.baggage_cli.specs.Outcomes.{Outcome}
+use Rattle.baggage_cli.specs.Refusals.{of_input}
 use Rattle.baggage_cli.specs.Running.{GraphGives, graph_inputs}
 
 -- The graph has a step of this number, and the table a slot of this name path, which is the one with this number.
 abbrev pub IsPlace : Nodes → Graph → ℕ → List ℕ → ℕ → Type 0
 IsPlace table graph step path slot = (step < length graph.steps) × FindsSlot table path (Some slot)
 
--- What is refused of a graph as a whole. It stands on no line.
-abbrev pub of_graph : InputCode → Refusal
-of_graph code = Input 0 (Code code)
-
 -- The graph has no such step; or it has, and the table has no such slot.
 abbrev pub IsNoPlace : Nodes → Graph → ℕ → List ℕ → Refusal → Type 0
 IsNoPlace table graph step path refusal =
-    ((length graph.steps ≤ step) × (refusal ≡ of_graph StepRange))
-    ⊎ ((step < length graph.steps) × FindsSlot table path None × (refusal ≡ of_graph NoSuchPath))
+    ((length graph.steps ≤ step) × (refusal ≡ of_input StepRange))
+    ⊎ ((step < length graph.steps) × FindsSlot table path None × (refusal ≡ of_input NoSuchPath))
 
 -- Both are there, but the slot isn't ended in the list that the graph's run gives the step.
 abbrev pub IsPartial : Nodes → Graph → ℕ → List ℕ → Refusal → Type 0
 IsPartial table graph step path refusal =
     (lists : Lists) × (slot : ℕ) × IsRun table graph lists × IsPlace table graph step path slot
-    × (IsEndedAt table lists step slot → ⊥) × (refusal ≡ of_graph Partial)
+    × (IsEndedAt table lists step slot → ⊥) × (refusal ≡ of_input Partial)
 
 -- There is no certificate for what is asked for.
 abbrev pub IsUnexplained : Nodes → Graph → ℕ → List ℕ → Refusal → Type 0
@@ -54,7 +48,7 @@ pub record IsExplainedAt (table : Nodes) (graph : Graph) (lists : Lists) (step :
 abbrev pub CertifiesSlot : Nodes → Graph → Lists → ℕ → ℕ → Outcome → Type 0
 CertifiesSlot table graph lists step slot (Ok output) =
     IsEndedAt table lists step slot × IsCertificate table graph lists step slot output × IsVerdictOf table graph output Yes
-CertifiesSlot table graph lists step slot (Err refusal) = (IsEndedAt table lists step slot → ⊥) × (refusal ≡ of_graph Partial)
+CertifiesSlot table graph lists step slot (Err refusal) = (IsEndedAt table lists step slot → ⊥) × (refusal ≡ of_input Partial)
 
 -- The output is the certificate for the slot of this path at the step.
 abbrev pub IsExplained : ℕ → List ℕ → Nodes → Graph → List ℕ → Type 0

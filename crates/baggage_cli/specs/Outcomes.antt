@@ -42,7 +42,3 @@ ThenUses {A} {B} first unbegun rest library requests outcome =
     ((refusal : Refusal) × first library requests (Err refusal) × unbegun × (outcome ≡ Err refusal))
     ⊎ ((half : Halfway) × (value : A) × first (until half.files half.faults library) (until half.asked half.faults requests) (Ok value)
     × rest value (since half.files half.faults library) (since half.asked half.faults requests) outcome)
-
--- There is one outcome for an input, or for the files of a library.
-abbrev pub GivesOne : {A : Type 0} → (A → Outcome → Type 0) → Type 0
-GivesOne {A} gives = (input : A) (a b : Outcome) → gives input a → gives input b → a ≡ b

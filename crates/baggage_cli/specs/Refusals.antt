@@ -3,6 +3,8 @@ use Rattle.std.specs.Prelude.{ℕ, List, [], ◌∷◌, ◌++◌, codes}
 use Rattle.std.specs.Fmt.{decimal}
 use Rattle.context_model.specs.ByteCodes.{code_name}
 use Rattle.text_lines.specs.HexLines.{hex_name}
+use Rattle.wire_bytes.specs.declared.contexts.ContextFault.{ContextFault}
+use Rattle.wire_bytes.specs.declared.contexts.ContextFault.TheVariants as contexts
 use Rattle.wire_bytes.specs.Reading.{byte_code_of}
 use Rattle.bdl_load.specs.CodeNames.{def_name}
 use Rattle.bdl_load.specs.declared.faults.DefCode.{DefCode}
@@ -112,6 +114,15 @@ refusal_of (defs.At file line column code) = Definition file line column code
 refusal_of defs.Failed = Plain LibraryFailed
 refusal_of defs.Memory = Plain Memory
 
+-- The refusal of an input as a whole. It stands on no line.
+abbrev pub of_input : InputCode → Refusal
+of_input code = Input 0 (Code code)
+
+-- The refusal of bytes that have this fault, of the line with this number.
+abbrev pub context_refusal : ℕ → ContextFault → Refusal
+context_refusal line (contexts.At offset code) = Input line (Bytes offset code)
+context_refusal line contexts.Memory = Plain Memory
+
 -- The refusal of a graph that has this fault.
 abbrev pub graph_refusal : GraphFault → Refusal
 graph_refusal (graphs.At line code) = Input line (Graph code)
@@ -122,7 +133,7 @@ graph_refusal graphs.Memory = Plain Memory
 -- The refusal of lines of pieces that have this fault.
 abbrev pub piece_refusal : CarryFault → Refusal
 piece_refusal (pieces.At line code) = Input line (Piece code)
-piece_refusal pieces.NoLine = Input 0 (Code NoLine)
+piece_refusal pieces.NoLine = of_input NoLine
 piece_refusal (pieces.Missing piece) = Input 0 (Missing piece)
-piece_refusal pieces.TooManyBytes = Input 0 (Code TooManyBytes)
+piece_refusal pieces.TooManyBytes = of_input TooManyBytes
 piece_refusal pieces.Memory = Plain Memory

@@ -81,13 +81,6 @@ Takes c bytes = Appends c.before c.after bytes × IsSteady c
 abbrev pub TakesPart : Change (List ℕ) → List ℕ → Type 0
 TakesPart c bytes = HasFailed c × AppendsPart c.before c.after bytes × NeverFell c
 
--- No count of faults fell.
-pub record KeepsCounts (scene : Scene) : Type 0 where
-  pub library : NeverFell scene.library
-  pub source : NeverFell scene.source
-  pub out : NeverFell scene.out
-  pub errs : NeverFell scene.errs
-
 -- No count of faults rose, and none stood at its last value.
 pub record HasNoFault (scene : Scene) : Type 0 where
   pub library : HasFailed scene.library → ⊥

@@ -16,7 +16,7 @@ use Rattle.baggage_cli.specs.declared.refusals.Refusal.TheVariants.{Definition, 
 use Rattle.command_line.specs.Commands.{Origin, compiled, printed}
 use Rattle.baggage_cli.specs.Outcomes.{Use}
 use Rattle.baggage_cli.specs.Refusals.{blamed}
-use Rattle.baggage_cli.specs.Scene.{Change, NeverFell, HasFailed}
+use Rattle.baggage_cli.specs.Scene.{NeverFell, HasFailed}
 
 -- Why what a file of this name holds isn't taken: there is no such file, or it is too long.
 abbrev pub IsUntaken : List ℕ → Option (List ℕ) → Refusal → Type 0
@@ -63,16 +63,6 @@ AsksForTable held (printed file) names = names ≡ file ∷ []
 abbrev pub AsksFront : Holding → Origin → List (List ℕ) → Type 0
 AsksFront held (compiled file bag) names = AsksFirst held file names
 AsksFront held (printed file) names = names ≡ file ∷ []
-
--- It is so of the files of the library, which was asked for all names that the table needs, and for no others.
-abbrev pub CameFrom : Origin → Change Holding → Change (List (List ℕ)) → (Holding → Type 0) → Type 0
-CameFrom origin library requests Holds =
-    OfLibrary library.before requests.before requests.after (λ held names. Holds held × AsksForTable held origin names)
-
--- The library was asked for the first names that the table needs.
-abbrev pub AsksSome : Origin → Change Holding → Change (List (List ℕ)) → Type 0
-AsksSome origin library requests =
-    OfLibrary library.before requests.before requests.after (λ held names. AsksFront held origin names)
 
 -- Something is taken from the files of a library, which stay. Memory may be wanting, and a library that failed has its cause; then the
 -- library was asked for the first names that are needed. Otherwise it is what is given for the files of the library,

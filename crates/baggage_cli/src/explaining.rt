@@ -1,14 +1,14 @@
 //! The command that says why a slot has its value at a step.
 
-ghost use Rattle.std.specs.Prelude.{◌≡◌, ◌<◌, length, IfOk, IfErr};
+ghost use Rattle.std.specs.Prelude.{◌<◌, length, IfOk, IfErr};
 ghost use Rattle.bag_model.specs.Slots.{slots_of};
 ghost use Rattle.text_lines.specs.Lines.{lines_of};
 ghost use Rattle.trace_model.specs.Graphs.{IsOfTable};
 ghost use Rattle.trace_model.specs.Runs.{IsRun};
-ghost use Rattle.baggage_cli.specs.Explaining.{CertifiesSlot, ExplainsLines, IsNoPlace, IsPlace, of_graph};
+ghost use Rattle.baggage_cli.specs.Explaining.{CertifiesSlot, ExplainsLines, IsNoPlace, IsPlace};
 ghost use Rattle.baggage_cli.specs.Outcomes.{outcome_of, OrMemory};
 
-use crate::refusals::{InputCode, InputFault, Refusal};
+use crate::refusals::{InputCode, Refusal};
 use atom_list::Context;
 use bag_scan::{State, state_of};
 use field_table::Table;
@@ -20,27 +20,17 @@ use std::alloc::Global;
 use std::thread::Threads;
 use write_proof::why;
 
-/// The refusal of an input as a whole, for what there isn't in its graph.
-fn unexplained(code: InputCode) -> Refusal
-    ensures { result ≡ of_graph code }
-{
-    Refusal::Input {
-        line: 0,
-        fault: InputFault::Code(code),
-    }
-}
-
 /// The slot of this name path, where it and the step are there.
 fn slot_at(table: &Table, graph: &Graph, step: u64, path: &str) -> Result<usize, Refusal>
     ensures ok { IfOk result (IsPlace table.now graph.now step path.now) }
     ensures err { IfErr result (IsNoPlace table.now graph.now step path.now) }
 {
     if graph.steps() as u64 <= step {
-        return Err(unexplained(InputCode::StepRange));
+        return Err(Refusal::of_input(InputCode::StepRange));
     }
     match table.find(path) {
         Some(slot) => Ok(slot),
-        None => Err(unexplained(InputCode::NoSuchPath)),
+        None => Err(Refusal::of_input(InputCode::NoSuchPath)),
     }
 }
 
@@ -61,7 +51,7 @@ fn certificate(
 {
     match state_of(table, &lists[step], slot) {
         State::Exact => Ok(why(alloc, table, graph, lists, step, slot)?),
-        State::Partial => Err(unexplained(InputCode::Partial)),
+        State::Partial => Err(Refusal::of_input(InputCode::Partial)),
     }
 }
 

@@ -8,14 +8,12 @@ ghost use Rattle.text_carrier.specs.declared.TheConstants.{CARRIED_MAX};
 ghost use Rattle.text_lines.specs.HexLines.{IsHexOf};
 ghost use Rattle.text_lines.specs.Lines.{line_value};
 
-use crate::refusals::{InputCode, InputFault, Notice, Refusal};
+use crate::refusals::{InputCode, InputFault, Notice, Refusal, misread};
 use atom_list::{AtomList, Context};
 use outside::{ReadFault, Source, read_all};
 use std::alloc::Global;
 use text_lines::{HexFault, INPUT_MAX, Line, Lines, hex_bytes};
-use wire_bytes::{
-    ByteCode, ContextFault, Form, WireFault, form_of, read_context, read_context_owned, read_owned,
-};
+use wire_bytes::{ContextFault, Form, form_of, read_context, read_context_owned, read_owned};
 
 /// Reads the source to its end.
 pub fn read_input<S: Source>(alloc: Global, source: &mut S) -> Result<Vec<u8>, Refusal>
@@ -23,10 +21,7 @@ pub fn read_input<S: Source>(alloc: Global, source: &mut S) -> Result<Vec<u8>, R
 {
     match read_all(alloc, source, INPUT_MAX) {
         Ok(input) => Ok(input),
-        Err(ReadFault::TooLong) => Err(Refusal::Input {
-            line: 0,
-            fault: InputFault::Code(InputCode::TooLong),
-        }),
+        Err(ReadFault::TooLong) => Err(Refusal::of_input(InputCode::TooLong)),
         Err(ReadFault::Failed) => Err(Refusal::Plain(Notice::SourceFailed)),
         Err(ReadFault::Memory) => Err(Refusal::Plain(Notice::Memory)),
     }
@@ -39,10 +34,7 @@ pub fn first_line<'a>(lines: &mut Lines<'a>) -> Result<Line<'a>, Refusal>
 {
     match lines.next() {
         Some(line) => Ok(line),
-        None => Err(Refusal::Input {
-            line: 0,
-            fault: InputFault::Code(InputCode::NoLine),
-        }),
+        None => Err(Refusal::of_input(InputCode::NoLine)),
     }
 }
 
@@ -91,14 +83,7 @@ pub fn line_list(alloc: Global, line: &Line<'_>, budget: u64) -> Result<(Form, A
     }
     match read_owned(alloc, bytes) {
         Ok(list) => Ok((form, list)),
-        Err(WireFault::At { offset, code }) => Err(Refusal::Input {
-            line: line.number,
-            fault: InputFault::Bytes {
-                offset,
-                code: ByteCode::from(code),
-            },
-        }),
-        Err(WireFault::Memory) => Err(Refusal::Plain(Notice::Memory)),
+        Err(fault) => Err(misread(line.number, ContextFault::from(fault))),
     }
 }
 
@@ -112,11 +97,7 @@ pub fn context_bytes(alloc: Global, line: &Line<'_>) -> Result<Vec<u8>, Refusal>
     let bytes = line_bytes(alloc, line)?;
     match read_context(alloc, bytes.as_slice()) {
         Ok(_) => Ok(bytes),
-        Err(ContextFault::At { offset, code }) => Err(Refusal::Input {
-            line: line.number,
-            fault: InputFault::Bytes { offset, code },
-        }),
-        Err(ContextFault::Memory) => Err(Refusal::Plain(Notice::Memory)),
+        Err(fault) => Err(misread(line.number, fault)),
     }
 }
 
@@ -130,10 +111,6 @@ pub fn line_context(alloc: Global, line: &Line<'_>) -> Result<(Form, Context), R
     let form = form_of(bytes.as_slice());
     match read_context_owned(alloc, bytes) {
         Ok(context) => Ok((form, context)),
-        Err(ContextFault::At { offset, code }) => Err(Refusal::Input {
-            line: line.number,
-            fault: InputFault::Bytes { offset, code },
-        }),
-        Err(ContextFault::Memory) => Err(Refusal::Plain(Notice::Memory)),
+        Err(fault) => Err(misread(line.number, fault)),
     }
 }

@@ -11,7 +11,7 @@ use std::fmt;
 use table_text::TableCode;
 use text_carrier::{CarryCode, CarryFault};
 use text_lines::HexCode;
-use wire_bytes::ByteCode;
+use wire_bytes::{ByteCode, ContextFault};
 
 /// What is wrong with an input that is no fault of digits, bytes, pieces or a graph's line.
 #[derive(Clone, Copy, Debug, PartialEq, Eq)]
@@ -117,6 +117,31 @@ impl fmt::Display for InputCode {
     }
 }
 
+impl Refusal {
+    /// The refusal of an input as a whole.
+    pub fn of_input(code: InputCode) -> Refusal
+        ensures { result ≡ spec.of_input code }
+    {
+        Refusal::Input {
+            line: 0,
+            fault: InputFault::Code(code),
+        }
+    }
+}
+
+/// The refusal of bytes that aren't those of a list or a context: of the line with this number, or at line 0 those that pieces say.
+pub fn misread(line: u64, fault: ContextFault) -> Refusal
+    ensures { result ≡ spec.context_refusal line fault }
+{
+    match fault {
+        ContextFault::At { offset, code } => Refusal::Input {
+            line,
+            fault: InputFault::Bytes { offset, code },
+        },
+        ContextFault::Memory => Refusal::Plain(Notice::Memory),
+    }
+}
+
 impl From<Memory> for Refusal {
     ghost use Rattle.std.specs.Prelude.{◌≡◌};
     ghost use Rattle.baggage_cli.specs.declared.refusals.Notice.TheVariants.{Memory};
@@ -203,18 +228,12 @@ impl From<CarryFault> for Refusal {
                 line,
                 fault: InputFault::Piece(code),
             },
-            CarryFault::NoLine => Refusal::Input {
-                line: 0,
-                fault: InputFault::Code(InputCode::NoLine),
-            },
+            CarryFault::NoLine => Refusal::of_input(InputCode::NoLine),
             CarryFault::Missing { piece } => Refusal::Input {
                 line: 0,
                 fault: InputFault::Missing { piece },
             },
-            CarryFault::TooManyBytes => Refusal::Input {
-                line: 0,
-                fault: InputFault::Code(InputCode::TooManyBytes),
-            },
+            CarryFault::TooManyBytes => Refusal::of_input(InputCode::TooManyBytes),
             CarryFault::Memory => Refusal::Plain(Notice::Memory),
         }
     }

@@ -20,7 +20,7 @@ returns-in-Partial c =
     inr (
       partial_unended c.args.table.now lists c.args.step c.args.slot c.index-lists-step.result list c.state_of.result c.state_of.ensures c.requires.slot
           (λ exact. let partial = c.in-Partial.is in cc (exact, partial)),
-      c.unexplained.ensures,
+      c.of_input.ensures,
     )
 
 pub returns-in_ok-why-in-Exact : goal.returns-in_ok-why-in-Exact

@@ -1,4 +1,4 @@
-use Rattle.std.proofs.Common.{inr, refl, Err, ap}
+use Rattle.std.proofs.Common.{inr, Err, ap}
 use Rattle.baggage_cli.specs.Scene.{change}
 use Rattle.baggage_cli.proofs.Inputs.{whole_read, long_read}
 use Rattle.baggage_cli.proofs.reading.read_input.Goals as goal
@@ -15,4 +15,4 @@ returns-in-Err-TooLong g c =
     let read = c.in-Err-TooLong.ensures in
     let taken = read.too_long (ap Err c.in-Err-TooLong.field-0-is) in
     let input = long_read source taken.0 taken.2 taken.1 in
-    (read.later, inr (inr (input.0, input.1, (input.2, refl))))
+    (read.later, inr (inr (input.0, input.1, (input.2, c.of_input.ensures))))
