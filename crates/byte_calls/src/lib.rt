@@ -4,7 +4,7 @@
 //! ```rust
 //! match forward_into(alloc, Form::One, first, second, 512, &mut room) {
 //!     Ok(size) => channel.send(&room[..size]),
-//!     Err(Refusal::Room(size)) => ..   // nothing was written; so many bytes are needed
+//!     Err(Refusal::Room { size }) => .. // nothing was written; so many bytes are needed
 //!     Err(refusal) => ..
 //! }
 //! ```
@@ -18,5 +18,5 @@ mod spans;
 
 pub use calls::{check, forward_into, merge_into, merge_many_into, trim_into};
 pub use refusals::Refusal;
-pub use room::put;
+pub use room::{TooShort, write_front};
 pub use spans::Span;

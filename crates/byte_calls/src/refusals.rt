@@ -1,18 +1,21 @@
 //! Why a call wrote nothing.
 
+use crate::room::TooShort;
 use outside::Memory;
 use wire_bytes::ByteCode;
 
-/// Why a call wrote nothing into the room that it was handed. The first of these counts.
+/// Why a call wrote nothing into the room that it was handed. The first of these counts, but for want of memory, which may come before
+/// any of the others.
 #[derive(Clone, Copy, Debug, PartialEq, Eq)]
 pub enum Refusal {
-    /// The first of the inputs that aren't the bytes of a context is that at place `context`, from 0 on: its first fault.
+    /// The first of the inputs that aren't the bytes of a context is that at place `context`, from 0 on: its first fault, behind `offset`
+    /// bytes of it.
     Fault {
         context: usize,
         offset: usize,
         code: ByteCode,
     },
-    /// There is no memory for the lists of atoms.
+    /// There is no memory for what was read or is to be written.
     Memory,
     /// The room is shorter than what is to be written, which has `size` bytes.
     Room {
@@ -28,5 +31,16 @@ impl From<Memory> for Refusal {
 
     fn from(_want: Memory) -> Refusal {
         Refusal::Memory
+    }
+}
+
+impl From<TooShort> for Refusal {
+    ghost use Rattle.std.specs.Prelude.{◌≡◌};
+    ghost use Rattle.byte_calls.specs.declared.refusals.Refusal.TheVariants.{Room};
+
+    ghost from_gives = { λ short refusal. refusal ≡ Room short.size };
+
+    fn from(short: TooShort) -> Refusal {
+        Refusal::Room { size: short.size }
     }
 }

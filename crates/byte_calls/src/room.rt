@@ -6,23 +6,31 @@ ghost use Rattle.byte_calls.specs.Room.{HoldsBytes, IsTooShortFor, WritesList};
 use crate::refusals::Refusal;
 use atom_list::AtomList;
 use std::alloc::Global;
-use wire_bytes::{Form, write};
+use wire_bytes::{Form, size, write};
+
+/// The room is shorter than what is to be written, which has `size` bytes.
+#[derive(Clone, Copy, Debug, PartialEq, Eq)]
+pub struct TooShort {
+    pub size: usize,
+}
 
 /// Writes bytes at the front of the room, and answers how many they are. The rest of the room stays. Where the room is shorter than they
-/// are, all of it stays, and `Err` has their number.
-pub fn put(bytes: &[u8], room: &mut [u8]) -> Result<usize, usize>
-    ensures { MatchResult result (λ size. HoldsBytes bytes.now size room.old room.new) (λ size. IsTooShortFor bytes.now size room.old room.new) }
+/// are, all of it stays.
+pub fn write_front(bytes: &[u8], room: &mut [u8]) -> Result<usize, TooShort>
+    ensures { MatchResult result
+        (λ size. HoldsBytes bytes.now size room.old room.new)
+        (λ short. IsTooShortFor bytes.now short.size room.old room.new) }
 {
     let size = bytes.len();
     if room.len() < size {
-        return Err(size);
+        return Err(TooShort { size });
     }
     room[..size].copy_from_slice(bytes);
     Ok(size)
 }
 
 /// Writes a list at the front of the room, in the form that is asked for, and answers how many bytes it has. The rest of the room
-/// stays.
+/// stays. It takes no memory where the room is too short, nor where the bytes stand in the list's buffer.
 pub(crate) fn write_into(
     alloc: Global,
     form: Form,
@@ -31,9 +39,17 @@ pub(crate) fn write_into(
 ) -> Result<usize, Refusal>
     ensures { WritesList form (λ written. written ≡ list.now) (λ _ _ _. ⊥) room.old room.new result }
 {
-    let bytes = write(alloc, form, list)?;
-    match put(&bytes, room) {
-        Ok(written) => Ok(written),
-        Err(size) => Err(Refusal::Room { size }),
+    // It says that the frames of a list are no more than a buffer may have.
+    let _count = list.len();
+    let size = size(form, list);
+    if (room.len() as u128) < size {
+        return Err(Refusal::Room {
+            size: size as usize,
+        });
+    }
+    match list.framed() {
+        // Nothing stands before the frames.
+        Some(bytes) if bytes.len() as u128 == size => Ok(write_front(bytes, room)?),
+        _ => Ok(write_front(&write(alloc, form, list)?, room)?),
     }
 }

@@ -1,5 +1,11 @@
 //! Calls on single fields, for programs that hold a printed table and contexts as bytes: a field is found by its name, and its value is
 //! read and written as text.
+//!
+//! ```rust
+//! let size = write_field_into(alloc, Form::One, table, b"zone", b"\"north\"", &mut room)?;
+//! channel.send(&room[..size]);
+//! let (state, size) = read_field_into(alloc, table, &received, b"zone", &mut room)?;   // State::Exact, if that is all
+//! ```
 #![tactic(auto)]
 
 mod fields;

@@ -1,5 +1,6 @@
 //! Why no field was read or written.
 
+use byte_calls::TooShort;
 use outside::Memory;
 use table_text::{TableCode, TableFault};
 use wire_bytes::{ByteCode, ContextFault};
@@ -31,6 +32,17 @@ impl From<Memory> for FieldRefusal {
 
     fn from(_want: Memory) -> FieldRefusal {
         FieldRefusal::Memory
+    }
+}
+
+impl From<TooShort> for FieldRefusal {
+    ghost use Rattle.std.specs.Prelude.{◌≡◌};
+    ghost use Rattle.field_calls.specs.declared.refusals.FieldRefusal.TheVariants.{Room};
+
+    ghost from_gives = { λ short refusal. refusal ≡ Room short.size };
+
+    fn from(short: TooShort) -> FieldRefusal {
+        FieldRefusal::Room { size: short.size }
     }
 }
 

@@ -6,7 +6,7 @@ ghost use Rattle.field_calls.specs.Writing.{IsUnwrittenFor, SaysFieldWrite, Writ
 use crate::fields::field_named;
 use crate::refusals::FieldRefusal;
 use accessor_gen::laws::values_fit_at_slots;
-use byte_calls::put;
+use byte_calls::write_front;
 use field_table::Table;
 use std::alloc::Global;
 use table_text::read_table;
@@ -50,8 +50,5 @@ pub fn write_field_into(
 {
     let table = read_table(alloc, table)?;
     let bytes = write_bytes(alloc, form, &table, name, text)?;
-    match put(&bytes, room) {
-        Ok(size) => Ok(size),
-        Err(size) => Err(FieldRefusal::Room { size }),
-    }
+    Ok(write_front(&bytes, room)?)
 }
