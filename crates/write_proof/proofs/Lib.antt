@@ -16,6 +16,7 @@ mod AsWritten
 mod SlotNames
 mod Complete
 mod Reached
+mod ChildRows
 mod Newly
 mod Written
 mod TogetherCalls

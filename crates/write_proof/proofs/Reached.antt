@@ -42,14 +42,14 @@ rises_push (u ∷ v ∷ ks) k rises below = (rises.0, rises_push (v ∷ ks) k ri
 
 -- ---- parents that are marked
 
-taken_in : (i : ℕ) (ks : List ℕ) (w k : ℕ) → i < length ks → k ≡ get_or ks i 0 → IsIn w (take (suc i) ks) → IsIn w (take i ks) ⊎ (w ≡ k)
+pub taken_in : (i : ℕ) (ks : List ℕ) (w k : ℕ) → i < length ks → k ≡ get_or ks i 0 → IsIn w (take (suc i) ks) → IsIn w (take i ks) ⊎ (w ≡ k)
 taken_in i [] w k l e j = absurd (omega (arith, l))
 taken_in zero (u ∷ ks) w k l e (inl same) = inr (same ∙ sym e)
 taken_in zero (u ∷ ks) w k l e (inr j) = absurd j
 taken_in (suc i) (u ∷ ks) w k l e (inl same) = inl (inl same)
 taken_in (suc i) (u ∷ ks) w k l e (inr j) = elim (taken_in i ks w k (omega (arith, l)) e j) [ inl a ↦ inl (inr a) | inr b ↦ inr b ]
 
-in_taken : (i : ℕ) (ks : List ℕ) (w k : ℕ) → i < length ks → k ≡ get_or ks i 0 → IsIn w (take i ks) ⊎ (w ≡ k) → IsIn w (take (suc i) ks)
+pub in_taken : (i : ℕ) (ks : List ℕ) (w k : ℕ) → i < length ks → k ≡ get_or ks i 0 → IsIn w (take i ks) ⊎ (w ≡ k) → IsIn w (take (suc i) ks)
 in_taken i [] w k l e j = absurd (omega (arith, l))
 in_taken zero (u ∷ ks) w k l e (inl j) = absurd j
 in_taken zero (u ∷ ks) w k l e (inr same) = inl (same ∙ e)

@@ -14,3 +14,4 @@ pub mod Joins
 pub mod Marks
 pub mod FirstLines
 pub mod Checker
+pub mod ChildRows

@@ -16,7 +16,7 @@ ghost use Rattle.write_proof.specs.Verdicts.{IsVerdictOf};
 
 use crate::joins::known;
 use crate::reaching::{Reach, reaching_steps};
-use crate::used::used_steps;
+use crate::used::steps_with_news;
 use crate::verdicts::Verified;
 use atom_list::Context;
 use bag_decode::decode_slot;
@@ -163,7 +163,7 @@ pub fn why(
     graph.known();
     let reaching = reaching_steps(alloc, graph, step)?;
     let way = steps_on_way(alloc, reaching.as_slice(), step)?;
-    let used = used_steps(alloc, table, graph, slot, way.as_slice())?;
+    let used = steps_with_news(alloc, table, graph, slot, way.as_slice())?;
     let mut text = Vec::new(alloc);
     put_why(alloc, table, step, slot, &mut text)?;
     put_value_line(alloc, table, &lists[step], slot, &mut text)?;

@@ -10,7 +10,7 @@ ghost use Rattle.write_proof.specs.Views.{entry_of};
 use crate::entries::Entry;
 use crate::first_lines::{missing, not_listed, too_much};
 use crate::joins::{join_steps, known};
-use crate::marks::{reached_marks, used_steps};
+use crate::marks::{named_uses, reached_marks};
 use crate::reading::read_entries;
 use crate::verdicts::{Verified, VerifyCode};
 use field_table::Table;
@@ -69,7 +69,7 @@ fn check_together(
         let code = VerifyCode::Missing;
         return Ok(Verified::No { line, code });
     }
-    let steps = used_steps(alloc, entries)?;
+    let steps = named_uses(alloc, entries)?;
     let joined = join_steps(alloc, table, graph, slot, steps.as_slice())?;
     let wanted = value_text(alloc, &joined, table.shape(slot))?;
     if text != wanted.as_slice() {

@@ -12,6 +12,7 @@
 mod belows;
 mod certificates;
 mod checker;
+mod child_rows;
 mod contributions;
 mod entries;
 mod first_lines;

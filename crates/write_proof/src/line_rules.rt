@@ -3,13 +3,14 @@
 ghost use Rattle.std.specs.Prelude.{◌≡◌, ◌↔◌, ◌<◌, length, map, IsTrue, IfOk, IfErr, OnOk};
 ghost use Rattle.std.specs.Option.{option_map};
 ghost use Rattle.text_lines.specs.Readings.{IsFirstOf, NoneOf};
+ghost use Rattle.write_proof.specs.ChildRows.{AreRowsTo};
 ghost use Rattle.write_proof.specs.LineRules.{BreaksAlone, HasParent, IsNoMore, IsWriteStep, MayFollow, last_of, rules_alone, step_of};
 ghost use Rattle.write_proof.specs.Views.{entry_of};
 
 use crate::entries::Entry;
 use crate::verdicts::VerifyCode;
 use field_table::Table;
-use recorded_graph::{Act, Graph};
+use recorded_graph::{Act, Graph, Places};
 
 /// Whether an entry of this kind may stand behind the last.
 pub(crate) fn may_follow(last: Option<Entry<'_>>, entry: Entry<'_>) -> bool
@@ -53,16 +54,12 @@ pub(crate) fn last_entry<'a>(entries: &[Entry<'a>]) -> Option<Entry<'a>>
     entries.last().copied()
 }
 
-/// Whether the child has the step as a parent.
-fn has_parent(graph: &Graph, child: u64, step: u64) -> bool
+/// Whether the child has the step as a parent: it stands in the step's row.
+fn has_parent(graph: &Graph, rows: &[Places], child: u64, step: u64) -> bool
+    requires { AreRowsTo graph.now (length graph.now.steps) rows.now }
     ensures { IsTrue result ↔ HasParent graph.now child step }
 {
-    child < graph.steps() as u64
-        && graph
-            .step(child as usize)
-            .act
-            .parents()
-            .contains(&(step as usize))
+    step < graph.steps() as u64 && rows[step as usize].as_slice().contains(&(child as usize))
 }
 
 /// Whether the step is a write, or receives a context.
@@ -76,13 +73,15 @@ fn is_write(graph: &Graph, step: u64) -> bool
         )
 }
 
-/// The rules for an entry that may stand there.
+/// The rules for an entry that may stand there. As the steps of one kind rise, no row of children is looked through twice.
 pub(crate) fn check_rules(
     table: &Table,
     graph: &Graph,
+    rows: &[Places],
     earlier: &[Entry<'_>],
     entry: Entry<'_>,
 ) -> Result<(), VerifyCode>
+    requires { AreRowsTo graph.now (length graph.now.steps) rows.now }
     ensures ok { OnOk result (NoneOf (BreaksAlone table.now graph.now (map entry_of earlier.now) (entry_of entry.entry)) rules_alone) }
     ensures err { IfErr result (IsFirstOf (BreaksAlone table.now graph.now (map entry_of earlier.now) (entry_of entry.entry)) rules_alone) }
 {
@@ -100,7 +99,7 @@ pub(crate) fn check_rules(
             if is_no_more(last_entry(earlier), entry) || step >= first_step(earlier) {
                 return Err(VerifyCode::Order);
             }
-            if !has_parent(graph, child, step) {
+            if !has_parent(graph, rows, child, step) {
                 return Err(VerifyCode::NotParent);
             }
         }

@@ -35,8 +35,8 @@ pub(crate) fn is_marked(marks: &[bool], step: usize) -> bool
     step < marks.len() && marks[step]
 }
 
-/// The steps that are used.
-pub(crate) fn used_steps(alloc: Global, entries: &[Entry<'_>]) -> Result<Vec<usize>, Memory>
+/// The steps that the lines of used steps name.
+pub(crate) fn named_uses(alloc: Global, entries: &[Entry<'_>]) -> Result<Vec<usize>, Memory>
     ensures { IfOk result (λ steps. steps.items ≡ used (map entry_of entries.now)) }
 {
     let mut steps = Vec::new(alloc);

@@ -108,7 +108,7 @@ fn use_next(
 }
 
 /// Of some steps in order those that contribute more than the join of what those before them contribute.
-pub(crate) fn used_steps(
+pub(crate) fn steps_with_news(
     alloc: Global,
     table: &Table,
     graph: &Graph,

@@ -2,11 +2,11 @@
 
 use std::fmt;
 
-/// The rule that a certificate breaks. The first five after `Form` are for a line by itself, where the first of them counts at
-/// the first line that breaks one. The last four are over all lines, and count after those.
+/// The rule that a certificate breaks. The first six are for a line by itself, where the first of them counts at the first line
+/// that breaks one. The last four are over all lines, and count after those.
 #[derive(Clone, Copy, Debug, PartialEq, Eq)]
 pub enum VerifyCode {
-    /// The line isn't the one of its kind in the order of the kinds, or its line feed is missing.
+    /// The line isn't the one of its kind in the order of the kinds, or its line feed is missing, or line 1 or 2 is missing.
     Form,
     /// The certificate's step is none of the graph.
     StepRange,

@@ -22,14 +22,14 @@ use Rattle.write_proof.proofs.certificates.why.Goals as goal
 way_is : (reaching handed : List code.Reach) (way steps : List ℕ) (n : ℕ) → handed ≡ reaching → way ≡ keys_of (pairs_of handed) ++ n ∷ [] → steps ≡ way → steps ≡ keys_of (pairs_of reaching) ++ n ∷ []
 way_is reaching handed way steps n same is seen = seen ∙ is ∙ ap (λ (l : List code.Reach). keys_of (pairs_of l) ++ n ∷ []) same
 
-pub used_steps-requires-clause-rises : goal.used_steps-requires-clause-rises
-used_steps-requires-clause-rises c =
+pub steps_with_news-requires-clause-rises : goal.steps_with_news-requires-clause-rises
+steps_with_news-requires-clause-rises c =
     let reaching = c.in_ok-reaching.reaching.items in
     let is = way_is reaching c.as_slice.result.now c.in_ok-way.way.items c.as_slice-2.result.now c.args.step c.as_slice.ensures.value c.in_ok-way.ensures c.as_slice-2.ensures.value in
     subst (Rises nat_cmp) (sym is) (way_rises c.args.graph.now c.known.ensures.graph c.args.step (pairs_of reaching) c.in_ok-reaching.ensures)
 
-pub used_steps-requires-clause-steps : goal.used_steps-requires-clause-steps
-used_steps-requires-clause-steps c =
+pub steps_with_news-requires-clause-steps : goal.steps_with_news-requires-clause-steps
+steps_with_news-requires-clause-steps c =
     let reaching = c.in_ok-reaching.reaching.items in
     let is = way_is reaching c.as_slice.result.now c.in_ok-way.way.items c.as_slice-2.result.now c.args.step c.as_slice.ensures.value c.in_ok-way.ensures c.as_slice-2.ensures.value in
     λ w i. way_within c.args.graph.now c.known.ensures.graph c.args.step (pairs_of reaching) c.in_ok-reaching.ensures c.requires.step w (subst (IsIn w) is i)

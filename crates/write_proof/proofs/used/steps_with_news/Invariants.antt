@@ -1,7 +1,7 @@
 use Rattle.std.proofs.Common.{map, take}
 use Rattle.bag_value.specs.Vals.{plain}
 use Rattle.write_proof.specs.Used.{ArePartsAt, AreNewsAt}
-use Rattle.write_proof.proofs.used.used_steps.Given as goal
+use Rattle.write_proof.proofs.used.steps_with_news.Given as goal
 
 abbrev pub invariant-loop-step : goal.invariant-loop-step
 invariant-loop-step l = record {

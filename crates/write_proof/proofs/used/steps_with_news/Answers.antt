@@ -3,7 +3,7 @@ use Rattle.trace_model.specs.Graphs.{IsRecorded}
 use Rattle.write_proof.specs.Used.{AreNewsAt, AreNewsOf}
 use Rattle.write_proof.proofs.Newly.{none_parts, news_none, news_taken}
 use Rattle.write_proof.proofs.Reached.{place_in, whole_taken}
-use Rattle.write_proof.proofs.used.used_steps.Goals as goal
+use Rattle.write_proof.proofs.used.steps_with_news.Goals as goal
 
 pub loop-step-init : goal.loop-step-init
 loop-step-init c =

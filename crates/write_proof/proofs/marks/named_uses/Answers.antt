@@ -1,8 +1,8 @@
 use Rattle.std.proofs.Common.{◌++◌, [], ◌∷◌, get_or, sym, ap, ◌∙◌}
 use Rattle.std.proofs.lemmas.Option.{slice_get-get_or}
 use Rattle.write_proof.proofs.MarkCalls.{first_entry, used_this, used_no_more}
-use Rattle.write_proof.proofs.marks.used_steps.Goals as goal
-use Rattle.write_proof.proofs.marks.used_steps.Goals.{in-Uses+in_ok-push, in_default}
+use Rattle.write_proof.proofs.marks.named_uses.Goals as goal
+use Rattle.write_proof.proofs.marks.named_uses.Goals.{in-Uses+in_ok-push, in_default}
 
 pub loop-entry-preserved : goal.loop-entry-preserved
 loop-entry-preserved c =
