@@ -19,7 +19,7 @@ pub(crate) fn widens(kind: &ScalarKind, wider: &ScalarKind) -> bool
     }
 }
 
-/// The same of the fields of two structs: there are as many, and each may take the place of that at its place.
+/// Whether the fields of a struct may give way to those of another: there are as many, and each may give way to that at its place.
 fn are_wider(words: &[ScalarKind], more: &[ScalarKind]) -> bool
     requires words { All IsPlainWord words.now }
     requires more { All IsPlainWord more.now }
@@ -36,7 +36,7 @@ fn are_wider(words: &[ScalarKind], more: &[ScalarKind]) -> bool
     true
 }
 
-/// The same of a kind that is no struct.
+/// Whether a kind that is no struct may give way to another.
 fn is_wider(word: &ScalarKind, wider: &ScalarKind) -> bool
     requires { IsPlainWord word.now }
     ensures { IsTrue result ↔ Widens (kind_of word.now) (kind_of wider.now) }

@@ -64,7 +64,7 @@ fn put_text(
     put_value(table.shape(slot), &value, into)
 }
 
-/// Appends the line of that text.
+/// Appends the line `value` with the text of the slot's value.
 fn put_value_line(
     alloc: Global,
     table: &Table,

@@ -9,7 +9,7 @@ loop-child-init c = rows_none c.args.graph.now c.in_ok-rows.rows.items (c.in_ok-
 
 pub add_child-requires : goal.add_child-requires
 add_child-requires c =
-    parents_in_rows c.args.graph.now c.known.ensures.sound c.loop-child.child (step_of c.step.result.now) c.parents.result.now c.loop-child.rows.items (omega (arith, c.loop-child-test.true, c.steps-2.ensures)) c.step.ensures c.parents.ensures c.loop-child.invariant
+    parents_in_rows c.args.graph.now c.known.ensures.sound c.loop-child.child (step_of c.step.result.now) c.parents.result.now c.loop-child.rows.items (omega (arith, c.loop-child-test.true, c.steps-child-end.ensures)) c.step.ensures c.parents.ensures c.loop-child.invariant
 
 pub loop-child-preserved : goal.loop-child-preserved
 loop-child-preserved c =
@@ -17,5 +17,5 @@ loop-child-preserved c =
 
 pub returns : goal.returns
 returns c =
-    let all : c.loop-child.child ≡ length c.args.graph.now.steps = omega (arith, c.loop-child-test.false, c.loop-child.auto.child-end, c.steps-2.ensures) in
+    let all : c.loop-child.child ≡ length c.args.graph.now.steps = omega (arith, c.loop-child-test.false, c.loop-child.auto.child-end, c.steps-child-end.ensures) in
     subst (λ (m : ℕ). AreRowsTo c.args.graph.now m c.loop-child.rows.items) all c.loop-child.invariant
