@@ -1,5 +1,5 @@
 -- What is refused of bytes that aren't those of a list or a context.
-use Rattle.std.proofs.Common.{◌≡◌, inl, inr, ℕ, ◌≤◌, List, [], Ok, Err, refl, sym, ap, subst}
+use Rattle.std.proofs.Common.{◌≡◌, inl, inr, ℕ, ◌≤◌, List, Ok, Err, refl, sym, ap, subst}
 use Rattle.context_model.specs.Framing.{form_of, least_budget}
 use Rattle.context_model.specs.WireFault.{IsFirstWireFault}
 use Rattle.text_carrier.specs.Collecting.{Collects}
@@ -9,7 +9,7 @@ use Rattle.wire_bytes.specs.declared.contexts.ContextFault.{ContextFault}
 use Rattle.wire_bytes.specs.declared.contexts.ContextFault.TheVariants as contexts
 use Rattle.wire_bytes.specs.declared.reading.WireFault.{WireFault}
 use Rattle.wire_bytes.specs.declared.reading.WireFault.TheVariants as wires
-use Rattle.wire_bytes.specs.Reading.{code_of, byte_code_of, IsContextFaultOf, IsFaultOf, SaysFault}
+use Rattle.wire_bytes.specs.Reading.{code_of, IsContextFaultOf, IsFaultOf, SaysFault}
 use Rattle.baggage_cli.specs.declared.refusals.InputFault.TheVariants.{Bytes}
 use Rattle.baggage_cli.specs.declared.refusals.Refusal.{Refusal}
 use Rattle.baggage_cli.specs.Collecting.{CollectsLines}

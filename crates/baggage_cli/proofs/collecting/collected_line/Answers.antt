@@ -4,7 +4,7 @@ use Rattle.wire_bytes.specs.Reading.{IsContextFaultOf}
 use Rattle.baggage_cli.proofs.Misread.{misread_pieces}
 use Rattle.baggage_cli.proofs.collecting.collected_line.Goals as goal
 
-pub returns-in-Err : goal.returns-in-Err
-returns-in-Err c =
+pub returns : goal.returns
+returns c =
     let first = subst (λ input. IsContextFaultOf input c.in-Err.fault) c.as_slice.ensures.value c.in-Err.ensures.fault in
     misread_pieces (lines_of c.args.input.now) c.in_ok-bytes.bytes.items c.in-Err.fault c.misread.result c.in_ok-bytes.ensures.ok first c.misread.ensures
