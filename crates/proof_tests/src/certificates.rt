@@ -84,9 +84,16 @@ static CERTIFICATES: [Row; 12] = [
     ),
 ];
 
-/// Sees that the certificate of a row is written, and that it is verified.
-fn holds(rt: &impl Abort, alloc: Global, table: &Table, row: &Row) -> Result<(), Fail> {
-    let &(text, step, path, certificate) = row;
+/// Sees that the certificate for a path at a step of the graph of a text is written, and that it is verified.
+fn holds(
+    rt: &impl Abort,
+    alloc: Global,
+    table: &Table,
+    text: &str,
+    step: usize,
+    path: &str,
+    certificate: &str,
+) -> Result<(), Fail> {
     let graph = graph_of(alloc, table, text)?;
     let own = certificate_of(rt, alloc, table, &graph, step, path)?;
     assert_eq!(rt; own.as_slice(), certificate.as_bytes(), "{text}");
@@ -99,8 +106,8 @@ fn holds(rt: &impl Abort, alloc: Global, table: &Table, row: &Row) -> Result<(),
 fn certificates_of_steps(rt: HostRuntime) -> Result<(), Fail> {
     let alloc = rt.alloc();
     let table = table_of(alloc, DEFINITION, "Req")?;
-    for row in &CERTIFICATES {
-        holds(&rt, alloc, &table, row)?;
+    for &(text, step, path, certificate) in &CERTIFICATES {
+        holds(&rt, alloc, &table, text, step, path, certificate)?;
     }
     runs_have_certificates_that_verify();
     Ok(())
