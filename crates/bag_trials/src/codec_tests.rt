@@ -3,16 +3,10 @@
 ghost use Rattle.scalar_types.specs.KindViews.{IsPlainWord};
 
 use atom_list::Context;
-use bag_codec::{
-    State, Val, Vals, bottom, can_encode, check_typed, decode, decode_slot, encode, merge, normal,
-    state_of,
-};
-use bag_value::laws::values_of_one_shape_are_joined;
-use counter_type::Lattice;
+use bag_codec::{Val, Vals, bottom, can_encode, check_typed, decode, merge, normal};
+use bag_texts::{encoded, fields_of, join_of, slots_of};
 use field_table::{Table, View};
-use outside::Memory;
 use random_bags::{Dice, random_bag, random_definition};
-use report_text::put_value;
 use scalar_types::{KindList, ScalarKind};
 use set_map_types::SetOf;
 use std::alloc::Global;
@@ -23,28 +17,6 @@ use wire_bytes::{Form, write};
 
 /// How deep a value may be. No bag here is so deep.
 const LEVELS: usize = 8;
-
-/// The encoding of a value, which can be encoded.
-pub(crate) fn encoded(alloc: Global, table: &Table, value: &Val) -> Result<Context, Fail> {
-    if can_encode(table, value) {
-        Ok(encode(alloc, table, value)?)
-    } else {
-        Err(Fail::from("a value of the table's shapes can be encoded"))
-    }
-}
-
-/// The join of two values, each of which can be encoded.
-pub(crate) fn join_of(table: &Table, ours: &Val, theirs: &Val) -> Result<Val, Fail> {
-    // The proof rests on this law.
-    values_of_one_shape_are_joined();
-    if can_encode(table, ours) && can_encode(table, theirs) {
-        let mut joined = ours.copy()?;
-        joined.join(theirs)?;
-        Ok(joined)
-    } else {
-        Err(Fail::from("values of the table's shapes can be encoded"))
-    }
-}
 
 /// The merge of contexts in a random order and grouping.
 fn merge_all(alloc: Global, dice: &mut Dice, contexts: Vec<Context>) -> Result<Context, Fail> {
@@ -57,44 +29,6 @@ fn merge_all(alloc: Global, dice: &mut Dice, contexts: Vec<Context>) -> Result<C
         contexts.push(merge(alloc, &one, &other)?)?;
     }
     Ok(contexts.pop().ok_or("a context")?)
-}
-
-/// A line for each field of the table with what a value has there.
-pub(crate) fn fields_of(alloc: Global, table: &Table, value: &Val) -> Result<Vec<u8>, Fail> {
-    let Val::Bag(values) = value else {
-        return Err(Fail::from("no bag"));
-    };
-    let mut lines = Vec::new(alloc);
-    let fields = table.nodes();
-    for at in 0..fields.len() {
-        let field = fields.get(at).ok_or("a field")?;
-        put_value(&field.shape, values.get(at).ok_or("a value")?, &mut lines)?;
-        lines.push(b'\n')?;
-    }
-    Ok(lines)
-}
-
-/// A line for each slot of the table with what a context says of it. No slot may have been cut off.
-pub(crate) fn slots_of<R: Abort>(
-    rt: &R,
-    alloc: Global,
-    table: &Table,
-    context: &Context,
-) -> Result<Vec<u8>, Memory> {
-    if check_typed(table, context).is_err() {
-        panic!(rt; "an ill-typed atom");
-    }
-    let mut lines = Vec::new(alloc);
-    for slot in 0..table.slots() {
-        assert!(rt;
-            state_of(table, context, slot) == State::Exact,
-            "slot {slot}"
-        );
-        let value = decode_slot(alloc, table, context, slot)?;
-        put_value(table.shape(slot), &value, &mut lines)?;
-        lines.push(b'\n')?;
-    }
-    Ok(lines)
 }
 
 /// Compares what is read of a merge with the join, as texts. A difference is told with the definition.
@@ -146,8 +80,8 @@ fn is_written_as<R: Abort>(
     joined: &Val,
 ) -> Result<(), Fail> {
     let whole = encoded(alloc, table, joined)?;
-    let slots = slots_of(rt, alloc, table, &whole)?;
-    assert_eq!(rt; slots_of(rt, alloc, table, &merged)?, slots, "{definition}");
+    let slots = slots_of(alloc, table, &whole)?;
+    assert_eq!(rt; slots_of(alloc, table, &merged)?, slots, "{definition}");
     let fewest = normal(alloc, table, &View::All, merged)?;
     let bytes = write(alloc, Form::One, whole.list())?;
     assert_eq!(rt;

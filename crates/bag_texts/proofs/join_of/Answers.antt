@@ -2,7 +2,7 @@ use Rattle.std.proofs.Common.{rules, sym, subst}
 use Rattle.bag_model.specs.Shapes as shapes
 use Rattle.bag_model.specs.Joins.{Alike}
 use Rattle.bag_value.specs.Vals.{plain}
-use Rattle.bag_trials.proofs.codec_tests.join_of.Goals as goal
+use Rattle.bag_texts.proofs.join_of.Goals as goal
 
 pub join-requires : goal.join-requires
 join-requires c =

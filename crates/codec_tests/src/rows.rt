@@ -4,12 +4,12 @@ ghost use Rattle.std.specs.Prelude.{[], IfOk};
 ghost use Rattle.bag_model.specs.Readings.{PathsOf};
 ghost use Rattle.bag_model.specs.Typed.{AreTyped};
 
-use crate::codec_tests::{encoded, fields_of, join_of, slots_of};
 use atom_list::Context;
 use bag_codec::{
     Entries, Entry, State, Val, Vals, bottom, can_encode, check_typed, decode, decode_slot,
     encode_and_read, merge_and_read, normal, normal_and_read, normal_and_states,
 };
+use bag_texts::{encoded, fields_of, join_of, slots_of};
 use counter_type::Counts;
 use field_table::{Shape, SlotSet, Table, View};
 use outside::{Memory, Text};
@@ -72,7 +72,7 @@ fn reads_as(
     let context = typed(rt, alloc, table, atoms)?;
     let value = decode(alloc, table, &context)?;
     has_lines(rt, alloc, table, &value, lines)?;
-    let told = slots_of(rt, alloc, table, &context)?;
+    let told = slots_of(alloc, table, &context)?;
     assert_eq!(rt; told.as_slice(), lines.as_bytes(), "{atoms}");
     expect_atoms(alloc, encoded(alloc, table, &value)?.list(), atoms)
 }
