@@ -62,7 +62,7 @@ pub struct Answer {
 }
 
 /// What a call with this status came to.
-fn answer(alloc: Global, status: u8, objects: &mut Objects) -> Result<Answer, Fail> {
+fn what_came(alloc: Global, status: u8, objects: &mut Objects) -> Result<Answer, Fail> {
     Ok(Answer {
         status,
         out: Vec::from_slice(alloc, objects.out.taken())?,
@@ -79,7 +79,7 @@ pub fn answer_to<R: Threads + Sync>(
     objects: &mut Objects,
 ) -> Result<Answer, Fail> {
     let status = call_with(rt, alloc, &Open, words, objects)?;
-    answer(alloc, status, objects)
+    what_came(alloc, status, objects)
 }
 
 /// Calls the program with the words of this line, which is cut at blanks. Its steps pass an open gate.
