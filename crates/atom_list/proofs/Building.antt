@@ -8,7 +8,7 @@ use Rattle.context_model.specs.declared.Form.TheVariants.{One}
 use Rattle.context_model.specs.Framing.{base_128, frame, frames}
 use Rattle.context_model.proofs.FramingLaws.{frames-append}
 use Rattle.atom_list.specs.declared.builder.TheConstants.{BUFFER_MAX}
-use Rattle.atom_list.specs.Starts.{atom_at, atoms_at, AreStarts, starts_from, IsFlat, IsPieceOf, moved, AreMovable}
+use Rattle.atom_list.specs.Starts.{atom_framed_at, atoms_at, AreStarts, starts_from, IsFlat, IsPieceOf, moved, AreMovable}
 use Rattle.atom_list.specs.Builder.{IsBuilt}
 use Rattle.atom_list.specs.Scan.{IsScan}
 use Rattle.atom_list.proofs.Flat.{AreStarts-from, starts_from-append, atoms_at-from, take_split}
@@ -69,7 +69,7 @@ flat_built bytes starts laid built e =
     let whole : [] ++ (frames One list ++ []) ≡ bytes = append-nil (frames One list) ∙ sym built.framed in
     let fit : AreStarts bytes starts = subst (AreStarts bytes) (sym built.there) (subst (λ v. AreStarts v (starts_from 0 list)) whole (AreStarts-from [] [] 0 list refl built.short)) in
     let starts_all : take laid starts ≡ starts = take_all laid starts (omega arith) in
-    let list_all : take laid list ≡ list = take_all laid list (omega (arith, length-map starts (atom_at bytes))) in
+    let list_all : take laid list ≡ list = take_all laid list (omega (arith, length-map starts (atom_framed_at bytes))) in
     record {
       fit = fit;
       few = built.few;

@@ -7,7 +7,7 @@ use Rattle.context_model.specs.Atoms.{Atom, AreAtoms}
 use Rattle.context_model.specs.declared.Form.TheVariants.{One}
 use Rattle.context_model.specs.Framing.{base_128, length_code, frame, frames}
 use Rattle.context_model.proofs.FramingLaws.{frames-append, frames-more, frames_len-append, frames_len-front, length_code-some}
-use Rattle.atom_list.specs.Starts.{first_atom, atom_at, atoms_at, IsStart, AreStarts, BeginsFrame, starts_from, BeginsWithFrames, IsFlat, IsPieceOf}
+use Rattle.atom_list.specs.Starts.{first_atom, atom_framed_at, atoms_at, IsStart, AreStarts, BeginsFrame, starts_from, BeginsWithFrames, IsFlat, IsPieceOf}
 use Rattle.atom_list.proofs.Frames.{first_atom-framed, short_atom}
 
 -- ---- the bytes of fronts
@@ -97,7 +97,7 @@ pub atoms_at-from : (before after : List ℕ) (at : ℕ) (list : List Atom) → 
 atoms_at-from before after at [] e short = refl
 atoms_at-from before after at (x ∷ list) e short =
     let next : at + length (frame One x) ≡ length (before ++ frame One x) = omega (arith, length-append before (frame One x)) in
-    let head : atom_at (before ++ (frames One (x ∷ list) ++ after)) at ≡ x = ap first_atom (behind before after at x list e) ∙ first_atom-framed x (frames One list ++ after) short.0 in
+    let head : atom_framed_at (before ++ (frames One (x ∷ list) ++ after)) at ≡ x = ap first_atom (behind before after at x list e) ∙ first_atom-framed x (frames One list ++ after) short.0 in
     let tail : atoms_at (before ++ (frames One (x ∷ list) ++ after)) (starts_from (at + length (frame One x)) list) ≡ list =
     ap (λ v. atoms_at v (starts_from (at + length (frame One x)) list)) (further before after x list) ∙ atoms_at-from (before ++ frame One x) after (at + length (frame One x)) list next short.1 in
     λ i. head i ∷ tail i
@@ -125,7 +125,7 @@ flat_front bytes starts starts' laid n flat fewer within same fit lighter =
     let front : BeginsWithFrames bytes (take n (take laid starts)) (take n (take laid list)) = begins_with_fewer n bytes (take laid starts) (take laid list) flat.front in
     let these : take n (take laid starts) ≡ take n starts' = take-take n laid starts fewer ∙ sym same in
     let those : take n (take laid list) ≡ take n (atoms_at bytes starts') =
-    take-take n laid list fewer ∙ take-map (atom_at bytes) n starts ∙ ap (map (atom_at bytes)) (sym same) ∙ sym (take-map (atom_at bytes) n starts') in
+    take-take n laid list fewer ∙ take-map (atom_framed_at bytes) n starts ∙ ap (map (atom_framed_at bytes)) (sym same) ∙ sym (take-map (atom_framed_at bytes) n starts') in
     record {
       fit = fit;
       few = flat.few;
@@ -140,11 +140,11 @@ pub marked : (starts : List ℕ) (keep : ℕ) (start : ℕ) → keep < length st
 marked starts keep start within =
     ap (λ v. set v keep start) (take_more starts keep start within) ∙ set_at (take keep starts) (get_or starts keep start) [] start keep (length-take-le keep starts (omega arith))
 
-pub atoms_at-marked : (bytes starts : List ℕ) (keep : ℕ) (start : ℕ) → keep < length starts → atom_at bytes start ≡ []
+pub atoms_at-marked : (bytes starts : List ℕ) (keep : ℕ) (start : ℕ) → keep < length starts → atom_framed_at bytes start ≡ []
     → atoms_at bytes (set (take (keep + 1) starts) keep start) ≡ take keep (atoms_at bytes starts) ++ [] ∷ []
 atoms_at-marked bytes starts keep start within none =
-    ap (atoms_at bytes) (marked starts keep start within) ∙ map-append (atom_at bytes) (take keep starts) (start ∷ [])
-    ∙ ap (λ v. map (atom_at bytes) (take keep starts) ++ v ∷ []) none ∙ ap (λ v. v ++ [] ∷ []) (sym (take-map (atom_at bytes) keep starts))
+    ap (atoms_at bytes) (marked starts keep start within) ∙ map-append (atom_framed_at bytes) (take keep starts) (start ∷ [])
+    ∙ ap (λ v. map (atom_framed_at bytes) (take keep starts) ++ v ∷ []) none ∙ ap (λ v. v ++ [] ∷ []) (sym (take-map (atom_framed_at bytes) keep starts))
 
 -- A marker has one byte.
 marker_len : length (frames One ([] ∷ [])) ≡ 1
@@ -152,15 +152,15 @@ unfolding base_128
 marker_len = refl
 
 -- The frames of a front and a marker take no more bytes than those of a longer list.
-light_marked : (bytes starts : List ℕ) (keep : ℕ) (start : ℕ) → keep < length starts → atom_at bytes start ≡ []
+light_marked : (bytes starts : List ℕ) (keep : ℕ) (start : ℕ) → keep < length starts → atom_framed_at bytes start ≡ []
     → length (frames One (atoms_at bytes (set (take (keep + 1) starts) keep start))) ≤ length (frames One (atoms_at bytes starts))
 light_marked bytes starts keep start within none =
     let list = atoms_at bytes starts in
     let cut : length (frames One (atoms_at bytes (set (take (keep + 1) starts) keep start))) ≡ length (frames One (take keep list)) + length (frames One ([] ∷ [])) =
     ap (λ v. length (frames One v)) (atoms_at-marked bytes starts keep start within none) ∙ frames_len-append One (take keep list) ([] ∷ []) in
-    omega (arith, marker_len, frames_len-grows list keep (omega (arith, length-map starts (atom_at bytes))), frames_len-front One (keep + 1) list)
+    omega (arith, marker_len, frames_len-grows list keep (omega (arith, length-map starts (atom_framed_at bytes))), frames_len-front One (keep + 1) list)
 
-pub flat_marked : (bytes starts : List ℕ) (laid keep n : ℕ) (start : ℕ) → IsFlat bytes starts laid → keep < length starts → n ≤ laid → n ≤ keep → IsStart bytes start → atom_at bytes start ≡ []
+pub flat_marked : (bytes starts : List ℕ) (laid keep n : ℕ) (start : ℕ) → IsFlat bytes starts laid → keep < length starts → n ≤ laid → n ≤ keep → IsStart bytes start → atom_framed_at bytes start ≡ []
     → IsFlat bytes (set (take (keep + 1) starts) keep start) n
 flat_marked bytes starts laid keep n start flat within fewer upto one none =
     let cut = set (take (keep + 1) starts) keep start in
@@ -194,7 +194,7 @@ starts_from-at at (suc n) (x ∷ list) d below = starts_from-at (at + length (fr
 module _ (bytes starts : List ℕ) (laid : ℕ) (flat : IsFlat bytes starts laid) where
   -- The atoms of the front are as many as its starts.
   laid_long : length (take laid (atoms_at bytes starts)) ≡ laid
-  laid_long = length-take-le laid (atoms_at bytes starts) (omega (arith, flat.within, length-map starts (atom_at bytes)))
+  laid_long = length-take-le laid (atoms_at bytes starts) (omega (arith, flat.within, length-map starts (atom_framed_at bytes)))
 
   -- Where the frame of an atom of the front begins.
   pub start_is : (n d : ℕ) → n < laid → get_or starts n d ≡ length (frames One (take n (atoms_at bytes starts)))
@@ -213,20 +213,20 @@ module _ (bytes starts : List ℕ) (laid : ℕ) (flat : IsFlat bytes starts laid
       (frames_len-take-le from to list order, omega (arith, length-take (length (frames One (take laid list))) bytes))
 
   -- Where the frame of an atom of the front ends.
-  pub end_is : (n d : ℕ) → n < laid → get_or starts n d + length (frame One (atom_at bytes (get_or starts n d))) ≡ length (frames One (take (n + 1) (atoms_at bytes starts)))
+  pub end_is : (n d : ℕ) → n < laid → get_or starts n d + length (frame One (atom_framed_at bytes (get_or starts n d))) ≡ length (frames One (take (n + 1) (atoms_at bytes starts)))
   end_is n d below =
       let list = atoms_at bytes starts in
       let within : n < length starts = omega (arith, flat.within) in
-      let one : atom_at bytes (get_or starts n d) ≡ get_or list n [] = sym (get_or-map (atom_at bytes) starts n d [] within) in
-      ap (λ m. m + length (frame One (atom_at bytes (get_or starts n d)))) (start_is n d below) ∙ ap (λ v. length (frames One (take n list)) + length (frame One v)) one
-      ∙ sym (frames_len-more list n (omega (arith, length-map starts (atom_at bytes))))
+      let one : atom_framed_at bytes (get_or starts n d) ≡ get_or list n [] = sym (get_or-map (atom_framed_at bytes) starts n d [] within) in
+      ap (λ m. m + length (frame One (atom_framed_at bytes (get_or starts n d)))) (start_is n d below) ∙ ap (λ v. length (frames One (take n list)) + length (frame One v)) one
+      ∙ sym (frames_len-more list n (omega (arith, length-map starts (atom_framed_at bytes))))
 
   -- At the start of an atom of the front stands its frame.
   pub front_frame : (n d : ℕ) → n < laid → BeginsFrame (drop (get_or starts n d) bytes)
   front_frame n d below = elim (starts_at bytes starts n d flat.fit (omega (arith, flat.within))) [
     | inl behind ↦
         let list = atoms_at bytes starts in
-        let grows = frames_len-grows list n (omega (arith, flat.within, length-map starts (atom_at bytes))) in
+        let grows = frames_len-grows list n (omega (arith, flat.within, length-map starts (atom_framed_at bytes))) in
         absurd (omega (arith, start_is n d below, (ends_within n (n + 1) (omega arith) (omega arith)).1))
     | inr begins ↦ begins
   ]
@@ -244,8 +244,8 @@ module _ (bytes starts : List ℕ) (laid : ℕ) (flat : IsFlat bytes starts laid
       sym (take-append-drop (length (frames One (take laid list))) bytes) ∙ ap (λ v. v ++ rest) (flat.front.framed ∙ ap (frames One) split ∙ frames-append One front (mid ++ back) ∙ ap (λ v. frames One front ++ v) (frames-append One mid back))
       ∙ append_assoc (frames One front) (frames One mid ++ frames One back) rest ∙ ap (λ v. frames One front ++ v) (append_assoc (frames One mid) (frames One back) rest) in
       let upto : length (frames One (take to list)) ≡ length (frames One front) + length (frames One mid) = ap (λ v. length (frames One v)) (take_split from to list order) ∙ frames_len-append One front mid in
-      let front_long : length front ≡ from = length-take-le from list (omega (arith, flat.within, length-map starts (atom_at bytes))) in
-      let mid_long : length mid ≡ to - from = length-take-le (to - from) (drop from list) (omega (arith, flat.within, length-map starts (atom_at bytes), length-drop from list)) in
+      let front_long : length front ≡ from = length-take-le from list (omega (arith, flat.within, length-map starts (atom_framed_at bytes))) in
+      let mid_long : length mid ≡ to - from = length-take-le (to - from) (drop from list) (omega (arith, flat.within, length-map starts (atom_framed_at bytes), length-drop from list)) in
       let there : take laid starts ≡ starts_from 0 front ++ (starts_from (0 + length (frames One front)) mid ++ starts_from (0 + length (frames One front) + length (frames One mid)) back) =
       flat.front.there ∙ ap (starts_from 0) split ∙ starts_from-append 0 front (mid ++ back) ∙ ap (λ v. starts_from 0 front ++ v) (starts_from-append (0 + length (frames One front)) mid back) in
       let same : slice_range starts from to ≡ slice_range (take laid starts) from to =

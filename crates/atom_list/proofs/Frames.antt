@@ -11,7 +11,7 @@ use Rattle.context_model.specs.Framing.{base_128, frame, has_long}
 use Rattle.context_model.proofs.FramingLaws.{length-base_128, long-append}
 use Rattle.context_model.specs.WireFault.{length_front, length_said}
 use Rattle.context_model.proofs.LengthCodes.{code_one, code_two, code_three, length_front-code, length_said-code}
-use Rattle.atom_list.specs.Starts.{first_atom, atom_at, atoms_at, BeginsFrame, IsStart}
+use Rattle.atom_list.specs.Starts.{first_atom, atom_framed_at, atoms_at, BeginsFrame, IsStart}
 
 -- ---- the atom
 
@@ -34,10 +34,10 @@ pub first_atom-none : first_atom [] ≡ []
 unfolding first_atom length_front
 first_atom-none = refl
 
-pub atom_at-behind : (bytes : List ℕ) (start : ℕ) → length bytes ≤ start → atom_at bytes start ≡ []
+pub atom_at-behind : (bytes : List ℕ) (start : ℕ) → length bytes ≤ start → atom_framed_at bytes start ≡ []
 atom_at-behind bytes start behind = ap first_atom (drop_all start bytes behind) ∙ first_atom-none
 
-pub short_atom : (bytes : List ℕ) (start : ℕ) → IsStart bytes start → length (atom_at bytes start) ≤ ATOM_MAX
+pub short_atom : (bytes : List ℕ) (start : ℕ) → IsStart bytes start → length (atom_framed_at bytes start) ≤ ATOM_MAX
 short_atom bytes start (inl behind) = omega (arith, ap length (atom_at-behind bytes start behind))
 short_atom bytes start (inr (atom, rest, short, e)) = omega (arith, ap length (ap first_atom e ∙ first_atom-framed atom rest short))
 
@@ -52,25 +52,25 @@ first_within bytes =
 pub none_long : (bytes starts : List ℕ) → length bytes ≤ LENGTH_MAX → has_long (atoms_at bytes starts) ≡ false
 none_long bytes [] few = refl
 none_long bytes (start ∷ starts) few =
-    let short : nat_lt LENGTH_MAX (length (atom_at bytes start)) ≡ false = grind (arith, nat_tests, first_within (drop start bytes), length-drop start bytes) in
+    let short : nat_lt LENGTH_MAX (length (atom_framed_at bytes start)) ≡ false = grind (arith, nat_tests, first_within (drop start bytes), length-drop start bytes) in
     ap (λ long. long || has_long (atoms_at bytes starts)) short ∙ none_long bytes starts few
 
 -- One start more, of an atom that isn't long.
-pub none_more : (bytes starts : List ℕ) (i : ℕ) → i < length starts → has_long (atoms_at bytes (take i starts)) ≡ false → length (atom_at bytes (get_or starts i 0)) ≤ LENGTH_MAX
+pub none_more : (bytes starts : List ℕ) (i : ℕ) → i < length starts → has_long (atoms_at bytes (take i starts)) ≡ false → length (atom_framed_at bytes (get_or starts i 0)) ≤ LENGTH_MAX
     → has_long (atoms_at bytes (take (i + 1) starts)) ≡ false
 none_more bytes starts i within none few =
-    let atom = atom_at bytes (get_or starts i 0) in
+    let atom = atom_framed_at bytes (get_or starts i 0) in
     let short : nat_lt LENGTH_MAX (length atom) ≡ false = grind (arith, nat_tests) in
-    ap (λ v. has_long (atoms_at bytes v)) (take_more starts i 0 within) ∙ ap has_long (map-append (atom_at bytes) (take i starts) (get_or starts i 0 ∷ []))
+    ap (λ v. has_long (atoms_at bytes v)) (take_more starts i 0 within) ∙ ap has_long (map-append (atom_framed_at bytes) (take i starts) (get_or starts i 0 ∷ []))
     ∙ long-append (atoms_at bytes (take i starts)) (atom ∷ []) ∙ ap (λ long. long || has_long (atom ∷ [])) none ∙ ap (λ long. long || false) short
 
 -- A start of a long atom.
-pub some_long : (bytes starts : List ℕ) (i : ℕ) → i < length starts → LENGTH_MAX < length (atom_at bytes (get_or starts i 0)) → has_long (atoms_at bytes starts) ≡ true
+pub some_long : (bytes starts : List ℕ) (i : ℕ) → i < length starts → LENGTH_MAX < length (atom_framed_at bytes (get_or starts i 0)) → has_long (atoms_at bytes starts) ≡ true
 some_long bytes [] i within more = absurd (omega arith)
 some_long bytes (start ∷ starts) zero within more =
-    let long : nat_lt LENGTH_MAX (length (atom_at bytes start)) ≡ true = grind (arith, nat_tests) in
+    let long : nat_lt LENGTH_MAX (length (atom_framed_at bytes start)) ≡ true = grind (arith, nat_tests) in
     ap (λ long. long || has_long (atoms_at bytes starts)) long
-some_long bytes (start ∷ starts) (suc i) within more = or_true (nat_lt LENGTH_MAX (length (atom_at bytes start))) (has_long (atoms_at bytes starts)) (some_long bytes starts i (omega arith) more)
+some_long bytes (start ∷ starts) (suc i) within more = or_true (nat_lt LENGTH_MAX (length (atom_framed_at bytes start))) (has_long (atoms_at bytes starts)) (some_long bytes starts i (omega arith) more)
   where
     or_true : (a b : Bool) → b ≡ true → (a || b) ≡ true
     or_true true b e = refl
@@ -141,7 +141,7 @@ pub record LengthAt (bytes : List ℕ) (start : ℕ) : Type 0 where
   pub code : length (length_front (drop start bytes)) ≡ length (base_128 said)
   pub says : length_said (length_front (drop start bytes)) ≡ said
   pub within : start + length (base_128 said) + said ≤ length bytes
-  pub framed : length (frame One (atom_at bytes start)) ≡ length (base_128 said) + said
+  pub framed : length (frame One (atom_framed_at bytes start)) ≡ length (base_128 said) + said
 
 pub length_at : (bytes : List ℕ) (start : ℕ) → BeginsFrame (drop start bytes) → LengthAt bytes start
 length_at bytes start (atom, rest, short, e) =
@@ -162,7 +162,7 @@ length_at bytes start (atom, rest, short, e) =
     }
 
 -- The atom is the part of the buffer that its length says.
-pub atom_is : (bytes : List ℕ) (start skip len : ℕ) → skip ≡ length (length_front (drop start bytes)) → len ≡ length_said (length_front (drop start bytes)) → slice_range bytes (start + skip) (start + skip + len) ≡ atom_at bytes start
+pub atom_is : (bytes : List ℕ) (start skip len : ℕ) → skip ≡ length (length_front (drop start bytes)) → len ≡ length_said (length_front (drop start bytes)) → slice_range bytes (start + skip) (start + skip + len) ≡ atom_framed_at bytes start
 unfolding first_atom
 atom_is bytes start skip len s l =
     let code = length_front (drop start bytes) in

@@ -9,8 +9,8 @@ use Rattle.context_model.specs.Atoms.{Atom}
 use Rattle.context_model.specs.declared.Form.TheVariants.{One}
 use Rattle.context_model.specs.Framing.{frame, frames}
 use Rattle.context_model.proofs.FramingLaws.{frames-append}
-use Rattle.atom_list.specs.Builder.{room_of}
-use Rattle.atom_list.specs.Starts.{first_atom, atom_at, atoms_at, AreStarts, BeginsFrame, starts_from, IsPieceOf, IsFrameRow}
+use Rattle.atom_list.specs.Builder.{room_for}
+use Rattle.atom_list.specs.Starts.{first_atom, atom_framed_at, atoms_at, AreStarts, BeginsFrame, starts_from, IsPieceOf, IsFrameRow}
 use Rattle.atom_list.proofs.Frames.{first_atom-framed}
 use Rattle.atom_list.proofs.Flat.{length-starts_from, starts_at, starts_from-append, take_split}
 use Rattle.atom_list.proofs.Building.{AreAtoms-append}
@@ -57,16 +57,16 @@ begins_before bytes starts k d fit below before = elim (starts_at bytes starts k
 ]
 
 pub row_more : (bytes starts : List ℕ) (count end end' : ℕ) → AreStarts bytes starts → IsFrameRow bytes starts count end → count < length starts → get_or starts count 0 ≡ end → end < length bytes
-    → end' ≡ end + length (frame One (atom_at bytes end)) → end' ≤ length bytes → IsFrameRow bytes starts (count + 1) end'
+    → end' ≡ end + length (frame One (atom_framed_at bytes end)) → end' ≤ length bytes → IsFrameRow bytes starts (count + 1) end'
 row_more bytes starts count end end' fit row below next before e within =
     let list = atoms_at bytes starts in
     let first = get_or starts 0 0 in
     let begins : BeginsFrame (drop end bytes) = subst (λ n. BeginsFrame (drop n bytes)) next (begins_before bytes starts count 0 fit below (omega arith)) in
-    let one : atom_at bytes end ≡ begins.0 = ap first_atom begins.3 ∙ first_atom-framed begins.0 begins.1 begins.2 in
+    let one : atom_framed_at bytes end ≡ begins.0 = ap first_atom begins.3 ∙ first_atom-framed begins.0 begins.1 begins.2 in
     let ends : end + length (frame One begins.0) ≡ end' = ap (λ v. end + length (frame One v)) (sym one) ∙ sym e in
-    let atom : get_or list count [] ≡ begins.0 = get_or-map (atom_at bytes) starts count 0 [] below ∙ ap (atom_at bytes) next ∙ one in
+    let atom : get_or list count [] ≡ begins.0 = get_or-map (atom_framed_at bytes) starts count 0 [] below ∙ ap (atom_framed_at bytes) next ∙ one in
     let starts_more : take (count + 1) starts ≡ take count starts ++ end ∷ [] = take_more starts count 0 below ∙ ap (λ n. take count starts ++ n ∷ []) next in
-    let list_more : take (count + 1) list ≡ take count list ++ begins.0 ∷ [] = take_more list count [] (omega (arith, length-map starts (atom_at bytes))) ∙ ap (λ v. take count list ++ v ∷ []) atom in
+    let list_more : take (count + 1) list ≡ take count list ++ begins.0 ∷ [] = take_more list count [] (omega (arith, length-map starts (atom_framed_at bytes))) ∙ ap (λ v. take count list ++ v ∷ []) atom in
     let more = piece_more bytes first end (take count starts) (take count list) begins.0 begins.1 row.order (omega arith) row.piece begins.2 begins.3 in
     record {
       piece = subst (λ n. IsPieceOf (slice_range bytes first n) first (take (count + 1) starts) (take (count + 1) list)) ends
@@ -83,8 +83,8 @@ row_part bytes starts list from to n view few =
     let seen = slice_range starts from to in
     let fewer : n ≤ to - from = omega (arith, length-take (to - from) (drop from starts)) in
     let many : n ≡ from + length (take n seen) - from = omega (arith, length-take-le n seen few) in
-    take-map (atom_at bytes) n seen ∙ ap (atoms_at bytes) (take-take n (to - from) (drop from starts) fewer) ∙ sym (take-map (atom_at bytes) n (drop from starts))
-    ∙ ap (take n) (sym (drop-map (atom_at bytes) from starts) ∙ ap (drop from) view) ∙ ap (λ m. take m (drop from list)) many
+    take-map (atom_framed_at bytes) n seen ∙ ap (atoms_at bytes) (take-take n (to - from) (drop from starts) fewer) ∙ sym (take-map (atom_framed_at bytes) n (drop from starts))
+    ∙ ap (take n) (sym (drop-map (atom_framed_at bytes) from starts) ∙ ap (drop from) view) ∙ ap (λ m. take m (drop from list)) many
 
 -- ---- runs that are gone over part by part
 
@@ -97,8 +97,8 @@ run_parts list from at to order within =
     sym (take-append-drop (at - from) (take (to - from) back)) ∙ ap (λ v. v ++ drop (at - from) (take (to - from) back)) (take-take (at - from) (to - from) back (omega arith))
     ∙ ap (λ v. slice_range list from at ++ v) (sym (between_is back (at - from) (to - from)) ∙ ap (take (to - from - (at - from))) (drop-drop (at - from) from list ∙ ap (λ n. drop n list) there) ∙ ap (λ n. take n (drop at list)) many)
 
-pub room_of-parts : (list : List Atom) (from at to : ℕ) → from ≤ at → at ≤ to → room_of (slice_range list from to) ≡ room_of (slice_range list from at) + room_of (slice_range list at to)
-room_of-parts list from at to order within = ap room_of (run_parts list from at to order within) ∙ room_of-append (slice_range list from at) (slice_range list at to)
+pub room_of-parts : (list : List Atom) (from at to : ℕ) → from ≤ at → at ≤ to → room_for (slice_range list from to) ≡ room_for (slice_range list from at) + room_for (slice_range list at to)
+room_of-parts list from at to order within = ap room_for (run_parts list from at to order within) ∙ room_of-append (slice_range list from at) (slice_range list at to)
 
 -- A run of one atom.
 pub run_of_one : (list : List Atom) (at : ℕ) (x : Atom) → slice_get list at ≡ Some x → slice_range list at (at + 1) ≡ x ∷ []
@@ -107,11 +107,11 @@ run_of_one list at x there =
     let none : at - at ≡ 0 = omega arith in
     between_more list at at [] (omega arith) within ∙ ap (λ n. take n (drop at list) ++ get_or list at [] ∷ []) none ∙ ap (λ v. v ∷ []) (get_or_from_slice_get list at x [] there)
 
-pub room_of-one : (list : List Atom) (at : ℕ) (x : Atom) → slice_get list at ≡ Some x → room_of (slice_range list at (at + 1)) ≡ length x + 3
-room_of-one list at x there = ap room_of (run_of_one list at x there) ∙ (omega arith)
+pub room_of-one : (list : List Atom) (at : ℕ) (x : Atom) → slice_get list at ≡ Some x → room_for (slice_range list at (at + 1)) ≡ length x + 3
+room_of-one list at x there = ap room_for (run_of_one list at x there) ∙ (omega arith)
 
 -- The room of frames that follow one another, by their bytes.
-pub room_of-piece : (list : List Atom) (bytes : List ℕ) (at : ℕ) (starts : List ℕ) → IsPieceOf bytes at starts list → (length bytes ≤ room_of list) × (room_of list ≤ length bytes + 2 * length starts)
+pub room_of-piece : (list : List Atom) (bytes : List ℕ) (at : ℕ) (starts : List ℕ) → IsPieceOf bytes at starts list → (length bytes ≤ room_for list) × (room_for list ≤ length bytes + 2 * length starts)
 room_of-piece list bytes at starts piece =
     let size = room_of-size list in
     let long : length bytes ≡ length (frames One list) = ap length piece.framed in

@@ -10,7 +10,7 @@ use Rattle.context_model.specs.declared.Form.TheVariants.{One}
 use Rattle.context_model.specs.Atoms.{Atom}
 use Rattle.context_model.specs.Framing.{frame, frames}
 use Rattle.context_model.specs.Orders.{Rises}
-use Rattle.atom_list.specs.Starts.{atom_at, atoms_at}
+use Rattle.atom_list.specs.Starts.{atom_framed_at, atoms_at}
 use Rattle.context_model.specs.WithoutData.{without_from, without, AreDataPlaces}
 
 -- ---- numbers that rise
@@ -203,19 +203,19 @@ done_first gone start rises some within =
 pub atoms_at-set : (bytes : List ℕ) (now : List ℕ) (kept at : ℕ) (start : ℕ) → at < length now → start ≡ get_or now at start
     → atoms_at bytes (set now kept start) ≡ set (atoms_at bytes now) kept (get_or (atoms_at bytes now) at [])
 atoms_at-set bytes now kept at start within read =
-    map-set (atom_at bytes) now kept start
-    ∙ ap (λ v. set (atoms_at bytes now) kept v) (ap (atom_at bytes) read ∙ sym (get_or-map (atom_at bytes) now at start [] within))
+    map-set (atom_framed_at bytes) now kept start
+    ∙ ap (λ v. set (atoms_at bytes now) kept v) (ap (atom_framed_at bytes) read ∙ sym (get_or-map (atom_framed_at bytes) now at start [] within))
 
 -- As many starts as atoms are left.
 pub as_many : (gone : List ℕ) (start now : List ℕ) (at kept taken : ℕ) → ((bytes : List ℕ) → Done gone (atoms_at bytes start) (atoms_at bytes now) at kept taken) → (length now ≡ length start) × (kept ≤ at)
 as_many gone start now at kept taken done =
     let whole = (done []).whole in
-    (omega (arith, length-map now (atom_at []), length-map start (atom_at [])), (done []).upto)
+    (omega (arith, length-map now (atom_framed_at []), length-map start (atom_framed_at [])), (done []).upto)
 
 -- The loop's end.
 pub left_out : (gone : List ℕ) (start now : List ℕ) (at kept taken : ℕ) (bytes : List ℕ) → Done gone (atoms_at bytes start) (atoms_at bytes now) at kept taken → length start ≤ at → atoms_at bytes (take kept now) ≡ without gone (atoms_at bytes start)
 left_out gone start now at kept taken bytes done all =
-    sym (take-map (atom_at bytes) kept now) ∙ done.front ∙ ap (without gone) (take_all at (atoms_at bytes start) (omega (arith, length-map start (atom_at bytes))))
+    sym (take-map (atom_framed_at bytes) kept now) ∙ done.front ∙ ap (without gone) (take_all at (atoms_at bytes start) (omega (arith, length-map start (atom_framed_at bytes))))
 
 -- Where nothing goes, all is left.
 pub without-none : (i : ℕ) (list : List Atom) → without_from i [] list ≡ list

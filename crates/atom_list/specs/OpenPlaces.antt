@@ -10,8 +10,8 @@ use Rattle.context_model.specs.Paths.{is_header, level, header_count, path_after
 pub use Rattle.context_model.specs.Paths.{atom_at, path_before}
 
 -- The atoms at these places.
-abbrev pub atoms_of : List Atom → List ℕ → List Atom
-atoms_of list places = map (atom_at list) places
+abbrev pub atoms_at_places : List Atom → List ℕ → List Atom
+atoms_at_places list places = map (atom_at list) places
 
 -- Each of these is a place of the list.
 abbrev pub ArePlaces : List ℕ → List Atom → Type 0

@@ -16,12 +16,12 @@ first_atom bytes =
     slice_range bytes (length code) (length code + length_said code)
 
 -- The atom whose frame begins at a place of a buffer, and a marker where the buffer ends before it.
-abbrev pub atom_at : List ℕ → ℕ → Atom
-atom_at bytes start = first_atom (drop start bytes)
+abbrev pub atom_framed_at : List ℕ → ℕ → Atom
+atom_framed_at bytes start = first_atom (drop start bytes)
 
 -- The atoms whose frames begin at these places.
 abbrev pub atoms_at : List ℕ → List ℕ → List Atom
-atoms_at bytes starts = map (atom_at bytes) starts
+atoms_at bytes starts = map (atom_framed_at bytes) starts
 
 -- The bytes begin with the frame of an atom.
 abbrev pub BeginsFrame : List ℕ → Type 0

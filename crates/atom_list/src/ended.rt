@@ -2,7 +2,7 @@
 
 ghost use Rattle.std.specs.Prelude.{◌≡◌, ◌↔◌, ◌<◌, ◌≤◌, IsTrue, length};
 ghost use Rattle.context_model.specs.Ended.{field_path, IsBeyond, IsEnded};
-ghost use Rattle.atom_list.specs.OpenPlaces.{ArePlaces, atoms_of};
+ghost use Rattle.atom_list.specs.OpenPlaces.{ArePlaces, atoms_at_places};
 
 use crate::contexts::Context;
 use crate::lists::AtomList;
@@ -14,7 +14,7 @@ use std::cmp::Ordering;
 fn are_beyond(list: &AtomList, headers: &OpenPlaces, numbers: &[u64]) -> bool
     requires few { length numbers.now ≤ 16 }
     requires within { ArePlaces headers.now list.now }
-    ensures { IsTrue result ↔ IsBeyond (field_path numbers.now) (atoms_of list.now headers.now) }
+    ensures { IsTrue result ↔ IsBeyond (field_path numbers.now) (atoms_at_places list.now headers.now) }
 {
     for level in 0..numbers.len().min(headers.len()) {
         let header = list.get(headers.get(level)).unwrap();

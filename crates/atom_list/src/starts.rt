@@ -6,7 +6,7 @@ ghost use Rattle.context_model.specs.declared.Form.TheVariants.{One};
 ghost use Rattle.context_model.specs.Framing.{frame};
 ghost use Rattle.context_model.specs.Orders.{Rises};
 ghost use Rattle.context_model.specs.WireFault.{length_front, length_said};
-ghost use Rattle.atom_list.specs.Starts.{atom_at, IsStart, BeginsFrame, AreStarts, AreMovable, IsFrameRow, KeepsFront, LeavesOut, moved};
+ghost use Rattle.atom_list.specs.Starts.{atom_framed_at, IsStart, BeginsFrame, AreStarts, AreMovable, IsFrameRow, KeepsFront, LeavesOut, moved};
 
 use outside::ATOM_MAX;
 
@@ -31,7 +31,7 @@ fn length_at(bytes: &[u8], start: usize) -> (usize, usize)
 /// The atom whose frame begins at this place of a buffer. Where the buffer ends before the place, it is a marker.
 pub(crate) fn atom_at(bytes: &[u8], start: u32) -> &[u8]
     requires { IsStart bytes.now start }
-    ensures atom { result.now ≡ atom_at bytes.now start }
+    ensures atom { result.now ≡ atom_framed_at bytes.now start }
     ensures short { length result.now ≤ ATOM_MAX }
 {
     let start = start as usize;
@@ -45,7 +45,7 @@ pub(crate) fn atom_at(bytes: &[u8], start: u32) -> &[u8]
 /// Where the frame ends that begins at this place of a buffer.
 pub(crate) fn frame_end(bytes: &[u8], start: u32) -> usize
     requires { BeginsFrame (drop start bytes.now) }
-    ensures end { result ≡ start + length (frame One (atom_at bytes.now start)) }
+    ensures end { result ≡ start + length (frame One (atom_framed_at bytes.now start)) }
     ensures within { result ≤ length bytes.now }
 {
     let start = start as usize;

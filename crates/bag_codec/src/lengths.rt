@@ -2,7 +2,7 @@
 
 ghost use Rattle.std.specs.Prelude.{◌≡◌, ◌↔◌, ◌<◌, length, map, All, IsTrue};
 ghost use Rattle.outside.specs.declared.TheConstants.{ATOM_MAX as ATOM_LIMIT};
-ghost use Rattle.bag_model.specs.Scalars.{ArePlainsOf, IsPlainOf, IsScalarOf, ended, field_spelling, form_of, packed_spelling, plain_spelling, spelling};
+ghost use Rattle.bag_model.specs.Scalars.{ArePlainsOf, IsPlainOf, IsScalarOf, ended, field_spelling, spelling_form_of, packed_spelling, plain_spelling, spelling};
 ghost use Rattle.bag_model.specs.Scalars as model;
 ghost use Rattle.scalar_types.specs.KindViews.{IsPlainWord, kind_of, word_of};
 ghost use Rattle.scalar_types.specs.Scalars.{IsPlain, plain_of, value_of};
@@ -26,7 +26,7 @@ fn behind_ended(room: usize, bytes: &[u8]) -> Option<usize>
 /// How many bytes the spelling of a number with a sign has.
 fn signed_length(kind: &ScalarKind, number: i64) -> usize
     requires { IsPlainOf (word_of kind.now) (model.Plain.Signed number) }
-    ensures { result ≡ length (plain_spelling (form_of (word_of kind.now)) (model.Plain.Signed number)) }
+    ensures { result ≡ length (plain_spelling (spelling_form_of (word_of kind.now)) (model.Plain.Signed number)) }
 {
     match kind {
         ScalarKind::Sfixed32 => 4,
@@ -38,7 +38,7 @@ fn signed_length(kind: &ScalarKind, number: i64) -> usize
 /// How many bytes the spelling of a number without a sign has.
 fn unsigned_length(kind: &ScalarKind, number: u64) -> usize
     requires { IsPlainOf (word_of kind.now) (model.Plain.Unsigned number) }
-    ensures { result ≡ length (plain_spelling (form_of (word_of kind.now)) (model.Plain.Unsigned number)) }
+    ensures { result ≡ length (plain_spelling (spelling_form_of (word_of kind.now)) (model.Plain.Unsigned number)) }
 {
     match kind {
         ScalarKind::Fixed32 => 4,
@@ -51,7 +51,7 @@ fn unsigned_length(kind: &ScalarKind, number: u64) -> usize
 fn behind_field(room: usize, kind: &ScalarKind, scalar: &Scalar) -> Option<usize>
     requires plain { IsPlain scalar.now }
     requires fits { IsPlainOf (word_of kind.now) (plain_of scalar.now) }
-    ensures { Leaves room (length (field_spelling (form_of (word_of kind.now)) (plain_of scalar.now))) result }
+    ensures { Leaves room (length (field_spelling (spelling_form_of (word_of kind.now)) (plain_of scalar.now))) result }
 {
     match scalar {
         Scalar::Bool(_) => room.checked_sub(1),

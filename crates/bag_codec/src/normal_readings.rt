@@ -10,7 +10,7 @@ ghost use Rattle.bag_model.specs.Slots.{SlotAt, slots_of};
 ghost use Rattle.bag_model.specs.SlotValues.{HasSlot};
 ghost use Rattle.bag_model.specs.Typed.{AreTyped};
 ghost use Rattle.bag_value.specs.Vals.{plain};
-ghost use Rattle.field_table.specs.Views.{view_of};
+ghost use Rattle.field_table.specs.Views.{plain_view_of};
 
 use atom_list::Context;
 use bag_decode::decode;
@@ -32,7 +32,7 @@ pub fn normal_and_read(
 ) -> Result<(Val, Val), Memory>
     requires { AreTyped table.now (PathsOf context.now) [] }
     ensures one { IfOk result (λ two. two.0 ≡ two.1) }
-    ensures kept { IfOk result (λ two. (normal : List Atom) → IsNormalOf table.now (view_of view.now) context.now normal
+    ensures kept { IfOk result (λ two. (normal : List Atom) → IsNormalOf table.now (plain_view_of view.now) context.now normal
         → Reads (shapes.Shape.Bag table.now) (PathsOf normal) [] (plain two.0)) }
     ensures read { IfOk result (λ two. Reads (shapes.Shape.Bag table.now) (PathsOf context.now) [] (plain two.1)) }
 {
@@ -57,7 +57,7 @@ pub fn normal_and_states(
 ) -> Result<(State, State), Memory>
     requires { slot < length (slots_of table.now) }
     ensures one { IfOk result (λ two. two.0 ≡ two.1) }
-    ensures kept { IfOk result (λ two. (normal : List Atom) (at : SlotAt) → IsNormalOf table.now (view_of view.now) context.now normal
+    ensures kept { IfOk result (λ two. (normal : List Atom) (at : SlotAt) → IsNormalOf table.now (plain_view_of view.now) context.now normal
         → HasSlot table.now slot at → (two.0 ≡ State.Exact) ↔ IsEnded normal (field_path at.numbers)) }
     ensures own { IfOk result (λ two. (at : SlotAt) → HasSlot table.now slot at
         → (two.1 ≡ State.Exact) ↔ IsEnded context.now (field_path at.numbers)) }

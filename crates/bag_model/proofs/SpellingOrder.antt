@@ -5,7 +5,7 @@ use Rattle.std.proofs.lemmas.Bool.Decides.{nat_tests}
 use Rattle.std.specs.Ordering.{ordering_then, bool_cmp}
 use Rattle.std.specs.Cmp.Lexicographic.{slice_cmp}
 use Rattle.context_model.proofs.Digits.{then-assoc}
-use Rattle.bag_model.specs.Scalars.{Word, SpellingForm, TruthByte, UnsignedVarint, SignedVarint, FixedBytes, SignedFixedBytes, TextBytes, RawBytes, form_of, ScalarKind, Plain, Truth, Signed, Unsigned, Text, Octets, ScalarValue, IsOfForm, ArePlainsOf, IsScalarOf, plain_cmp, scalar_cmp, plain_spelling, field_spelling, packed_spelling, spelling}
+use Rattle.bag_model.specs.Scalars.{Word, SpellingForm, TruthByte, UnsignedVarint, SignedVarint, FixedBytes, SignedFixedBytes, TextBytes, RawBytes, spelling_form_of, ScalarKind, Plain, Truth, Signed, Unsigned, Text, Octets, ScalarValue, IsOfForm, ArePlainsOf, IsScalarOf, plain_cmp, scalar_cmp, plain_spelling, field_spelling, packed_spelling, spelling}
 use Rattle.bag_model.specs.SpellingLaws.{SpellingsKeepOrder}
 use Rattle.bag_model.proofs.Codes.{KeepsOrder, then-equal, bytes_tied, code_order, code_apart}
 use Rattle.bag_model.proofs.NumberCodes.{truth_code, unsigned_code, signed_code, fixed_code, signed_fixed_code, ended_code}
@@ -67,7 +67,7 @@ packed-order : (words : List Word) (vs ws : List Plain) (s t : List ℕ) → Are
     → slice_cmp nat_cmp (packed_spelling words vs ++ s) (packed_spelling words ws ++ t) ≡ ordering_then (slice_cmp plain_cmp vs ws) (slice_cmp nat_cmp s t)
 packed-order [] [] [] s t p q = refl
 packed-order (word ∷ words) (v ∷ vs) (w ∷ ws) s t p q =
-    let form : SpellingForm = form_of word in
+    let form : SpellingForm = spelling_form_of word in
     ap₂ (slice_cmp nat_cmp) (append_assoc (field_spelling form v) (packed_spelling words vs) s) (append_assoc (field_spelling form w) (packed_spelling words ws) t)
     ∙ field-order form v w (packed_spelling words vs ++ s) (packed_spelling words ws ++ t) p.0 q.0
     ∙ ap (λ o. ordering_then (plain_cmp v w) o) (packed-order words vs ws s t p.1 q.1)
@@ -79,7 +79,7 @@ packed-order words vs ws s t p q = absurd (search (p, q))
 pub spelling-order : (kind : ScalarKind) (v w : ScalarValue) → IsScalarOf kind v → IsScalarOf kind w
     → slice_cmp nat_cmp (spelling kind v) (spelling kind w) ≡ scalar_cmp v w
 spelling-order (ScalarKind.One word) (ScalarValue.One v) (ScalarValue.One w) p q =
-    plain_spelling-order (form_of word) v w p q ∙ sym (then-equal (plain_cmp v w))
+    plain_spelling-order (spelling_form_of word) v w p q ∙ sym (then-equal (plain_cmp v w))
 spelling-order (ScalarKind.Packed words) (ScalarValue.Packed vs) (ScalarValue.Packed ws) p q =
     ap₂ (slice_cmp nat_cmp) (sym (append-nil (packed_spelling words vs))) (sym (append-nil (packed_spelling words ws)))
     ∙ packed-order words vs ws [] [] p q ∙ then-equal (slice_cmp plain_cmp vs ws)
@@ -97,5 +97,5 @@ pub spellings_keep_order : SpellingsKeepOrder
 spellings_keep_order = record {
   order = spelling-order;
   one_value = spelling-one;
-  fields_apart = λ word v w s t p q e. code_apart (field_code (form_of word)) v w s t p q e;
+  fields_apart = λ word v w s t p q e. code_apart (field_code (spelling_form_of word)) v w s t p q e;
 }

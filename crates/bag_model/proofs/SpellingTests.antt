@@ -3,7 +3,7 @@ use Rattle.std.proofs.Common.{◌≡◌, ◌⊎◌, inl, inr, ℕ, zero, suc, �
 use Rattle.std.specs.Str.{is_utf8}
 use Rattle.std.proofs.lemmas.Str.{IsUtf8-from_is_utf8, is_utf8-from_IsUtf8}
 use Rattle.context_model.specs.Varints.{unsigned_varint, signed_varint}
-use Rattle.bag_model.specs.Scalars.{Word, SpellingForm, TruthByte, UnsignedVarint, SignedVarint, FixedBytes, SignedFixedBytes, TextBytes, RawBytes, form_of, ScalarKind, Plain, Truth, Signed, Unsigned, Text, Octets, ScalarValue, IsUnsigned, IsSigned, IsOfForm, ArePlainsOf, IsScalarOf, fixed_bytes, signed_fixed_bytes, ended, plain_spelling, field_spelling, packed_spelling, spelling}
+use Rattle.bag_model.specs.Scalars.{Word, SpellingForm, TruthByte, UnsignedVarint, SignedVarint, FixedBytes, SignedFixedBytes, TextBytes, RawBytes, spelling_form_of, ScalarKind, Plain, Truth, Signed, Unsigned, Text, Octets, ScalarValue, IsUnsigned, IsSigned, IsOfForm, ArePlainsOf, IsScalarOf, fixed_bytes, signed_fixed_bytes, ended, plain_spelling, field_spelling, packed_spelling, spelling}
 use Rattle.bag_model.specs.Typed.{IsSpelling, IsCount}
 use Rattle.bag_model.proofs.Codes.{code_apart, code_rest}
 use Rattle.bag_model.proofs.NumberCodes.{ended_code}
@@ -274,10 +274,10 @@ packed_whole [] bytes = by (empty_or_not bytes)
     by : Decided (bytes ≡ []) → Decided ((vs : List Plain) × ArePlainsOf [] vs × (bytes ≡ packed_spelling [] vs))
     by (inl e) = inl ([], tt, e)
     by (inr more) = inr (λ s. more (none_of s.0 s.1 s.2))
-packed_whole (word ∷ words) bytes = by (field_front (form_of word) bytes) (λ more. packed_whole words more)
+packed_whole (word ∷ words) bytes = by (field_front (spelling_form_of word) bytes) (λ more. packed_whole words more)
   where
     form : SpellingForm
-    form = form_of word
+    form = spelling_form_of word
 
     parts : (vs : List Plain) → ArePlainsOf (word ∷ words) vs → bytes ≡ packed_spelling (word ∷ words) vs
         → (v : Plain) × (us : List Plain) × IsOfForm form v × ArePlainsOf words us × (bytes ≡ field_spelling form v ++ packed_spelling words us)
@@ -299,13 +299,13 @@ packed_whole (word ∷ words) bytes = by (field_front (form_of word) bytes) (λ 
 
 -- Some bytes spell a value of the kind, or none.
 pub spelling_or_not : (kind : ScalarKind) (bytes : List ℕ) → Decided (IsSpelling kind bytes)
-spelling_or_not (ScalarKind.One word) bytes = by (plain_whole (form_of word) bytes)
+spelling_or_not (ScalarKind.One word) bytes = by (plain_whole (spelling_form_of word) bytes)
   where
-    one : (v : ScalarValue) → IsScalarOf (ScalarKind.One word) v → bytes ≡ spelling (ScalarKind.One word) v → (w : Plain) × IsOfForm (form_of word) w × (bytes ≡ plain_spelling (form_of word) w)
+    one : (v : ScalarValue) → IsScalarOf (ScalarKind.One word) v → bytes ≡ spelling (ScalarKind.One word) v → (w : Plain) × IsOfForm (spelling_form_of word) w × (bytes ≡ plain_spelling (spelling_form_of word) w)
     one (ScalarValue.One v) h e = (v, h, e)
     one (ScalarValue.Packed vs) h e = absurd h
 
-    by : Decided ((v : Plain) × IsOfForm (form_of word) v × (bytes ≡ plain_spelling (form_of word) v)) → Decided (IsSpelling (ScalarKind.One word) bytes)
+    by : Decided ((v : Plain) × IsOfForm (spelling_form_of word) v × (bytes ≡ plain_spelling (spelling_form_of word) v)) → Decided (IsSpelling (ScalarKind.One word) bytes)
     by (inl s) = inl (ScalarValue.One s.0, s.1, s.2)
     by (inr none) = inr (λ s. none (one s.0 s.1 s.2))
 spelling_or_not (ScalarKind.Packed words) bytes = by (packed_whole words bytes)

@@ -37,20 +37,20 @@ pub data SpellingForm : Type 0 where
   UnsignedVarint SignedVarint FixedBytes SignedFixedBytes : Bool → SpellingForm
   TextBytes RawBytes : SpellingForm
 
-abbrev pub form_of : Word → SpellingForm
-form_of Boolean = TruthByte
-form_of Int32 = SignedVarint false
-form_of Int64 = SignedVarint true
-form_of Sint32 = SignedVarint false
-form_of Sint64 = SignedVarint true
-form_of Uint32 = UnsignedVarint false
-form_of Uint64 = UnsignedVarint true
-form_of Fixed32 = FixedBytes false
-form_of Fixed64 = FixedBytes true
-form_of Sfixed32 = SignedFixedBytes false
-form_of Sfixed64 = SignedFixedBytes true
-form_of Str = TextBytes
-form_of Bytes = RawBytes
+abbrev pub spelling_form_of : Word → SpellingForm
+spelling_form_of Boolean = TruthByte
+spelling_form_of Int32 = SignedVarint false
+spelling_form_of Int64 = SignedVarint true
+spelling_form_of Sint32 = SignedVarint false
+spelling_form_of Sint64 = SignedVarint true
+spelling_form_of Uint32 = UnsignedVarint false
+spelling_form_of Uint64 = UnsignedVarint true
+spelling_form_of Fixed32 = FixedBytes false
+spelling_form_of Fixed64 = FixedBytes true
+spelling_form_of Sfixed32 = SignedFixedBytes false
+spelling_form_of Sfixed64 = SignedFixedBytes true
+spelling_form_of Str = TextBytes
+spelling_form_of Bytes = RawBytes
 
 -- A number that is not negative has so many bits.
 abbrev pub IsUnsigned : Bool → ℕ → Type 0
@@ -74,7 +74,7 @@ IsOfForm RawBytes (Octets bs) = Unit {0}
 IsOfForm _ _ = ⊥
 
 abbrev pub IsPlainOf : Word → Plain → Type 0
-IsPlainOf word v = IsOfForm (form_of word) v
+IsPlainOf word v = IsOfForm (spelling_form_of word) v
 
 -- Each field's value is of the field's word, and there is one for each.
 abbrev pub ArePlainsOf : List Word → List Plain → Type 0
@@ -175,22 +175,22 @@ abbrev pub ended : List ℕ → List ℕ
 ended bs = flat_map escape bs ++ 0 ∷ 1 ∷ []
 
 -- The forms whose bytes don't tell by themselves where they end.
-abbrev pub is_open : SpellingForm → Bool
-is_open TextBytes = true
-is_open RawBytes = true
-is_open _ = false
+abbrev pub is_open_form : SpellingForm → Bool
+is_open_form TextBytes = true
+is_open_form RawBytes = true
+is_open_form _ = false
 
 -- A value as a field of a struct.
 abbrev pub field_spelling : SpellingForm → Plain → List ℕ
-field_spelling form v = if is_open form then ended (plain_spelling form v) else plain_spelling form v
+field_spelling form v = if is_open_form form then ended (plain_spelling form v) else plain_spelling form v
 
 -- The fields of a struct, one after another.
 abbrev pub packed_spelling : List Word → List Plain → List ℕ
-packed_spelling (word ∷ words) (v ∷ vs) = field_spelling (form_of word) v ++ packed_spelling words vs
+packed_spelling (word ∷ words) (v ∷ vs) = field_spelling (spelling_form_of word) v ++ packed_spelling words vs
 packed_spelling _ _ = []
 
 -- The bytes of a value of a kind.
 abbrev pub spelling : ScalarKind → ScalarValue → List ℕ
-spelling (One word) (One v) = plain_spelling (form_of word) v
+spelling (One word) (One v) = plain_spelling (spelling_form_of word) v
 spelling (Packed words) (Packed vs) = packed_spelling words vs
 spelling _ _ = []

@@ -8,7 +8,7 @@ ghost use Rattle.bag_model.specs.Tables.{IsShape, levels, levels_under};
 ghost use Rattle.bag_walks.specs.Parts.{IsBehind, IsSegment};
 ghost use Rattle.field_table.specs.Tables.{Bag, KeptBag, IsReady};
 ghost use Rattle.field_table.specs.Plain.{shape_of, nodes_of, kept_bag, kept_shape};
-ghost use Rattle.field_table.specs.Views.{view_of};
+ghost use Rattle.field_table.specs.Views.{plain_view_of};
 ghost use Rattle.bag_normal.specs.Known.{IsKnownSuperseded};
 ghost use Rattle.bag_normal.specs.Data.{RisesUpTo, AddsPlaces};
 
@@ -42,7 +42,7 @@ fn add_known(
     ensures segment { IfOk result (IsSegment list.now level from) }
     ensures rises { IfOk result (RisesUpTo gone.new.items) }
     ensures adds { OnOk result (AddsPlaces
-        (IsKnownSuperseded (view_of view.now) before (shape_of shape.now) list.now (path_before list.now from))
+        (IsKnownSuperseded (plain_view_of view.now) before (shape_of shape.now) list.now (path_before list.now from))
         gone.old.items gone.new.items) }
 {
     if let Shape::Bag(fields) = shape {
@@ -75,7 +75,7 @@ pub(crate) fn add_known_fields(
     ensures segment { IfOk result (IsSegment list.now level from) }
     ensures rises { IfOk result (RisesUpTo gone.new.items) }
     ensures adds { OnOk result (AddsPlaces
-        (IsKnownSuperseded (view_of view.now) before (PlainBag (nodes_of fields.now)) list.now (path_before list.now from))
+        (IsKnownSuperseded (plain_view_of view.now) before (PlainBag (nodes_of fields.now)) list.now (path_before list.now from))
         gone.old.items gone.new.items) }
 {
     let mut place = from;

@@ -4,7 +4,7 @@ ghost use Rattle.std.specs.Prelude.{◌↔◌, ℕ, IfOk};
 ghost use Rattle.std.specs.Ordering.{nat_cmp};
 ghost use Rattle.context_model.specs.Orders.{IsIn, Rises};
 ghost use Rattle.bag_model.specs.NormalForm.{IsNormalOf, IsSupersededAt};
-ghost use Rattle.field_table.specs.Views.{view_of};
+ghost use Rattle.field_table.specs.Views.{plain_view_of};
 
 use crate::known::add_known_fields;
 use atom_list::Context;
@@ -20,7 +20,7 @@ pub fn normal(
     view: &View,
     mut context: Context,
 ) -> Result<Context, Memory>
-    ensures { IfOk result (λ normal. IsNormalOf table.now (view_of view.now) context normal) }
+    ensures { IfOk result (λ normal. IsNormalOf table.now (plain_view_of view.now) context normal) }
 {
     if let View::Nothing = view {
         return Ok(context);
@@ -39,7 +39,7 @@ fn superseded(
 ) -> Result<Vec<usize>, Memory>
     ensures rises { IfOk result (λ gone. Rises nat_cmp gone.items) }
     ensures exact { IfOk result (λ gone. (place : ℕ) →
-        IsIn place gone.items ↔ IsSupersededAt table.now (view_of view.now) context.now place) }
+        IsIn place gone.items ↔ IsSupersededAt table.now (plain_view_of view.now) context.now place) }
 {
     let mut gone = Vec::new(alloc);
     add_known_fields(table.nodes(), view, 0, context.list(), 0, 0, &mut gone)?;

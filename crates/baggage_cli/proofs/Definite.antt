@@ -31,7 +31,7 @@ use Rattle.text_lines.specs.Lines.{Line, lines_of}
 use Rattle.text_lines.specs.Readings.{Reading, IsDefinite, AllSay, IsFirstBad}
 use Rattle.text_lines.proofs.HexLaws.{hex_lines_definite}
 use Rattle.text_lines.proofs.ReadingLaws.{all_say_one, first_bad_one, good_not_bad, none_bad, at_most_definite}
-use Rattle.command_line.specs.Commands.{Origin, Form, as_lines, as_json, Purpose, decoding, running, explaining, Filter, trimming, merging, carrying, collecting, Task, alone, load, build, under, compare, checking}
+use Rattle.command_line.specs.Commands.{Origin, ReportForm, as_lines, as_json, Purpose, decoding, running, explaining, Filter, trimming, merging, carrying, collecting, Task, alone, load, build, under, compare, checking}
 use Rattle.baggage_cli.specs.declared.merging.TheConstants.{LINES_MAX}
 use Rattle.baggage_cli.specs.declared.refusals.InputCode.TheVariants.{Form as Excess, TooManyLines}
 use Rattle.baggage_cli.specs.declared.refusals.InputFault.{InputFault}
@@ -300,12 +300,12 @@ within_text_one gives one input a b (inr f) (inr g) = one input a b f.1 g.1
 
 module _ (laws : GraphLaws) (table : Nodes) (is_table : IsTable table) where
   -- A run has one report of each form.
-  reports_one : (form : Form) (graph : Graph) (lists : Lists) (x y : List ℕ) → IsReportAs form table graph lists x → IsReportAs form table graph lists y → x ≡ y
+  reports_one : (form : ReportForm) (graph : Graph) (lists : Lists) (x y : List ℕ) → IsReportAs form table graph lists x → IsReportAs form table graph lists y → x ≡ y
   reports_one as_lines graph lists x y report other = laws.one_report table graph lists x y report other
   reports_one as_json graph lists x y (a, report, x_is) (b, other, y_is) = x_is ∙ ap (λ text. text ++ 10 ∷ []) (laws.one_json_report table graph lists a b report other) ∙ sym y_is
 
   -- A graph that is run gives one report.
-  runs_one : (form : Form) (graph : Graph) → IsRecorded table graph → (x y : List ℕ) → IsRunReport form table graph x → IsRunReport form table graph y → x ≡ y
+  runs_one : (form : ReportForm) (graph : Graph) → IsRecorded table graph → (x y : List ℕ) → IsRunReport form table graph x → IsRunReport form table graph y → x ≡ y
   runs_one form graph recorded x y (lists, ran, report) (others, run, reported) =
       let one = laws.one_run table graph others lists recorded run ran in
       reports_one form graph lists x y report (subst (λ ls. IsReportAs form table graph ls y) one reported)
@@ -330,7 +330,7 @@ module _ (laws : GraphLaws) (table : Nodes) (is_table : IsTable table) where
   graph_gives_one gives one text (Err r) (Ok y) refused (every, all, gave) = absurd (graph_not_bad text every r all refused)
   graph_gives_one gives one text (Err r) (Err s) f g = ap Err (refuses_lines_one (graph_inputs table) (graph_inputs_definite laws.definite table is_table) (lines_of text) r s f g)
 
-  run_gives_one : (form : Form) → GivesOne (InputUnder (running form) table)
+  run_gives_one : (form : ReportForm) → GivesOne (InputUnder (running form) table)
   run_gives_one form = within_text_one (RunsLines form table) (graph_gives_one (IsRunReport form table) (runs_one form))
 
 -- ---- certificates

@@ -23,7 +23,7 @@ use Rattle.baggage_cli.specs.Filters.{FiltersLines, FilterGives}
 use Rattle.baggage_cli.specs.Loading.{IsLoadOutput, LoadGives}
 use Rattle.baggage_cli.specs.Outcomes.{Outcome, Then}
 use Rattle.baggage_cli.specs.Reading.{IsInputRead, ReadsAll}
-use Rattle.baggage_cli.specs.Refusals.{status_of, line_of, input_status, input_line, notice_line, piece_refusal}
+use Rattle.baggage_cli.specs.Refusals.{status_of, refusal_line, input_status, input_line, notice_line, piece_refusal}
 use Rattle.baggage_cli.specs.Scene.{Change, Halfway, until, since, Scene, IsSame, HasFailed, Takes}
 use Rattle.baggage_cli.specs.Tables.{IsUntaken, FileGives, IsUnprinted, TableGives, AsksForTable, AsksFront, TakesFrom, Obtains}
 use Rattle.baggage_cli.specs.Top.{RefusesFiles, Answers}
@@ -60,7 +60,7 @@ pub data Ending (task : Task) (scene : Scene) (answer : ℕ) : Type 0 where
   bad_input : (input : List ℕ) (number : ℕ) (fault : InputFault) → answer ≡ input_status fault → ReadsSource task → IsInputRead scene.source input
       → Gives task scene input (Err (Input number fault)) → Said scene (input_line number fault) → Ending task scene answer
   bad_files : (refusal : Refusal) → answer ≡ 1 → FetchesFiles task → OfFiles scene task (λ held. RefusesFiles task held refusal)
-      → IsSame scene.source → Said scene (line_of refusal) → Ending task scene answer
+      → IsSame scene.source → Said scene (refusal_line refusal) → Ending task scene answer
   library_failed : answer ≡ 4 → FetchesFiles task → HasFailed scene.library → Said scene (notice_line LibraryFailed) → Ending task scene answer
   source_failed : answer ≡ 4 → ReadsSource task → HasFailed scene.source → Said scene (notice_line SourceFailed) → Ending task scene answer
   memory_wanting : answer ≡ 6 → Said scene (notice_line Memory) → Ending task scene answer
@@ -77,10 +77,10 @@ output_delivered scene answer outcome output is delivers = by (subst (λ o. Deli
     by (inr failed) = inr (failed.0, failed.1.0)
 
 refusal_delivered : (scene : Scene) (answer : ℕ) (outcome : Outcome) (refusal : Refusal) → outcome ≡ Err refusal → Delivers outcome scene.out scene.errs answer
-    → ((answer ≡ status_of refusal) × Said scene (line_of refusal)) ⊎ ((answer ≡ 5) × HasFailed scene.errs)
+    → ((answer ≡ status_of refusal) × Said scene (refusal_line refusal)) ⊎ ((answer ≡ 5) × HasFailed scene.errs)
 refusal_delivered scene answer outcome refusal is delivers = by (subst (λ o. Delivers o scene.out scene.errs answer) is delivers)
   where
-    by : Delivers (Err refusal) scene.out scene.errs answer → ((answer ≡ status_of refusal) × Said scene (line_of refusal)) ⊎ ((answer ≡ 5) × HasFailed scene.errs)
+    by : Delivers (Err refusal) scene.out scene.errs answer → ((answer ≡ status_of refusal) × Said scene (refusal_line refusal)) ⊎ ((answer ≡ 5) × HasFailed scene.errs)
     by (same, inl told) = inl (told.0, (same, told.1))
     by (same, inr failed) = inr (failed.0, failed.1.0)
 

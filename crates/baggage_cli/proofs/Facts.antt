@@ -32,7 +32,7 @@ use Rattle.write_proof.specs.declared.verdicts.Verified.{Verified}
 use Rattle.baggage_cli.specs.Building.{product_text}
 use Rattle.baggage_cli.specs.Carrying.{byte_lines}
 use Rattle.baggage_cli.specs.Collecting.{CollectsLines}
-use Rattle.command_line.specs.Commands.{Origin, compiled, Product, Form, as_json, Purpose, decoding, running, explaining, trimming, carrying, Task, alone, trim, merge, carry, collect, load, build, under, compare, checking, decode, run_json, evolve, why, verify, ReadsSource, FetchesFiles}
+use Rattle.command_line.specs.Commands.{Origin, compiled, Product, ReportForm, as_json, Purpose, decoding, running, explaining, trimming, carrying, Task, alone, trim, merge, carry, collect, load, build, under, compare, checking, decode, run_json, evolve, why, verify, ReadsSource, FetchesFiles}
 use Rattle.baggage_cli.specs.Verifying.{verified_line, IsVerified, ChecksLines, VerdictUnder, TruthWhereYes}
 use Rattle.baggage_cli.specs.Explaining.{IsExplainedAt, IsExplained, ExplainsLines}
 use Rattle.baggage_cli.specs.Comparing.{verdict_line, SafeWhereItFits}
@@ -48,7 +48,7 @@ use Rattle.baggage_cli.specs.Laws.{GraphLaws, Laws}
 use Rattle.baggage_cli.specs.Merging.{lists_of, widest, MergesLines}
 use Rattle.baggage_cli.specs.Outcomes.{Outcome}
 use Rattle.baggage_cli.specs.Reading.{Framed, IsInputRead, Within, ReadsOne, cut_lines, context_lines, typed_lines}
-use Rattle.baggage_cli.specs.Refusals.{status_of, input_status, input_line, line_of, notice_line}
+use Rattle.baggage_cli.specs.Refusals.{status_of, input_status, input_line, refusal_line, notice_line}
 use Rattle.baggage_cli.specs.Loading.{load_heading, IsLoadOutput}
 use Rattle.baggage_cli.specs.Running.{IsReportAs, IsRunReport, ShowsTruth}
 use Rattle.baggage_cli.specs.Scene.{Change, Scene, scene_of, IsSame, IsSteady, HasFailed, Takes, HasNoFault}
@@ -246,12 +246,12 @@ shows_truth laws table graph lists recorded ran = λ n slot exact v among shown.
     laws.honest table graph lists n slot exact v (record { recorded = recorded; run = ran; within = recorded.sound.shows n among }) shown
 
 -- Where the answer is 0, the report of the run of the graph that the input says was written.
-abbrev pub RanUnder : Form → Origin → Holding → List ℕ → Scene → Type 0
+abbrev pub RanUnder : ReportForm → Origin → Holding → List ℕ → Scene → Type 0
 RanUnder form origin held input scene =
     (table : Nodes) × (graph : model.Graph) × (lists : Lists) × (output : List ℕ) × TableGives origin held (Ok table) × IsGraphOf table input graph
     × IsRun table graph lists × IsReportAs form table graph lists output × ShowsTruth table graph lists × Appends scene.out.before scene.out.after output
 
-pub run_appends : Laws → (form : Form) (origin : Origin) (held : Holding) (input : List ℕ) (scene : Scene) (answer : ℕ) → Answers (Some (under (running form) origin)) scene answer
+pub run_appends : Laws → (form : ReportForm) (origin : Origin) (held : Holding) (input : List ℕ) (scene : Scene) (answer : ℕ) → Answers (Some (under (running form) origin)) scene answer
     → scene.library.before ≡ Some held → scene.source.before ≡ Some input → answer ≡ 0 → RanUnder form origin held input scene
 run_appends laws form origin held input scene answer answers told content zero =
     let done = gave_under (running form) origin held input scene answer answers told content zero in
@@ -391,7 +391,7 @@ has_asked task held scene answer answers fetching told few = by (ending task sce
 -- What is wrong with where tables come from was told to the errors.
 abbrev pub TellsFault : Holding → Task → Scene → Type 0
 TellsFault held task scene = (refusal : Refusal) × RefusesFiles task held refusal
-    × Appends scene.errs.before scene.errs.after (line_of refusal)
+    × Appends scene.errs.before scene.errs.after (refusal_line refusal)
 
 -- The answer 1 comes only for that.
 pub fault_told : (task : Task) (held : Holding) (scene : Scene) (answer : ℕ) → Answers (Some task) scene answer → scene.library.before ≡ Some held → answer ≡ 1 → TellsFault held task scene
@@ -411,7 +411,7 @@ fault_told task held scene answer answers told is = by (ending task scene answer
 -- Where files are refused, the call is refused for it, unless the world outside or memory failed.
 pub refusal_told : Laws → (task : Task) (held : Holding) (refusal : Refusal) (scene : Scene) (answer : ℕ) → Answers (Some task) scene answer
     → scene.library.before ≡ Some held → RefusesFiles task held refusal
-    → ((answer ≡ 1) × Appends scene.errs.before scene.errs.after (line_of refusal)) ⊎ IsFailure answer
+    → ((answer ≡ 1) × Appends scene.errs.before scene.errs.after (refusal_line refusal)) ⊎ IsFailure answer
 refusal_told laws task held refusal scene answer answers told bad = by (ending task scene answer answers)
   where
     -- The task gave nothing of an input.
@@ -419,13 +419,13 @@ refusal_told laws task held refusal scene answer answers told bad = by (ending t
     not_given input outcome gave =
         no_table_given laws task held refusal scene.library.before input outcome told bad (told_gives task scene input outcome (λ fetches. (held, told)) gave)
 
-    by : Ending task scene answer → ((answer ≡ 1) × Appends scene.errs.before scene.errs.after (line_of refusal)) ⊎ IsFailure answer
+    by : Ending task scene answer → ((answer ≡ 1) × Appends scene.errs.before scene.errs.after (refusal_line refusal)) ⊎ IsFailure answer
     by (read_out input output zero reads read gave written) = absurd (not_given input (Ok output) gave)
     by (files_out output zero fetches none came unread written) = absurd (given_not_refused laws task held output refusal (came held told).0 bad)
     by (load_out rounds output zero asks unread made written) = absurd (subst (λ t. RefusesFiles t held refusal) asks bad)
     by (bad_input input number other status reads read gave said) = absurd (not_given input (Err (Input number other)) gave)
     by (bad_files other one fetches came unread said) =
-        inl (one, subst (λ r. Appends scene.errs.before scene.errs.after (line_of r)) (refused_once laws task held other refusal (came held told).0 bad) said.1.0)
+        inl (one, subst (λ r. Appends scene.errs.before scene.errs.after (refusal_line r)) (refused_once laws task held other refusal (came held told).0 bad) said.1.0)
     by (library_failed four fetches failed said) = inr (inl four)
     by (source_failed four reads failed said) = inr (inl four)
     by (memory_wanting six said) = inr (inr (inr six))

@@ -7,7 +7,7 @@ use Rattle.text_lines.specs.Lines.{Line, lines_of}
 use Rattle.text_lines.specs.Readings.{AllSay, IsFirstBad}
 use Rattle.trace_model.specs.Graphs.{Graph}
 use Rattle.graph_text.specs.Additions.{Addition, graph_of}
-use Rattle.graph_text.specs.Reading.{graph_lines, IsGraphOf, IsRefusalOf}
+use Rattle.graph_text.specs.Reading.{graph_lines, IsGraphOf, IsGraphRefusalOf}
 use Rattle.graph_text.specs.declared.faults.GraphFault.{GraphFault}
 use Rattle.graph_text.specs.declared.faults.GraphFault.TheVariants as graphs
 use Rattle.graph_text.specs.declared.faults.LineFault.{LineFault}
@@ -45,7 +45,7 @@ input_bad table lines number fault bad = record {
   number_is = bad.number_is;
 }
 
-refused_graph : (gives : Graph → List ℕ → Type 0) (table : Nodes) (text : List ℕ) (fault : GraphFault) → IsRefusalOf table text fault → OrMemory (GraphGives table gives (lines_of text)) (Err (graph_refusal fault))
+refused_graph : (gives : Graph → List ℕ → Type 0) (table : Nodes) (text : List ℕ) (fault : GraphFault) → IsGraphRefusalOf table text fault → OrMemory (GraphGives table gives (lines_of text)) (Err (graph_refusal fault))
 refused_graph gives table text (graphs.At number code) bad = inr (number, input_fault (lines.Code code), input_bad table (lines_of text) number (lines.Code code) bad, refl)
 refused_graph gives table text (graphs.Bytes number offset code) bad =
     inr (number, input_fault (lines.Bytes offset code), input_bad table (lines_of text) number (lines.Bytes offset code) bad, refl)
@@ -55,7 +55,7 @@ refused_graph gives table text graphs.Memory bad = inl refl
 
 -- Why a text says no graph is the refusal of each command that reads one.
 pub refused_text : (gives : Graph → List ℕ → Type 0) (table : Nodes) (text : List ℕ) (result : Result (Vec ℕ) Refusal) (fault : GraphFault) → IsErrAnd result (λ other. other ≡ graph_refusal fault)
-    → IsRefusalOf table text fault → OrMemory (GraphGives table gives (lines_of text)) (outcome_of result)
+    → IsGraphRefusalOf table text fault → OrMemory (GraphGives table gives (lines_of text)) (outcome_of result)
 refused_text gives table text (Ok output) fault is bad = absurd is
 refused_text gives table text (Err other) fault is bad = subst (λ r. OrMemory (GraphGives table gives (lines_of text)) (Err r)) (sym is) (refused_graph gives table text fault bad)
 

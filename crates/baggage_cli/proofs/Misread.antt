@@ -9,7 +9,7 @@ use Rattle.wire_bytes.specs.declared.contexts.ContextFault.{ContextFault}
 use Rattle.wire_bytes.specs.declared.contexts.ContextFault.TheVariants as contexts
 use Rattle.wire_bytes.specs.declared.reading.WireFault.{WireFault}
 use Rattle.wire_bytes.specs.declared.reading.WireFault.TheVariants as wires
-use Rattle.wire_bytes.specs.Reading.{code_of, IsContextFaultOf, IsFaultOf, SaysFault}
+use Rattle.wire_bytes.specs.Reading.{code_of, IsContextFaultOf, IsWireFaultOf, SaysFault}
 use Rattle.baggage_cli.specs.declared.refusals.InputFault.TheVariants.{Bytes}
 use Rattle.baggage_cli.specs.declared.refusals.Refusal.{Refusal}
 use Rattle.baggage_cli.specs.Collecting.{CollectsLines}
@@ -25,7 +25,7 @@ misread_context line bytes contexts.Memory refusal hex first is = inl is
 
 -- So is one whose bytes have this fault of a list, where lists of their form can be cut to the budget.
 pub misread_list : (budget : ℕ) (line : Line) (bytes : List ℕ) (wire : WireFault) (fault : ContextFault) (refusal : Refusal) → IsHexOf bytes line.1 → least_budget (form_of bytes) ≤ budget
-    → IsFaultOf bytes wire → SaysFault wire fault → refusal ≡ context_refusal line.0 fault → RefusesLine (cut_lines budget) line refusal
+    → IsWireFaultOf bytes wire → SaysFault wire fault → refusal ≡ context_refusal line.0 fault → RefusesLine (cut_lines budget) line refusal
 misread_list budget line bytes (wires.At offset wire) (contexts.At same code) refusal hex enough first says is =
     let at = subst (λ o. IsFirstWireFault bytes o (code_of wire)) (sym says.0) first in
     inr (Bytes same code, inr (bytes, hex, inr (enough, (same, code, subst (IsFirstWireFault bytes same) (sym says.1) at, refl))), is)

@@ -16,7 +16,7 @@ use Rattle.table_text.specs.Faults.{table_code_name}
 use Rattle.graph_text.specs.Faults.{graph_code_name}
 use Rattle.graph_text.specs.declared.faults.GraphFault.{GraphFault}
 use Rattle.graph_text.specs.declared.faults.GraphFault.TheVariants as graphs
-use Rattle.text_carrier.specs.Views.{code_name as carry_code_name}
+use Rattle.text_carrier.specs.Views.{carry_code_name}
 use Rattle.text_carrier.specs.declared.faults.CarryFault.{CarryFault}
 use Rattle.text_carrier.specs.declared.faults.CarryFault.TheVariants as pieces
 use Rattle.baggage_cli.specs.declared.refusals.InputCode.{InputCode}
@@ -98,11 +98,11 @@ status_of (Table file line code) = 1
 status_of (Plain notice) = notice_status notice
 
 -- The line that is written to the sink of errors.
-abbrev pub line_of : Refusal → List ℕ
-line_of (Input line fault) = input_line line fault
-line_of (Definition file line column code) = definition_line file line column code
-line_of (Table file line code) = table_line file line code
-line_of (Plain notice) = notice_line notice
+abbrev pub refusal_line : Refusal → List ℕ
+refusal_line (Input line fault) = input_line line fault
+refusal_line (Definition file line column code) = definition_line file line column code
+refusal_line (Table file line code) = table_line file line code
+refusal_line (Plain notice) = notice_line notice
 
 -- The refusal of a definition that has this first fault.
 abbrev pub blamed : Fault → Refusal

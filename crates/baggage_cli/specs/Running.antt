@@ -16,7 +16,7 @@ use Rattle.graph_text.specs.declared.faults.LineFault.{LineFault}
 use Rattle.graph_text.specs.declared.faults.LineFault.TheVariants as lines
 use Rattle.baggage_cli.specs.declared.refusals.InputFault.{InputFault}
 use Rattle.baggage_cli.specs.declared.refusals.InputFault.TheVariants as inputs
-use Rattle.command_line.specs.Commands.{Form, as_lines, as_json}
+use Rattle.command_line.specs.Commands.{ReportForm, as_lines, as_json}
 use Rattle.baggage_cli.specs.Outcomes.{Outcome}
 use Rattle.baggage_cli.specs.Reading.{ReadsLines}
 
@@ -27,13 +27,13 @@ input_fault (lines.Bytes offset code) = inputs.Bytes offset code
 input_fault (lines.IllTyped offset) = inputs.IllTyped offset
 
 -- The output is the report of the graph's shown steps, as lines, or as JSON with a line feed behind it.
-abbrev pub IsReportAs : Form → Nodes → Graph → Lists → List ℕ → Type 0
+abbrev pub IsReportAs : ReportForm → Nodes → Graph → Lists → List ℕ → Type 0
 IsReportAs as_lines table graph lists output = IsReport table graph lists output
 IsReportAs as_json table graph lists output =
     (report : List ℕ) × IsJsonReport table graph lists report × (output ≡ report ++ 10 ∷ [])
 
 -- The output is the report of the lists that the graph's run gives its steps.
-abbrev pub IsRunReport : Form → Nodes → Graph → List ℕ → Type 0
+abbrev pub IsRunReport : ReportForm → Nodes → Graph → List ℕ → Type 0
 IsRunReport form table graph output =
     (lists : Lists) × IsRun table graph lists × IsReportAs form table graph lists output
 
@@ -57,5 +57,5 @@ abbrev pub GraphGives : Nodes → (Graph → List ℕ → Type 0) → List Line 
 GraphGives table gives = ReadsLines (graph_inputs table) (λ every output. gives (graph_of every) output)
 
 -- What lines come to, run under a table: the report of the graph that they say.
-abbrev pub RunsLines : Form → Nodes → List Line → Outcome → Type 0
+abbrev pub RunsLines : ReportForm → Nodes → List Line → Outcome → Type 0
 RunsLines form table = GraphGives table (IsRunReport form table)

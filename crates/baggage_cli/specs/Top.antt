@@ -19,7 +19,7 @@ use Rattle.baggage_cli.specs.Filters.{FilterGives}
 use Rattle.baggage_cli.specs.Loading.{LoadGives}
 use Rattle.baggage_cli.specs.Outcomes.{Outcome}
 use Rattle.baggage_cli.specs.Reading.{Framed, ReadsAll, cut_lines, context_lines}
-use Rattle.baggage_cli.specs.Refusals.{line_of, notice_line}
+use Rattle.baggage_cli.specs.Refusals.{refusal_line, notice_line}
 use Rattle.baggage_cli.specs.Scene.{Change, Scene, IsSame, Takes, TakesPart}
 use Rattle.baggage_cli.specs.Tables.{FileGives, TableGives, AsksForTable}
 use Rattle.baggage_cli.specs.Under.{InputUnder, ReadsUnder}
@@ -136,7 +136,7 @@ FailsSink task scene =
     ((output : List ℕ) × Comes task scene.library scene.requests scene.source (Ok output) × TakesPart scene.out output
     × (Takes scene.errs (notice_line SinkFailed) ⊎ TakesPart scene.errs (notice_line SinkFailed)))
     ⊎ ((refusal : Refusal) × Comes task scene.library scene.requests scene.source (Err refusal) × IsSame scene.out
-    × TakesPart scene.errs (line_of refusal))
+    × TakesPart scene.errs (refusal_line refusal))
 
 -- The world outside failed, or memory was wanting: no other status hides what is wrong with an input or a definition.
 abbrev pub IsFailure : ℕ → Type 0

@@ -5,7 +5,7 @@ use Rattle.bag_model.specs.Shapes.{Nodes}
 use Rattle.bdl_load.specs.Loading.{Holding}
 use Rattle.text_lines.specs.Lines.{Line}
 use Rattle.trace_model.specs.Graphs.{Graph}
-use Rattle.write_proof.specs.CodeNames.{code_name}
+use Rattle.write_proof.specs.CodeNames.{verify_code_name}
 use Rattle.write_proof.specs.Verdicts.{IsVerdictOf, TellsTruth}
 use Rattle.write_proof.specs.declared.verdicts.Verified.{Verified}
 use Rattle.write_proof.specs.declared.verdicts.Verified.TheVariants.{Yes, No}
@@ -19,7 +19,7 @@ use Rattle.baggage_cli.specs.Tables.{Obtains, Brings}
 -- The line of a verdict.
 abbrev pub verified_line : Verified → List ℕ
 verified_line Yes = codes "yes" ++ 10 ∷ []
-verified_line (No line code) = codes "no " ++ (decimal line ++ (codes " " ++ (code_name code ++ 10 ∷ [])))
+verified_line (No line code) = codes "no " ++ (decimal line ++ (codes " " ++ (verify_code_name code ++ 10 ∷ [])))
 
 -- The output is the line of the verdict on the certificate for this graph.
 abbrev pub IsVerified : Nodes → List ℕ → Graph → List ℕ → Type 0

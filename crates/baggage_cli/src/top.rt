@@ -26,7 +26,7 @@ ghost use Rattle.text_lines.specs.HexLines.{hex_line};
 ghost use Rattle.write_proof.specs.Verdicts.{IsVerdictOf};
 ghost use Rattle.write_proof.specs.declared.verdicts.Verified.{Verified};
 ghost use Rattle.command_line.specs.Commands.{Task, task_of, command_of, trim, merge, carry, collect, load, check, print, decode, run, run_json, run_table, evolve, why, verify, ReadsSource, FetchesFiles, IsWithinLimits};
-ghost use Rattle.baggage_cli.specs.Refusals.{input_status, input_line, notice_line, line_of};
+ghost use Rattle.baggage_cli.specs.Refusals.{input_status, input_line, notice_line, refusal_line};
 ghost use Rattle.baggage_cli.specs.Scene.{change, scene_of, HasNoFault};
 ghost use Rattle.baggage_cli.specs.Laws.{Laws};
 ghost use Rattle.baggage_cli.specs.Outcomes.{outcome_of};
@@ -315,10 +315,10 @@ pub fn baggage_top<R: Threads + Sync, G: Gate, L: Library, S: Source, K: Sink, E
     ensures definition { (task : Task) (held : Holding) → command_of words.now ≡ Some task
         → L.files library.old ≡ Some held → result ≡ 1
         → (refusal : Refusal) × RefusesFiles task held refusal
-        × Appends (E.written errs.old) (E.written errs.new) (line_of refusal) }
+        × Appends (E.written errs.old) (E.written errs.new) (refusal_line refusal) }
     ensures fault { (task : Task) (held : Holding) (refusal : Refusal)
         → command_of words.now ≡ Some task → L.files library.old ≡ Some held → RefusesFiles task held refusal
-        → ((result ≡ 1) × Appends (E.written errs.old) (E.written errs.new) (line_of refusal))
+        → ((result ≡ 1) × Appends (E.written errs.old) (E.written errs.new) (refusal_line refusal))
         ⊎ IsFailure result }
 
     // What is wrong with an input is status 2 or 3 with its line, unless the same failed.

@@ -14,7 +14,7 @@ use Rattle.bdl_parser.specs.declared.trees.Decl.TheVariants.{Bag, Struct}
 use Rattle.bdl_parser.specs.Trees.{BagFieldTree}
 use Rattle.bdl_check.specs.declared.sizes.Size.{Size}
 use Rattle.bdl_check.specs.Checks.{placed_faults}
-use Rattle.bdl_check.specs.Declarations.{Placed, named, number_named, kind_named, AreSpelled}
+use Rattle.bdl_check.specs.Declarations.{Placed, decl_named, number_named, kind_named, AreSpelled}
 use Rattle.bdl_check.specs.Layouts.{IsLaidOut}
 use Rattle.bdl_check.specs.Passes.{passes_decl}
 use Rattle.bdl_check.specs.Sizes.{HasSize, IsSizeOf, AreSizes, IsExcess}
@@ -78,7 +78,7 @@ pub chosen_table : (ds : List Placed) (name : List ℕ) (bag : BagTree) (nodes :
     → bag_named ds name ≡ Some bag → FitsTable ds bag.list nodes → IsTable nodes
 chosen_table ds name bag nodes none spelled e fits =
     let good = all_good ds none spelled in
-    let d = and_then_is (λ (d : Placed). bag_in d.file d.decl) (named ds name) bag e in
+    let d = and_then_is (λ (d : Placed). bag_in d.file d.decl) (decl_named ds name) bag e in
     let own = good name d.0 d.1 in
     is_table ds good bag.list nodes (bag_good ds d.0.file d.0.decl bag d.2 own.0 own.1) fits.laid_out fits.shallow fits.small
 

@@ -21,7 +21,7 @@ use Rattle.bdl_load.specs.declared.faults.DefFault.TheVariants as defs
 use Rattle.bdl_load.specs.declared.faults.Fault.{Fault}
 use Rattle.bdl_load.specs.declared.files.LoadedFile.{LoadedFile}
 use Rattle.bdl_load.specs.Faults.{Blames}
-use Rattle.bdl_load.specs.Loading.{Holding, OfLibrary, Loads, all_loaded, stopped, names_of}
+use Rattle.bdl_load.specs.Loading.{Holding, OfLibrary, Loads, all_loaded, stopped, file_names}
 use Rattle.bdl_parser.specs.Decls.{IsSpelledDecl, AreSpelledDecls}
 use Rattle.topological_order.specs.Graphs.{EdgeLists, LeadsTo}
 use Rattle.topological_order.specs.Orders.{IsOrder}
@@ -76,7 +76,7 @@ untabled_files files ds root name sound is refusal says =
 -- These are all files of the definition.
 abbrev pub HasLoaded : Files → Asked → Asked → List ℕ → List LoadedFile → Type 0
 HasLoaded files before after root loaded = OfLibrary files before after
-    (λ held names. Loads held root (all_loaded loaded) × (names ≡ names_of loaded))
+    (λ held names. Loads held root (all_loaded loaded) × (names ≡ file_names loaded))
 
 pub table_of_files : (files : Files) (before after : Asked) (root name : List ℕ) (loaded : List LoadedFile) (nodes : Nodes)
     → HasLoaded files before after root loaded → IsTableIn loaded name nodes

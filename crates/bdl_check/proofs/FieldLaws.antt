@@ -7,7 +7,7 @@ use Rattle.std.specs.Ordering.{is_eq, nat_cmp}
 use Rattle.std.specs.List.{list_any}
 use Rattle.bdl_load.specs.declared.faults.Finding.{Finding}
 use Rattle.bdl_check.specs.Faults.{first}
-use Rattle.bdl_check.specs.Fields.{numbers_of, names_of, struct_names_of, bag_field_faults, bag_faults, struct_field_faults, struct_faults}
+use Rattle.bdl_check.specs.Fields.{numbers_of, bag_field_names, struct_names_of, bag_field_faults, bag_faults, struct_field_faults, struct_faults}
 use Rattle.bdl_check.specs.Lookups.{HasNumbers, HasTexts}
 use Rattle.bdl_check.specs.Types.{Kinds}
 use Rattle.bdl_parser.specs.Trees.{BagFieldTree, StructFieldTree}
@@ -18,7 +18,7 @@ pub record BagLeft (kinds : Kinds) (numbers : BTreeSet ℕ) (texts : BTreeSet (B
   where
     pub gone : List BagFieldTree
     pub numbers_are : HasNumbers numbers (numbers_of gone)
-    pub texts_are : HasTexts texts (names_of gone)
+    pub texts_are : HasTexts texts (bag_field_names gone)
     pub same : first (bag_faults kinds gone left) ≡ first (bag_faults kinds [] all)
 
 -- What is left of a struct's fields has the first fault of all.
@@ -38,10 +38,10 @@ texts_none texts e = λ other. ap (λ (keys : List (Bor (List ℕ))). list_any (
 pub bag_more : (kinds : Kinds) (numbers more_numbers : BTreeSet ℕ) (texts more_texts : BTreeSet (Bor (List ℕ)))
     (all rest left : List BagFieldTree) (field : BagFieldTree) → rest ≡ field ∷ left →
     BagLeft kinds numbers texts all rest →
-    ((earlier : List BagFieldTree) → HasNumbers numbers (numbers_of earlier) → HasTexts texts (names_of earlier)
+    ((earlier : List BagFieldTree) → HasNumbers numbers (numbers_of earlier) → HasTexts texts (bag_field_names earlier)
     → None ≡ first (bag_field_faults kinds earlier field)) →
     ((earlier : List BagFieldTree) → HasNumbers numbers (numbers_of earlier) → HasNumbers more_numbers (numbers_of (earlier ++ field ∷ []))) →
-    ((earlier : List BagFieldTree) → HasTexts texts (names_of earlier) → HasTexts more_texts (names_of (earlier ++ field ∷ []))) →
+    ((earlier : List BagFieldTree) → HasTexts texts (bag_field_names earlier) → HasTexts more_texts (bag_field_names (earlier ++ field ∷ []))) →
     BagLeft kinds more_numbers more_texts all left
 bag_more kinds numbers more_numbers texts more_texts all rest left field is so_far none numbers_added texts_added = record {
   gone = so_far.gone ++ field ∷ [];
@@ -56,7 +56,7 @@ bag_more kinds numbers more_numbers texts more_texts all rest left field is so_f
 pub bag_found : (kinds : Kinds) (numbers : BTreeSet ℕ) (texts : BTreeSet (Bor (List ℕ))) (all rest left : List BagFieldTree)
     (field : BagFieldTree) (fault : Finding) → rest ≡ field ∷ left →
     BagLeft kinds numbers texts all rest →
-    ((earlier : List BagFieldTree) → HasNumbers numbers (numbers_of earlier) → HasTexts texts (names_of earlier)
+    ((earlier : List BagFieldTree) → HasNumbers numbers (numbers_of earlier) → HasTexts texts (bag_field_names earlier)
     → Some fault ≡ first (bag_field_faults kinds earlier field)) →
     Some fault ≡ first (bag_faults kinds [] all)
 bag_found kinds numbers texts all rest left field fault is so_far some =

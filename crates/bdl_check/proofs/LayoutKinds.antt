@@ -12,18 +12,18 @@ use Rattle.bdl_parser.specs.declared.trees.TypeForm.{TypeForm}
 use Rattle.bdl_parser.specs.Trees.{StructFieldTree}
 use Rattle.bdl_parser.specs.Views.{tree_at}
 use Rattle.bdl_check.specs.Declarations.{Placed}
-use Rattle.bdl_check.specs.Layouts.{word_in, word_of_type, words_of, words_of_decl}
+use Rattle.bdl_check.specs.Layouts.{word_in, word_of_type, struct_words, words_of_decl}
 
 -- A field more has a word more, if its type is one.
 words_more : (front : List StructFieldTree) (t : StructFieldTree)
-    → words_of (front ++ t ∷ []) ≡ words_of front ++ cons_option (word_of_type t.kind) []
+    → struct_words (front ++ t ∷ []) ≡ struct_words front ++ cons_option (word_of_type t.kind) []
 words_more front t = filter_map-append (λ (field : StructFieldTree). word_of_type field.kind) front (t ∷ [])
 
 -- A field whose type is a word adds the word.
 pub word_more : (front : List StructFieldTree) (t : StructFieldTree) (at : Spot) (form : TypeForm) (word : ScalarWord) → t.kind ≡ tree_at at form
-    → form ≡ TypeForms.Scalar word → words_of front ++ word_in word ∷ [] ≡ words_of (front ++ t ∷ [])
+    → form ≡ TypeForms.Scalar word → struct_words front ++ word_in word ∷ [] ≡ struct_words (front ++ t ∷ [])
 word_more front t at form word kind is =
-    sym (words_more front t ∙ ap (λ tree. words_of front ++ cons_option (word_of_type tree) []) (kind ∙ ap (tree_at at) is))
+    sym (words_more front t ∙ ap (λ tree. struct_words front ++ cons_option (word_of_type tree) []) (kind ∙ ap (tree_at at) is))
 
 no_word : (at : Spot) (form : TypeForm) → ((word : ScalarWord) → form ≡ TypeForms.Scalar word → ⊥) → word_of_type (tree_at at form) ≡ None
 no_word at (TypeForms.Scalar word) not = absurd (not word refl)
@@ -42,10 +42,10 @@ append_none (x ∷ xs) = ap (λ ys. x ∷ ys) (append_none xs)
 
 -- Any other adds none.
 pub no_more : (front : List StructFieldTree) (t : StructFieldTree) (at : Spot) (form : TypeForm) → t.kind ≡ tree_at at form
-    → ((word : ScalarWord) → form ≡ TypeForms.Scalar word → ⊥) → words_of front ≡ words_of (front ++ t ∷ [])
+    → ((word : ScalarWord) → form ≡ TypeForms.Scalar word → ⊥) → struct_words front ≡ struct_words (front ++ t ∷ [])
 no_more front t at form kind not =
-    sym (words_more front t ∙ ap (λ o. words_of front ++ cons_option o []) (ap word_of_type kind ∙ no_word at form not)
-    ∙ append_none (words_of front))
+    sym (words_more front t ∙ ap (λ o. struct_words front ++ cons_option o []) (ap word_of_type kind ∙ no_word at form not)
+    ∙ append_none (struct_words front))
 
 -- The words of the declaration with this number, where those of all are listed.
 pub words_at : (ds : List Placed) (lists : List (List scalars.Word)) (number : ℕ) (d : Placed) (other : List scalars.Word)

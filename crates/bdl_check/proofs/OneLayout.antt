@@ -12,7 +12,7 @@ use Rattle.bdl_parser.specs.declared.trees.Decl.{Decl}
 use Rattle.bdl_parser.specs.declared.trees.Decl.TheVariants.{Bag, Struct}
 use Rattle.bdl_parser.specs.Trees as trees
 use Rattle.bdl_parser.specs.Trees.{BagFieldTree, TypeTree}
-use Rattle.bdl_check.specs.Declarations.{Placed, named}
+use Rattle.bdl_check.specs.Declarations.{Placed, decl_named}
 use Rattle.bdl_check.specs.Layouts.{Layout, IsShapeOfDecl, IsShapeOf, IsFieldOf, AreFieldsOf, IsLaidOutInOrder, IsLaidOutWithin, IsLaidOut, held_shape}
 use Rattle.bdl_check.specs.Tables.{BagTree, bag_named, FitsTable, IsUnfit, IsTableAmong, IsUntabled}
 use Rattle.bag_model.specs.declared.TheConstants.{MAX_LEVELS, MAX_FIELDS}
@@ -112,7 +112,7 @@ one_shape ds A B one (trees.leaf trees.double spot) s t a b = absurd a
 one_shape ds A B one (trees.leaf trees.taint spot) s t a b = a ∙ sym b
 one_shape ds A B one (trees.leaf trees.counter spot) s t a b = a ∙ sym b
 one_shape ds A B one (trees.leaf (trees.name text) spot) s t a b =
-    let same = same_some (named ds text) a.0 b.0 a.1 b.1 in
+    let same = same_some (decl_named ds text) a.0 b.0 a.1 b.1 in
     decl_shape A B one b.0.decl s t (subst (λ (d : Placed). IsShapeOfDecl A d.decl s) same a.2) b.2
 one_shape ds A B one (trees.held holding element spot) s t a b = a.2 ∙ ap (held_shape holding) (same_some _ a.0 b.0 a.1 b.1) ∙ sym b.2
 one_shape ds A B one (trees.map key value spot) s t a b =
@@ -150,11 +150,11 @@ same_nodes (node name number shape m) no_node e = absurd (cc e)
 same_nodes (node name number shape m) (node other place form n) e =
     let first : made name number shape ≡ made other place form = cc e in
     let rest : fields m ≡ fields n = cc e in
-    let named = ap (λ (f : Field). f.name) first in
+    let decl_named = ap (λ (f : Field). f.name) first in
     let numbered = ap (λ (f : Field). f.number) first in
     let shaped = ap (λ (f : Field). f.shape) first in
     let more = same_nodes m n rest in
-    cc (named, numbered, shaped, more)
+    cc (decl_named, numbered, shaped, more)
 
 one_in_order : (ds : List Placed) (A B : Layout) → Agree A B → (list : List BagFieldTree) (m n : Nodes) → IsLaidOutInOrder ds A list m
     → IsLaidOutInOrder ds B list n → m ≡ n

@@ -14,8 +14,8 @@ use Rattle.bdl_parser.specs.Trees.{TypeTree}
 use Rattle.bdl_check.specs.declared.declarations.DeclKind.{DeclKind}
 use Rattle.bdl_check.specs.declared.types.Role.{Role}
 use Rattle.bdl_check.specs.declared.types.Role.TheVariants.{BagField, Element, Key, MapValue}
-use Rattle.bdl_check.specs.Declarations.{Placed, name_of, kind_of, named, number_named, kind_named}
-use Rattle.bdl_check.specs.Layouts.{words_of, kind_of_decl, kind_in}
+use Rattle.bdl_check.specs.Declarations.{Placed, decl_name_of, decl_kind_of, decl_named, number_named, kind_named}
+use Rattle.bdl_check.specs.Layouts.{struct_words, kind_of_decl, kind_in}
 use Rattle.bdl_check.specs.Passes.{may_name, passes_name, passes_type}
 use Rattle.bdl_check.specs.Types.{Kinds}
 use Rattle.bdl_check.proofs.Lists.{both_first, both_second}
@@ -39,20 +39,20 @@ position_of p xs x e =
     (position_or_len p xs, grind (arith, within), there)
 
 -- The declaration of a name has its number.
-pub named_at : (ds : List Placed) (text : List ℕ) (n : ℕ) → number_named ds text ≡ Some n → named ds text ≡ slice_get ds n
-named_at ds text n e = found_at (λ (d : Placed). bytes_eq (name_of d.decl) text) ds n e
+pub named_at : (ds : List Placed) (text : List ℕ) (n : ℕ) → number_named ds text ≡ Some n → decl_named ds text ≡ slice_get ds n
+named_at ds text n e = found_at (λ (d : Placed). bytes_eq (decl_name_of d.decl) text) ds n e
 
-pub number_of : (ds : List Placed) (text : List ℕ) (d : Placed) → named ds text ≡ Some d
+pub number_of : (ds : List Placed) (text : List ℕ) (d : Placed) → decl_named ds text ≡ Some d
     → (n : ℕ) × (number_named ds text ≡ Some n) × (slice_get ds n ≡ Some d)
-number_of ds text d e = position_of (λ (d : Placed). bytes_eq (name_of d.decl) text) ds d e
+number_of ds text d e = position_of (λ (d : Placed). bytes_eq (decl_name_of d.decl) text) ds d e
 
 unfound : {X : Type 0} (p : X → Bool) (xs : List X) (o : Option X) → position p xs ≡ None → find p xs ≡ o → find p xs ≡ None
 unfound p xs None none e = e
 unfound p xs (Some x) none e = absurd (let n = position_of p xs x e in let same = sym none ∙ n.1 in cc same)
 
 -- A name without a number is that of no declaration.
-pub not_named : (ds : List Placed) (text : List ℕ) → number_named ds text ≡ None → named ds text ≡ None
-not_named ds text none = unfound (λ (d : Placed). bytes_eq (name_of d.decl) text) ds (named ds text) none refl
+pub not_named : (ds : List Placed) (text : List ℕ) → number_named ds text ≡ None → decl_named ds text ≡ None
+not_named ds text none = unfound (λ (d : Placed). bytes_eq (decl_name_of d.decl) text) ds (decl_named ds text) none refl
 
 -- A name that passes is that of a declaration which may stand there.
 declared_in : {X : Type 0} (role : Role) (f : X → DeclKind) (o : Option X) → passes_name role (option_map f o) ≡ true
@@ -61,14 +61,14 @@ declared_in role f None e = absurd (cc e)
 declared_in role f (Some x) e = (x, refl, e)
 
 pub declared : (ds : List Placed) (role : Role) (text : List ℕ) → passes_name role (kind_named ds text) ≡ true
-    → (d : Placed) × (named ds text ≡ Some d) × (may_name role (kind_of d.decl) ≡ true)
-declared ds role text e = declared_in role (λ (d : Placed). kind_of d.decl) (named ds text) e
+    → (d : Placed) × (decl_named ds text ≡ Some d) × (may_name role (decl_kind_of d.decl) ≡ true)
+declared ds role text e = declared_in role (λ (d : Placed). decl_kind_of d.decl) (decl_named ds text) e
 
 -- ---- elements, keys and values
 
-struct_kind : (decl : Decl) → may_name Element (kind_of decl) ≡ true → (kind : scalars.ScalarKind) × (kind_of_decl decl ≡ Some kind)
+struct_kind : (decl : Decl) → may_name Element (decl_kind_of decl) ≡ true → (kind : scalars.ScalarKind) × (kind_of_decl decl ≡ Some kind)
 struct_kind (Bag own spot list) e = absurd (cc e)
-struct_kind (Struct own spot list) e = (scalars.ScalarKind.Packed (words_of list), refl)
+struct_kind (Struct own spot list) e = (scalars.ScalarKind.Packed (struct_words list), refl)
 
 and_then_at : {X Y : Type 0} (f : X → Option Y) (o : Option X) (x : X) (y : Y) → o ≡ Some x → f x ≡ Some y → option_and_then f o ≡ Some y
 and_then_at f o x y e h = ap (option_and_then f) e ∙ h
@@ -84,7 +84,7 @@ element_kind ds (trees.leaf trees.counter spot) e = absurd (cc e)
 element_kind ds (trees.leaf (trees.name text) spot) e =
     let d = declared ds Element text e in
     let kind = struct_kind d.0.decl d.2 in
-    (kind.0, and_then_at (λ (d : Placed). kind_of_decl d.decl) (named ds text) d.0 kind.0 d.1 kind.1)
+    (kind.0, and_then_at (λ (d : Placed). kind_of_decl d.decl) (decl_named ds text) d.0 kind.0 d.1 kind.1)
 element_kind ds (trees.held holding element spot) e = absurd (cc e)
 element_kind ds (trees.map key value spot) e = absurd (cc e)
 

@@ -21,9 +21,9 @@ use Rattle.bdl_parser.specs.Trees.{TypeTree, BagFieldTree, StructFieldTree}
 use Rattle.bdl_check.specs.declared.declarations.DeclKind.{DeclKind}
 use Rattle.bdl_check.specs.declared.types.Role.TheVariants.{BagField, StructField, Key}
 use Rattle.bdl_check.specs.Checks.{placed_faults}
-use Rattle.bdl_check.specs.Declarations.{Placed, named, kind_named, AreSpelled}
-use Rattle.bdl_check.specs.Fields.{numbers_of, names_of, struct_names_of}
-use Rattle.bdl_check.specs.Layouts.{Layout, word_in, word_of_type, words_of, kind_of_decl, kind_in, IsShapeOfDecl, IsShapeOf, AreFieldsOf, IsLaidOutInOrder, IsLaidOutWithin, IsLaidOut}
+use Rattle.bdl_check.specs.Declarations.{Placed, decl_named, kind_named, AreSpelled}
+use Rattle.bdl_check.specs.Fields.{numbers_of, bag_field_names, struct_names_of}
+use Rattle.bdl_check.specs.Layouts.{Layout, word_in, word_of_type, struct_words, kind_of_decl, kind_in, IsShapeOfDecl, IsShapeOf, AreFieldsOf, IsLaidOutInOrder, IsLaidOutWithin, IsLaidOut}
 use Rattle.bdl_check.specs.Passes.{are_distinct, passes_name, passes_type, passes_decl}
 use Rattle.bdl_check.specs.Types.{Kinds}
 use Rattle.bdl_check.proofs.BagSizes.{or_first, or_second, not_so}
@@ -62,8 +62,8 @@ struct_good kinds (Struct own spot (f ∷ fs)) kind p e =
     (are_distinct bytes_eq (struct_names_of (f ∷ fs))) p in
     let word = struct_word kinds f.kind (both_first (passes_type kinds StructField f.kind)
     (list_all (λ (g : StructFieldTree). passes_type kinds StructField g.kind) fs) types) in
-    let same : scalars.ScalarKind.Packed (words_of (f ∷ fs)) ≡ kind = (cc e) in
-    subst IsScalarKind same (some_words (word_of_type f.kind) word.0 (words_of fs) word.1)
+    let same : scalars.ScalarKind.Packed (struct_words (f ∷ fs)) ≡ kind = (cc e) in
+    subst IsScalarKind same (some_words (word_of_type f.kind) word.0 (struct_words fs) word.1)
 
 -- ---- lists
 
@@ -95,7 +95,7 @@ flips_names x y = one_answer (bytes_eq x y) (bytes_eq y x) (bytes_eq-Decides x y
 -- Fields that pass and are spelled.
 pub record AreGood (ds : List Placed) (list : List BagFieldTree) : Type 0 where
   pub types : AllByRecursion (λ (t : BagFieldTree). passes_type (kind_named ds) BagField t.kind ≡ true) list
-  pub names : IsDistinct bytes_eq (names_of list)
+  pub names : IsDistinct bytes_eq (bag_field_names list)
   pub spelled : AllByRecursion IsSpelledField list
 
 -- The fields of a bag that passes and is spelled.
@@ -104,16 +104,16 @@ pub good_list : (ds : List Placed) (own : List ℕ) (spot : Spot) (list : List B
 good_list ds own spot list p s =
     let types = list_all (λ (t : BagFieldTree). passes_type (kind_named ds) BagField t.kind) list in
     let numbers = are_distinct (λ a b. a == b) (numbers_of list) in
-    let names = are_distinct bytes_eq (names_of list) in
+    let names = are_distinct bytes_eq (bag_field_names list) in
     record {
       types = all_true (λ (t : BagFieldTree). passes_type (kind_named ds) BagField t.kind) list (both_first types (numbers && names) p);
-      names = distinct_names bytes_eq (names_of list) (both_second numbers names (both_second types (numbers && names) p));
+      names = distinct_names bytes_eq (bag_field_names list) (both_second numbers names (both_second types (numbers && names) p));
       spelled = s;
     }
 
 -- Each declaration passes and is spelled.
 abbrev pub AllGood : List Placed → Type 0
-AllGood ds = (text : List ℕ) (d : Placed) → named ds text ≡ Some d → (passes_decl (kind_named ds) d.decl ≡ true) × IsSpelledDecl d.decl
+AllGood ds = (text : List ℕ) (d : Placed) → decl_named ds text ≡ Some d → (passes_decl (kind_named ds) d.decl ≡ true) × IsSpelledDecl d.decl
 
 -- Declarations without faults pass.
 pub all_good : (ds : List Placed) → placed_faults ds ≡ [] → AreSpelled ds → AllGood ds
@@ -136,7 +136,7 @@ module _ (ds : List Placed) (good : AllGood ds) where
   element_good (trees.leaf trees.taint spot) kind e = absurd (cc e)
   element_good (trees.leaf trees.counter spot) kind e = absurd (cc e)
   element_good (trees.leaf (trees.name text) spot) kind e =
-      let d = and_then_is (λ (d : Placed). kind_of_decl d.decl) (named ds text) kind e in
+      let d = and_then_is (λ (d : Placed). kind_of_decl d.decl) (decl_named ds text) kind e in
       struct_good (kind_named ds) d.0.decl kind (good text d.0 d.1).0 d.2
   element_good (trees.held holding element spot) kind e = absurd (cc e)
   element_good (trees.map key value spot) kind e = absurd (cc e)
@@ -150,7 +150,7 @@ module _ (ds : List Placed) (good : AllGood ds) where
       → IsShapeOfDecl L decl s → IsShape s
   decl_good L makes (Bag own spot list) s p spelled a = subst IsShape (sym a.2) (makes list a.0 (good_list ds own spot list p spelled) a.1)
   decl_good L makes (Struct own spot list) s p spelled a = subst IsShape (sym a)
-      (struct_good (kind_named ds) (Struct own spot list) (scalars.ScalarKind.Packed (words_of list)) p refl)
+      (struct_good (kind_named ds) (Struct own spot list) (scalars.ScalarKind.Packed (struct_words list)) p refl)
 
   shape_good : (L : Layout) → Makes ds L → (t : TypeTree) (s : Shape) → passes_type (kind_named ds) BagField t ≡ true → IsShapeOf ds L t s → IsShape s
   shape_good L makes (trees.leaf (trees.scalar word) spot) s p a = subst IsShape (sym a) tt
@@ -169,7 +169,7 @@ module _ (ds : List Placed) (good : AllGood ds) where
       )
 
   behind : (L : Layout) (t : BagFieldTree) (ts : List BagFieldTree) (fs : List Field) → AreFieldsOf ds L ts fs → Precedes t.number ts
-      → AllByRecursion (λ y. bytes_eq t.name y ≡ false) (names_of ts)
+      → AllByRecursion (λ y. bytes_eq t.name y ≡ false) (bag_field_names ts)
       → AllByRecursion (λ (other : Field). (t.number < other.number) × (t.name ≢ other.name)) fs
   behind L t [] [] e o d = tt
   behind L t (u ∷ ts) (f ∷ fs) e o d = (
@@ -183,7 +183,7 @@ module _ (ds : List Placed) (good : AllGood ds) where
       → AreFields nodes
   fields_good L makes [] no_node e g r = tt
   fields_good L makes (t ∷ ts) (node name number shape more) e g r =
-      let names = IsDistinct-head bytes_eq t.name (names_of ts) g.names in
+      let names = IsDistinct-head bytes_eq t.name (bag_field_names ts) g.names in
       let rest = behind L t ts (fields more) e.1 r.0 names in (
         subst (λ (n : List ℕ). is_name n ≡ true) (sym e.0.name_is) g.spelled.0.0,
         subst (λ n. n < 2 ^ 16) (sym e.0.number_is) g.spelled.0.1,
@@ -193,7 +193,7 @@ module _ (ds : List Placed) (good : AllGood ds) where
             rest),
         fields_good L makes ts more e.1 (record {
           types = g.types.1;
-          names = IsDistinct-tail bytes_eq t.name (names_of ts) g.names;
+          names = IsDistinct-tail bytes_eq t.name (bag_field_names ts) g.names;
           spelled =
               g.spelled.1;
         }) r.1,
@@ -205,7 +205,7 @@ module _ (ds : List Placed) (good : AllGood ds) where
   order_good L makes list nodes g a =
       let sorted : AreGood ds a.sorted = record {
         types = all_moved (λ (t : BagFieldTree). passes_type (kind_named ds) BagField t.kind ≡ true) list a.sorted a.same g.types;
-        names = IsDistinct-IsPermutation bytes_eq flips_names (names_of list) (names_of a.sorted)
+        names = IsDistinct-IsPermutation bytes_eq flips_names (bag_field_names list) (bag_field_names a.sorted)
             (IsPermutation-map (λ (u : BagFieldTree). u.name) list a.sorted a.same) g.names;
         spelled = all_moved IsSpelledField list a.sorted a.same g.spelled;
       } in

@@ -21,8 +21,8 @@ use Rattle.bdl_parser.specs.Trees as trees
 use Rattle.bdl_parser.specs.Trees.{TypeTree, BagFieldTree}
 use Rattle.bdl_check.specs.declared.sizes.Size.{Size}
 use Rattle.bdl_check.specs.declared.types.Role.TheVariants.{BagField}
-use Rattle.bdl_check.specs.Declarations.{Placed, named, number_named, kind_named}
-use Rattle.bdl_check.specs.Layouts.{words_of, IsShapeOfDecl, IsLaidOut}
+use Rattle.bdl_check.specs.Declarations.{Placed, decl_named, number_named, kind_named}
+use Rattle.bdl_check.specs.Layouts.{struct_words, IsShapeOfDecl, IsLaidOut}
 use Rattle.bdl_check.specs.Passes.{passes_type}
 use Rattle.bdl_check.specs.Sizes.{HasTypeSize, HasSize, IsSizeOf, AreKnown}
 use Rattle.bdl_check.proofs.Insertions.{IsNewNumber, added}
@@ -62,7 +62,7 @@ held_size ds AsGreatest element spot p =
     let kind = element_kind ds element p in
     record { shape = Scalar Greatest kind.0; is = (kind.0, kind.1, refl); levels_are = refl; fields_are = refl }
 
-decl_size : (ds : List Placed) (text : List ℕ) (spot : Spot) (d : Placed) (s : Size) → named ds text ≡ Some d → IsSizeOf ds d.decl s
+decl_size : (ds : List Placed) (text : List ℕ) (spot : Spot) (d : Placed) (s : Size) → decl_named ds text ≡ Some d → IsSizeOf ds d.decl s
     → HasTypeSize ds (trees.leaf (trees.name text) spot) s
 decl_size ds text spot d s e h = by d.decl refl h
   where
@@ -74,8 +74,8 @@ decl_size ds text spot d s e h = by d.decl refl h
       fields_are = h.fields_are;
     }
     by (Struct own at list) is h = record {
-      shape = Scalar Least (scalars.ScalarKind.Packed (words_of list));
-      is = (d, e, subst (λ (decl : Decl). IsShapeOfDecl (IsLaidOut ds) decl (Scalar Least (scalars.ScalarKind.Packed (words_of list)))) (sym is) refl);
+      shape = Scalar Least (scalars.ScalarKind.Packed (struct_words list));
+      is = (d, e, subst (λ (decl : Decl). IsShapeOfDecl (IsLaidOut ds) decl (Scalar Least (scalars.ScalarKind.Packed (struct_words list)))) (sym is) refl);
       levels_are = h.0;
       fields_are = h.1;
     }

@@ -12,19 +12,19 @@ use Rattle.bdl_parser.specs.declared.trees.Decl.TheVariants.{Bag, Struct}
 use Rattle.bdl_parser.specs.declared.trees.Spot.{Spot}
 
 -- A declaration's name.
-abbrev pub name_of : Decl → List ℕ
-name_of (Bag name spot fields) = name
-name_of (Struct name spot fields) = name
+abbrev pub decl_name_of : Decl → List ℕ
+decl_name_of (Bag name spot fields) = name
+decl_name_of (Struct name spot fields) = name
 
 -- The place of its name.
-abbrev pub place_of : Decl → Spot
-place_of (Bag name spot fields) = spot
-place_of (Struct name spot fields) = spot
+abbrev pub decl_place_of : Decl → Spot
+decl_place_of (Bag name spot fields) = spot
+decl_place_of (Struct name spot fields) = spot
 
 -- What it declares.
-abbrev pub kind_of : Decl → DeclKind
-kind_of (Bag name spot fields) = IsBag
-kind_of (Struct name spot fields) = IsStruct
+abbrev pub decl_kind_of : Decl → DeclKind
+decl_kind_of (Bag name spot fields) = IsBag
+decl_kind_of (Struct name spot fields) = IsStruct
 
 -- A declaration, and the name of its file.
 pub record Placed : Type 0 where
@@ -44,16 +44,16 @@ abbrev pub all_placed : List LoadedFile → List Placed
 all_placed files = flat_map placed_in files
 
 -- The first declaration of this name.
-abbrev pub named : List Placed → List ℕ → Option Placed
-named ds text = find (λ d. bytes_eq (name_of d.decl) text) ds
+abbrev pub decl_named : List Placed → List ℕ → Option Placed
+decl_named ds text = find (λ d. bytes_eq (decl_name_of d.decl) text) ds
 
 -- Its number, from 0 on.
 abbrev pub number_named : List Placed → List ℕ → Option ℕ
-number_named ds text = position (λ d. bytes_eq (name_of d.decl) text) ds
+number_named ds text = position (λ d. bytes_eq (decl_name_of d.decl) text) ds
 
 -- What it declares.
 abbrev pub kind_named : List Placed → List ℕ → Option DeclKind
-kind_named ds text = option_map (λ d. kind_of d.decl) (named ds text)
+kind_named ds text = option_map (λ d. decl_kind_of d.decl) (decl_named ds text)
 
 -- The names and the numbers of all fields are spelled as those of a table.
 abbrev pub AreSpelled : List Placed → Type 0

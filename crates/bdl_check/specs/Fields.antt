@@ -24,8 +24,8 @@ is_name_among text names = list_any (λ other. bytes_eq other text) names
 abbrev pub numbers_of : List BagFieldTree → List ℕ
 numbers_of fields = map (λ field. field.number) fields
 
-abbrev pub names_of : List BagFieldTree → List (List ℕ)
-names_of fields = map (λ field. field.name) fields
+abbrev pub bag_field_names : List BagFieldTree → List (List ℕ)
+bag_field_names fields = map (λ field. field.name) fields
 
 abbrev pub struct_names_of : List StructFieldTree → List (List ℕ)
 struct_names_of fields = map (λ field. field.name) fields
@@ -36,7 +36,7 @@ bag_field_faults kinds earlier field =
     type_faults kinds BagField field.kind
     ++ (when (is_number_among field.number (numbers_of earlier))
     (found field.number_at DuplicateNumber)
-    ++ when (is_name_among field.name (names_of earlier)) (found field.name_at DuplicateField))
+    ++ when (is_name_among field.name (bag_field_names earlier)) (found field.name_at DuplicateField))
 
 -- The same of each field.
 abbrev pub bag_faults : Kinds → List BagFieldTree → List BagFieldTree → List Finding

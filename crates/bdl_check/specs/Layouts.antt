@@ -7,7 +7,7 @@ use Rattle.bag_model.specs.declared.Pick.TheVariants.{Least, Greatest}
 use Rattle.bag_model.specs.Scalars as scalars
 use Rattle.bag_model.specs.Shapes.{Shape, Nodes, Field, fields, Taint, Scalar, Set, Counter, Map, Bag as BagOf}
 use Rattle.bag_model.specs.Tables.{levels_under}
-use Rattle.bdl_check.specs.Declarations.{Placed, named}
+use Rattle.bdl_check.specs.Declarations.{Placed, decl_named}
 use Rattle.bdl_parser.specs.declared.trees.Decl.{Decl}
 use Rattle.bdl_parser.specs.declared.trees.Decl.TheVariants.{Bag, Struct}
 use Rattle.bdl_parser.specs.declared.trees.Holding.{Holding}
@@ -38,24 +38,24 @@ word_of_type (trees.leaf (trees.scalar word) spot) = Some (word_in word)
 word_of_type _ = None
 
 -- The words of a struct's fields, in the order of the text.
-abbrev pub words_of : List trees.StructFieldTree → List scalars.Word
-words_of fields = filter_map (λ field. word_of_type field.kind) fields
+abbrev pub struct_words : List trees.StructFieldTree → List scalars.Word
+struct_words fields = filter_map (λ field. word_of_type field.kind) fields
 
 -- The same of a declaration: a bag has none.
 abbrev pub words_of_decl : Decl → List scalars.Word
 words_of_decl (Bag own spot list) = []
-words_of_decl (Struct own spot list) = words_of list
+words_of_decl (Struct own spot list) = struct_words list
 
 -- The kind of scalars that a declaration is: a struct is one of its words.
 abbrev pub kind_of_decl : Decl → Option scalars.ScalarKind
 kind_of_decl (Bag own spot list) = None
-kind_of_decl (Struct own spot list) = Some (scalars.ScalarKind.Packed (words_of list))
+kind_of_decl (Struct own spot list) = Some (scalars.ScalarKind.Packed (struct_words list))
 
 -- The kind of scalars that a type is, if it is one.
 abbrev pub kind_in : List Placed → trees.TypeTree → Option scalars.ScalarKind
 kind_in ds (trees.leaf (trees.scalar word) spot) = Some (scalars.ScalarKind.One (word_in word))
 kind_in ds (trees.leaf (trees.name text) spot) =
-    option_and_then (λ d. kind_of_decl d.decl) (named ds text)
+    option_and_then (λ d. kind_of_decl d.decl) (decl_named ds text)
 kind_in ds _ = None
 
 -- How the fields of a bag are laid out.
@@ -73,7 +73,7 @@ abbrev pub IsShapeOfDecl : Layout → Decl → Shape → Type 0
 IsShapeOfDecl LaysOut (Bag own spot list) shape =
     (nodes : Nodes) × LaysOut list nodes × (shape ≡ BagOf nodes)
 IsShapeOfDecl LaysOut (Struct own spot list) shape =
-    shape ≡ Scalar Least (scalars.ScalarKind.Packed (words_of list))
+    shape ≡ Scalar Least (scalars.ScalarKind.Packed (struct_words list))
 
 -- The shape of a field of this type.
 abbrev pub IsShapeOf : List Placed → Layout → trees.TypeTree → Shape → Type 0
@@ -84,7 +84,7 @@ IsShapeOf ds LaysOut (trees.leaf trees.double spot) shape = ⊥
 IsShapeOf ds LaysOut (trees.leaf trees.taint spot) shape = shape ≡ Taint
 IsShapeOf ds LaysOut (trees.leaf trees.counter spot) shape = shape ≡ Counter
 IsShapeOf ds LaysOut (trees.leaf (trees.name text) spot) shape =
-    (d : Placed) × (named ds text ≡ Some d) × IsShapeOfDecl LaysOut d.decl shape
+    (d : Placed) × (decl_named ds text ≡ Some d) × IsShapeOfDecl LaysOut d.decl shape
 IsShapeOf ds LaysOut (trees.held holding element spot) shape =
     (kind : scalars.ScalarKind) × (kind_in ds element ≡ Some kind)
     × (shape ≡ held_shape holding kind)

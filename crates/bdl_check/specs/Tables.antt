@@ -5,7 +5,7 @@ use Rattle.bag_model.specs.declared.TheConstants.{MAX_LEVELS, MAX_FIELDS}
 use Rattle.bdl_load.specs.declared.faults.TheConstants.{FIRST_SPOT}
 use Rattle.bag_model.specs.Shapes.{Nodes}
 use Rattle.bag_model.specs.Tables.{levels, node_count}
-use Rattle.bdl_check.specs.Declarations.{Placed, named}
+use Rattle.bdl_check.specs.Declarations.{Placed, decl_named}
 use Rattle.bdl_check.specs.Layouts.{IsLaidOut}
 use Rattle.bdl_load.specs.declared.faults.DefCode.TheVariants.{NoSuchBag, TooDeep, TooManySlots}
 use Rattle.bdl_load.specs.declared.faults.Fault.{Fault}
@@ -28,7 +28,7 @@ bag_in file (Struct own spot list) = None
 
 -- The bag of this name, if there is one.
 abbrev pub bag_named : List Placed → List ℕ → Option BagTree
-bag_named ds name = option_and_then (λ d. bag_in d.file d.decl) (named ds name)
+bag_named ds name = option_and_then (λ d. bag_in d.file d.decl) (decl_named ds name)
 
 -- The fields laid out, in no more than 16 levels of headers and 16,384 fields.
 pub record FitsTable (ds : List Placed) (list : List BagFieldTree) (nodes : Nodes) : Type 0 where

@@ -3,7 +3,7 @@
 ghost use Rattle.std.specs.Prelude.{◌≡◌, ◌++◌, ◌∷◌, ◌==◌, ◌||◌, [], ℕ, List, None, not, IfOk, OnOk};
 ghost use Rattle.std.specs.Str.{bytes_eq};
 ghost use Rattle.bdl_check.specs.Faults.{first};
-ghost use Rattle.bdl_check.specs.Fields.{numbers_of, names_of, struct_names_of, bag_field_faults, bag_faults, struct_field_faults, struct_faults, decl_faults};
+ghost use Rattle.bdl_check.specs.Fields.{numbers_of, bag_field_names, struct_names_of, bag_field_faults, bag_faults, struct_field_faults, struct_faults, decl_faults};
 ghost use Rattle.bdl_check.specs.Declarations.{kind_named};
 ghost use Rattle.bdl_check.specs.Lookups.{has_number, has_text, HasNumbers, HasTexts};
 ghost use Rattle.bdl_parser.specs.Trees.{BagFieldTree, StructFieldTree};
@@ -43,14 +43,14 @@ fn bag_field_fault<'a>(
     field: &'a BagField,
 ) -> Result<Option<Finding>, Memory>
     ensures found { (earlier : List BagFieldTree) → HasNumbers numbers.old (numbers_of earlier)
-        → HasTexts texts.old (names_of earlier) →
+        → HasTexts texts.old (bag_field_names earlier) →
         IfOk result (λ fault. fault ≡ first (bag_field_faults (kind_named declarations.now) earlier (bag_field_of field.now))) }
     ensures numbers { (earlier : List BagFieldTree) → HasNumbers numbers.old (numbers_of earlier)
         → result ≡ Ok None →
         HasNumbers numbers.new (numbers_of (earlier ++ bag_field_of field.now ∷ [])) }
-    ensures texts { (earlier : List BagFieldTree) → HasTexts texts.old (names_of earlier)
+    ensures texts { (earlier : List BagFieldTree) → HasTexts texts.old (bag_field_names earlier)
         → result ≡ Ok None →
-        HasTexts texts.new (names_of (earlier ++ bag_field_of field.now ∷ [])) }
+        HasTexts texts.new (bag_field_names (earlier ++ bag_field_of field.now ∷ [])) }
 {
     if let Some(fault) = type_fault(declarations, Role::BagField, &field.kind) {
         return Ok(Some(fault));

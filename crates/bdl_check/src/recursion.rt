@@ -4,12 +4,12 @@ ghost use Rattle.std.specs.Prelude.{◌≡◌, ◌++◌, IfOk, IfErr, OnOk};
 ghost use Rattle.std.specs.List.{filter_map};
 ghost use Rattle.bdl_load.specs.Faults.{found, fault_in};
 ghost use Rattle.bdl_load.specs.declared.faults.DefCode.TheVariants.{Recursive};
-ghost use Rattle.bdl_check.specs.Declarations.{number_named, place_of};
+ghost use Rattle.bdl_check.specs.Declarations.{number_named, decl_place_of};
 ghost use Rattle.bdl_check.specs.DeclarationViews.{placed_of};
 ghost use Rattle.bdl_check.specs.Faults.{RefusesFor};
 ghost use Rattle.bdl_check.specs.Recursion.{names_in, uses, links, IsRecursive};
 ghost use Rattle.bdl_parser.specs.Views.{tree_of};
-ghost use Rattle.topological_order.specs.Graphs.{graph_of};
+ghost use Rattle.topological_order.specs.Graphs.{edge_lists_of};
 ghost use Rattle.topological_order.specs.Orders.{IsOrder};
 
 use crate::declarations::{Declaration, Declarations, decl_place};
@@ -64,7 +64,7 @@ fn links_from(alloc: Global, declarations: &Declarations, decl: &Decl) -> Result
 
 /// The same for each declaration.
 fn all_links(alloc: Global, declarations: &Declarations) -> Result<Vec<Vec<usize>>, Memory>
-    ensures { IfOk result (λ rows. graph_of rows.items ≡ links declarations.now) }
+    ensures { IfOk result (λ rows. edge_lists_of rows.items ≡ links declarations.now) }
 {
     let mut rows = Vec::new(alloc);
     for declaration in declarations.as_slice() {
@@ -77,7 +77,7 @@ fn all_links(alloc: Global, declarations: &Declarations) -> Result<Vec<Vec<usize
 /// The fault of a declaration that stands inside itself.
 fn recursive(declaration: &Declaration) -> Result<Fault, Memory>
     ensures { IfOk result (λ fault. fault ≡ fault_in declaration.now.file.now
-        (found (place_of declaration.now.decl.now) Recursive)) }
+        (found (decl_place_of declaration.now.decl.now) Recursive)) }
 {
     let found = Finding {
         at: decl_place(declaration.decl),

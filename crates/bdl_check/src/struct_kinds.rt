@@ -4,9 +4,9 @@
 ghost use Rattle.std.specs.Prelude.{◌≡◌, Some, IfOk, true};
 ghost use Rattle.std.specs.Option.{is_some, option_map};
 ghost use Rattle.bag_model.specs.Scalars as scalars;
-ghost use Rattle.bdl_check.specs.Declarations.{named};
+ghost use Rattle.bdl_check.specs.Declarations.{decl_named};
 ghost use Rattle.bdl_check.specs.DeclarationViews.{placed_of};
-ghost use Rattle.bdl_check.specs.Layouts.{word_in, words_of, words_of_decl, kind_of_decl};
+ghost use Rattle.bdl_check.specs.Layouts.{word_in, struct_words, words_of_decl, kind_of_decl};
 ghost use Rattle.scalar_types.specs.KindViews.{IsPlainWord, word_of, kind_of};
 
 use crate::declarations::{Declaration, Declarations};
@@ -68,7 +68,7 @@ impl<'a, 'b> StructKinds<'a, 'b> {
     /// The one of this name.
     pub(crate) fn named(&self, name: &str) -> Option<WithKinds<'_>>
         ensures { option_map (λ found. placed_of found.declaration) result
-            ≡ named self.now name.now }
+            ≡ decl_named self.now name.now }
     {
         let number = self.declarations.number(name)?;
         let declaration = self.declarations.get(number)?;
@@ -102,7 +102,7 @@ fn field_kinds(alloc: Global, decl: &Decl) -> Result<KindList, Memory>
 
 /// The kinds of a struct's fields in the order of the text.
 fn struct_kinds(alloc: Global, fields: &StructFields) -> Result<KindList, Memory>
-    ensures { IfOk result (λ kinds. kinds ≡ words_of fields.now) }
+    ensures { IfOk result (λ kinds. kinds ≡ struct_words fields.now) }
 {
     let mut kinds = KindList::new(alloc);
     for field in fields.as_slice() {

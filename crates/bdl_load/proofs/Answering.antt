@@ -11,7 +11,7 @@ use Rattle.bdl_load.specs.declared.faults.Fault.{Fault}
 use Rattle.bdl_load.specs.declared.files.LoadedFile.{LoadedFile}
 use Rattle.bdl_load.specs.Loader.{Answer, answer_names, GivesAnswers, known, Answered, Loaded, Ends}
 use Rattle.bdl_load.specs.Faults.{Blames}
-use Rattle.bdl_load.specs.Loading.{Holding, OfLibrary, AgreeButLast, AsksAll, AsksFirst, Loads, all_loaded, stopped, names_of}
+use Rattle.bdl_load.specs.Loading.{Holding, OfLibrary, AgreeButLast, AsksAll, AsksFirst, Loads, all_loaded, stopped, file_names}
 use Rattle.bdl_load.proofs.Asking.{same_bytes}
 
 -- ---- files that give all answers
@@ -100,14 +100,14 @@ end_asked files before after root Failed e = first_asked files before after root
 end_asked files before after root Memory e = first_asked files before after root e
 
 pub loaded_all : (files : Files) (before after : Asked) (root : List ℕ) (later : List LoadedFile) → Loaded files before after [] later (λ held. Loads held root (all_loaded later))
-    → OfLibrary files before after (λ held names. Loads held root (all_loaded later) × (names ≡ names_of later))
+    → OfLibrary files before after (λ held names. Loads held root (all_loaded later) × (names ≡ file_names later))
 loaded_all files before after root later l =
-    let own : answer_names l.given.answers ≡ names_of later = sym l.names ∙ ap names_of (sym l.grown) in
-    of_answers files before after (λ names held. Loads held root (all_loaded later) × (names ≡ names_of later))
+    let own : answer_names l.given.answers ≡ file_names later = sym l.names ∙ ap file_names (sym l.grown) in
+    of_answers files before after (λ names held. Loads held root (all_loaded later) × (names ≡ file_names later))
     (record { answers = l.given.answers; asks = l.given.asks; told = l.given.told; distinct = l.given.distinct; comes = λ held g. (l.given.comes held g, own) })
 
 pub loaded_asked : (files : Files) (before after : Asked) (root : List ℕ) (later : List LoadedFile) → Loaded files before after [] later (λ held. Loads held root (all_loaded later))
     → OfLibrary files before after (λ held names. AsksFirst held root names)
 loaded_asked files before after root later l =
-    all_asked files before after root (λ held names. Loads held root (all_loaded later) × (names ≡ names_of later)) (λ held names c. (all_loaded later, c.0, c.1))
+    all_asked files before after root (λ held names. Loads held root (all_loaded later) × (names ≡ file_names later)) (λ held names c. (all_loaded later, c.0, c.1))
     (loaded_all files before after root later l)

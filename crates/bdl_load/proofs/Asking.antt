@@ -10,7 +10,7 @@ use Rattle.bdl_load.specs.declared.faults.DefFault.{DefFault}
 use Rattle.bdl_load.specs.declared.faults.DefFault.TheVariants.{At, Failed, Memory}
 use Rattle.bdl_load.specs.declared.faults.Fault.{Fault}
 use Rattle.bdl_load.specs.declared.files.LoadedFile.{LoadedFile}
-use Rattle.bdl_load.specs.Loading.{Holding, Loading, stopped, is_among, names_of}
+use Rattle.bdl_load.specs.Loading.{Holding, Loading, stopped, is_among, file_names}
 use Rattle.bdl_load.specs.Loader.{IsHeld, Answer, answer_names, GivesAnswers, known, Answered, Loaded, Ends, Halts}
 
 -- ---- different names
@@ -107,11 +107,11 @@ asks_then a b (Some earlier) (Some middle) (Some kept) f g =
 joined : (a b : List Answer) → answer_names (a ++ b) ≡ answer_names a ++ answer_names b
 joined a b = map-append (λ (answer : Answer). answer.name) a b
 
-names_then : (earlier later more : List LoadedFile) (a b : List Answer) → later ≡ earlier ++ more → names_of more ≡ answer_names a → names_of later ++ answer_names b ≡ names_of earlier ++ answer_names (a ++ b)
+names_then : (earlier later more : List LoadedFile) (a b : List Answer) → later ≡ earlier ++ more → file_names more ≡ answer_names a → file_names later ++ answer_names b ≡ file_names earlier ++ answer_names (a ++ b)
 names_then earlier later more a b grown e =
-    let split : names_of (earlier ++ more) ≡ names_of earlier ++ names_of more = map-append (λ (file : LoadedFile). file.name) earlier more in
-    ap (λ names. names ++ answer_names b) (ap names_of grown ∙ split ∙ ap (λ names. names_of earlier ++ names) e) ∙ append_assoc (names_of earlier) (answer_names a) (answer_names b)
-    ∙ ap (λ names. names_of earlier ++ names) (sym (joined a b))
+    let split : file_names (earlier ++ more) ≡ file_names earlier ++ file_names more = map-append (λ (file : LoadedFile). file.name) earlier more in
+    ap (λ names. names ++ answer_names b) (ap file_names grown ∙ split ∙ ap (λ names. file_names earlier ++ names) e) ∙ append_assoc (file_names earlier) (answer_names a) (answer_names b)
+    ∙ ap (λ names. file_names earlier ++ names) (sym (joined a b))
 
 -- ---- answers after files that were loaded
 
@@ -128,7 +128,7 @@ answered_then whole files before between after earlier later C D E first second 
       told = told_both files whole a b first.given.told second.told;
       distinct = subst (λ names. IsDistinct bytes_eq names) names second.distinct;
       comes = λ held g. subst (λ names. E names held) names
-          (then held (first.given.comes held (gives_front held a b g)) (names_of later ++ answer_names b) (second.comes held (gives_back held a b g)));
+          (then held (first.given.comes held (gives_front held a b g)) (file_names later ++ answer_names b) (second.comes held (gives_back held a b g)));
     }
 
 pub loaded_then : (files : Files) (before middle after : Asked) (earlier between later : List LoadedFile) (C D E : Holding → Type 0) → Loaded files before middle earlier between C → Loaded files middle after between later D
@@ -138,7 +138,7 @@ loaded_then files before middle after earlier between later C D E first second t
   more = first.more ++ second.more;
   grown = second.grown ∙ ap (λ files. files ++ second.more) first.grown ∙ append_assoc earlier first.more second.more;
   given = answered_then true files before middle after earlier between C (λ _ held. D held) (λ _ held. E held) first second.given (λ held c names d. then held c d);
-  names = map-append (λ (file : LoadedFile). file.name) first.more second.more ∙ ap (λ names. names ++ names_of second.more) first.names
+  names = map-append (λ (file : LoadedFile). file.name) first.more second.more ∙ ap (λ names. names ++ file_names second.more) first.names
       ∙ ap (λ names. answer_names first.given.answers ++ names) second.names ∙ sym (joined first.given.answers second.given.answers);
 }
 
@@ -160,10 +160,10 @@ ends_then files before between after earlier later C D E first then Memory secon
 
 -- ---- nothing is asked for
 
-answered_nothing : (whole : Bool) (files : Files) (before : Asked) (earlier : List LoadedFile) (C : List (List ℕ) → Holding → Type 0) → IsDistinct bytes_eq (names_of earlier)
-    → ((held : Holding) → C (names_of earlier) held) → Answered whole files before before earlier C
+answered_nothing : (whole : Bool) (files : Files) (before : Asked) (earlier : List LoadedFile) (C : List (List ℕ) → Holding → Type 0) → IsDistinct bytes_eq (file_names earlier)
+    → ((held : Holding) → C (file_names earlier) held) → Answered whole files before before earlier C
 answered_nothing whole files before earlier C d comes =
-    let same = sym (append-nil (names_of earlier)) in
+    let same = sym (append-nil (file_names earlier)) in
     record {
       answers = [];
       asks = asks_none before;
@@ -176,13 +176,13 @@ answered_nothing whole files before earlier C d comes =
     known_nothing true = told_none files
     known_nothing false = told_none files
 
-pub loaded_nothing : (files : Files) (before : Asked) (earlier : List LoadedFile) (C : Holding → Type 0) → IsDistinct bytes_eq (names_of earlier) → ((held : Holding) → C held) → Loaded files before before earlier earlier C
+pub loaded_nothing : (files : Files) (before : Asked) (earlier : List LoadedFile) (C : Holding → Type 0) → IsDistinct bytes_eq (file_names earlier) → ((held : Holding) → C held) → Loaded files before before earlier earlier C
 unfolding answered_nothing
 loaded_nothing files before earlier C d comes =
     record { more = []; grown = sym (append-nil earlier); given = answered_nothing true files before earlier (λ _ held. C held) d comes; names = refl }
 
-pub ends_halted : (files : Files) (before : Asked) (earlier : List LoadedFile) (C : Holding → Loading → Type 0) → IsDistinct bytes_eq (names_of earlier) → (refusal : DefFault)
-    → Halts (λ fault. (held : Holding) → C held (stopped (names_of earlier) fault)) refusal → Ends files before before earlier C refusal
+pub ends_halted : (files : Files) (before : Asked) (earlier : List LoadedFile) (C : Holding → Loading → Type 0) → IsDistinct bytes_eq (file_names earlier) → (refusal : DefFault)
+    → Halts (λ fault. (held : Holding) → C held (stopped (file_names earlier) fault)) refusal → Ends files before before earlier C refusal
 ends_halted files before earlier C d (At file line column code) h =
     answered_nothing true files before earlier (λ names held. C held (stopped names (record { file = file; line = line; column = column; code = code }))) d h
 ends_halted files before earlier C d Failed h = absurd h
@@ -193,18 +193,18 @@ ends_halted files before earlier C d Memory (fault, h) =
 
 -- a name that wasn't asked for before, of files with different names
 pub record IsNew (earlier : List LoadedFile) (name : List ℕ) (before after : Asked) : Type 0 where
-  pub distinct : IsDistinct bytes_eq (names_of earlier)
-  pub fresh : is_among name (names_of earlier) ≡ false
+  pub distinct : IsDistinct bytes_eq (file_names earlier)
+  pub fresh : is_among name (file_names earlier) ≡ false
   pub asks : Asks (name ∷ []) before after
 
 answered_one : (whole : Bool) (files : Files) (before after : Asked) (earlier : List LoadedFile) (name : List ℕ) (content : Option (List ℕ)) (C : List (List ℕ) → Holding → Type 0) → IsNew earlier name before after
-    → IfSome files (λ held. GivesAnswers held (known whole (record { name = name; content = content } ∷ []))) → ((held : Holding) → held name ≡ content → C (names_of earlier ++ name ∷ []) held)
+    → IfSome files (λ held. GivesAnswers held (known whole (record { name = name; content = content } ∷ []))) → ((held : Holding) → held name ≡ content → C (file_names earlier ++ name ∷ []) held)
     → Answered whole files before after earlier C
 answered_one whole files before after earlier name content C new told comes = record {
   answers = record { name = name; content = content } ∷ [];
   asks = new.asks;
   told = told;
-  distinct = distinct_snoc (names_of earlier) name new.distinct new.fresh;
+  distinct = distinct_snoc (file_names earlier) name new.distinct new.fresh;
   comes = λ held g. comes held g.0;
 }
 
@@ -221,14 +221,14 @@ loaded_file files before after earlier file source new told = record {
 
 -- a fault comes of the answer
 pub answered_fault : (files : Files) (before after : Asked) (earlier : List LoadedFile) (name : List ℕ) (content : Option (List ℕ)) (C : Holding → Loading → Type 0) (fault : Fault) → IsNew earlier name before after
-    → IsHeld files name content → ((held : Holding) → held name ≡ content → C held (stopped (names_of earlier ++ name ∷ []) fault))
+    → IsHeld files name content → ((held : Holding) → held name ≡ content → C held (stopped (file_names earlier ++ name ∷ []) fault))
     → Answered true files before after earlier (λ names held. C held (stopped names fault))
 answered_fault files before after earlier name content C fault new told comes =
     answered_one true files before after earlier name content (λ names held. C held (stopped names fault)) new (told_one files name content told) comes
 
 -- whatever the answer is, a fault would come if there were no such file
 pub answered_unknown : (files : Files) (before after : Asked) (earlier : List LoadedFile) (name : List ℕ) (C : Holding → Loading → Type 0) (fault : Fault) → IsNew earlier name before after
-    → ((held : Holding) → held name ≡ None → C held (stopped (names_of earlier ++ name ∷ []) fault)) → Answered false files before after earlier (λ names held. (fault : Fault) × C held (stopped names fault))
+    → ((held : Holding) → held name ≡ None → C held (stopped (file_names earlier ++ name ∷ []) fault)) → Answered false files before after earlier (λ names held. (fault : Fault) × C held (stopped names fault))
 answered_unknown files before after earlier name C fault new comes =
     answered_one false files before after earlier name None (λ names held. (fault : Fault) × C held (stopped names fault)) new (told_none files) (λ held none. (fault, comes held none))
 
@@ -237,7 +237,7 @@ answered_unknown files before after earlier name C fault new comes =
 answered_so : (whole : Bool) (files : Files) (before after : Asked) (earlier : List LoadedFile) (C D : List (List ℕ) → Holding → Type 0) → ((held : Holding) (names : List (List ℕ)) → C names held → D names held)
     → Answered whole files before after earlier C → Answered whole files before after earlier D
 answered_so whole files before after earlier C D so a =
-    record { answers = a.answers; asks = a.asks; told = a.told; distinct = a.distinct; comes = λ held g. so held (names_of earlier ++ answer_names a.answers) (a.comes held g) }
+    record { answers = a.answers; asks = a.asks; told = a.told; distinct = a.distinct; comes = λ held g. so held (file_names earlier ++ answer_names a.answers) (a.comes held g) }
 
 pub loaded_so : (files : Files) (before after : Asked) (earlier later : List LoadedFile) (C D : Holding → Type 0) → ((held : Holding) → C held → D held) → Loaded files before after earlier later C → Loaded files before after earlier later D
 unfolding answered_so

@@ -7,7 +7,7 @@ use Rattle.std.proofs.lemmas.List.Elements.{All-append, All-head, All-tail}
 use Rattle.std.proofs.Math.Seq.{get_or-append_seam, take-append_seam}
 use Rattle.bdl_load.specs.declared.loader.TheConstants.{MAX_FILES}
 use Rattle.bdl_load.specs.declared.files.LoadedFile.{LoadedFile}
-use Rattle.bdl_load.specs.Loading.{is_among, names_of}
+use Rattle.bdl_load.specs.Loading.{is_among, file_names}
 use Rattle.bdl_load.specs.Loader.{no_file, file_at, names_at, IsSpelledFile, AreSound}
 use Rattle.bdl_load.proofs.Asking.{distinct_none, distinct_snoc}
 
@@ -43,13 +43,13 @@ names_added files file numbers all =
 pub taken_kept : (files more : List LoadedFile) (numbers : List ℕ) → All (λ number. number < length files) numbers → All (λ number. number < length (files ++ more)) numbers
 taken_kept files more numbers all k d within = let one = all k d within in omega (arith, length-append files more)
 
-pub sound_added : (files : List LoadedFile) (file : LoadedFile) (taking : List ℕ) → AreSound files taking → is_among file.name (names_of files) ≡ false → length files < MAX_FILES → IsSpelledFile file
+pub sound_added : (files : List LoadedFile) (file : LoadedFile) (taking : List ℕ) → AreSound files taking → is_among file.name (file_names files) ≡ false → length files < MAX_FILES → IsSpelledFile file
     → AreSound (files ++ file ∷ []) (taking ++ length files ∷ [])
 sound_added files file taking sound fresh room spelled = record {
   taken = All-append (λ number. number < length (files ++ file ∷ [])) taking (length files ∷ []) (taken_kept files (file ∷ []) taking sound.taken)
       (All-one (λ number. number < length (files ++ file ∷ [])) (length files) (omega (arith, length-append files (file ∷ []))));
   room = omega (arith, length-append files (file ∷ []));
-  distinct = subst (λ names. IsDistinct bytes_eq names) (sym (map-append (λ (file : LoadedFile). file.name) files (file ∷ []))) (distinct_snoc (names_of files) file.name sound.distinct fresh);
+  distinct = subst (λ names. IsDistinct bytes_eq names) (sym (map-append (λ (file : LoadedFile). file.name) files (file ∷ []))) (distinct_snoc (file_names files) file.name sound.distinct fresh);
   spelled = All-append IsSpelledFile files (file ∷ []) sound.spelled (All-one IsSpelledFile file spelled);
 }
 
@@ -68,7 +68,7 @@ last_taken taking now last count is counts =
     ap (λ n. take n now) fewer ∙ ap (take (length taking)) is ∙ take-append_seam taking (last ∷ [])
 
 -- the same of lists that are equal to these
-pub sound_begun : (files begun : List LoadedFile) (file : LoadedFile) (taking now : List ℕ) → AreSound files taking → is_among file.name (names_of files) ≡ false → length files < MAX_FILES → IsSpelledFile file
+pub sound_begun : (files begun : List LoadedFile) (file : LoadedFile) (taking now : List ℕ) → AreSound files taking → is_among file.name (file_names files) ≡ false → length files < MAX_FILES → IsSpelledFile file
     → begun ≡ files ++ file ∷ [] → now ≡ taking ++ length files ∷ [] → AreSound begun now
 sound_begun files begun file taking now sound fresh room spelled is numbers =
     subst (λ begun. AreSound begun now) (sym is) (subst (AreSound (files ++ file ∷ [])) (sym numbers) (sound_added files file taking sound fresh room spelled))
@@ -102,7 +102,7 @@ among_taking name files taking k file within inside is e =
     let there = get_or-map (λ (number : ℕ). (file_at files number).name) taking k 0 [] within in
     any_name name (names_at files taking) k [] (simp length-map within) (ap (bytes_eq name) (there ∙ same) ∙ e)
 
-pub among_files : (name : List ℕ) (files : List LoadedFile) (k : ℕ) (file : LoadedFile) → k < length files → file ≡ get_or files k file → bytes_eq name file.name ≡ true → is_among name (names_of files) ≡ true
+pub among_files : (name : List ℕ) (files : List LoadedFile) (k : ℕ) (file : LoadedFile) → k < length files → file ≡ get_or files k file → bytes_eq name file.name ≡ true → is_among name (file_names files) ≡ true
 among_files name files k file within is e =
     let there = get_or-map (λ (file : LoadedFile). file.name) files k file [] within in
-    any_name name (names_of files) k [] (simp length-map within) (ap (bytes_eq name) (there ∙ ap (λ (file : LoadedFile). file.name) (sym is)) ∙ e)
+    any_name name (file_names files) k [] (simp length-map within) (ap (bytes_eq name) (there ∙ ap (λ (file : LoadedFile). file.name) (sym is)) ∙ e)

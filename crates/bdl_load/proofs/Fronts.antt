@@ -4,7 +4,7 @@ use Rattle.std.specs.List.{AllByRecursion}
 use Rattle.std.proofs.lemmas.List.{map-append, append-nil}
 use Rattle.bdl_parser.specs.declared.trees.Import.{Import}
 use Rattle.bdl_load.specs.declared.files.LoadedFile.{LoadedFile}
-use Rattle.bdl_load.specs.Loading.{Holding, Loading, all_loaded, stopped, IsFetched, loaded_as, names_of, names_asked, Enters, Takes, Loads, AsksAll, AgreeButLast, AsksFirst}
+use Rattle.bdl_load.specs.Loading.{Holding, Loading, all_loaded, stopped, IsFetched, loaded_as, file_names, names_asked, Enters, Takes, Loads, AsksAll, AgreeButLast, AsksFirst}
 use Rattle.bdl_load.proofs.OneLoading.{of_known, halted, went_on, of_fetched, enters_one}
 use Rattle.bdl_load.proofs.OneSource.{SaysOne}
 
@@ -62,33 +62,33 @@ agree_but_last held other names agree before name next after e =
 -- ---- what is asked for starts with the names of the files that were fetched before
 
 mutual
-  enters_more : (held : Holding) (taking : List (List ℕ)) (files : List LoadedFile) (name source : List ℕ) (b : Loading) → Enters held taking files name source b → StartsWith (names_asked b) (names_of files ++ name ∷ [])
-  enters_more held taking files name source _ (Enters.broken _ _ _ _ f x) = starts_itself (names_of files ++ name ∷ [])
+  enters_more : (held : Holding) (taking : List (List ℕ)) (files : List LoadedFile) (name source : List ℕ) (b : Loading) → Enters held taking files name source b → StartsWith (names_asked b) (file_names files ++ name ∷ [])
+  enters_more held taking files name source _ (Enters.broken _ _ _ _ f x) = starts_itself (file_names files ++ name ∷ [])
   enters_more held taking files name source _ (Enters.read _ _ _ _ m b r t) =
       subst (λ (names : List (List ℕ)). StartsWith (names_asked b) names) (map-append (λ (file : LoadedFile). file.name) files (loaded_as name m ∷ []))
       (takes_more held (taking ++ name ∷ []) (files ++ loaded_as name m ∷ []) name m.imports b t)
 
-  takes_more : (held : Holding) (taking : List (List ℕ)) (files : List LoadedFile) (from : List ℕ) (imports : List Import) (b : Loading) → Takes held taking files from imports b → StartsWith (names_asked b) (names_of files)
-  takes_more held taking files from _ _ (Takes.none_left _ _ _) = starts_itself (names_of files)
-  takes_more held taking files from _ _ (Takes.cycle _ _ _ import rest c) = starts_itself (names_of files)
+  takes_more : (held : Holding) (taking : List (List ℕ)) (files : List LoadedFile) (from : List ℕ) (imports : List Import) (b : Loading) → Takes held taking files from imports b → StartsWith (names_asked b) (file_names files)
+  takes_more held taking files from _ _ (Takes.none_left _ _ _) = starts_itself (file_names files)
+  takes_more held taking files from _ _ (Takes.cycle _ _ _ import rest c) = starts_itself (file_names files)
   takes_more held taking files from _ _ (Takes.known _ _ _ import rest b c k t) = takes_more held taking files from rest b t
-  takes_more held taking files from _ _ (Takes.too_many _ _ _ import rest c k l) = starts_itself (names_of files)
+  takes_more held taking files from _ _ (Takes.too_many _ _ _ import rest c k l) = starts_itself (file_names files)
   takes_more held taking files from _ _ (Takes.missing _ _ _ import rest f e) = (import.file ∷ [], refl)
   takes_more held taking files from _ _ (Takes.within _ _ _ source import rest names fault f e t) =
-      starts_shorter names (names_of files) (import.file ∷ []) (enters_more held taking files import.file source (stopped names fault) t)
+      starts_shorter names (file_names files) (import.file ∷ []) (enters_more held taking files import.file source (stopped names fault) t)
   takes_more held taking files from _ _ (Takes.fetched _ _ more _ source import rest b f e t v) =
-      starts_through (names_asked b) (names_of more) (names_of files) (takes_more held taking more from rest b v)
-      (starts_shorter (names_of more) (names_of files) (import.file ∷ []) (enters_more held taking files import.file source (all_loaded more) t))
+      starts_through (names_asked b) (file_names more) (file_names files) (takes_more held taking more from rest b v)
+      (starts_shorter (file_names more) (file_names files) (import.file ∷ []) (enters_more held taking files import.file source (all_loaded more) t))
 
 -- an import that is fetched is asked for next
-fetched_more : (held : Holding) (taking : List (List ℕ)) (files : List LoadedFile) (from : List ℕ) (import : Import) (rest : List Import) (b : Loading) → IsFetched taking files import.file → Takes held taking files from (import ∷ rest) b → StartsWith (names_asked b) (names_of files ++ import.file ∷ [])
+fetched_more : (held : Holding) (taking : List (List ℕ)) (files : List LoadedFile) (from : List ℕ) (import : Import) (rest : List Import) (b : Loading) → IsFetched taking files import.file → Takes held taking files from (import ∷ rest) b → StartsWith (names_asked b) (file_names files ++ import.file ∷ [])
 fetched_more held taking files from import rest _ g (Takes.cycle _ _ _ _ _ c) = absurd (let no = g.closed in cc)
 fetched_more held taking files from import rest _ g (Takes.known _ _ _ _ _ _ c k t) = absurd (let no = g.fresh in cc)
 fetched_more held taking files from import rest _ g (Takes.too_many _ _ _ _ _ c k l) = absurd (let room = g.room in omega (arith, l))
-fetched_more held taking files from import rest _ g (Takes.missing _ _ _ _ _ f e) = starts_itself (names_of files ++ import.file ∷ [])
+fetched_more held taking files from import rest _ g (Takes.missing _ _ _ _ _ f e) = starts_itself (file_names files ++ import.file ∷ [])
 fetched_more held taking files from import rest _ g (Takes.within _ _ _ source _ _ names fault f e t) = enters_more held taking files import.file source (stopped names fault) t
 fetched_more held taking files from import rest _ g (Takes.fetched _ _ more _ source _ _ b f e t v) =
-    starts_through (names_asked b) (names_of more) (names_of files ++ import.file ∷ []) (takes_more held taking more from rest b v) (enters_more held taking files import.file source (all_loaded more) t)
+    starts_through (names_asked b) (file_names more) (file_names files ++ import.file ∷ []) (takes_more held taking more from rest b v) (enters_more held taking files import.file source (all_loaded more) t)
 
 -- ---- the same comes of holdings that agree on all that is asked for
 
@@ -107,13 +107,13 @@ mutual
   takes_alike held other taking files from _ _ (Takes.known _ _ _ import rest a c k t) agree = Takes.known taking files from import rest a c k (takes_alike held other taking files from rest a t agree)
   takes_alike held other taking files from _ _ (Takes.too_many _ _ _ import rest c k l) agree = Takes.too_many taking files from import rest c k l
   takes_alike held other taking files from _ _ (Takes.missing _ _ _ import rest f e) agree =
-      Takes.missing taking files from import rest f (sym (agree (names_of files) import.file [] refl) ∙ e)
+      Takes.missing taking files from import rest f (sym (agree (file_names files) import.file [] refl) ∙ e)
   takes_alike held other taking files from _ _ (Takes.within _ _ _ source import rest names fault f e t) agree =
-      let same = agree_next held other names (names_of files) import.file (enters_more other taking files import.file source (stopped names fault) t) agree in
+      let same = agree_next held other names (file_names files) import.file (enters_more other taking files import.file source (stopped names fault) t) agree in
       Takes.within taking files from source import rest names fault f (sym same ∙ e) (enters_alike held other taking files import.file source (stopped names fault) t agree)
   takes_alike held other taking files from _ _ (Takes.fetched _ _ more _ source import rest a f e t v) agree =
-      let part = agree_front held other (names_asked a) (names_of more) (takes_more other taking more from rest a v) agree in
-      let same = agree_next held other (names_of more) (names_of files) import.file (enters_more other taking files import.file source (all_loaded more) t) part in
+      let part = agree_front held other (names_asked a) (file_names more) (takes_more other taking more from rest a v) agree in
+      let same = agree_next held other (file_names more) (file_names files) import.file (enters_more other taking files import.file source (all_loaded more) t) part in
       Takes.fetched taking files more from source import rest a f (sym same ∙ e)
       (enters_alike held other taking files import.file source (all_loaded more) t part) (takes_alike held other taking more from rest a v agree)
 
@@ -147,38 +147,38 @@ mutual
   takes_front one held other taking files from _ _ b (Takes.too_many _ _ _ import rest c k l) u agree = takes_more held taking files from (import ∷ rest) b u
   takes_front one held other taking files from _ _ b (Takes.missing _ _ _ import rest f e) u agree = fetched_more held taking files from import rest b f u
   takes_front one held other taking files from _ _ b (Takes.within _ _ _ source import rest names fault f e t) u agree =
-      elim (follows held other names (names_of files ++ import.file ∷ []) (enters_more other taking files import.file source (stopped names fault) t) agree) [
-        | nothing last ↦ starts_with_same (names_asked b) (names_of files ++ import.file ∷ []) names last (fetched_more held taking files from import rest b f u)
+      elim (follows held other names (file_names files ++ import.file ∷ []) (enters_more other taking files import.file source (stopped names fault) t) agree) [
+        | nothing last ↦ starts_with_same (names_asked b) (file_names files ++ import.file ∷ []) names last (fetched_more held taking files from import rest b f u)
         | something part ↦
-            elim (of_fetched held taking files from import rest b source f (sym (part (names_of files) import.file [] refl) ∙ e) u) [
+            elim (of_fetched held taking files from import rest b source f (sym (part (file_names files) import.file [] refl) ∙ e) u) [
               | halted others fault' x is ↦
                   subst (λ (b : Loading). StartsWith (names_asked b) names) (sym is) (enters_front one held other taking files import.file source (stopped names fault) (stopped others fault') t x agree)
               | went_on more x v ↦
-                  starts_through (names_asked b) (names_of more) names (takes_more held taking more from rest b v) (enters_front one held other taking files import.file source (stopped names fault) (all_loaded more) t x agree)
+                  starts_through (names_asked b) (file_names more) names (takes_more held taking more from rest b v) (enters_front one held other taking files import.file source (stopped names fault) (all_loaded more) t x agree)
             ]
       ]
   takes_front one held other taking files from _ _ b (Takes.fetched _ _ more _ source import rest a f e t v) u agree =
       let longer = takes_more other taking more from rest a v in
       let long = enters_more other taking files import.file source (all_loaded more) t in
-      let ahead = ahead_front held other (names_asked a) (names_of more) longer agree in
-      elim (follows held other (names_asked a) (names_of files ++ import.file ∷ []) (starts_through (names_asked a) (names_of more) (names_of files ++ import.file ∷ []) longer long) agree) [
-        | nothing last ↦ starts_with_same (names_asked b) (names_of files ++ import.file ∷ []) (names_asked a) last (fetched_more held taking files from import rest b f u)
+      let ahead = ahead_front held other (names_asked a) (file_names more) longer agree in
+      elim (follows held other (names_asked a) (file_names files ++ import.file ∷ []) (starts_through (names_asked a) (file_names more) (file_names files ++ import.file ∷ []) longer long) agree) [
+        | nothing last ↦ starts_with_same (names_asked b) (file_names files ++ import.file ∷ []) (names_asked a) last (fetched_more held taking files from import rest b f u)
         | something part ↦
-            elim (of_fetched held taking files from import rest b source f (sym (part (names_of files) import.file [] refl) ∙ e) u) [
+            elim (of_fetched held taking files from import rest b source f (sym (part (file_names files) import.file [] refl) ∙ e) u) [
               | halted others fault x is ↦
-                  elim (follows held other (names_asked a) (names_of more) longer agree) [
+                  elim (follows held other (names_asked a) (file_names more) longer agree) [
                     | nothing last ↦
                         subst (λ (b : Loading). StartsWith (names_asked b) (names_asked a)) (sym is)
-                        (starts_with_same others (names_of more) (names_asked a) last (enters_front one held other taking files import.file source (all_loaded more) (stopped others fault) t x ahead))
+                        (starts_with_same others (file_names more) (names_asked a) last (enters_front one held other taking files import.file source (all_loaded more) (stopped others fault) t x ahead))
                     | something whole ↦
                         let no = enters_one one held taking files import.file source (all_loaded more) (stopped others fault) (enters_alike held other taking files import.file source (all_loaded more) t whole) x in
                         absurd (cc no)
                   ]
               | went_on others x w ↦
-                  elim (follows held other (names_asked a) (names_of more) longer agree) [
+                  elim (follows held other (names_asked a) (file_names more) longer agree) [
                     | nothing last ↦
-                        starts_with_same (names_asked b) (names_of more) (names_asked a) last
-                        (starts_through (names_asked b) (names_of others) (names_of more) (takes_more held taking others from rest b w)
+                        starts_with_same (names_asked b) (file_names more) (names_asked a) last
+                        (starts_through (names_asked b) (file_names others) (file_names more) (takes_more held taking others from rest b w)
                         (enters_front one held other taking files import.file source (all_loaded more) (all_loaded others) t x ahead))
                     | something whole ↦
                         let same : others ≡ more = cc (enters_one one held taking files import.file source (all_loaded more) (all_loaded others) (enters_alike held other taking files import.file source (all_loaded more) t whole) x) in

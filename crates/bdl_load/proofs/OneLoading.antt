@@ -7,11 +7,11 @@ use Rattle.bdl_load.specs.declared.faults.Finding.{Finding}
 use Rattle.bdl_load.specs.declared.files.LoadedFile.{LoadedFile}
 use Rattle.bdl_load.specs.declared.faults.DefCode.TheVariants.{ImportCycle, TooManyFiles, ImportMissing}
 use Rattle.bdl_load.specs.Faults.{found, fault_in}
-use Rattle.bdl_load.specs.Loading.{Holding, Loading, all_loaded, stopped, IsFetched, loaded_as, is_among, names_of, Enters, Takes, Loads}
+use Rattle.bdl_load.specs.Loading.{Holding, Loading, all_loaded, stopped, IsFetched, loaded_as, is_among, file_names, Enters, Takes, Loads}
 use Rattle.bdl_load.proofs.OneSource.{SaysOne}
 
 -- an import of a file whose imports are being taken
-of_cycle : (held : Holding) (taking : List (List ℕ)) (files : List LoadedFile) (from : List ℕ) (import : Import) (rest : List Import) (b : Loading) → is_among import.file taking ≡ true → Takes held taking files from (import ∷ rest) b → b ≡ stopped (names_of files) (fault_in from (found import.at ImportCycle))
+of_cycle : (held : Holding) (taking : List (List ℕ)) (files : List LoadedFile) (from : List ℕ) (import : Import) (rest : List Import) (b : Loading) → is_among import.file taking ≡ true → Takes held taking files from (import ∷ rest) b → b ≡ stopped (file_names files) (fault_in from (found import.at ImportCycle))
 of_cycle held taking files from import rest _ h (Takes.cycle _ _ _ _ _ c) = refl
 of_cycle held taking files from import rest _ h (Takes.known _ _ _ _ _ _ c k t) = absurd (cc)
 of_cycle held taking files from import rest _ h (Takes.too_many _ _ _ _ _ c k l) = absurd (cc)
@@ -20,7 +20,7 @@ of_cycle held taking files from import rest _ h (Takes.within _ _ _ source _ _ n
 of_cycle held taking files from import rest _ h (Takes.fetched _ _ more _ source _ _ _ f e t v) = absurd (let no = f.closed in cc)
 
 -- an import of a file that was loaded before
-pub of_known : (held : Holding) (taking : List (List ℕ)) (files : List LoadedFile) (from : List ℕ) (import : Import) (rest : List Import) (b : Loading) → is_among import.file taking ≡ false → is_among import.file (names_of files) ≡ true → Takes held taking files from (import ∷ rest) b → Takes held taking files from rest b
+pub of_known : (held : Holding) (taking : List (List ℕ)) (files : List LoadedFile) (from : List ℕ) (import : Import) (rest : List Import) (b : Loading) → is_among import.file taking ≡ false → is_among import.file (file_names files) ≡ true → Takes held taking files from (import ∷ rest) b → Takes held taking files from rest b
 of_known held taking files from import rest _ h i (Takes.cycle _ _ _ _ _ c) = absurd (cc)
 of_known held taking files from import rest _ h i (Takes.known _ _ _ _ _ _ c k t) = t
 of_known held taking files from import rest _ h i (Takes.too_many _ _ _ _ _ c k l) = absurd (cc)
@@ -29,7 +29,7 @@ of_known held taking files from import rest _ h i (Takes.within _ _ _ source _ _
 of_known held taking files from import rest _ h i (Takes.fetched _ _ more _ source _ _ _ f e t v) = absurd (let no = f.fresh in cc)
 
 -- an import of one file more than there may be
-of_many : (held : Holding) (taking : List (List ℕ)) (files : List LoadedFile) (from : List ℕ) (import : Import) (rest : List Import) (b : Loading) → is_among import.file taking ≡ false → is_among import.file (names_of files) ≡ false → MAX_FILES ≤ length files → Takes held taking files from (import ∷ rest) b → b ≡ stopped (names_of files) (fault_in from (found import.at TooManyFiles))
+of_many : (held : Holding) (taking : List (List ℕ)) (files : List LoadedFile) (from : List ℕ) (import : Import) (rest : List Import) (b : Loading) → is_among import.file taking ≡ false → is_among import.file (file_names files) ≡ false → MAX_FILES ≤ length files → Takes held taking files from (import ∷ rest) b → b ≡ stopped (file_names files) (fault_in from (found import.at TooManyFiles))
 of_many held taking files from import rest _ h i j (Takes.cycle _ _ _ _ _ c) = absurd (cc)
 of_many held taking files from import rest _ h i j (Takes.known _ _ _ _ _ _ c k t) = absurd (cc)
 of_many held taking files from import rest _ h i j (Takes.too_many _ _ _ _ _ c k l) = refl
@@ -38,7 +38,7 @@ of_many held taking files from import rest _ h i j (Takes.within _ _ _ source _ 
 of_many held taking files from import rest _ h i j (Takes.fetched _ _ more _ source _ _ _ f e t v) = absurd (let room = f.room in omega (arith, j))
 
 -- an import of a file that there is not
-of_missing : (held : Holding) (taking : List (List ℕ)) (files : List LoadedFile) (from : List ℕ) (import : Import) (rest : List Import) (b : Loading) → IsFetched taking files import.file → held import.file ≡ None → Takes held taking files from (import ∷ rest) b → b ≡ stopped (names_of files ++ import.file ∷ []) (fault_in from (found import.at ImportMissing))
+of_missing : (held : Holding) (taking : List (List ℕ)) (files : List LoadedFile) (from : List ℕ) (import : Import) (rest : List Import) (b : Loading) → IsFetched taking files import.file → held import.file ≡ None → Takes held taking files from (import ∷ rest) b → b ≡ stopped (file_names files ++ import.file ∷ []) (fault_in from (found import.at ImportMissing))
 of_missing held taking files from import rest _ g h (Takes.cycle _ _ _ _ _ c) = absurd (let no = g.closed in cc)
 of_missing held taking files from import rest _ g h (Takes.known _ _ _ _ _ _ c k t) = absurd (let no = g.fresh in cc)
 of_missing held taking files from import rest _ g h (Takes.too_many _ _ _ _ _ c k l) = absurd (let room = g.room in omega (arith, l))
@@ -62,7 +62,7 @@ of_fetched held taking files from import rest _ s g h (Takes.fetched _ _ more _ 
 
 mutual
   pub enters_one : SaysOne → (held : Holding) (taking : List (List ℕ)) (files : List LoadedFile) (name source : List ℕ) (a b : Loading) → Enters held taking files name source a → Enters held taking files name source b → a ≡ b
-  enters_one one held taking files name source _ _ (Enters.broken _ _ _ _ f x) (Enters.broken _ _ _ _ g y) = ap (λ (f : Finding). stopped (names_of files ++ name ∷ []) (fault_in name f)) (one.faults source f g x y)
+  enters_one one held taking files name source _ _ (Enters.broken _ _ _ _ f x) (Enters.broken _ _ _ _ g y) = ap (λ (f : Finding). stopped (file_names files ++ name ∷ []) (fault_in name f)) (one.faults source f g x y)
   enters_one one held taking files name source _ _ (Enters.broken _ _ _ _ f x) (Enters.read _ _ _ _ m b r t) = absurd (one.excludes source m f r x)
   enters_one one held taking files name source _ _ (Enters.read _ _ _ _ m a r t) (Enters.broken _ _ _ _ f x) = absurd (one.excludes source m f r x)
   enters_one one held taking files name source _ _ (Enters.read _ _ _ _ m a r t) (Enters.read _ _ _ _ n b s u) =

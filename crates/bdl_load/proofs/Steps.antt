@@ -12,7 +12,7 @@ use Rattle.bdl_load.specs.declared.faults.Fault.{Fault}
 use Rattle.bdl_load.specs.declared.files.LoadedFile.{LoadedFile}
 use Rattle.bdl_load.specs.Loader.{IsHeld, IsFileRead, IsBroken, IsSpelledFile, file_at, names_at, IsChosen, Passes, Loaded, Ends, Halts}
 use Rattle.bdl_load.specs.Faults.{Blames, found, fault_in}
-use Rattle.bdl_load.specs.Loading.{Holding, all_loaded, stopped, IsFetched, is_among, names_of, Takes, Enters, Loads}
+use Rattle.bdl_load.specs.Loading.{Holding, all_loaded, stopped, IsFetched, is_among, file_names, Takes, Enters, Loads}
 use Rattle.bdl_load.proofs.Asking.{IsNew, distinct_none, ends_halted, answered_fault, answered_unknown, loaded_then, ends_then}
 use Rattle.bdl_load.proofs.FilesSoFar.{file_is}
 use Rattle.bdl_load.proofs.Taking.{first_left, Steps, FromImport, InFile, known_import, fetched_import, ended_import, unknown_import, broken_import, missing_import, begun_file, enters_read}
@@ -40,7 +40,7 @@ count_is loaded from count number file within is counts all =
     let same = ap (λ (file : LoadedFile). length file.«module».imports) (file_is loaded from file within is) in
     omega (arith, same, counts, all)
 
-pub known_step : (files : Files) (before : Asked) (loaded : List LoadedFile) (taking : List ℕ) (from number : ℕ) (import : Import) → IsNext loaded from number import → IsDistinct bytes_eq (names_of loaded)
+pub known_step : (files : Files) (before : Asked) (loaded : List LoadedFile) (taking : List ℕ) (from number : ℕ) (import : Import) → IsNext loaded from number import → IsDistinct bytes_eq (file_names loaded)
     → IsChosen (names_at loaded taking) loaded import.file false → Loaded files before before loaded loaded (Steps loaded taking from number loaded)
 known_step files before loaded taking from number import next d chosen =
     subst (λ those. Loaded files before before loaded loaded (λ held. Passes held (names_at loaded taking) (file_at loaded from).name loaded those loaded (drop (number + 1) (imports_at loaded from)))) (sym next)
@@ -79,16 +79,16 @@ halts_so H K so (At file line column code) h = so (record { file = file; line = 
 halts_so H K so Failed h = absurd h
 halts_so H K so Memory (fault, h) = (fault, so fault h)
 
-pub halted_step : (files : Files) (before : Asked) (loaded : List LoadedFile) (taking : List ℕ) (from number : ℕ) (import : Import) (text : List ℕ) (refusal : DefFault) → IsNext loaded from number import → IsDistinct bytes_eq (names_of loaded)
-    → text ≡ (file_at loaded from).name → Halts (λ fault. (held : Holding) → (rest : List Import) → Takes held (names_at loaded taking) loaded text (import ∷ rest) (stopped (names_of loaded) fault)) refusal
+pub halted_step : (files : Files) (before : Asked) (loaded : List LoadedFile) (taking : List ℕ) (from number : ℕ) (import : Import) (text : List ℕ) (refusal : DefFault) → IsNext loaded from number import → IsDistinct bytes_eq (file_names loaded)
+    → text ≡ (file_at loaded from).name → Halts (λ fault. (held : Holding) → (rest : List Import) → Takes held (names_at loaded taking) loaded text (import ∷ rest) (stopped (file_names loaded) fault)) refusal
     → Ends files before before loaded (FromImport loaded taking from number) refusal
 halted_step files before loaded taking from number import text refusal next d same h =
     let rest = drop (number + 1) (imports_at loaded from) in
     ends_here files before before loaded taking from number import refusal next
     (ends_halted files before loaded (λ held outcome. Takes held (names_at loaded taking) loaded (file_at loaded from).name (import ∷ rest) outcome) d refusal
-    (halts_so (λ fault. (held : Holding) → (rest : List Import) → Takes held (names_at loaded taking) loaded text (import ∷ rest) (stopped (names_of loaded) fault))
-    (λ fault. (held : Holding) → Takes held (names_at loaded taking) loaded (file_at loaded from).name (import ∷ rest) (stopped (names_of loaded) fault))
-    (λ fault t held. subst (λ text. Takes held (names_at loaded taking) loaded text (import ∷ rest) (stopped (names_of loaded) fault)) same (t held rest)) refusal h))
+    (halts_so (λ fault. (held : Holding) → (rest : List Import) → Takes held (names_at loaded taking) loaded text (import ∷ rest) (stopped (file_names loaded) fault))
+    (λ fault. (held : Holding) → Takes held (names_at loaded taking) loaded (file_at loaded from).name (import ∷ rest) (stopped (file_names loaded) fault))
+    (λ fault t held. subst (λ text. Takes held (names_at loaded taking) loaded text (import ∷ rest) (stopped (file_names loaded) fault)) same (t held rest)) refusal h))
 
 pub broken_step : (files : Files) (before after : Asked) (loaded : List LoadedFile) (taking : List ℕ) (from number : ℕ) (import : Import) (name : List ℕ) (refusal : DefFault) → IsNext loaded from number import
     → IsNew loaded import.file before after → IsFetched (names_at loaded taking) loaded import.file → name ≡ import.file → Blames (IsBroken files name) refusal → Ends files before after loaded (FromImport loaded taking from number) refusal
@@ -112,14 +112,14 @@ memory_step files before after loaded taking from number import next new fetched
     ends_here files before after loaded taking from number import Memory next
     (unknown_import files before after (names_at loaded taking) (file_at loaded from).name loaded import (drop (number + 1) (imports_at loaded from)) new fetched)
 
-pub new_import : (loaded : List LoadedFile) (taking : List ℕ) (name file : List ℕ) (before after : Asked) → IsDistinct bytes_eq (names_of loaded) → IsFetched (names_at loaded taking) loaded file → name ≡ file
+pub new_import : (loaded : List LoadedFile) (taking : List ℕ) (name file : List ℕ) (before after : Asked) → IsDistinct bytes_eq (file_names loaded) → IsFetched (names_at loaded taking) loaded file → name ≡ file
     → Asks (name ∷ []) before after → IsNew loaded file before after
 new_import loaded taking name file before after d fetched named asks = record { distinct = d; fresh = fetched.fresh; asks = subst (λ name. Asks (name ∷ []) before after) named asks }
 
 -- a file that is read has the name of its import, and is spelled as it should be
-pub read_fresh : (files : Files) (loaded : List LoadedFile) (name other : List ℕ) (file : LoadedFile) → IsFileRead files name file → name ≡ other → is_among other (names_of loaded) ≡ false → is_among file.name (names_of loaded) ≡ false
+pub read_fresh : (files : Files) (loaded : List LoadedFile) (name other : List ℕ) (file : LoadedFile) → IsFileRead files name file → name ≡ other → is_among other (file_names loaded) ≡ false → is_among file.name (file_names loaded) ≡ false
 read_fresh files loaded name other file read same fresh =
-    ap (λ (file : LoadedFile). is_among file.name (names_of loaded)) read.is ∙ ap (λ name. is_among name (names_of loaded)) same ∙ fresh
+    ap (λ (file : LoadedFile). is_among file.name (file_names loaded)) read.is ∙ ap (λ name. is_among name (file_names loaded)) same ∙ fresh
 
 pub read_spelled : (files : Files) (name : List ℕ) (file : LoadedFile) → IsFileRead files name file → IsSpelledFile file
 read_spelled files name file read = subst IsSpelledFile (sym read.is) read.spelled

@@ -12,7 +12,7 @@ use Rattle.bdl_load.specs.declared.faults.Fault.{Fault}
 use Rattle.bdl_load.specs.declared.files.LoadedFile.{LoadedFile}
 use Rattle.bdl_load.specs.Loader.{IsHeld, IsFileRead, IsBroken, file_at, names_at, AreSound, IsChosen, Passes, Answered, Loaded, Ends, Halts}
 use Rattle.bdl_load.specs.Faults.{Blames, found, fault_in}
-use Rattle.bdl_load.specs.Loading.{Holding, Loading, all_loaded, stopped, IsFetched, names_of, loaded_as, Takes, Enters}
+use Rattle.bdl_load.specs.Loading.{Holding, Loading, all_loaded, stopped, IsFetched, file_names, loaded_as, Takes, Enters}
 use Rattle.bdl_load.proofs.Asking.{IsNew, loaded_then, ends_then, loaded_nothing, loaded_file, answered_fault, answered_unknown, loaded_so, ends_so}
 use Rattle.bdl_load.proofs.FilesSoFar.{file_kept, file_added, names_kept, names_added}
 
@@ -34,7 +34,7 @@ pub first_left : (imports : List Import) (number : ℕ) (import : Import) → nu
 first_left imports number import within is =
     drop-cons imports number import within ∙ ap (λ first. first ∷ drop (suc number) imports) (sym is) ∙ ap (λ n. import ∷ drop n imports) (sym (add-one number))
 
-pub known_import : (files : Files) (before : Asked) (taking : List (List ℕ)) (from : List ℕ) (loaded : List LoadedFile) (import : Import) (rest : List Import) → IsDistinct bytes_eq (names_of loaded)
+pub known_import : (files : Files) (before : Asked) (taking : List (List ℕ)) (from : List ℕ) (loaded : List LoadedFile) (import : Import) (rest : List Import) → IsDistinct bytes_eq (file_names loaded)
     → IsChosen taking loaded import.file false → Loaded files before before loaded loaded (λ held. Passes held taking from loaded (import ∷ rest) loaded rest)
 known_import files before taking from loaded import rest d chosen =
     loaded_nothing files before loaded (λ held. Passes held taking from loaded (import ∷ rest) loaded rest) d (λ held outcome t. Takes.known taking loaded from import rest outcome chosen.0 chosen.1 t)
@@ -90,8 +90,8 @@ pub broken_import : (files : Files) (before after : Asked) (taking : List (List 
 broken_import files before after taking from loaded import rest (At file line column code) new fetched b =
     let fault : Fault = record { file = file; line = line; column = column; code = code } in
     answered_fault files before after loaded import.file (Some b.source) (λ held outcome. Takes held taking loaded from (import ∷ rest) outcome) fault new b.told
-    (λ held is. Takes.within taking loaded from b.source import rest (names_of loaded ++ import.file ∷ []) fault fetched is
-    (subst (λ fault. Enters held taking loaded import.file b.source (stopped (names_of loaded ++ import.file ∷ []) fault)) (sym b.is) (Enters.broken taking loaded import.file b.source b.finding b.first)))
+    (λ held is. Takes.within taking loaded from b.source import rest (file_names loaded ++ import.file ∷ []) fault fetched is
+    (subst (λ fault. Enters held taking loaded import.file b.source (stopped (file_names loaded ++ import.file ∷ []) fault)) (sym b.is) (Enters.broken taking loaded import.file b.source b.finding b.first)))
 broken_import files before after taking from loaded import rest Failed new fetched b = unknown_import files before after taking from loaded import rest new fetched
 broken_import files before after taking from loaded import rest Memory new fetched b = unknown_import files before after taking from loaded import rest new fetched
 
@@ -101,7 +101,7 @@ pub missing_import : (files : Files) (before after : Asked) (taking : List (List
 missing_import files before after taking from loaded import rest (At file line column code) new fetched told is =
     let fault : Fault = record { file = file; line = line; column = column; code = code } in
     answered_fault files before after loaded import.file None (λ held outcome. Takes held taking loaded from (import ∷ rest) outcome) fault new told
-    (λ held none. subst (λ fault. Takes held taking loaded from (import ∷ rest) (stopped (names_of loaded ++ import.file ∷ []) fault)) (sym is) (Takes.missing taking loaded from import rest fetched none))
+    (λ held none. subst (λ fault. Takes held taking loaded from (import ∷ rest) (stopped (file_names loaded ++ import.file ∷ []) fault)) (sym is) (Takes.missing taking loaded from import rest fetched none))
 missing_import files before after taking from loaded import rest Failed new fetched told is = unknown_import files before after taking from loaded import rest new fetched
 missing_import files before after taking from loaded import rest Memory new fetched told is = unknown_import files before after taking from loaded import rest new fetched
 
@@ -126,7 +126,7 @@ abbrev pub Steps : List LoadedFile → List ℕ → ℕ → ℕ → List LoadedF
 Steps loaded taking from number later held =
     Passes held (names_at loaded taking) (file_at loaded from).name loaded (drop number (file_at loaded from).«module».imports) later (drop (number + 1) (file_at loaded from).«module».imports)
 
-pub none_taken : (files : Files) (before : Asked) (loaded : List LoadedFile) (taking : List ℕ) (from : ℕ) → IsDistinct bytes_eq (names_of loaded) → Loaded files before before loaded loaded (Taken loaded taking from loaded 0)
+pub none_taken : (files : Files) (before : Asked) (loaded : List LoadedFile) (taking : List ℕ) (from : ℕ) → IsDistinct bytes_eq (file_names loaded) → Loaded files before before loaded loaded (Taken loaded taking from loaded 0)
 none_taken files before loaded taking from d = loaded_nothing files before loaded (Taken loaded taking from loaded 0) d (λ held outcome t. t)
 
 -- names and the file are the same after more files

@@ -13,7 +13,7 @@ use Rattle.bdl_load.specs.declared.faults.Finding.{Finding}
 use Rattle.bdl_load.specs.declared.files.LoadedFile.{LoadedFile}
 use Rattle.bdl_load.specs.declared.loader.Loader.{Loader}
 use Rattle.bdl_load.specs.Faults.{fault_in}
-use Rattle.bdl_load.specs.Loading.{Holding, Loading, all_loaded, stopped, is_among, names_of, loaded_as, IsFetched, Takes}
+use Rattle.bdl_load.specs.Loading.{Holding, Loading, all_loaded, stopped, is_among, file_names, loaded_as, IsFetched, Takes}
 use Rattle.bdl_load.specs.Source.{SaysModule, IsSourceFault}
 use Rattle.bdl_parser.specs.Decls.{AreSpelledDecls}
 
@@ -67,13 +67,13 @@ IsSpelledFile file = AreSpelledDecls file.«module».decls
 pub record AreSound (files : List LoadedFile) (taking : List ℕ) : Type 0 where
   pub taken : All (λ number. number < length files) taking
   pub room : length files ≤ MAX_FILES
-  pub distinct : IsDistinct bytes_eq (names_of files)
+  pub distinct : IsDistinct bytes_eq (file_names files)
   pub spelled : All IsSpelledFile files
 
 -- What is to be done with an import: its file is fetched, or it was loaded before.
 abbrev pub IsChosen : List (List ℕ) → List LoadedFile → List ℕ → Bool → Type 0
 IsChosen taking files name true = IsFetched taking files name
-IsChosen taking files name false = (is_among name taking ≡ false) × (is_among name (names_of files) ≡ true)
+IsChosen taking files name false = (is_among name taking ≡ false) × (is_among name (file_names files) ≡ true)
 
 -- What comes of these imports after the later files comes of those imports after the earlier ones.
 abbrev pub Passes : Holding → List (List ℕ) → List ℕ → List LoadedFile → List Import → List LoadedFile → List Import → Type 0
@@ -105,15 +105,15 @@ pub record Answered (whole : Bool) (files : Files) (before after : Asked) (loade
   pub answers : List Answer
   pub asks : Asks (answer_names answers) before after
   pub told : IfSome files (λ held. GivesAnswers held (known whole answers))
-  pub distinct : IsDistinct bytes_eq (names_of loaded ++ answer_names answers)
-  pub comes : (held : Holding) → GivesAnswers held answers → Comes (names_of loaded ++ answer_names answers) held
+  pub distinct : IsDistinct bytes_eq (file_names loaded ++ answer_names answers)
+  pub comes : (held : Holding) → GivesAnswers held answers → Comes (file_names loaded ++ answer_names answers) held
 
 -- These files were loaded after those, and this comes of the answers of a library.
 pub record Loaded (files : Files) (before after : Asked) (earlier later : List LoadedFile) (Comes : Holding → Type 0) : Type 0 where
   pub more : List LoadedFile
   pub grown : later ≡ earlier ++ more
   pub given : Answered true files before after earlier (λ _ held. Comes held)
-  pub names : names_of more ≡ answer_names given.answers
+  pub names : file_names more ≡ answer_names given.answers
 
 -- Loading ended with this refusal: the fault comes of the answers of a library; or where the library failed or memory ran out, some
 -- fault would come of them and of an answer to what was asked for last.
@@ -154,7 +154,7 @@ imports_from loader from = (file_at loader.files.items from).«module».imports
 abbrev pub StopsImport : Loader → List ℕ → Import → Fault → Type 0
 StopsImport loader from import fault =
     (held : Holding) → (rest : List Import)
-    → Takes held (names_taking loader) loader.files.items from (import ∷ rest) (stopped (names_of loader.files.items) fault)
+    → Takes held (names_taking loader) loader.files.items from (import ∷ rest) (stopped (file_names loader.files.items) fault)
 
 -- Below, `files` and `asked` say what a library holds and was asked for; it went from the state `before` to the state `after`.
 module _ {S : Type 0} (files : S → Files) (asked : S → Asked) (before after : S) (loader : Loader) (from : ℕ) where

@@ -23,8 +23,8 @@ abbrev pub is_among : List ℕ → List (List ℕ) → Bool
 is_among name names = list_any (bytes_eq name) names
 
 -- The names of files.
-abbrev pub names_of : List LoadedFile → List (List ℕ)
-names_of files = map (λ file. file.name) files
+abbrev pub file_names : List LoadedFile → List (List ℕ)
+file_names files = map (λ file. file.name) files
 
 -- This file with this module.
 abbrev pub loaded_as : List ℕ → Module → LoadedFile
@@ -38,7 +38,7 @@ pub data Loading : Type 0 where
 -- The file is fetched: its imports aren't being taken, it wasn't loaded before, and fewer than `MAX_FILES` files were.
 pub record IsFetched (taking : List (List ℕ)) (files : List LoadedFile) (name : List ℕ) : Type 0 where
   pub closed : is_among name taking ≡ false
-  pub fresh : is_among name (names_of files) ≡ false
+  pub fresh : is_among name (file_names files) ≡ false
   pub room : length files < MAX_FILES
 
 -- Below, `taking` are the names of the files whose imports are being taken, and `files` are those that were fetched so far.
@@ -46,7 +46,7 @@ mutual
   -- What comes of a file that is held: its own first fault, or what comes of its imports.
   pub data Enters (held : Holding) : List (List ℕ) → List LoadedFile → List ℕ → List ℕ → Loading → Type 0 where
     broken : (taking : List (List ℕ)) (files : List LoadedFile) (name source : List ℕ) (finding : Finding)
-        → IsSourceFault source finding → Enters held taking files name source (stopped (names_of files ++ name ∷ []) (fault_in name finding))
+        → IsSourceFault source finding → Enters held taking files name source (stopped (file_names files ++ name ∷ []) (fault_in name finding))
     read : (taking : List (List ℕ)) (files : List LoadedFile) (name source : List ℕ) (module_ : Module) (outcome : Loading)
         → SaysModule source module_ → Takes held (taking ++ name ∷ []) (files ++ loaded_as name module_ ∷ []) name module_.imports outcome
         → Enters held taking files name source outcome
@@ -56,16 +56,16 @@ mutual
     none_left : (taking : List (List ℕ)) (files : List LoadedFile) (from : List ℕ) → Takes held taking files from [] (all_loaded files)
     cycle : (taking : List (List ℕ)) (files : List LoadedFile) (from : List ℕ) (import : Import) (rest : List Import)
         → is_among import.file taking ≡ true
-        → Takes held taking files from (import ∷ rest) (stopped (names_of files) (fault_in from (found import.at ImportCycle)))
+        → Takes held taking files from (import ∷ rest) (stopped (file_names files) (fault_in from (found import.at ImportCycle)))
     known : (taking : List (List ℕ)) (files : List LoadedFile) (from : List ℕ) (import : Import) (rest : List Import) (outcome : Loading)
-        → is_among import.file taking ≡ false → is_among import.file (names_of files) ≡ true → Takes held taking files from rest outcome
+        → is_among import.file taking ≡ false → is_among import.file (file_names files) ≡ true → Takes held taking files from rest outcome
         → Takes held taking files from (import ∷ rest) outcome
     too_many : (taking : List (List ℕ)) (files : List LoadedFile) (from : List ℕ) (import : Import) (rest : List Import)
-        → is_among import.file taking ≡ false → is_among import.file (names_of files) ≡ false → MAX_FILES ≤ length files
-        → Takes held taking files from (import ∷ rest) (stopped (names_of files) (fault_in from (found import.at TooManyFiles)))
+        → is_among import.file taking ≡ false → is_among import.file (file_names files) ≡ false → MAX_FILES ≤ length files
+        → Takes held taking files from (import ∷ rest) (stopped (file_names files) (fault_in from (found import.at TooManyFiles)))
     missing : (taking : List (List ℕ)) (files : List LoadedFile) (from : List ℕ) (import : Import) (rest : List Import)
         → IsFetched taking files import.file → held import.file ≡ None
-        → Takes held taking files from (import ∷ rest) (stopped (names_of files ++ import.file ∷ []) (fault_in from (found import.at ImportMissing)))
+        → Takes held taking files from (import ∷ rest) (stopped (file_names files ++ import.file ∷ []) (fault_in from (found import.at ImportMissing)))
     within : (taking : List (List ℕ)) (files : List LoadedFile) (from source : List ℕ) (import : Import) (rest : List Import) (names : List (List ℕ)) (fault : Fault)
         → IsFetched taking files import.file → held import.file ≡ Some source → Enters held taking files import.file source (stopped names fault)
         → Takes held taking files from (import ∷ rest) (stopped names fault)
@@ -83,7 +83,7 @@ pub data Loads (held : Holding) (root : List ℕ) (outcome : Loading) : Type 0 w
 
 -- The names that were asked for, in order.
 abbrev pub names_asked : Loading → List (List ℕ)
-names_asked (all_loaded files) = names_of files
+names_asked (all_loaded files) = file_names files
 names_asked (stopped names fault) = names
 
 -- Loading asks for these names, in this order, and for no others.
@@ -111,7 +111,7 @@ module _ {S : Type 0} (files : S → Files) (asked : S → Asked) (before after 
   abbrev pub LoadsAll : List LoadedFile → Type 0
   LoadsAll loaded =
       OfLibrary (files before) (asked before) (asked after)
-      (λ held names. Loads held root (all_loaded loaded) × (names ≡ names_of loaded))
+      (λ held names. Loads held root (all_loaded loaded) × (names ≡ file_names loaded))
 
   -- Loading stopped at this fault behind the names that the library was asked for.
   abbrev pub StopsAt : Fault → Type 0

@@ -5,7 +5,7 @@ ghost use Rattle.outside.specs.Causes.{Rose};
 ghost use Rattle.outside.specs.Transfers.{Asks};
 ghost use Rattle.bdl_load.specs.Loader.{IsFound, IsBroken, IsSpelledFile, IsSoundLoader, IsChosen, Halts, StopsImport, TakesAll, StopsInAll, TakesOne, StopsInOne, names_taking, taking_next, imports_from};
 ghost use Rattle.bdl_load.specs.Faults.{Blames};
-ghost use Rattle.bdl_load.specs.Loading.{LoadsAll, StopsAt, AsksInOrder, is_among, names_of};
+ghost use Rattle.bdl_load.specs.Loading.{LoadsAll, StopsAt, AsksInOrder, is_among, file_names};
 ghost use Rattle.bdl_parser.specs.Decls.{AreSpelledDecls};
 
 use crate::faults::{DefCode, DefFault, FIRST_SPOT, blame};
@@ -63,7 +63,7 @@ impl Loader {
 
     /// Whether a file of that name was loaded.
     fn is_loaded(&self, name: &str) -> bool
-        ensures { result ≡ is_among name.now (names_of self.now.files.items) }
+        ensures { result ≡ is_among name.now (file_names self.now.files.items) }
     {
         for file in &self.files {
             if name == file.name.as_str() {

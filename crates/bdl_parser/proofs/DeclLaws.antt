@@ -9,10 +9,10 @@ use Rattle.bdl_parser.specs.declared.trees.Decl.{Decl}
 use Rattle.bdl_parser.specs.declared.trees.Import.{Import}
 use Rattle.bdl_parser.specs.declared.trees.Module.{Module}
 use Rattle.bdl_parser.specs.declared.trees.Spot.{Spot}
-use Rattle.bdl_parser.specs.Grammar.{key, mark, a_type, a_bag, a_struct, a_decl, an_import, the_decls, a_module}
+use Rattle.bdl_parser.specs.Grammar.{key, this_mark, a_type, a_bag, a_struct, a_decl, an_import, the_decls, a_module}
 use Rattle.bdl_parser.specs.Lexemes.{Lexeme}
 use Rattle.bdl_parser.specs.Refusals.{meets, IsFormRefused, is_type_first}
-use Rattle.grammar_model.specs.Forms.{Form, IsOne, token, made, Repeats, many, ended}
+use Rattle.grammar_model.specs.Forms.{Form, IsOne, token, made, Repeats, many, at_end}
 use Rattle.grammar_model.specs.Stops.{first_passes, Taken}
 use Rattle.grammar_model.proofs.FormLaws.{IsLawful, IsEnder, ender_of}
 use Rattle.grammar_model.proofs.ChoiceLaws.{ender_ended}
@@ -31,22 +31,22 @@ read_shorter f first law ts a rest r =
 types_grow : (room : ℕ) → Grows (a_type room) (a_type (room + 1))
 types_grow room = let e : suc room ≡ room + 1 = omega arith in subst (λ m. Grows (a_type room) (a_type m)) e (grows_type room)
 
-no_brace : (ts : List Lexeme) → meets (mark 125) ts ≡ false → AreNotHere (one (mark 125)) ts
-no_brace ts e n = not_here (token (mark 125)) (λ t. is_some (mark 125 t)) (law_token (mark 125)) ts e
+no_brace : (ts : List Lexeme) → meets (this_mark 125) ts ≡ false → AreNotHere (one (this_mark 125)) ts
+no_brace ts e n = not_here (token (this_mark 125)) (λ t. is_some (this_mark 125 t)) (law_token (this_mark 125)) ts e
 
-brace_ender : (n : ℕ) → IsEnder (token (mark 125)) (λ t. is_some (mark 125 t))
-brace_ender n = ender_of (token (mark 125)) (λ t. is_some (mark 125 t)) (law_token (mark 125))
+brace_ender : (n : ℕ) → IsEnder (token (this_mark 125)) (λ t. is_some (this_mark 125 t))
+brace_ender n = ender_of (token (this_mark 125)) (λ t. is_some (this_mark 125 t)) (law_token (this_mark 125))
 
 module _ {A : Type 0} (F : Family A) (lawful : AreLawful F is_type_first) (grows : (n m : ℕ) → Grows (a_type n) (a_type m) → Grows (F n) (F m)) where
-  pub fields_item : (room : ℕ) (items : List A) (e : FormFault) (ts mid bad : List Lexeme) → TakenItems F room ts items mid → meets (mark 125) mid ≡ false → IsFormRefused F room e mid bad → IsFormRefused (λ n. made (λ (p : List A × Spot). p.0) (many (F n) (token (mark 125)))) room e ts bad
+  pub fields_item : (room : ℕ) (items : List A) (e : FormFault) (ts mid bad : List Lexeme) → TakenItems F room ts items mid → meets (this_mark 125) mid ≡ false → IsFormRefused F room e mid bad → IsFormRefused (λ n. made (λ (p : List A × Spot). p.0) (many (F n) (token (this_mark 125)))) room e ts bad
   fields_item room items e ts mid bad so_far open_ r =
-      refused_made (λ (p : List A × Spot). p.0) (repeat_until F (one (mark 125))) room e ts bad
-      (item_refused F (one (mark 125)) room is_type_first (λ t. is_some (mark 125 t)) lawful brace_ender (type_or_mark 125) (grows room (room + 1) (types_grow room)) items e ts mid bad so_far (no_brace mid open_) r)
+      refused_made (λ (p : List A × Spot). p.0) (repeat_until F (one (this_mark 125))) room e ts bad
+      (item_refused F (one (this_mark 125)) room is_type_first (λ t. is_some (this_mark 125 t)) lawful brace_ender (type_or_mark 125) (grows room (room + 1) (types_grow room)) items e ts mid bad so_far (no_brace mid open_) r)
 
-  pub fields_taken : (room : ℕ) (items : List A) (ts mid rest : List Lexeme) (spot : Spot) → TakenItems F room ts items mid → IsOne (mark 125) mid spot rest → Taken (λ n. made (λ (p : List A × Spot). p.0) (many (F n) (token (mark 125)))) room ts items rest
+  pub fields_taken : (room : ℕ) (items : List A) (ts mid rest : List Lexeme) (spot : Spot) → TakenItems F room ts items mid → IsOne (this_mark 125) mid spot rest → Taken (λ n. made (λ (p : List A × Spot). p.0) (many (F n) (token (this_mark 125)))) room ts items rest
   fields_taken room items ts mid rest spot so_far end =
-      taken_made (λ (p : List A × Spot). p.0) (repeat_until F (one (mark 125))) room ts (items, spot) rest
-      (taken_many F (one (mark 125)) room items ts mid spot rest so_far (taken_token (mark 125) room mid spot rest end))
+      taken_made (λ (p : List A × Spot). p.0) (repeat_until F (one (this_mark 125))) room ts (items, spot) rest
+      (taken_many F (one (this_mark 125)) room items ts mid spot rest so_far (taken_token (this_mark 125) room mid spot rest end))
 
 -- a bag or a struct
 
@@ -80,7 +80,7 @@ no_decl room ts p q = λ n le. stops_here (a_decl n) is_decl_first (lawful_decl 
 -- declarations to the end
 
 abbrev the_end : Family (Unit {0})
-the_end n = ended
+the_end n = at_end
 
 not_ended : (ts : List Lexeme) → 0 < length ts → AreNotHere the_end ts
 not_ended [] some n = absurd (omega arith)

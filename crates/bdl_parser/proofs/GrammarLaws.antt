@@ -8,12 +8,12 @@ use Rattle.bdl_parser.specs.declared.trees.Decl.{Decl}
 use Rattle.bdl_parser.specs.declared.trees.Holding.{Holding}
 use Rattle.bdl_parser.specs.declared.trees.Holding.TheVariants.{AsSet, AsGreatest}
 use Rattle.bdl_parser.specs.declared.trees.Spot.{Spot}
-use Rattle.bdl_parser.specs.Grammar.{is_word, is_mark, key, mark, a_name, a_number, a_text, a_leaf, leaf_in, holding_in, a_holding, held_of, map_of, a_type, a_bag_field, a_struct_field, bag_fields, struct_fields, a_bag, a_struct, a_decl, an_import, the_decls, a_module}
+use Rattle.bdl_parser.specs.Grammar.{is_this_word, is_mark, key, this_mark, a_name, a_number, a_text, a_leaf, leaf_in, holding_in, a_holding, held_of, map_of, a_type, a_bag_field, a_struct_field, bag_fields, struct_fields, a_bag, a_struct, a_decl, an_import, the_decls, a_module}
 use Rattle.bdl_parser.specs.Lexemes.{What, Lexeme, word, number, quoted, sign}
 use Rattle.bdl_parser.specs.Refusals.{is_type_first}
 use Rattle.bdl_parser.specs.Trees.{Leaf, TypeTree}
 use Rattle.bdl_parser.specs.Words.{leaf_of}
-use Rattle.grammar_model.specs.Forms.{Form, token, two, either, made, nothing, ended}
+use Rattle.grammar_model.specs.Forms.{Form, token, two, either, made, nothing, at_end}
 use Rattle.grammar_model.proofs.ChoiceLaws.{lawful_either, lawful_many, ender_ended, ender_many}
 use Rattle.grammar_model.proofs.FormLaws.{IsLawful, IsEnder, Apart, lawful_token, lawful_nothing, lawful_made, lawful_two}
 use Rattle.grammar_model.proofs.Growth.{Grows, grows_same, grows_made, grows_two, grows_many, grows_either}
@@ -32,10 +32,10 @@ some_is : {A : Type 0} (b : Bool) (a : A) → is_some (cond b (Some a) None) ≡
 some_is true a = refl
 some_is false a = refl
 
-key_is_word : (text : List ℕ) (t : Lexeme) → is_some (key text t) ≡ true → is_word text t.what ≡ true
-key_is_word text t e = sym (some_is (is_word text t.what) t.spot) ∙ e
+key_is_word : (text : List ℕ) (t : Lexeme) → is_some (key text t) ≡ true → is_this_word text t.what ≡ true
+key_is_word text t e = sym (some_is (is_this_word text t.what) t.spot) ∙ e
 
-same_word : (text : List ℕ) (what : What) → is_word text what ≡ true → what ≡ word text
+same_word : (text : List ℕ) (what : What) → is_this_word text what ≡ true → what ≡ word text
 same_word text (word found) e = ap word ((bytes_eq-Decides found text).0 e)
 same_word text (number value) e = absurd (let w : false ≡ true = e in cc)
 same_word text (quoted found) e = absurd (let w : false ≡ true = e in cc)
@@ -48,13 +48,13 @@ key_says text t e = same_word text t.what (key_is_word text t e)
 word_of_mark : (byte : ℕ) (what : What) (text : List ℕ) → what ≡ word text → is_mark byte what ≡ true → ⊥
 word_of_mark byte what text is e = let w : false ≡ true = ap (is_mark byte) (sym is) ∙ e in cc
 
-mark_not_word : (byte : ℕ) (t : Lexeme) (text : List ℕ) → t.what ≡ word text → is_some (mark byte t) ≡ true → ⊥
+mark_not_word : (byte : ℕ) (t : Lexeme) (text : List ℕ) → t.what ≡ word text → is_some (this_mark byte t) ≡ true → ⊥
 mark_not_word byte t text is e = word_of_mark byte t.what text is (sym (some_is (is_mark byte t.what) t.spot) ∙ e)
 
 -- two keys are one word
 keys_apart : (a b : List ℕ) → bytes_eq a b ≡ false → Apart (λ t. is_some (key a t)) (λ t. is_some (key b t))
 keys_apart a b differ t p q =
-    let w : false ≡ true = sym differ ∙ ap (is_word b) (sym (key_says a t p)) ∙ key_is_word b t q in cc
+    let w : false ≡ true = sym differ ∙ ap (is_this_word b) (sym (key_says a t p)) ∙ key_is_word b t q in cc
 
 or_three : (a b : Bool) → (a || b) ≡ true → (a ≡ true) ⊎ (b ≡ true)
 or_three true b e = inl refl
@@ -121,20 +121,20 @@ leaf_apart t p q = by_either t p (or_three (is_some (a_holding t)) (is_some (key
 
 held_is_map : (t : Lexeme) → is_some (key (codes "map") t) ≡ true → (t.what ≡ word (codes "set")) ⊎ (t.what ≡ word (codes "greatest")) → ⊥
 held_is_map t q (inl is) =
-    let w : false ≡ true = ap (is_word (codes "map")) (sym is) ∙ key_is_word (codes "map") t q in cc
+    let w : false ≡ true = ap (is_this_word (codes "map")) (sym is) ∙ key_is_word (codes "map") t q in cc
 held_is_map t q (inr is) =
-    let w : false ≡ true = ap (is_word (codes "map")) (sym is) ∙ key_is_word (codes "map") t q in cc
+    let w : false ≡ true = ap (is_this_word (codes "map")) (sym is) ∙ key_is_word (codes "map") t q in cc
 
 pub held_apart : Apart (λ t. is_some (a_holding t)) (λ t. is_some (key (codes "map") t))
 held_apart t p q = held_is_map t q (holding_says t p)
 
 pub lawful_held : (inner : Form Lexeme TypeTree) → IsLawful inner is_type_first → IsLawful (held_of inner) (λ t. is_some (a_holding t))
 lawful_held inner law =
-    law_made (λ p. Rattle.bdl_parser.specs.Trees.held p.0.0 p.1.1.0 p.0.1) (law_two (law_token a_holding) (law_two (law_token (mark 60)) (law_two law (law_token (mark 62)))))
+    law_made (λ p. Rattle.bdl_parser.specs.Trees.held p.0.0 p.1.1.0 p.0.1) (law_two (law_token a_holding) (law_two (law_token (this_mark 60)) (law_two law (law_token (this_mark 62)))))
 
 pub lawful_map : (inner : Form Lexeme TypeTree) → IsLawful inner is_type_first → IsLawful (map_of inner) (λ t. is_some (key (codes "map") t))
 lawful_map inner law =
-    law_made (λ p. Rattle.bdl_parser.specs.Trees.map p.1.1.0 p.1.1.1.1.0 p.0) (law_two (law_token (key (codes "map"))) (law_two (law_token (mark 60)) (law_two law (law_two (law_token (mark 44)) (law_two law (law_token (mark 62)))))))
+    law_made (λ p. Rattle.bdl_parser.specs.Trees.map p.1.1.0 p.1.1.1.1.0 p.0) (law_two (law_token (key (codes "map"))) (law_two (law_token (this_mark 60)) (law_two law (law_two (law_token (this_mark 44)) (law_two law (law_token (this_mark 62)))))))
 
 pub lawful_type : (n : ℕ) → IsLawful (a_type n) is_type_first
 unfolding a_type
@@ -168,36 +168,36 @@ pub type_word : (t : Lexeme) → is_type_first t ≡ true → (text : List ℕ) 
 type_word t e =
     leaf_or_key t (or_three (is_some (a_leaf t)) (is_some (a_holding t) || is_some (key (codes "map") t)) e)
 
-pub type_or_mark : (byte : ℕ) → Apart is_type_first (λ t. is_some (mark byte t))
+pub type_or_mark : (byte : ℕ) → Apart is_type_first (λ t. is_some (this_mark byte t))
 type_or_mark byte t p q = let it = type_word t p in mark_not_word byte t it.0 it.1 q
 
 pub lawful_bag_field : (n : ℕ) → IsLawful (a_bag_field n) is_type_first
 lawful_bag_field n =
     law_made (λ p. record { kind = p.0; name = p.1.0.0; name_at = p.1.0.1; number = p.1.1.1.0.0; number_at = p.1.1.1.0.1 })
-    (law_two (lawful_type n) (law_two (law_token a_name) (law_two (law_token (mark 61)) (law_two (law_token a_number) (law_token (mark 59))))))
+    (law_two (lawful_type n) (law_two (law_token a_name) (law_two (law_token (this_mark 61)) (law_two (law_token a_number) (law_token (this_mark 59))))))
 
 pub lawful_struct_field : (n : ℕ) → IsLawful (a_struct_field n) is_type_first
 lawful_struct_field n =
-    law_made (λ p. record { kind = p.0; name = p.1.0.0; name_at = p.1.0.1 }) (law_two (lawful_type n) (law_two (law_token a_name) (law_token (mark 59))))
+    law_made (λ p. record { kind = p.0; name = p.1.0.0; name_at = p.1.0.1 }) (law_two (lawful_type n) (law_two (law_token a_name) (law_token (this_mark 59))))
 
 abbrev pub first_or_brace : Lexeme → Bool
-first_or_brace t = is_type_first t || is_some (mark 125 t)
+first_or_brace t = is_type_first t || is_some (this_mark 125 t)
 
 pub lawful_bag_fields : (n : ℕ) → IsLawful (bag_fields n) first_or_brace
 lawful_bag_fields n =
-    law_made (λ p. p.0) (lawful_many (a_bag_field n) (token (mark 125)) is_type_first (λ t. is_some (mark 125 t)) (lawful_bag_field n) (law_token (mark 125)) (type_or_mark 125))
+    law_made (λ p. p.0) (lawful_many (a_bag_field n) (token (this_mark 125)) is_type_first (λ t. is_some (this_mark 125 t)) (lawful_bag_field n) (law_token (this_mark 125)) (type_or_mark 125))
 
 pub lawful_struct_fields : (n : ℕ) → IsLawful (struct_fields n) first_or_brace
 lawful_struct_fields n =
-    law_made (λ p. p.0) (lawful_many (a_struct_field n) (token (mark 125)) is_type_first (λ t. is_some (mark 125 t)) (lawful_struct_field n) (law_token (mark 125)) (type_or_mark 125))
+    law_made (λ p. p.0) (lawful_many (a_struct_field n) (token (this_mark 125)) is_type_first (λ t. is_some (this_mark 125 t)) (lawful_struct_field n) (law_token (this_mark 125)) (type_or_mark 125))
 
 pub lawful_bag : (n : ℕ) → IsLawful (a_bag n) (λ t. is_some (key (codes "bag") t))
 lawful_bag n =
-    law_made (λ p. Rattle.bdl_parser.specs.declared.trees.Decl.TheVariants.Bag p.1.0.0 p.1.0.1 p.1.1.1) (law_two (law_token (key (codes "bag"))) (law_two (law_token a_name) (law_two (law_token (mark 123)) (lawful_bag_fields n))))
+    law_made (λ p. Rattle.bdl_parser.specs.declared.trees.Decl.TheVariants.Bag p.1.0.0 p.1.0.1 p.1.1.1) (law_two (law_token (key (codes "bag"))) (law_two (law_token a_name) (law_two (law_token (this_mark 123)) (lawful_bag_fields n))))
 
 pub lawful_struct : (n : ℕ) → IsLawful (a_struct n) (λ t. is_some (key (codes "struct") t))
 lawful_struct n =
-    law_made (λ p. Rattle.bdl_parser.specs.declared.trees.Decl.TheVariants.Struct p.1.0.0 p.1.0.1 p.1.1.1) (law_two (law_token (key (codes "struct"))) (law_two (law_token a_name) (law_two (law_token (mark 123)) (lawful_struct_fields n))))
+    law_made (λ p. Rattle.bdl_parser.specs.declared.trees.Decl.TheVariants.Struct p.1.0.0 p.1.0.1 p.1.1.1) (law_two (law_token (key (codes "struct"))) (law_two (law_token a_name) (law_two (law_token (this_mark 123)) (lawful_struct_fields n))))
 
 pub bag_apart : Apart (λ t. is_some (key (codes "bag") t)) (λ t. is_some (key (codes "struct") t))
 bag_apart = keys_apart (codes "bag") (codes "struct") refl
@@ -211,7 +211,7 @@ lawful_decl n =
 
 pub lawful_import : IsLawful an_import (λ t. is_some (key (codes "import") t))
 lawful_import =
-    law_made (λ p. record { file = p.1.0.0; at = p.1.0.1 }) (law_two (law_token (key (codes "import"))) (law_two (law_token a_text) (law_token (mark 59))))
+    law_made (λ p. record { file = p.1.0.0; at = p.1.0.1 }) (law_two (law_token (key (codes "import"))) (law_two (law_token a_text) (law_token (this_mark 59))))
 
 abbrev pub never : Lexeme → Bool
 never t = false
@@ -233,7 +233,7 @@ abbrev pub is_decl_or_never : Lexeme → Bool
 is_decl_or_never t = is_decl_first t || never t
 
 pub ender_decls : (n : ℕ) → IsEnder (the_decls n) is_decl_or_never
-ender_decls n = ender_made (λ p. p.0) (ender_many (a_decl n) ended is_decl_first never (lawful_decl n) ender_ended decl_apart)
+ender_decls n = ender_made (λ p. p.0) (ender_many (a_decl n) at_end is_decl_first never (lawful_decl n) ender_ended decl_apart)
 
 by_decl : (t : Lexeme) → is_some (key (codes "import") t) ≡ true → (is_some (key (codes "bag") t) ≡ true) ⊎ (is_some (key (codes "struct") t) ≡ true) → ⊥
 by_decl t p (inl q) = keys_apart (codes "import") (codes "bag") refl t p q
@@ -263,11 +263,11 @@ g_made make {f = f} {wide = wide} gf = grows_made make f wide gf
 
 grows_held : (f wide : Form Lexeme TypeTree) → Grows f wide → Grows (held_of f) (held_of wide)
 grows_held f wide g =
-    g_made (λ p. Rattle.bdl_parser.specs.Trees.held p.0.0 p.1.1.0 p.0.1) (g_two (g_same a_holding) (g_two (g_same (mark 60)) (g_two g (g_same (mark 62)))))
+    g_made (λ p. Rattle.bdl_parser.specs.Trees.held p.0.0 p.1.1.0 p.0.1) (g_two (g_same a_holding) (g_two (g_same (this_mark 60)) (g_two g (g_same (this_mark 62)))))
 
 grows_map : (f wide : Form Lexeme TypeTree) → Grows f wide → Grows (map_of f) (map_of wide)
 grows_map f wide g =
-    g_made (λ p. Rattle.bdl_parser.specs.Trees.map p.1.1.0 p.1.1.1.1.0 p.0) (g_two (g_same (key (codes "map"))) (g_two (g_same (mark 60)) (g_two g (g_two (g_same (mark 44)) (g_two g (g_same (mark 62)))))))
+    g_made (λ p. Rattle.bdl_parser.specs.Trees.map p.1.1.0 p.1.1.1.1.0 p.0) (g_two (g_same (key (codes "map"))) (g_two (g_same (this_mark 60)) (g_two g (g_two (g_same (this_mark 44)) (g_two g (g_same (this_mark 62)))))))
 
 grows_nothing : (wide : Form Lexeme TypeTree) → wide.begins [] → Grows nothing wide
 grows_nothing wide empty = record { read = λ ts a rest r. absurd r; begun = λ ts b. subst wide.begins (sym b) empty }
@@ -283,25 +283,25 @@ grows_type (suc n) =
 pub grows_bag_field : (n m : ℕ) → Grows (a_type n) (a_type m) → Grows (a_bag_field n) (a_bag_field m)
 grows_bag_field n m g =
     g_made (λ p. record { kind = p.0; name = p.1.0.0; name_at = p.1.0.1; number = p.1.1.1.0.0; number_at = p.1.1.1.0.1 })
-    (g_two g (g_two (g_same a_name) (g_two (g_same (mark 61)) (g_two (g_same a_number) (g_same (mark 59))))))
+    (g_two g (g_two (g_same a_name) (g_two (g_same (this_mark 61)) (g_two (g_same a_number) (g_same (this_mark 59))))))
 
 pub grows_struct_field : (n m : ℕ) → Grows (a_type n) (a_type m) → Grows (a_struct_field n) (a_struct_field m)
 grows_struct_field n m g =
-    g_made (λ p. record { kind = p.0; name = p.1.0.0; name_at = p.1.0.1 }) (g_two g (g_two (g_same a_name) (g_same (mark 59))))
+    g_made (λ p. record { kind = p.0; name = p.1.0.0; name_at = p.1.0.1 }) (g_two g (g_two (g_same a_name) (g_same (this_mark 59))))
 
 grows_bag : (n m : ℕ) → Grows (a_type n) (a_type m) → Grows (a_bag n) (a_bag m)
 grows_bag n m g =
     g_made (λ p. Rattle.bdl_parser.specs.declared.trees.Decl.TheVariants.Bag p.1.0.0 p.1.0.1 p.1.1.1)
-    (g_two (g_same (key (codes "bag"))) (g_two (g_same a_name) (g_two (g_same (mark 123)) (g_made (λ p. p.0) (grows_many (a_bag_field n) (a_bag_field m) (token (mark 125)) (token (mark 125)) (grows_bag_field n m g) (g_same (mark 125)))))))
+    (g_two (g_same (key (codes "bag"))) (g_two (g_same a_name) (g_two (g_same (this_mark 123)) (g_made (λ p. p.0) (grows_many (a_bag_field n) (a_bag_field m) (token (this_mark 125)) (token (this_mark 125)) (grows_bag_field n m g) (g_same (this_mark 125)))))))
 
 grows_struct : (n m : ℕ) → Grows (a_type n) (a_type m) → Grows (a_struct n) (a_struct m)
 grows_struct n m g =
     g_made (λ p. Rattle.bdl_parser.specs.declared.trees.Decl.TheVariants.Struct p.1.0.0 p.1.0.1 p.1.1.1)
-    (g_two (g_same (key (codes "struct"))) (g_two (g_same a_name) (g_two (g_same (mark 123)) (g_made (λ p. p.0) (grows_many (a_struct_field n) (a_struct_field m) (token (mark 125)) (token (mark 125)) (grows_struct_field n m g) (g_same (mark 125)))))))
+    (g_two (g_same (key (codes "struct"))) (g_two (g_same a_name) (g_two (g_same (this_mark 123)) (g_made (λ p. p.0) (grows_many (a_struct_field n) (a_struct_field m) (token (this_mark 125)) (token (this_mark 125)) (grows_struct_field n m g) (g_same (this_mark 125)))))))
 
 pub grows_decl : (n m : ℕ) → Grows (a_type n) (a_type m) → Grows (a_decl n) (a_decl m)
 grows_decl n m g = grows_either (a_bag n) (a_struct n) (a_bag m) (a_struct m) (grows_bag n m g) (grows_struct n m g)
 
 pub grows_module : (n m : ℕ) → Grows (a_type n) (a_type m) → Grows (a_module n) (a_module m)
 grows_module n m g =
-    g_made (λ p. record { imports = p.0; decls = p.1 }) (grows_many an_import an_import (the_decls n) (the_decls m) (grows_same an_import) (g_made (λ p. p.0) (grows_many (a_decl n) (a_decl m) ended ended (grows_decl n m g) (grows_same ended))))
+    g_made (λ p. record { imports = p.0; decls = p.1 }) (grows_many an_import an_import (the_decls n) (the_decls m) (grows_same an_import) (g_made (λ p. p.0) (grows_many (a_decl n) (a_decl m) at_end at_end (grows_decl n m g) (grows_same at_end))))

@@ -29,13 +29,13 @@ scalar_number Sfixed64 = 10
 scalar_number Str = 11
 scalar_number Bytes = 12
 
-abbrev pub scalar_back : ℕ → ScalarWord
-scalar_back n =
+abbrev pub scalar_word_back : ℕ → ScalarWord
+scalar_word_back n =
     if n == 0 then Bool else (if n == 1 then Int32 else (if n == 2 then Int64 else (if n == 3 then Sint32 else (if n == 4 then Sint64
     else (if n == 5 then Uint32 else (if n == 6 then Uint64 else (if n == 7 then Fixed32 else (if n == 8 then Fixed64
     else (if n == 9 then Sfixed32 else (if n == 10 then Sfixed64 else (if n == 11 then Str else Bytes)))))))))))
 
-pub scalar_undone : (word : ScalarWord) → scalar_back (scalar_number word) ≡ word
+pub scalar_undone : (word : ScalarWord) → scalar_word_back (scalar_number word) ≡ word
 scalar_undone Bool = refl
 scalar_undone Int32 = refl
 scalar_undone Int64 = refl
@@ -50,8 +50,8 @@ scalar_undone Sfixed64 = refl
 scalar_undone Str = refl
 scalar_undone Bytes = refl
 
-abbrev pub scalar_code : Coded ScalarWord
-scalar_code = code_by ℕ coded_ℕ scalar_number scalar_back scalar_undone
+abbrev pub scalar_word_code : Coded ScalarWord
+scalar_word_code = code_by ℕ coded_ℕ scalar_number scalar_word_back scalar_undone
 
 -- A word of one value, a name, or one of four others.
 abbrev pub LeafParts : Type 0
@@ -79,7 +79,7 @@ leaf_undone taint = refl
 leaf_undone counter = refl
 
 abbrev pub leaf_code : Coded Leaf
-leaf_code = code_by LeafParts (coded⊎ scalar_code (coded⊎ (coded_list coded_ℕ) coded_ℕ)) leaf_parts leaf_back leaf_undone
+leaf_code = code_by LeafParts (coded⊎ scalar_word_code (coded⊎ (coded_list coded_ℕ) coded_ℕ)) leaf_parts leaf_back leaf_undone
 
 abbrev pub holding_number : Holding → ℕ
 holding_number AsSet = 0

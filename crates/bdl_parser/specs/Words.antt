@@ -11,28 +11,28 @@ use Rattle.bdl_parser.specs.declared.trees.ScalarWord.TheVariants.{Bool, Int32, 
 use Rattle.bdl_parser.specs.Trees.{Leaf, scalar, float, double, taint, counter, name}
 
 -- The name that a word is, if it isn't reserved.
-abbrev pub name_of : List ℕ → Option (List ℕ)
-name_of text = if is_name text then Some text else None
+abbrev pub name_of_word : List ℕ → Option (List ℕ)
+name_of_word text = if is_name text then Some text else None
 
 -- A scalar word of the model, as the tree has it.
-abbrev pub scalar_of : model.Word → ScalarWord
-scalar_of model.Word.Boolean = Bool
-scalar_of model.Word.Int32 = Int32
-scalar_of model.Word.Int64 = Int64
-scalar_of model.Word.Sint32 = Sint32
-scalar_of model.Word.Sint64 = Sint64
-scalar_of model.Word.Uint32 = Uint32
-scalar_of model.Word.Uint64 = Uint64
-scalar_of model.Word.Fixed32 = Fixed32
-scalar_of model.Word.Fixed64 = Fixed64
-scalar_of model.Word.Sfixed32 = Sfixed32
-scalar_of model.Word.Sfixed64 = Sfixed64
-scalar_of model.Word.Str = Str
-scalar_of model.Word.Bytes = Bytes
+abbrev pub scalar_word_of : model.Word → ScalarWord
+scalar_word_of model.Word.Boolean = Bool
+scalar_word_of model.Word.Int32 = Int32
+scalar_word_of model.Word.Int64 = Int64
+scalar_word_of model.Word.Sint32 = Sint32
+scalar_word_of model.Word.Sint64 = Sint64
+scalar_word_of model.Word.Uint32 = Uint32
+scalar_word_of model.Word.Uint64 = Uint64
+scalar_word_of model.Word.Fixed32 = Fixed32
+scalar_word_of model.Word.Fixed64 = Fixed64
+scalar_word_of model.Word.Sfixed32 = Sfixed32
+scalar_word_of model.Word.Sfixed64 = Sfixed64
+scalar_word_of model.Word.Str = Str
+scalar_word_of model.Word.Bytes = Bytes
 
 -- The type that a reserved word is by itself, if it is one.
 abbrev pub reserved_leaf : Reserved → Option Leaf
-reserved_leaf (ReservedScalar word) = Some (scalar (scalar_of word))
+reserved_leaf (ReservedScalar word) = Some (scalar (scalar_word_of word))
 reserved_leaf Float = Some float
 reserved_leaf Double = Some double
 reserved_leaf Taint = Some taint
@@ -42,7 +42,7 @@ reserved_leaf _ = None
 -- The type that such a reserved word is, or else the name that the text is.
 abbrev pub leaf_by : List ℕ → Option Reserved → Option Leaf
 leaf_by text (Some word) = reserved_leaf word
-leaf_by text None = option_map name (name_of text)
+leaf_by text None = option_map name (name_of_word text)
 
 -- What a type of one word is.
 abbrev pub leaf_of : List ℕ → Option Leaf

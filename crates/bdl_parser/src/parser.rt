@@ -2,7 +2,7 @@
 
 ghost use Rattle.std.specs.Prelude.{◌≡◌, ◌<◌, true, [], length, drop, MatchOption, IfSome, IfOk, IfErr};
 ghost use Rattle.bag_model.specs.Words.{is_name};
-ghost use Rattle.bdl_parser.specs.Grammar.{key, mark, a_name, a_number, a_text};
+ghost use Rattle.bdl_parser.specs.Grammar.{key, this_mark, a_name, a_number, a_text};
 ghost use Rattle.bdl_parser.specs.Refusals.{meets, IsTokenRefused, meant_by, IsWellSpelled, HasFirst};
 ghost use Rattle.grammar_model.specs.Forms.{IsOne};
 
@@ -124,7 +124,7 @@ impl<'a> Parser<'a> {
 
     /// Whether this sign is next.
     pub fn is_at_sign(&self, byte: u8) -> bool
-        ensures { result ≡ meets (mark byte) self.now }
+        ensures { result ≡ meets (this_mark byte) self.now }
     {
         match self.peek() {
             Some((Meaning::Sign(found), _)) => found == byte,
@@ -148,8 +148,8 @@ impl<'a> Parser<'a> {
 
     /// Reads this sign.
     pub fn sign(&mut self, byte: u8) -> Result<Spot, FormFault>
-        ensures ok { IfOk result (λ spot. IsOne (mark byte) self.old spot self.new) }
-        ensures err { IfErr result (λ fault. IsTokenRefused (mark byte) fault self.old self.new) }
+        ensures ok { IfOk result (λ spot. IsOne (this_mark byte) self.old spot self.new) }
+        ensures err { IfErr result (λ fault. IsTokenRefused (this_mark byte) fault self.old self.new) }
     {
         match self.peek() {
             Some((Meaning::Sign(found), spot)) if found == byte => {

@@ -5,7 +5,7 @@ use Rattle.std.proofs.lemmas.Bool.Decides.{nat_tests}
 use Rattle.text_carrier.specs.declared.TheConstants.{WIDTH_MIN, WIDTH_MAX}
 use Rattle.load_maker.specs.declared.TheConstants.{ROUNDS_MAX}
 use Rattle.command_line.specs.declared.commands.Command.{Command}
-use Rattle.command_line.specs.Commands.{Task, IsWithinLimits, carry, check, collect, command_of, decode, evolve, load, merge, number_of, print, rounds_of, run, run_json, run_table, step_of, task_of, trim, verify, why, width_of}
+use Rattle.command_line.specs.Commands.{Task, IsWithinLimits, carry, check, collect, command_of, decode, evolve, load, merge, count_of_word, print, rounds_of, run, run_json, run_table, step_of_word, task_of, trim, verify, why, width_of}
 use Rattle.command_line.proofs.Numbers.{positive}
 
 -- What is asked for, if anything, is within its limits.
@@ -43,9 +43,9 @@ limited [] = tt
 limited (name ∷ []) =
     either (bytes_eq name (codes "merge")) (Some merge) _ tt (either (bytes_eq name (codes "collect")) (Some collect) None tt tt)
 limited (name ∷ word ∷ []) =
-    either (bytes_eq name (codes "trim")) (option_map trim (number_of word)) _ (mapped trim (λ n. tt) (number_of word))
-    (either (bytes_eq name (codes "carry")) (option_map carry (width_of word)) _ (carried (number_of word))
-    (either (bytes_eq name (codes "load")) (option_map load (rounds_of word)) _ (loaded (number_of word) (positive word))
+    either (bytes_eq name (codes "trim")) (option_map trim (count_of_word word)) _ (mapped trim (λ n. tt) (count_of_word word))
+    (either (bytes_eq name (codes "carry")) (option_map carry (width_of word)) _ (carried (count_of_word word))
+    (either (bytes_eq name (codes "load")) (option_map load (rounds_of word)) _ (loaded (count_of_word word) (positive word))
     (either (bytes_eq name (codes "runtable")) (Some (run_table word)) None tt tt)))
 limited (name ∷ file ∷ bag ∷ []) =
     either (bytes_eq name (codes "check")) (Some (check file bag)) _ tt (either (bytes_eq name (codes "table")) (Some (print file bag)) _ tt
@@ -55,7 +55,7 @@ limited (name ∷ file ∷ second ∷ third ∷ []) =
     either (bytes_eq name (codes "evolve")) (Some (evolve file second third)) _ tt (either (bytes_eq name (codes "verify")) (Some (verify file second third)) None tt tt)
 limited (name ∷ file ∷ bag ∷ step ∷ path ∷ []) =
     let explain : ℕ → Task = λ number. why file bag number path in
-    either (bytes_eq name (codes "why")) (option_map explain (step_of step)) None (mapped explain (λ n. tt) (step_of step)) tt
+    either (bytes_eq name (codes "why")) (option_map explain (step_of_word step)) None (mapped explain (λ n. tt) (step_of_word step)) tt
 limited (name ∷ file ∷ bag ∷ step ∷ path ∷ word ∷ more) = tt
 
 pub within_limits : (words : List (List ℕ)) (command : Option Command) → option_map task_of command ≡ command_of words → IfSome command (λ c. IsWithinLimits (task_of c))

@@ -13,8 +13,8 @@ use Rattle.command_line.specs.declared.commands.Origin as code_origins
 use Rattle.command_line.specs.declared.commands.Origin.TheVariants.{Bag, Printed}
 use Rattle.command_line.specs.declared.commands.Product.{Product as CodeProduct}
 use Rattle.command_line.specs.declared.commands.Product.TheVariants.{SlotLine, WholeText}
-use Rattle.command_line.specs.declared.commands.Form.{Form as CodeForm}
-use Rattle.command_line.specs.declared.commands.Form.TheVariants.{Text, Json}
+use Rattle.command_line.specs.declared.commands.ReportForm.{ReportForm as CodeForm}
+use Rattle.command_line.specs.declared.commands.ReportForm.TheVariants.{Text, Json}
 use Rattle.command_line.specs.declared.commands.Purpose as code_purposes
 use Rattle.command_line.specs.declared.commands.Purpose.TheVariants.{Decode, Run, Explain}
 use Rattle.load_maker.specs.declared.TheConstants.{ROUNDS_MAX}
@@ -31,15 +31,15 @@ pub data Product : Type 0 where
   whole_text : Product
 
 -- How a report is printed: as lines, or as JSON.
-pub data Form : Type 0 where
-  as_lines : Form
-  as_json : Form
+pub data ReportForm : Type 0 where
+  as_lines : ReportForm
+  as_json : ReportForm
 
 -- What is made of an input under a table: the block of a context, the report of a graph, or the certificate for the value that the
 -- slot of this name path has at the step of this number of a graph.
 pub data Purpose : Type 0 where
   decoding : Purpose
-  running : Form → Purpose
+  running : ReportForm → Purpose
   explaining : ℕ → List ℕ → Purpose
 
 -- What is made of an input by itself: a list is cut to a budget, contexts are merged, or the bytes of a context become lines of
@@ -121,13 +121,13 @@ abbrev pub product_of : CodeProduct → Product
 product_of SlotLine = slot_line
 product_of WholeText = whole_text
 
-abbrev pub form_of : CodeForm → Form
-form_of Text = as_lines
-form_of Json = as_json
+abbrev pub report_form_of : CodeForm → ReportForm
+report_form_of Text = as_lines
+report_form_of Json = as_json
 
 abbrev pub purpose_of : code_purposes.Purpose → Purpose
 purpose_of Decode = decoding
-purpose_of (Run form) = running (form_of form)
+purpose_of (Run form) = running (report_form_of form)
 purpose_of (Explain step path) = explaining step path.now
 
 -- What the code's command asks for.
@@ -142,23 +142,23 @@ task_of (code.Verify origin certificate) = checking (origin_of origin) certifica
 -- ---- words
 
 -- A number from 1 to 4,294,967,295, whose decimal digits the word is.
-unfoldable pub number_of : List ℕ → Option ℕ
-number_of word =
+unfoldable pub count_of_word : List ℕ → Option ℕ
+count_of_word word =
     if bytes_eq word (decimal (digits_value 10 word)) && nat_lt 0 (digits_value 10 word) && nat_lt (digits_value 10 word) (2 ^ 32)
     then Some (digits_value 10 word)
     else None
 
 -- Such a number, but for those above `ROUNDS_MAX`.
 abbrev pub rounds_of : List ℕ → Option ℕ
-rounds_of word = option_and_then (λ rounds. if nat_lt ROUNDS_MAX rounds then None else Some rounds) (number_of word)
+rounds_of word = option_and_then (λ rounds. if nat_lt ROUNDS_MAX rounds then None else Some rounds) (count_of_word word)
 
 -- Such a number, where it may be the width of a piece.
 abbrev pub width_of : List ℕ → Option ℕ
-width_of word = option_and_then (λ width. if nat_lt width WIDTH_MIN || nat_lt WIDTH_MAX width then None else Some width) (number_of word)
+width_of word = option_and_then (λ width. if nat_lt width WIDTH_MIN || nat_lt WIDTH_MAX width then None else Some width) (count_of_word word)
 
 -- The number of a step, whose decimal digits the word is, at most ten of them.
-unfoldable pub step_of : List ℕ → Option ℕ
-step_of word =
+unfoldable pub step_of_word : List ℕ → Option ℕ
+step_of_word word =
     if bytes_eq word (decimal (digits_value 10 word)) && nat_lt (digits_value 10 word) (10 ^ 10)
     then Some (digits_value 10 word)
     else None
@@ -166,7 +166,7 @@ step_of word =
 -- What the words ask for, by their first one and their number; `None` where they have no form.
 unfoldable pub command_of : List (List ℕ) → Option Task
 command_of (name ∷ file ∷ bag ∷ step ∷ path ∷ []) =
-    if bytes_eq name (codes "why") then option_map (λ number. why file bag number path) (step_of step) else None
+    if bytes_eq name (codes "why") then option_map (λ number. why file bag number path) (step_of_word step) else None
 command_of (name ∷ file ∷ second ∷ third ∷ []) =
     if bytes_eq name (codes "evolve") then Some (evolve file second third)
     else if bytes_eq name (codes "verify") then Some (verify file second third)
@@ -179,7 +179,7 @@ command_of (name ∷ file ∷ bag ∷ []) =
     else if bytes_eq name (codes "runjson") then Some (run_json file bag)
     else None
 command_of (name ∷ word ∷ []) =
-    if bytes_eq name (codes "trim") then option_map trim (number_of word)
+    if bytes_eq name (codes "trim") then option_map trim (count_of_word word)
     else if bytes_eq name (codes "carry") then option_map carry (width_of word)
     else if bytes_eq name (codes "load") then option_map load (rounds_of word)
     else if bytes_eq name (codes "runtable") then Some (run_table word)

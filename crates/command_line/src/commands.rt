@@ -30,7 +30,7 @@ pub enum Product {
 
 /// How a report is printed.
 #[derive(Clone, Copy, Debug)]
-pub enum Form {
+pub enum ReportForm {
     /// As lines of text.
     Text,
     /// As JSON.
@@ -43,7 +43,7 @@ pub enum Purpose<'a> {
     /// The block of the one line's context.
     Decode,
     /// The report of the graph that the lines say.
-    Run(Form),
+    Run(ReportForm),
     /// The certificate for the slot with this name path at the step of this number, in the graph that the lines say.
     Explain { step: u64, path: &'a str },
 }
@@ -94,7 +94,7 @@ pub enum Command<'a> {
 
 /// A number from 1 to 4,294,967,295, without sign or leading zero.
 fn read_number(word: &str) -> Option<u32>
-    ensures { result ≡ spec.number_of word.now }
+    ensures { result ≡ spec.count_of_word word.now }
 {
     let number = read_decimal(word.as_bytes())?;
     if number == 0 {
@@ -105,7 +105,7 @@ fn read_number(word: &str) -> Option<u32>
 
 /// The number of a step: 1 to 10 decimal digits, without a leading zero unless it is `0`.
 fn read_step(word: &str) -> Option<u64>
-    ensures { result ≡ spec.step_of word.now }
+    ensures { result ≡ spec.step_of_word word.now }
 {
     graph_lines::read_number(word)
 }
@@ -124,7 +124,7 @@ fn bare_command(name: &str) -> Option<Command<'static>>
 
 /// The command that cuts to the budget of this word.
 fn trim_command(word: &str) -> Option<Command<'static>>
-    ensures { option_map spec.task_of result ≡ option_map spec.trim (spec.number_of word.now) }
+    ensures { option_map spec.task_of result ≡ option_map spec.trim (spec.count_of_word word.now) }
 {
     let budget = NonZeroU32::new(read_number(word)?)?;
     Some(Command::Alone(Filter::Trim { budget }))
@@ -162,7 +162,7 @@ fn numbered_command<'a>(name: &str, word: &'a str) -> Option<Command<'a>>
         "carry" => carry_command(word),
         "load" => load_command(word),
         "runtable" => Some(Command::Read {
-            purpose: Purpose::Run(Form::Text),
+            purpose: Purpose::Run(ReportForm::Text),
             origin: Origin::Printed { file: word },
         }),
         _ => None,
@@ -189,11 +189,11 @@ fn definition_command<'a>(name: &str, file: &'a str, bag: &'a str) -> Option<Com
             origin,
         }),
         "run" => Some(Command::Read {
-            purpose: Purpose::Run(Form::Text),
+            purpose: Purpose::Run(ReportForm::Text),
             origin,
         }),
         "runjson" => Some(Command::Read {
-            purpose: Purpose::Run(Form::Json),
+            purpose: Purpose::Run(ReportForm::Json),
             origin,
         }),
         _ => None,
@@ -228,7 +228,7 @@ fn two_file_command<'a>(
 
 /// The command that asks for the certificate of a slot at the step whose number this word says.
 fn why_command<'a>(file: &'a str, bag: &'a str, word: &str, path: &'a str) -> Option<Command<'a>>
-    ensures { option_map spec.task_of result ≡ option_map (λ step. spec.why file.now bag.now step path.now) (spec.step_of word.now) }
+    ensures { option_map spec.task_of result ≡ option_map (λ step. spec.why file.now bag.now step path.now) (spec.step_of_word word.now) }
 {
     let step = read_step(word)?;
     Some(Command::Read {

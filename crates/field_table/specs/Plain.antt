@@ -64,9 +64,9 @@ abbrev pub IsIndexedField : Slot → Type 0
 IsIndexedField slot = IsLoose (kept_field slot).shape
 
 -- The name of a field.
-abbrev pub name_of : Slot → List ℕ
-name_of slot = (kept_field slot).name
+abbrev pub slot_name_of : Slot → List ℕ
+slot_name_of slot = (kept_field slot).name
 
 -- The number of a field.
-abbrev pub number_of : Slot → ℕ
-number_of slot = slot.number
+abbrev pub slot_number_of : Slot → ℕ
+slot_number_of slot = slot.number

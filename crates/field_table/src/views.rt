@@ -4,7 +4,7 @@ ghost use Rattle.std.specs.Prelude.{◌≡◌, ◌<◌, ◌↔◌, [], ◌++◌,
 ghost use Rattle.context_model.specs.Orders.{IsIn};
 ghost use Rattle.bag_model.specs.Views.{Knows};
 ghost use Rattle.field_table.specs.Ranges.{slots_between};
-ghost use Rattle.field_table.specs.Views.{view_of};
+ghost use Rattle.field_table.specs.Views.{plain_view_of};
 
 use outside::Memory;
 use std::alloc::Global;
@@ -77,7 +77,7 @@ impl SlotSet {
 impl View {
     /// Whether a service with this view knows the slot.
     pub fn knows(&self, slot: usize) -> bool
-        ensures { IsTrue result ↔ Knows (view_of self.now) slot }
+        ensures { IsTrue result ↔ Knows (plain_view_of self.now) slot }
     {
         match self {
             View::All => true,

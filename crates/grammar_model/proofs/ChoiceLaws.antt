@@ -1,6 +1,6 @@
 -- The laws of a form for choices and repetitions, whose parts no token begins both.
 use Rattle.std.proofs.Common.{◌≡◌, Bool, true, false, ◌||◌, List, [], ◌∷◌, ◌++◌, ◌⊎◌, inl, inr, refl, sym, ap, ◌∙◌, subst, append_assoc}
-use Rattle.grammar_model.specs.Forms.{Form, either, Repeats, AreMany, many, ended}
+use Rattle.grammar_model.specs.Forms.{Form, either, Repeats, AreMany, many, at_end}
 use Rattle.grammar_model.proofs.FormLaws.{Framed, Starts, IsLawful, IsEnder, Apart, starts_at, starts_not_empty, ender_of}
 
 or_left : (a b : Bool) → a ≡ true → (a || b) ≡ true
@@ -70,7 +70,7 @@ module _ {T A : Type 0} (f g : Form T A) (first then_ : T → Bool) (lf : IsLawf
   }
 
 module _ {T : Type 0} where
-  pub ender_ended : IsEnder (ended {T = T}) (λ t. false)
+  pub ender_ended : IsEnder (at_end {T = T}) (λ t. false)
   ender_ended = record {
     one = λ ts a b rest left r s. (refl, r.1 ∙ sym s.1);
     read_first = λ t more a rest r. absurd (let e : t ∷ more ≡ [] = r.0 in cc);

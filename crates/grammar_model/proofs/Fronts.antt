@@ -2,7 +2,7 @@
 use Rattle.std.proofs.Common.{◌≡◌, ◌+◌, ◌<◌, ◌≤◌, Bool, true, Option, List, [], ◌∷◌, ◌++◌, ◌⊎◌, length, inl, inr, refl, sym, ap, ◌∙◌, subst, ⊎_elim, arith, length-append}
 use Rattle.std.specs.Option.{is_some}
 use Rattle.std.proofs.str.Laws.{order}
-use Rattle.grammar_model.specs.Forms.{Form, BeginsOne, token, BeginsSecond, two, either, made, Repeats, BeginsMany, many, nothing, ended}
+use Rattle.grammar_model.specs.Forms.{Form, BeginsOne, token, BeginsSecond, two, either, made, Repeats, BeginsMany, many, nothing, at_end}
 use Rattle.grammar_model.proofs.FormLaws.{IsLawful}
 
 pub record IsFronted {T A : Type 0} (f : Form T A) : Type 0 where
@@ -54,7 +54,7 @@ module _ {T A : Type 0} where
   fronted_nothing = record { read = λ ts a rest p q r e short. absurd r; begun = λ ts p q b e. empty_front p q (sym b ∙ e) }
 
 module _ {T : Type 0} where
-  pub fronted_ended : IsFronted (ended {T = T})
+  pub fronted_ended : IsFronted (at_end {T = T})
   fronted_ended = record { read = λ ts a rest p q r e short. empty_front p q (sym r.0 ∙ e); begun = λ ts p q b e. empty_front p q (sym b ∙ e) }
 
 module _ {T A B : Type 0} (make : A → B) (f : Form T A) (ff : IsFronted f) where

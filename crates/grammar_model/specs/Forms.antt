@@ -82,5 +82,5 @@ abbrev pub nothing : {T A : Type 0} → Form T A
 nothing = record { reads = λ ts a rest. ⊥; begins = λ ts. ts ≡ [] }
 
 -- The end of the list.
-abbrev pub ended : {T : Type 0} → Form T (Unit {0})
-ended = record { reads = λ ts a rest. (ts ≡ []) × (rest ≡ []); begins = λ ts. ts ≡ [] }
+abbrev pub at_end : {T : Type 0} → Form T (Unit {0})
+at_end = record { reads = λ ts a rest. (ts ≡ []) × (rest ≡ []); begins = λ ts. ts ≡ [] }

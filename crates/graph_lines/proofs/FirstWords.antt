@@ -7,7 +7,7 @@ use Rattle.std.proofs.lemmas.Slice.Eq.{bytes_eq-Decides}
 use Rattle.context_model.specs.declared.Form.{Form as WireForm}
 use Rattle.context_model.specs.declared.Form.TheVariants.{One, Two}
 use Rattle.graph_lines.specs.Statements.{NamedView, NamedAct, Statement, Start, Recv, Set, Branch, Forward, Trim, Join, Service, Step, Show}
-use Rattle.graph_lines.specs.Forms.{service_word, act_name, words_of, HasNoSpace}
+use Rattle.graph_lines.specs.Forms.{service_word, act_name, statement_words, HasNoSpace}
 use Rattle.graph_lines.specs.Reading.{first_word, more_words}
 
 -- Texts with different bytes aren't the same.
@@ -51,7 +51,7 @@ abbrev pub behind_of : Statement → List ℕ
 behind_of statement = join_with_byte 32 (more_words statement)
 
 -- Each line has more words than one.
-pub words_cut : (statement : Statement) → join_with_byte 32 (words_of statement) ≡ first_word statement ++ 32 ∷ behind_of statement
+pub words_cut : (statement : Statement) → join_with_byte 32 (statement_words statement) ≡ first_word statement ++ 32 ∷ behind_of statement
 words_cut (Service One name view) = refl
 words_cut (Service Two name view) = refl
 words_cut (Step number act) = refl

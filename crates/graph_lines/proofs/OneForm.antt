@@ -5,7 +5,7 @@ use Rattle.std.specs.Fmt.{decimal}
 use Rattle.std.specs.List.{join_with_byte}
 use Rattle.std.proofs.lemmas.List.{length-map}
 use Rattle.graph_lines.specs.Statements.{NamedView, NamedAct, Statement, All, Nothing, Only, Start, Recv, Set, Branch, Forward, Trim, Join, Service, Step, Show}
-use Rattle.graph_lines.specs.Forms.{IsNumber, HasNoSpace, IsSoundView, IsSoundNamedAct, IsSound, view_words, act_name, act_words, HasForm}
+use Rattle.graph_lines.specs.Forms.{IsNumber, HasNoSpace, IsSoundView, IsSoundNamedAct, IsSoundStatement, view_words, act_name, act_words, HasStatementForm}
 use Rattle.graph_lines.specs.Reading.{first_word}
 use Rattle.graph_lines.proofs.Separated.{free_there, same_cut, same_joined}
 use Rattle.graph_lines.proofs.Names.{name_no_space, path_no_space, paths_free}
@@ -83,9 +83,9 @@ one_act (Join parents) b p name =
 
 -- The other statement says the same.
 abbrev BehindSame : Statement → Statement → Type 0
-BehindSame a b = IsSound b → first_word a ≡ first_word b → behind_of a ≡ behind_of b → a ≡ b
+BehindSame a b = IsSoundStatement b → first_word a ≡ first_word b → behind_of a ≡ behind_of b → a ≡ b
 
-one_behind : (a b : Statement) → IsSound a → BehindSame a b
+one_behind : (a b : Statement) → IsSoundStatement a → BehindSame a b
 one_behind (Service form name view) b p q first e =
     only_service form (BehindSame (Service form name view)) (λ other saw r f d.
     let both = sym (joined_more name (view_words view) (view_some view)) ∙ d ∙ joined_more other (view_words saw) (view_some saw) in
@@ -100,7 +100,7 @@ one_behind (Step number act) (Step other what) p q first e =
     let cut = one_number number other (join_with_byte 32 (act_words act)) (join_with_byte 32 (act_words what)) p.0 q.0 both in
     let n : number ≡ other = cut.0 in let a : act ≡ what = one_act act what p.1 first q.1 cut.1 in cc (n, a)
 
-pub one_form : (text : List ℕ) (a b : Statement) → HasForm text a → HasForm text b → a ≡ b
+pub one_form : (text : List ℕ) (a b : Statement) → HasStatementForm text a → HasStatementForm text b → a ≡ b
 one_form text a b p q =
     let both = sym (words_cut a) ∙ sym p.2 ∙ q.2 ∙ words_cut b in
     let cut = same_cut 32 (first_word a) (first_word b) (behind_of a) (behind_of b) (first_free a) (first_free b) both in

@@ -9,23 +9,23 @@ use Rattle.graph_lines.specs.declared.statements.Statement.{Statement}
 use Rattle.graph_lines.specs.declared.statements.Statement.TheVariants.{Service, Step, Show}
 
 -- The view that the code's stands for.
-abbrev pub view_of : NamedView → plain.NamedView
-view_of All = plain.All
-view_of Nothing = plain.Nothing
-view_of (Only paths) = plain.Only (map (λ path. path.now) paths.items)
+abbrev pub named_view_of : NamedView → plain.NamedView
+named_view_of All = plain.All
+named_view_of Nothing = plain.Nothing
+named_view_of (Only paths) = plain.Only (map (λ path. path.now) paths.items)
 
 -- The act that the code's stands for.
-abbrev pub act_of : NamedAct → plain.NamedAct
-act_of (Start service) = plain.Start service.now
-act_of (Recv service hex) = plain.Recv service.now hex.now
-act_of (Set parent path write) = plain.Set parent path.now write.now
-act_of (Branch parent) = plain.Branch parent
-act_of (Forward parent service) = plain.Forward parent service.now
-act_of (Trim parent budget) = plain.Trim parent budget
-act_of (Join parents) = plain.Join parents.items
+abbrev pub named_act_of : NamedAct → plain.NamedAct
+named_act_of (Start service) = plain.Start service.now
+named_act_of (Recv service hex) = plain.Recv service.now hex.now
+named_act_of (Set parent path write) = plain.Set parent path.now write.now
+named_act_of (Branch parent) = plain.Branch parent
+named_act_of (Forward parent service) = plain.Forward parent service.now
+named_act_of (Trim parent budget) = plain.Trim parent budget
+named_act_of (Join parents) = plain.Join parents.items
 
 -- The statement that the code's stands for.
 abbrev pub statement_of : Statement → plain.Statement
-statement_of (Service form name view) = plain.Service form name.now (view_of view)
-statement_of (Step number act) = plain.Step number (act_of act)
+statement_of (Service form name view) = plain.Service form name.now (named_view_of view)
+statement_of (Step number act) = plain.Step number (named_act_of act)
 statement_of (Show step) = plain.Show step

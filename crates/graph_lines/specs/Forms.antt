@@ -41,10 +41,10 @@ service_word One = codes "service"
 service_word Two = codes "service2"
 
 -- The words of a line.
-abbrev pub words_of : Statement → List (List ℕ)
-words_of (Service form name view) = service_word form ∷ name ∷ view_words view
-words_of (Step number act) = act_name act ∷ decimal number ∷ act_words act
-words_of (Show step) = codes "show" ∷ decimal step ∷ []
+abbrev pub statement_words : Statement → List (List ℕ)
+statement_words (Service form name view) = service_word form ∷ name ∷ view_words view
+statement_words (Step number act) = act_name act ∷ decimal number ∷ act_words act
+statement_words (Show step) = codes "show" ∷ decimal step ∷ []
 
 -- A number has at most ten digits.
 abbrev pub IsNumber : ℕ → Type 0
@@ -83,11 +83,11 @@ IsSoundNamedAct (Trim parent budget) = IsNumber parent × IsNumber budget
 IsSoundNamedAct (Join parents) = (0 < length parents) × AllByRecursion IsNumber parents
 
 -- Each part of what a line says is as its kind wants it.
-abbrev pub IsSound : Statement → Type 0
-IsSound (Service form name view) = IsName name × IsSoundView view
-IsSound (Step number act) = IsNumber number × IsSoundNamedAct act
-IsSound (Show step) = IsNumber step
+abbrev pub IsSoundStatement : Statement → Type 0
+IsSoundStatement (Service form name view) = IsName name × IsSoundView view
+IsSoundStatement (Step number act) = IsNumber number × IsSoundNamedAct act
+IsSoundStatement (Show step) = IsNumber step
 
 -- The line has a form, and says this: it is the words of something sound, one space between two of them.
-abbrev pub HasForm : List ℕ → Statement → Type 0
-HasForm text statement = IsUtf8 text × IsSound statement × (text ≡ join_with_byte 32 (words_of statement))
+abbrev pub HasStatementForm : List ℕ → Statement → Type 0
+HasStatementForm text statement = IsUtf8 text × IsSoundStatement statement × (text ≡ join_with_byte 32 (statement_words statement))

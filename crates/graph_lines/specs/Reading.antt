@@ -3,7 +3,7 @@ use Rattle.std.specs.Prelude.{◌≡◌, ℕ, ◌<◌, List, [], ◌∷◌, ◌+
 use Rattle.std.specs.Fmt.{decimal}
 use Rattle.std.specs.List.{AllByRecursion, join_with_byte}
 use Rattle.graph_lines.specs.Statements.{NamedView, NamedAct, Statement, Service, Step, Show}
-use Rattle.graph_lines.specs.Forms.{IsNumber, IsName, IsPath, IsSoundView, IsSoundNamedAct, IsSound, view_words, service_word, act_name, act_words, words_of}
+use Rattle.graph_lines.specs.Forms.{IsNumber, IsName, IsPath, IsSoundView, IsSoundNamedAct, IsSoundStatement, view_words, service_word, act_name, act_words, statement_words}
 
 -- What was taken from the front of a text, with the rest of the text, is the one pair of which the fact holds; nothing was
 -- taken where it holds of none.
@@ -65,8 +65,8 @@ more_words (Show step) = decimal step ∷ []
 -- The text is the words behind the first of a statement that begins with this one.
 abbrev pub IsRestText : List ℕ → List ℕ → Statement → Type 0
 IsRestText first text statement =
-    IsSound statement × (first_word statement ≡ first) × (text ≡ join_with_byte 32 (more_words statement))
+    IsSoundStatement statement × (first_word statement ≡ first) × (text ≡ join_with_byte 32 (more_words statement))
 
 -- The text is the words of a statement.
 abbrev pub IsStatementText : List ℕ → Statement → Type 0
-IsStatementText text statement = IsSound statement × (text ≡ join_with_byte 32 (words_of statement))
+IsStatementText text statement = IsSoundStatement statement × (text ≡ join_with_byte 32 (statement_words statement))

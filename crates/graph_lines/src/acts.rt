@@ -4,7 +4,7 @@ ghost use Rattle.std.specs.Prelude.{codes, IfOk};
 ghost use Rattle.std.specs.Option.{option_map};
 ghost use Rattle.decimal_text.specs.Answers.{IsSomeOf};
 ghost use Rattle.graph_lines.specs.Reading.{IsActText};
-ghost use Rattle.graph_lines.specs.Acts.{act_of};
+ghost use Rattle.graph_lines.specs.Acts.{named_act_of};
 
 use crate::NamedAct;
 use crate::numbers::{read_number, read_numbers, take_number};
@@ -14,7 +14,7 @@ use std::alloc::Global;
 
 /// `start N NAME`
 fn read_start(text: &str) -> Option<NamedAct<'_>>
-    ensures { IsSomeOf (IsActText (codes "start") text.now) (option_map act_of result) }
+    ensures { IsSomeOf (IsActText (codes "start") text.now) (option_map named_act_of result) }
 {
     if is_name(text.as_bytes()) {
         Some(NamedAct::Start { service: text })
@@ -25,7 +25,7 @@ fn read_start(text: &str) -> Option<NamedAct<'_>>
 
 /// `recv N NAME HEX`
 fn read_recv(text: &str) -> Option<NamedAct<'_>>
-    ensures { IsSomeOf (IsActText (codes "recv") text.now) (option_map act_of result) }
+    ensures { IsSomeOf (IsActText (codes "recv") text.now) (option_map named_act_of result) }
 {
     let (service, hex) = take_name(text)?;
     if is_one_word(hex) {
@@ -37,7 +37,7 @@ fn read_recv(text: &str) -> Option<NamedAct<'_>>
 
 /// `set N PARENT PATH VALUE`
 fn read_set(text: &str) -> Option<NamedAct<'_>>
-    ensures { IsSomeOf (IsActText (codes "set") text.now) (option_map act_of result) }
+    ensures { IsSomeOf (IsActText (codes "set") text.now) (option_map named_act_of result) }
 {
     let (parent, rest) = take_number(text)?;
     let (path, write) = take_path(rest)?;
@@ -54,7 +54,7 @@ fn read_set(text: &str) -> Option<NamedAct<'_>>
 
 /// `branch N PARENT`
 fn read_branch(text: &str) -> Option<NamedAct<'_>>
-    ensures { IsSomeOf (IsActText (codes "branch") text.now) (option_map act_of result) }
+    ensures { IsSomeOf (IsActText (codes "branch") text.now) (option_map named_act_of result) }
 {
     let parent = read_number(text)?;
     Some(NamedAct::Branch { parent })
@@ -62,7 +62,7 @@ fn read_branch(text: &str) -> Option<NamedAct<'_>>
 
 /// `forward N PARENT NAME`
 fn read_forward(text: &str) -> Option<NamedAct<'_>>
-    ensures { IsSomeOf (IsActText (codes "forward") text.now) (option_map act_of result) }
+    ensures { IsSomeOf (IsActText (codes "forward") text.now) (option_map named_act_of result) }
 {
     let (parent, service) = take_number(text)?;
     if is_name(service.as_bytes()) {
@@ -74,7 +74,7 @@ fn read_forward(text: &str) -> Option<NamedAct<'_>>
 
 /// `trim N PARENT BUDGET`
 fn read_trim(text: &str) -> Option<NamedAct<'_>>
-    ensures { IsSomeOf (IsActText (codes "trim") text.now) (option_map act_of result) }
+    ensures { IsSomeOf (IsActText (codes "trim") text.now) (option_map named_act_of result) }
 {
     let (parent, rest) = take_number(text)?;
     let budget = read_number(rest)?;
@@ -83,7 +83,7 @@ fn read_trim(text: &str) -> Option<NamedAct<'_>>
 
 /// `join N PARENT [PARENT ..]`
 fn read_join(alloc: Global, text: &str) -> Result<Option<NamedAct<'_>>, Memory>
-    ensures { IfOk result (λ read. IsSomeOf (IsActText (codes "join") text.now) (option_map act_of read)) }
+    ensures { IfOk result (λ read. IsSomeOf (IsActText (codes "join") text.now) (option_map named_act_of read)) }
 {
     match read_numbers(alloc, text)? {
         Some(parents) => Ok(Some(NamedAct::Join { parents })),
@@ -97,7 +97,7 @@ pub(crate) fn read_act<'a>(
     name: &str,
     text: &'a str,
 ) -> Result<Option<NamedAct<'a>>, Memory>
-    ensures { IfOk result (λ read. IsSomeOf (IsActText name.now text.now) (option_map act_of read)) }
+    ensures { IfOk result (λ read. IsSomeOf (IsActText name.now text.now) (option_map named_act_of read)) }
 {
     match name {
         "start" => Ok(read_start(text)),

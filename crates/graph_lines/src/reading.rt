@@ -4,9 +4,9 @@ ghost use Rattle.std.specs.Prelude.{ℕ, codes, IfOk, MatchOption};
 ghost use Rattle.std.specs.Option.{option_map};
 ghost use Rattle.decimal_text.specs.Answers.{IsSomeOf};
 ghost use Rattle.graph_lines.specs.Statements as plain;
-ghost use Rattle.graph_lines.specs.Forms.{service_word, HasForm};
+ghost use Rattle.graph_lines.specs.Forms.{service_word, HasStatementForm};
 ghost use Rattle.graph_lines.specs.Reading.{IsViewText, IsRestText, IsStatementText};
-ghost use Rattle.graph_lines.specs.Acts.{view_of, statement_of};
+ghost use Rattle.graph_lines.specs.Acts.{named_view_of, statement_of};
 
 use crate::acts::read_act;
 use crate::numbers::{read_number, take_number};
@@ -18,7 +18,7 @@ use std::alloc::Global;
 
 /// The view of a service: `all`, `none` or `only PATH [PATH ..]`
 fn read_view(alloc: Global, text: &str) -> Result<Option<NamedView<'_>>, Memory>
-    ensures { IfOk result (λ read. IsSomeOf (IsViewText text.now) (option_map view_of read)) }
+    ensures { IfOk result (λ read. IsSomeOf (IsViewText text.now) (option_map named_view_of read)) }
 {
     let Some((word, rest)) = cut_word(text) else {
         return Ok(match text {
@@ -90,8 +90,8 @@ fn read_words(alloc: Global, text: &str) -> Result<Option<Statement<'_>>, Memory
 /// What a line of a recorded graph says, or none where it has no form.
 pub fn read_statement<'a>(alloc: Global, text: &'a [u8]) -> Result<Option<Statement<'a>>, Memory>
     ensures { IfOk result (λ read. MatchOption read
-        ((statement : plain.Statement) → HasForm text.now statement → ⊥)
-        (λ statement. HasForm text.now (statement_of statement))) }
+        ((statement : plain.Statement) → HasStatementForm text.now statement → ⊥)
+        (λ statement. HasStatementForm text.now (statement_of statement))) }
 {
     match str::from_utf8(text) {
         Ok(line) => read_words(alloc, line),

@@ -16,19 +16,19 @@ use Rattle.text_lines.specs.HexLines.{hex_bytes}
 use Rattle.text_lines.specs.Lines.{lines_of}
 use Rattle.text_lines.proofs.ReadingLaws.{first_of_one, first_of_none, all_say_one, first_bad_one, good_not_bad}
 use Rattle.trace_model.specs.Graphs.{Graph}
-use Rattle.graph_lines.specs.Forms.{HasForm}
+use Rattle.graph_lines.specs.Forms.{HasStatementForm}
 use Rattle.graph_lines.specs.Statements as lines
 use Rattle.graph_lines.specs.Statements.{Statement}
 use Rattle.graph_text.specs.declared.faults.LineFault.{LineFault}
 use Rattle.graph_text.specs.declared.faults.LineFault.TheVariants.{Bytes, IllTyped}
-use Rattle.graph_text.specs.Additions.{Addition, graph_of, SaysTypedContext, IsGood, HasBadBytes, ReceivesBad, IsBad}
+use Rattle.graph_text.specs.Additions.{Addition, graph_of, SaysTypedContext, IsGoodStatement, HasBadBytes, ReceivesBad, IsBadStatement}
 use Rattle.graph_text.specs.Reading.{SaysAddition, HasFault, graph_lines, IsGraphOf, IsFirstFault, LinesAreDefinite}
-use Rattle.graph_text.specs.Rules.{Breaks, rules}
+use Rattle.graph_text.specs.Rules.{StatementBreaks, graph_rules}
 use Rattle.graph_text.proofs.Meanings.{HasOneWrite, one_addition}
 
 -- A line has one form.
 abbrev pub HasOneForm : Type 0
-HasOneForm = (text : List ℕ) (a b : Statement) → HasForm text a → HasForm text b → a ≡ b
+HasOneForm = (text : List ℕ) (a b : Statement) → HasStatementForm text a → HasStatementForm text b → a ≡ b
 
 -- ---- what is wrong with a context that is received
 
@@ -73,18 +73,18 @@ one_receives : (table : Nodes) (line : Statement) (f g : LineFault) → Receives
 one_receives table (lines.Step number (lines.Recv name hex)) f g bad other = one_received table hex f g bad other
 one_receives table line f g bad other = absurd bad
 
-good_not_received : (table : Nodes) (graph : Graph) (line : Statement) (a : Addition) (f : LineFault) → IsGood table graph line a → ReceivesBad table line f → ⊥
+good_not_received : (table : Nodes) (graph : Graph) (line : Statement) (a : Addition) (f : LineFault) → IsGoodStatement table graph line a → ReceivesBad table line f → ⊥
 good_not_received table graph (lines.Step number (lines.Recv name hex)) a f (none, (service, act, stands, (list, says, is), at)) bad = typed_not_wrong table hex list f says bad
 good_not_received table graph line a f good bad = bad
 
-one_bad : (table : Nodes) (graph : Graph) (line : Statement) (f g : LineFault) → IsBad table graph line f → IsBad table graph line g → f ≡ g
-one_bad table graph line f g (inl (c, first, is)) (inl (d, other, also)) = let codes : c ≡ d = first_of_one (Breaks table graph line) rules c d first other in cc (is, also, codes)
-one_bad table graph line f g (inl (c, first, is)) (inr (none, bad)) = absurd (first_of_none (Breaks table graph line) rules c none first)
-one_bad table graph line f g (inr (none, bad)) (inl (d, other, also)) = absurd (first_of_none (Breaks table graph line) rules d none other)
+one_bad : (table : Nodes) (graph : Graph) (line : Statement) (f g : LineFault) → IsBadStatement table graph line f → IsBadStatement table graph line g → f ≡ g
+one_bad table graph line f g (inl (c, first, is)) (inl (d, other, also)) = let codes : c ≡ d = first_of_one (StatementBreaks table graph line) graph_rules c d first other in cc (is, also, codes)
+one_bad table graph line f g (inl (c, first, is)) (inr (none, bad)) = absurd (first_of_none (StatementBreaks table graph line) graph_rules c none first)
+one_bad table graph line f g (inr (none, bad)) (inl (d, other, also)) = absurd (first_of_none (StatementBreaks table graph line) graph_rules d none other)
 one_bad table graph line f g (inr (none, bad)) (inr (no_rule, other)) = one_receives table line f g bad other
 
-good_not_bad_line : (table : Nodes) (graph : Graph) (line : Statement) (a : Addition) (f : LineFault) → IsGood table graph line a → IsBad table graph line f → ⊥
-good_not_bad_line table graph line a f good (inl (c, first, is)) = first_of_none (Breaks table graph line) rules c good.0 first
+good_not_bad_line : (table : Nodes) (graph : Graph) (line : Statement) (a : Addition) (f : LineFault) → IsGoodStatement table graph line a → IsBadStatement table graph line f → ⊥
+good_not_bad_line table graph line a f good (inl (c, first, is)) = first_of_none (StatementBreaks table graph line) graph_rules c good.0 first
 good_not_bad_line table graph line a f good (inr (none, bad)) = good_not_received table graph line a f good bad
 
 -- ---- lines
@@ -95,17 +95,17 @@ module _ (forms : HasOneForm) (table : Nodes) (graph : Graph) where
   one_fault text f g (inl (none, is)) (inr (line, form, bad)) = absurd (none line form)
   one_fault text f g (inr (line, form, bad)) (inl (none, is)) = absurd (none line form)
   one_fault text f g (inr (line, form, bad)) (inr (other, other_form, also)) =
-      one_bad table graph line f g bad (subst (λ l. IsBad table graph l g) (forms text other line other_form form) also)
+      one_bad table graph line f g bad (subst (λ l. IsBadStatement table graph l g) (forms text other line other_form form) also)
 
   not_both : (text : List ℕ) (a : Addition) (f : LineFault) → SaysAddition table graph text a → HasFault table graph text f → ⊥
   not_both text a f (line, form, good) (inl (none, is)) = none line form
   not_both text a f (line, form, good) (inr (other, other_form, bad)) =
-      good_not_bad_line table graph line a f good (subst (λ l. IsBad table graph l f) (forms text other line other_form form) bad)
+      good_not_bad_line table graph line a f good (subst (λ l. IsBadStatement table graph l f) (forms text other line other_form form) bad)
 
   one_said : HasOneWrite → IsTable table → (text : List ℕ) (a b : Addition) → SaysAddition table graph text a → SaysAddition table graph text b → a ≡ b
   one_said writes is_table text a b (line, form, good) (other, other_form, also) =
       let same = forms text other line other_form form in
-      one_addition writes table is_table graph line a b good.1 (subst (λ l. IsGood table graph l b) same also).1
+      one_addition writes table is_table graph line a b good.1 (subst (λ l. IsGoodStatement table graph l b) same also).1
 
 pub is_definite : HasOneForm → HasOneWrite → LinesAreDefinite
 is_definite forms writes table is_table = record {

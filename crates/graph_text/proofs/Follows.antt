@@ -14,16 +14,16 @@ use Rattle.text_lines.specs.Readings.{NoneOf}
 use Rattle.trace_model.specs.Graphs as graphs
 use Rattle.trace_model.specs.Graphs.{Act, Graph, HasStep, IsGraph, IsSoundAct, StaysAt, form_at, parents_of}
 use Rattle.recorded_graph.specs.Graphs.{MayBeNext}
-use Rattle.graph_lines.specs.Forms.{IsSound}
+use Rattle.graph_lines.specs.Forms.{IsSoundStatement}
 use Rattle.graph_lines.specs.Statements as lines
 use Rattle.graph_lines.specs.Statements.{NamedAct, Statement}
-use Rattle.graph_text.specs.Additions.{Addition, AddStep, MeansAct, StandsAtService, IsGood}
-use Rattle.graph_text.specs.Names.{names_of, service_named, service_at, steps_named, parents_named}
-use Rattle.graph_text.specs.Rules.{JoinsApart, HasNoBudget, Breaks, rules}
+use Rattle.graph_text.specs.Additions.{Addition, AddStep, MeansAct, StandsAtService, IsGoodStatement}
+use Rattle.graph_text.specs.Names.{service_names, service_named, service_at, steps_named, parents_named}
+use Rattle.graph_text.specs.Rules.{JoinsApart, HasNoBudget, StatementBreaks, graph_rules}
 
 -- The line breaks no rule.
 abbrev pub KeepsRules : Nodes → Graph → Statement → Type 0
-KeepsRules table graph line = NoneOf (Breaks table graph line) rules
+KeepsRules table graph line = NoneOf (StatementBreaks table graph line) graph_rules
 
 -- ---- a service, and a step that is shown
 
@@ -39,7 +39,7 @@ is_shown table graph n keeps = is_earlier table graph (lines.Show n) n keeps (in
 -- A name that is found is that of a service.
 named_within : (graph : Graph) (name : List ℕ) (service : ℕ) → service_named graph name ≡ Some service → service < length graph.services
 named_within graph name service e =
-    let found = position-Some (bytes_eq name) (names_of graph) service [] e in
+    let found = position-Some (bytes_eq name) (service_names graph) service [] e in
     omega (arith, found.0, length-map graph.services (λ (own : graphs.Service). own.name))
 
 -- A step that stands somewhere is there.
@@ -82,7 +82,7 @@ some_budget graph parent number budget service keeps at =
     elim (cases_lt budget (least_budget (form_at graph service))) [ inl less ↦ absurd (keeps (inl (service, at, less))) | inr enough ↦ enough ]
 
 -- What a step does is sound.
-sound_act : (table : Nodes) (graph : Graph) (number : ℕ) (named : NamedAct) (act : Act) (service : ℕ) → IsSound (lines.Step number named) → KeepsRules table graph (lines.Step number named)
+sound_act : (table : Nodes) (graph : Graph) (number : ℕ) (named : NamedAct) (act : Act) (service : ℕ) → IsSoundStatement (lines.Step number named) → KeepsRules table graph (lines.Step number named)
     → StandsAtService graph named service → MeansAct table (form_at graph service) named act → IsSoundAct (form_at graph service) act
 sound_act table graph number (lines.Start name) act service sound keeps stands means = subst (IsSoundAct (form_at graph service)) (sym means) tt
 sound_act table graph number (lines.Recv name hex) act service sound keeps stands (list, says, is) = subst (IsSoundAct (form_at graph service)) (sym is) tt
@@ -137,8 +137,8 @@ one_step : (step other : graphs.Step) → ◌≡◌ {A = Addition} (AddStep step
 one_step step other e = cc e
 
 -- The step of a good line may be the next of a sound graph.
-pub may_follow : (table : Nodes) (graph : Graph) (number : ℕ) (named : NamedAct) (step : graphs.Step) → IsGraph graph → IsSound (lines.Step number named)
-    → IsGood table graph (lines.Step number named) (AddStep step) → MayBeNext graph step
+pub may_follow : (table : Nodes) (graph : Graph) (number : ℕ) (named : NamedAct) (step : graphs.Step) → IsGraph graph → IsSoundStatement (lines.Step number named)
+    → IsGoodStatement table graph (lines.Step number named) (AddStep step) → MayBeNext graph step
 may_follow table graph number named step sound line (keeps, (service, act, stands, means, is)) =
     subst (MayBeNext graph) (sym (one_step step (record { service = service; act = act }) is)) (record {
       act = sound_act table graph number named act service line keeps stands means;

@@ -20,10 +20,10 @@ use Rattle.text_lines.specs.Lines.{Line, lines_of}
 use Rattle.text_lines.specs.Readings.{AllSay}
 use Rattle.write_text.specs.Writes.{IsWrite}
 use Rattle.recorded_graph.proofs.Growing.{empty_sound, service_sound, step_sound, show_sound, graphs_grow}
-use Rattle.graph_lines.specs.Forms.{IsSound}
+use Rattle.graph_lines.specs.Forms.{IsSoundStatement}
 use Rattle.graph_lines.specs.Statements as lines
 use Rattle.graph_lines.specs.Statements.{NamedView, NamedAct, Statement}
-use Rattle.graph_text.specs.Additions.{Addition, with_addition, graph_of, MeansView, MeansAct, StandsAtService, IsGood}
+use Rattle.graph_text.specs.Additions.{Addition, with_addition, graph_of, MeansView, MeansAct, StandsAtService, IsGoodStatement}
 use Rattle.graph_text.specs.Reading.{SaysAddition, graph_lines, IsGraphOf}
 use Rattle.graph_text.proofs.Follows.{KeepsRules, may_follow, is_shown}
 use Rattle.graph_text.proofs.Grown.{graph_of_more}
@@ -97,7 +97,7 @@ act_of_table writes table graph number (lines.Join parents) act service keeps st
 -- ---- good lines
 
 -- A recorded graph with what a good line adds is one too.
-line_recorded : WritesFit → (table : Nodes) (graph : Graph) (line : Statement) (a : Addition) → IsRecorded table graph → IsSound line → IsGood table graph line a → IsRecorded table (with_addition graph a)
+line_recorded : WritesFit → (table : Nodes) (graph : Graph) (line : Statement) (a : Addition) → IsRecorded table graph → IsSoundStatement line → IsGoodStatement table graph line a → IsRecorded table (with_addition graph a)
 line_recorded writes table graph (lines.Service form name named) a r sound (keeps, (view, means, is)) =
     subst (λ b. IsRecorded table (with_addition graph b)) (sym is) (record {
       table = r.table;

@@ -23,7 +23,7 @@ use Rattle.graph_text.specs.declared.faults.LineFault.TheVariants.{Code}
 use Rattle.graph_text.specs.declared.faults.Refusal.{Refusal}
 use Rattle.graph_text.specs.declared.faults.Refusal.TheVariants.{Fault, Memory}
 use Rattle.graph_text.specs.Names.{service_named, service_at, parents_named}
-use Rattle.graph_text.specs.Rules.{MissesPath, IsMisnumbered, NamesNoStep, GoesNowhere, Redeclares, JoinsApart, NamesNoPath, WritesUnknown, Miswrites, IsOneTooMany, JoinsTooMany, Breaks, rules}
+use Rattle.graph_text.specs.Rules.{MissesPath, IsMisnumbered, NamesNoStep, GoesNowhere, Redeclares, JoinsApart, NamesNoPath, WritesUnknown, Miswrites, IsOneTooMany, JoinsTooMany, StatementBreaks, graph_rules}
 use Rattle.graph_text.specs.Additions.{AddService, MeansView, GrowsTo, StandsAtService, FindsKnown, IsWriteAt, IsNextStep, IsRefusedPath, IsRefusedWrite, IsRefusedNext}
 use Rattle.graph_text.proofs.Meanings.{one_slot}
 
@@ -100,7 +100,7 @@ module _ (table : Nodes) (is_table : IsTable table) (graph : Graph) (parent : �
             none v (subst (λ (f : WireForm). IsWrite f at.shape v write) (sym form_there) (subst (λ (a : SlotAt). IsWrite form a.shape v write) one says.2))
 
         -- There is no room.
-        first_full : STEPS_MAX ≤ length graph.steps → IsFirstOf (Breaks table graph set) rules TooManySteps
+        first_full : STEPS_MAX ≤ length graph.steps → IsFirstOf (StatementBreaks table graph set) graph_rules TooManySteps
         first_full most =
             inr (numbered, inr (stands, inr (goes, inr (no, inr (no, inr (has_path, inr (is_known, inr (is_write, inr (no, inl (refl, most))))))))))
 
@@ -108,7 +108,7 @@ module _ (table : Nodes) (is_table : IsTable table) (graph : Graph) (parent : �
         write_too_late most = inl (TooManySteps, first_full most, refl)
 
         -- The write is good.
-        none_broken : length graph.steps < STEPS_MAX → NoneOf (Breaks table graph set) rules
+        none_broken : length graph.steps < STEPS_MAX → NoneOf (StatementBreaks table graph set) graph_rules
         none_broken few =
             let room : IsOneTooMany graph set → ⊥ = λ most. omega arith in
             (numbered, (stands, (goes, (no, (no, (has_path, (is_known, (is_write, (no, (room, (no, (no, (no, tt)))))))))))))
@@ -147,7 +147,7 @@ module _ (table : Nodes) (graph : Graph) (parents : List ℕ) (early : (n : ℕ)
     joined (a, b, i, j, ne) = ne (at a i ∙ sym (at b j))
 
     -- There is no room.
-    join_full : STEPS_MAX ≤ length graph.steps → IsFirstOf (Breaks table graph join) rules TooManySteps
+    join_full : STEPS_MAX ≤ length graph.steps → IsFirstOf (StatementBreaks table graph join) graph_rules TooManySteps
     join_full most =
         inr (join_numbered, inr (join_stands, inr (join_goes, inr (no, inr (joined, inr (no, inr (no, inr (no, inr (no, inl (refl, most))))))))))
 
@@ -159,7 +159,7 @@ module _ (table : Nodes) (graph : Graph) (parents : List ℕ) (early : (n : ℕ)
       room most = omega arith
 
       -- The parents are too many.
-      first_many : PARENTS_MAX < length parents → IsFirstOf (Breaks table graph join) rules TooManyParents
+      first_many : PARENTS_MAX < length parents → IsFirstOf (StatementBreaks table graph join) graph_rules TooManyParents
       first_many many =
           inr (join_numbered, inr (join_stands, inr (join_goes, inr (no, inr (joined, inr (no, inr (no, inr (no, inr (no, inr (room, inl (refl, many)))))))))))
 
@@ -167,7 +167,7 @@ module _ (table : Nodes) (graph : Graph) (parents : List ℕ) (early : (n : ℕ)
       join_too_many many = inl (TooManyParents, first_many many, refl)
 
       -- The join is good.
-      join_kept : length parents ≤ PARENTS_MAX → NoneOf (Breaks table graph join) rules
+      join_kept : length parents ≤ PARENTS_MAX → NoneOf (StatementBreaks table graph join) graph_rules
       join_kept most =
           let few_parents : JoinsTooMany join → ⊥ = λ many. omega arith in
           (join_numbered, (join_stands, (join_goes, (no, (joined, (no, (no, (no, (no, (room, (few_parents, (no, (no, tt)))))))))))))
@@ -189,6 +189,6 @@ pub declared : (table : Nodes) (graph : Graph) (form : WireForm) (name : List �
 declared table graph form name named view none finds means next is =
     let new : Redeclares graph (Service form name named) → ⊥ = is_new graph form name named none in
     let steps : NamesNoStep graph (Service form name named) → ⊥ = no_parents graph form name named in
-    let kept : NoneOf (Breaks table graph (Service form name named)) rules =
+    let kept : NoneOf (StatementBreaks table graph (Service form name named)) graph_rules =
     (no, (steps, (no, (new, (no, (finds, (no, (no, (no, (no, (no, (no, (no, tt))))))))))))) in
     (AddService (record { name = name; form = form; view = view }), (kept, (view, means, refl)), is)

@@ -11,7 +11,7 @@ use Rattle.graph_text.specs.declared.faults.LineFault.TheVariants.{Code, Bytes, 
 use Rattle.graph_text.specs.declared.faults.Refusal.{Refusal}
 use Rattle.graph_text.specs.declared.faults.Refusal.TheVariants.{Fault, Memory}
 use Rattle.graph_text.specs.Additions.{Addition, with_addition, graph_of}
-use Rattle.graph_text.specs.Reading.{SaysAddition, HasFault, IsRefusedText, graph_lines, IsRefusalOf, fault_at}
+use Rattle.graph_text.specs.Reading.{SaysAddition, HasFault, IsRefusedText, graph_lines, IsGraphRefusalOf, graph_fault_at}
 use Rattle.graph_text.proofs.Grown.{graph_of_more}
 
 -- The lines so far say the graph.
@@ -32,7 +32,7 @@ says_more table lines graph next line (said, all, is) (addition, says, grows) = 
 -- A line that is refused is the first bad one.
 pub refused_at : (table : Nodes) (text : List ℕ) (before : List Line) (line : Line) (after rest : List Line) (graph : Graph) (refusal : Refusal)
     → lines_of text ≡ before ++ rest → rest ≡ line ∷ after → SaysSoFar table before graph → IsRefusedText table graph line.1 refusal
-    → IsRefusalOf table text (fault_at line.0 refusal)
+    → IsGraphRefusalOf table text (graph_fault_at line.0 refusal)
 refused_at table text before line after rest graph (Fault (Code code)) split next (said, all, is) bad =
     next_bad (graph_lines table) (lines_of text) before line after rest said (Code code) split next all (subst (λ g. HasFault table g line.1 (Code code)) is bad)
 refused_at table text before line after rest graph (Fault (Bytes offset code)) split next (said, all, is) bad =

@@ -32,7 +32,7 @@ use Rattle.graph_text.specs.declared.faults.LineFault.TheVariants.{Code, Bytes, 
 use Rattle.graph_text.specs.declared.faults.Refusal.{Refusal}
 use Rattle.graph_text.specs.declared.faults.Refusal.TheVariants.{Fault, Memory}
 use Rattle.graph_text.specs.Names.{service_named, service_at}
-use Rattle.graph_text.specs.Rules.{MissesPath, Breaks, rules}
+use Rattle.graph_text.specs.Rules.{MissesPath, StatementBreaks, graph_rules}
 
 -- A service, a step, or a step that is shown.
 pub data Addition : Type 0 where
@@ -135,17 +135,17 @@ LineAdds table graph (Show n) addition = addition ≡ AddShow n
 -- ---- good and bad lines
 
 -- The line breaks no rule and adds this.
-abbrev pub IsGood : Nodes → Graph → Statement → Addition → Type 0
-IsGood table graph line addition = NoneOf (Breaks table graph line) rules × LineAdds table graph line addition
+abbrev pub IsGoodStatement : Nodes → Graph → Statement → Addition → Type 0
+IsGoodStatement table graph line addition = NoneOf (StatementBreaks table graph line) graph_rules × LineAdds table graph line addition
 
 -- An act is good as the next step, and this is the step.
 abbrev pub IsNextStep : Nodes → Graph → NamedAct → graphs.Step → Type 0
-IsNextStep table graph named step = IsGood table graph (Step (length graph.steps) named) (AddStep step)
+IsNextStep table graph named step = IsGoodStatement table graph (Step (length graph.steps) named) (AddStep step)
 
 -- The graph grows to this one by what a good line adds.
 abbrev pub GrowsTo : Nodes → Graph → Statement → Graph → Type 0
 GrowsTo table graph line next =
-    (addition : Addition) × IsGood table graph line addition × (next ≡ with_addition graph addition)
+    (addition : Addition) × IsGoodStatement table graph line addition × (next ≡ with_addition graph addition)
 
 -- The digits are those of no context, or of one that isn't typed under the table: this is what is first wrong with them.
 abbrev pub HasBadBytes : Nodes → List ℕ → LineFault → Type 0
@@ -191,16 +191,16 @@ ReceivesBad table (Step number (Recv name hex)) fault = HasBadBytes table hex fa
 ReceivesBad table other fault = ⊥
 
 -- The line breaks this rule first, or it breaks none and this is wrong with the context that it receives.
-abbrev pub IsBad : Nodes → Graph → Statement → LineFault → Type 0
-IsBad table graph line fault =
-    ((code : GraphCode) × IsFirstOf (Breaks table graph line) rules code × (fault ≡ Code code))
-    ⊎ (NoneOf (Breaks table graph line) rules × ReceivesBad table line fault)
+abbrev pub IsBadStatement : Nodes → Graph → Statement → LineFault → Type 0
+IsBadStatement table graph line fault =
+    ((code : GraphCode) × IsFirstOf (StatementBreaks table graph line) graph_rules code × (fault ≡ Code code))
+    ⊎ (NoneOf (StatementBreaks table graph line) graph_rules × ReceivesBad table line fault)
 
 -- The line is refused: it is bad, or memory is wanting for it.
-abbrev pub IsRefused : Nodes → Graph → Statement → Refusal → Type 0
-IsRefused table graph line (Fault fault) = IsBad table graph line fault
-IsRefused table graph line Memory = Unit {0}
+abbrev pub IsRefusedStatement : Nodes → Graph → Statement → Refusal → Type 0
+IsRefusedStatement table graph line (Fault fault) = IsBadStatement table graph line fault
+IsRefusedStatement table graph line Memory = Unit {0}
 
 -- An act is refused as the next step.
 abbrev pub IsRefusedNext : Nodes → Graph → NamedAct → Refusal → Type 0
-IsRefusedNext table graph named refusal = IsRefused table graph (Step (length graph.steps) named) refusal
+IsRefusedNext table graph named refusal = IsRefusedStatement table graph (Step (length graph.steps) named) refusal

@@ -11,16 +11,16 @@ use Rattle.trace_model.specs.Graphs.{Graph}
 use Rattle.graph_lines.specs.Statements.{NamedAct, Statement, Start, Recv, Set, Branch, Forward, Trim, Join, Service, Step, Show}
 
 -- The names of a graph's services, in the order of their numbers.
-abbrev pub names_of : Graph → List (List ℕ)
-names_of graph = map (λ service. service.name) graph.services
+abbrev pub service_names : Graph → List (List ℕ)
+service_names graph = map (λ service. service.name) graph.services
 
 -- The place of a name among some names, the first where it stands there twice.
-abbrev pub place_of : List (List ℕ) → List ℕ → Option ℕ
-place_of names name = position (bytes_eq name) names
+abbrev pub name_place : List (List ℕ) → List ℕ → Option ℕ
+name_place names name = position (bytes_eq name) names
 
 -- The number of the service with this name.
 abbrev pub service_named : Graph → List ℕ → Option ℕ
-service_named graph name = place_of (names_of graph) name
+service_named graph name = name_place (service_names graph) name
 
 -- The map has the number of each service by its name, and no other name.
 abbrev pub NumbersServices : Graph → BTreeMap (Bor (List ℕ)) ℕ → Type 0

@@ -5,7 +5,7 @@ use Rattle.bag_model.specs.Tables.{IsTable}
 use Rattle.text_lines.specs.Lines.{lines_of}
 use Rattle.text_lines.specs.Readings.{Reading, IsDefinite, AllSay, IsFirstBad}
 use Rattle.trace_model.specs.Graphs.{Graph}
-use Rattle.graph_lines.specs.Forms.{HasForm}
+use Rattle.graph_lines.specs.Forms.{HasStatementForm}
 use Rattle.graph_lines.specs.Statements.{Statement}
 use Rattle.graph_text.specs.declared.faults.GraphCode.TheVariants.{Form}
 use Rattle.graph_text.specs.declared.faults.GraphFault.{GraphFault}
@@ -14,17 +14,17 @@ use Rattle.graph_text.specs.declared.faults.LineFault.{LineFault}
 use Rattle.graph_text.specs.declared.faults.LineFault.TheVariants.{Code, Bytes, IllTyped}
 use Rattle.graph_text.specs.declared.faults.Refusal.{Refusal}
 use Rattle.graph_text.specs.declared.faults.Refusal.TheVariants as refusals
-use Rattle.graph_text.specs.Additions.{Addition, graph_of, IsGood, IsBad}
+use Rattle.graph_text.specs.Additions.{Addition, graph_of, IsGoodStatement, IsBadStatement}
 
 -- The line has a form and is good behind lines that said this graph.
 abbrev pub SaysAddition : Nodes → Graph → List ℕ → Addition → Type 0
-SaysAddition table graph text addition = (line : Statement) × HasForm text line × IsGood table graph line addition
+SaysAddition table graph text addition = (line : Statement) × HasStatementForm text line × IsGoodStatement table graph line addition
 
 -- The line has no form, or it is bad behind lines that said this graph.
 abbrev pub HasFault : Nodes → Graph → List ℕ → LineFault → Type 0
 HasFault table graph text fault =
-    (((line : Statement) → ¬ (HasForm text line)) × (fault ≡ Code Form))
-    ⊎ ((line : Statement) × HasForm text line × IsBad table graph line fault)
+    (((line : Statement) → ¬ (HasStatementForm text line)) × (fault ≡ Code Form))
+    ⊎ ((line : Statement) × HasStatementForm text line × IsBadStatement table graph line fault)
 
 -- The text of a line is refused: it has a fault, or memory is wanting for it.
 abbrev pub IsRefusedText : Nodes → Graph → List ℕ → Refusal → Type 0
@@ -48,18 +48,18 @@ abbrev pub IsFirstFault : Nodes → List ℕ → ℕ → LineFault → Type 0
 IsFirstFault table text number fault = IsFirstBad (graph_lines table) (lines_of text) number fault
 
 -- The answer names the first fault; want of memory claims nothing.
-abbrev pub IsRefusalOf : Nodes → List ℕ → GraphFault → Type 0
-IsRefusalOf table text (graph_faults.At number code) = IsFirstFault table text number (Code code)
-IsRefusalOf table text (graph_faults.Bytes number offset code) = IsFirstFault table text number (Bytes offset code)
-IsRefusalOf table text (graph_faults.IllTyped number offset) = IsFirstFault table text number (IllTyped offset)
-IsRefusalOf table text graph_faults.Memory = Unit {0}
+abbrev pub IsGraphRefusalOf : Nodes → List ℕ → GraphFault → Type 0
+IsGraphRefusalOf table text (graph_faults.At number code) = IsFirstFault table text number (Code code)
+IsGraphRefusalOf table text (graph_faults.Bytes number offset code) = IsFirstFault table text number (Bytes offset code)
+IsGraphRefusalOf table text (graph_faults.IllTyped number offset) = IsFirstFault table text number (IllTyped offset)
+IsGraphRefusalOf table text graph_faults.Memory = Unit {0}
 
 -- The refusal of a text, by that of its line with this number.
-abbrev pub fault_at : ℕ → Refusal → GraphFault
-fault_at number (refusals.Fault (Code code)) = graph_faults.At number code
-fault_at number (refusals.Fault (Bytes offset code)) = graph_faults.Bytes number offset code
-fault_at number (refusals.Fault (IllTyped offset)) = graph_faults.IllTyped number offset
-fault_at number refusals.Memory = graph_faults.Memory
+abbrev pub graph_fault_at : ℕ → Refusal → GraphFault
+graph_fault_at number (refusals.Fault (Code code)) = graph_faults.At number code
+graph_fault_at number (refusals.Fault (Bytes offset code)) = graph_faults.Bytes number offset code
+graph_fault_at number (refusals.Fault (IllTyped offset)) = graph_faults.IllTyped number offset
+graph_fault_at number refusals.Memory = graph_faults.Memory
 
 -- Under a table a line says one thing or has one fault, never both; so a text says one graph or has one first fault.
 abbrev pub LinesAreDefinite : Type 0

@@ -96,24 +96,24 @@ ReceivesNoHex (Step number (Recv name hex)) = hex_bytes hex ≡ None
 ReceivesNoHex other = ⊥
 
 -- The line breaks the rule of this code, behind lines that said this graph.
-abbrev pub Breaks : Nodes → Graph → Statement → GraphCode → Type 0
-Breaks table graph line Form = ⊥
-Breaks table graph line StepNumber = IsMisnumbered graph line
-Breaks table graph line NoSuchStep = NamesNoStep graph line
-Breaks table graph line NoSuchService = GoesNowhere graph line
-Breaks table graph line DuplicateService = Redeclares graph line
-Breaks table graph line WrongService = JoinsApart graph line
-Breaks table graph line NoSuchPath = NamesNoPath table line
-Breaks table graph line NotKnown = WritesUnknown table graph line
-Breaks table graph line BadValue = Miswrites table graph line
-Breaks table graph line BudgetRange = HasNoBudget graph line
-Breaks table graph line TooManySteps = IsOneTooMany graph line
-Breaks table graph line TooManyParents = JoinsTooMany line
-Breaks table graph line HexTooLong = ReceivesTooMuch line
-Breaks table graph line BadHex = ReceivesNoHex line
+abbrev pub StatementBreaks : Nodes → Graph → Statement → GraphCode → Type 0
+StatementBreaks table graph line Form = ⊥
+StatementBreaks table graph line StepNumber = IsMisnumbered graph line
+StatementBreaks table graph line NoSuchStep = NamesNoStep graph line
+StatementBreaks table graph line NoSuchService = GoesNowhere graph line
+StatementBreaks table graph line DuplicateService = Redeclares graph line
+StatementBreaks table graph line WrongService = JoinsApart graph line
+StatementBreaks table graph line NoSuchPath = NamesNoPath table line
+StatementBreaks table graph line NotKnown = WritesUnknown table graph line
+StatementBreaks table graph line BadValue = Miswrites table graph line
+StatementBreaks table graph line BudgetRange = HasNoBudget graph line
+StatementBreaks table graph line TooManySteps = IsOneTooMany graph line
+StatementBreaks table graph line TooManyParents = JoinsTooMany line
+StatementBreaks table graph line HexTooLong = ReceivesTooMuch line
+StatementBreaks table graph line BadHex = ReceivesNoHex line
 
 -- The rules in the order in which they count.
-abbrev pub rules : List GraphCode
-rules =
+abbrev pub graph_rules : List GraphCode
+graph_rules =
     StepNumber ∷ NoSuchStep ∷ NoSuchService ∷ DuplicateService ∷ WrongService ∷ NoSuchPath ∷ NotKnown ∷ BadValue
     ∷ BudgetRange ∷ TooManySteps ∷ TooManyParents ∷ HexTooLong ∷ BadHex ∷ []

@@ -1,7 +1,7 @@
 //! Why a text says no graph.
 
 ghost use Rattle.std.specs.Prelude.{◌≡◌};
-ghost use Rattle.graph_text.specs.Reading.{fault_at};
+ghost use Rattle.graph_text.specs.Reading.{graph_fault_at};
 
 use outside::Memory;
 use std::alloc::AllocFailed;
@@ -87,7 +87,7 @@ pub(crate) enum Refusal {
 impl Refusal {
     /// The refusal of a text whose line with this number is refused.
     pub(crate) fn at(self, line: u64) -> GraphFault
-        ensures { result ≡ fault_at line self }
+        ensures { result ≡ graph_fault_at line self }
     {
         match self {
             Refusal::Fault(LineFault::Code(code)) => GraphFault::At { line, code },

@@ -2,12 +2,12 @@
 
 ghost use Rattle.std.specs.Prelude.{◌≡◌, IfOk, IfErr};
 ghost use Rattle.trace_model.specs.Graphs.{IsOfTable};
-ghost use Rattle.graph_text.specs.Additions.{Addition, GrowsTo, IsRefused, with_addition};
-ghost use Rattle.graph_lines.specs.Forms.{IsSound};
+ghost use Rattle.graph_text.specs.Additions.{Addition, GrowsTo, IsRefusedStatement, with_addition};
+ghost use Rattle.graph_lines.specs.Forms.{IsSoundStatement};
 ghost use Rattle.graph_lines.specs.Statements as lines;
-ghost use Rattle.graph_lines.specs.Acts.{view_of, act_of, statement_of};
+ghost use Rattle.graph_lines.specs.Acts.{named_view_of, named_act_of, statement_of};
 ghost use Rattle.bag_model.specs.Shapes.{Nodes};
-ghost use Rattle.graph_text.specs.Reading.{SaysAddition, IsRefusedText, IsGraphOf, IsRefusalOf};
+ghost use Rattle.graph_text.specs.Reading.{SaysAddition, IsRefusedText, IsGraphOf, IsGraphRefusalOf};
 
 use crate::faults::{GraphCode, GraphFault, LineFault, Refusal};
 use crate::laws::texts_give_recorded_graphs;
@@ -31,8 +31,8 @@ impl<'a> Reader<'a> {
         name: &'a str,
         view: &NamedView<'_>,
     ) -> Result<Reader<'a>, Refusal>
-        ensures ok { IfOk result (GrowsTo table.now self.entry (lines.Service form name.now (view_of view.now))) }
-        ensures err { IfErr result (IsRefused table.now self.entry (lines.Service form name.now (view_of view.now))) }
+        ensures ok { IfOk result (GrowsTo table.now self.entry (lines.Service form name.now (named_view_of view.now))) }
+        ensures err { IfErr result (IsRefusedStatement table.now self.entry (lines.Service form name.now (named_view_of view.now))) }
     {
         self.check_new(name)?;
         let view = read_view(alloc, table, view)?;
@@ -53,9 +53,9 @@ impl<'a> Reader<'a> {
         number: u64,
         act: &NamedAct<'_>,
     ) -> Result<Reader<'a>, Refusal>
-        requires { IsSound (lines.Step number (act_of act.now)) }
-        ensures ok { IfOk result (GrowsTo table.now self.entry (lines.Step number (act_of act.now))) }
-        ensures err { IfErr result (IsRefused table.now self.entry (lines.Step number (act_of act.now))) }
+        requires { IsSoundStatement (lines.Step number (named_act_of act.now)) }
+        ensures ok { IfOk result (GrowsTo table.now self.entry (lines.Step number (named_act_of act.now))) }
+        ensures err { IfErr result (IsRefusedStatement table.now self.entry (lines.Step number (named_act_of act.now))) }
     {
         self.graph().known();
         let step = self.read_step(alloc, table, number, act)?;
@@ -66,7 +66,7 @@ impl<'a> Reader<'a> {
     /// What was said, with the step that a line shows.
     fn read_show(self, step: u64) -> Result<Reader<'a>, Refusal>
         ensures ok { (table : Nodes) → IfOk result (GrowsTo table self.entry (lines.Show step)) }
-        ensures err { (table : Nodes) → IfErr result (IsRefused table self.entry (lines.Show step)) }
+        ensures err { (table : Nodes) → IfErr result (IsRefusedStatement table self.entry (lines.Show step)) }
     {
         let step = self.earlier(step)?;
         let reader = self.with_show(step)?;
@@ -75,9 +75,9 @@ impl<'a> Reader<'a> {
 
     /// What was said, with what a line of this form says.
     fn read(self, alloc: Global, table: &Table, line: Statement<'a>) -> Result<Reader<'a>, Refusal>
-        requires { IsSound (statement_of line) }
+        requires { IsSoundStatement (statement_of line) }
         ensures ok { IfOk result (GrowsTo table.now self.entry (statement_of line.entry)) }
-        ensures err { IfErr result (IsRefused table.now self.entry (statement_of line.entry)) }
+        ensures err { IfErr result (IsRefusedStatement table.now self.entry (statement_of line.entry)) }
     {
         match line {
             Statement::Service { form, name, view } => {
@@ -105,7 +105,7 @@ impl<'a> Reader<'a> {
 /// The graph that the lines of a text say, one after another.
 fn read_lines(alloc: Global, table: &Table, text: &[u8]) -> Result<Graph, GraphFault>
     ensures graph { IfOk result (IsGraphOf table.now text.now) }
-    ensures fault { IfErr result (IsRefusalOf table.now text.now) }
+    ensures fault { IfErr result (IsGraphRefusalOf table.now text.now) }
 {
     let mut reader = Reader::new(alloc);
     for line in lines_of(text) {
@@ -124,7 +124,7 @@ fn read_lines(alloc: Global, table: &Table, text: &[u8]) -> Result<Graph, GraphF
 pub fn read_graph(alloc: Global, table: &Table, text: &[u8]) -> Result<Graph, GraphFault>
     ensures graph { IfOk result (IsGraphOf table.now text.now) }
     ensures table { IfOk result (IsOfTable table.now) }
-    ensures fault { IfErr result (IsRefusalOf table.now text.now) }
+    ensures fault { IfErr result (IsGraphRefusalOf table.now text.now) }
 {
     // They say that the table is one, and that a graph that a text says under it is one of the table.
     table.nodes();

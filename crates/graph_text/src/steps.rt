@@ -7,10 +7,10 @@ ghost use Rattle.bag_model.specs.Slots.{slots_of};
 ghost use Rattle.bag_value.specs.Vals.{plain};
 ghost use Rattle.graph_lines.specs.Forms.{IsSoundNamedAct};
 ghost use Rattle.graph_lines.specs.Statements as lines;
-ghost use Rattle.graph_lines.specs.Acts.{act_of};
+ghost use Rattle.graph_lines.specs.Acts.{named_act_of};
 ghost use Rattle.recorded_graph.specs.Plain.{step_of};
 ghost use Rattle.graph_text.specs.Names.{service_at};
-ghost use Rattle.graph_text.specs.Additions.{AddStep, FindsKnown, IsWriteAt, IsGood, IsNextStep, IsRefusedPath, IsRefusedWrite, IsRefused, IsRefusedNext};
+ghost use Rattle.graph_text.specs.Additions.{AddStep, FindsKnown, IsWriteAt, IsGoodStatement, IsNextStep, IsRefusedPath, IsRefusedWrite, IsRefusedStatement, IsRefusedNext};
 
 use crate::faults::{GraphCode, Refusal};
 use crate::reader::Reader;
@@ -222,9 +222,9 @@ impl<'a> Reader<'a> {
 
     /// The step that an act says, which is the next.
     fn next_step(&self, alloc: Global, table: &Table, act: &NamedAct<'_>) -> Result<Step, Refusal>
-        requires { IsSoundNamedAct (act_of act.now) }
-        ensures ok { IfOk result (λ step. IsNextStep table.now self.now (act_of act.now) (step_of step)) }
-        ensures err { IfErr result (IsRefusedNext table.now self.now (act_of act.now)) }
+        requires { IsSoundNamedAct (named_act_of act.now) }
+        ensures ok { IfOk result (λ step. IsNextStep table.now self.now (named_act_of act.now) (step_of step)) }
+        ensures err { IfErr result (IsRefusedNext table.now self.now (named_act_of act.now)) }
     {
         match act {
             NamedAct::Start { service } => self.start(service),
@@ -249,10 +249,10 @@ impl<'a> Reader<'a> {
         number: u64,
         act: &NamedAct<'_>,
     ) -> Result<Step, Refusal>
-        requires { IsSoundNamedAct (act_of act.now) }
-        ensures ok { IfOk result (λ step. IsGood table.now self.now
-            (lines.Step number (act_of act.now)) (AddStep (step_of step))) }
-        ensures err { IfErr result (IsRefused table.now self.now (lines.Step number (act_of act.now))) }
+        requires { IsSoundNamedAct (named_act_of act.now) }
+        ensures ok { IfOk result (λ step. IsGoodStatement table.now self.now
+            (lines.Step number (named_act_of act.now)) (AddStep (step_of step))) }
+        ensures err { IfErr result (IsRefusedStatement table.now self.now (lines.Step number (named_act_of act.now))) }
     {
         self.check_number(number)?;
         self.next_step(alloc, table, act)

@@ -6,7 +6,7 @@ ghost use Rattle.std.specs.Ordering.{nat_cmp};
 ghost use Rattle.context_model.specs.Orders.{IsIn, Rises};
 ghost use Rattle.field_table.specs.Views as tables;
 ghost use Rattle.graph_lines.specs.Statements as lines;
-ghost use Rattle.graph_lines.specs.Acts.{view_of};
+ghost use Rattle.graph_lines.specs.Acts.{named_view_of};
 ghost use Rattle.graph_text.specs.Additions.{InSome, MeansView, AreRangesOf, IsRefusedView};
 ghost use Rattle.graph_text.specs.Rules.{MissesPath};
 
@@ -63,9 +63,9 @@ pub(crate) fn read_view(
     table: &Table,
     named: &NamedView<'_>,
 ) -> Result<View, Refusal>
-    ensures paths { IfOk result (λ _. MissesPath table.now (view_of named.now) → ⊥) }
-    ensures ok { IfOk result (λ view. MeansView table.now (view_of named.now) (tables.view_of view)) }
-    ensures err { IfErr result (IsRefusedView table.now (view_of named.now)) }
+    ensures paths { IfOk result (λ _. MissesPath table.now (named_view_of named.now) → ⊥) }
+    ensures ok { IfOk result (λ view. MeansView table.now (named_view_of named.now) (tables.plain_view_of view)) }
+    ensures err { IfErr result (IsRefusedView table.now (named_view_of named.now)) }
 {
     match named {
         NamedView::All => Ok(View::All),

@@ -16,8 +16,8 @@ use Rattle.std.specs.Str.Parse.{AllDigits}
 use Rattle.context_model.specs.declared.Form.TheVariants.{One, Two}
 use Rattle.text_lines.specs.Lines.{Line, numbered, is_skipped, kept, lines_of}
 use Rattle.graph_lines.specs.Statements.{Statement, Start, Recv, Set, Branch, Forward, Trim, Join, Service, Step, Show}
-use Rattle.graph_lines.specs.Forms.{words_of}
-use Rattle.load_maker.specs.Loads.{text_of}
+use Rattle.graph_lines.specs.Forms.{statement_words}
+use Rattle.load_maker.specs.Loads.{statements_text}
 
 -- The byte is a space or a visible one, or at least not one that ends a line.
 abbrev pub IsClean : ℕ → Type 0
@@ -97,25 +97,25 @@ line_before line rest h =
 
 -- The words of a statement, with one space between two of them.
 abbrev pub words_text : Statement → List ℕ
-words_text statement = join_with_byte 32 (words_of statement)
+words_text statement = join_with_byte 32 (statement_words statement)
 
 -- The words of each statement are clean.
 abbrev pub SayClean : List Statement → Type 0
 SayClean statements = AllByRecursion (λ statement. AreClean (words_text statement)) statements
 
-text-more : (line : Statement) (rest : List Statement) → text_of (line ∷ rest) ≡ words_text line ++ 10 ∷ text_of rest
-unfolding text_of
-text-more line rest = append_assoc (words_text line) (10 ∷ []) (text_of rest)
+text-more : (line : Statement) (rest : List Statement) → statements_text (line ∷ rest) ≡ words_text line ++ 10 ∷ statements_text rest
+unfolding statements_text
+text-more line rest = append_assoc (words_text line) (10 ∷ []) (statements_text rest)
 
-text-none : text_of [] ≡ []
-unfolding text_of
+text-none : statements_text [] ≡ []
+unfolding statements_text
 text-none = refl
 
-each_line : (statements : List Statement) → SayClean statements → lines (text_of statements) ≡ map words_text statements
+each_line : (statements : List Statement) → SayClean statements → lines (statements_text statements) ≡ map words_text statements
 each_line [] h = ap lines text-none
 each_line (line ∷ rest) h =
     ap lines (text-more line rest)
-    ∙ line_before (words_text line) (text_of rest) h.0
+    ∙ line_before (words_text line) (statements_text rest) h.0
     ∙ ap (λ (more : List (List ℕ)). words_text line ∷ more) (each_line rest h.1)
 
 not_skipped : (b : ℕ) (rest : List ℕ) → (b == 35) ≡ false → is_skipped (b ∷ rest) ≡ false
@@ -140,6 +140,6 @@ all_kept number (line ∷ rest) =
     ∙ ap (λ (more : List Line). (number, words_text line) ∷ more) (all_kept (number + 1) rest)
 
 -- The lines of a text of clean statements are those of the statements.
-pub lines_said : (statements : List Statement) → SayClean statements → lines_of (text_of statements) ≡ numbered 1 (map words_text statements)
+pub lines_said : (statements : List Statement) → SayClean statements → lines_of (statements_text statements) ≡ numbered 1 (map words_text statements)
 unfolding lines_of
 lines_said statements h = ap (λ (every : List (List ℕ)). kept (numbered 1 every)) (each_line statements h) ∙ all_kept 1 statements

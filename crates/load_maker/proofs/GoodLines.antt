@@ -14,9 +14,9 @@ use Rattle.trace_model.specs.Graphs.{Graph, form_at, form_of_service, view_at, v
 use Rattle.write_text.specs.Writes.{IsWrite}
 use Rattle.recorded_graph.specs.declared.graphs.TheConstants.{STEPS_MAX}
 use Rattle.graph_lines.specs.Statements.{NamedAct, Statement, Set, Branch, Forward, Join, Step}
-use Rattle.graph_lines.specs.Forms.{IsNumber, IsName, IsPath, IsSound}
+use Rattle.graph_lines.specs.Forms.{IsNumber, IsName, IsPath, IsSoundStatement}
 use Rattle.graph_text.specs.declared.TheConstants.{PARENTS_MAX}
-use Rattle.graph_text.specs.Additions.{Addition, AddStep, IsGood, with_addition}
+use Rattle.graph_text.specs.Additions.{Addition, AddStep, IsGoodStatement, with_addition}
 use Rattle.graph_text.specs.Names.{service_named}
 use Rattle.graph_text.specs.Rules.{NamesNoStep, WritesUnknown, Miswrites, JoinsApart}
 use Rattle.load_maker.specs.Loads.{load_table}
@@ -27,9 +27,9 @@ use Rattle.load_maker.proofs.Stages.{IsStage, Stands, stands_within}
 
 -- The statement is sound, its line is clean, and it is good behind the graph, to which it adds this.
 pub record MayAdd (graph : Graph) (line : Statement) (addition : Addition) : Type 0 where
-  pub sound : IsSound line
+  pub sound : IsSoundStatement line
   pub clean : AreClean (words_text line)
-  pub good : IsGood load_table graph line addition
+  pub good : IsGoodStatement load_table graph line addition
 
 -- The statements may be added to the graph one by one, and it is this one then.
 abbrev pub Grows : Graph → List Statement → Graph → Type 0

@@ -7,7 +7,7 @@ use Rattle.bag_model.specs.declared.Pick.TheVariants.{Least}
 use Rattle.bag_model.specs.Scalars as scalars
 use Rattle.bag_model.specs.Shapes.{Nodes, Scalar, Set, Counter, no_node, node}
 use Rattle.graph_lines.specs.Statements.{Statement, All, Nothing, Start, Set as Write, Branch, Forward, Join, Service, Step, Show}
-use Rattle.graph_lines.specs.Forms.{words_of}
+use Rattle.graph_lines.specs.Forms.{statement_words}
 
 -- The table of `bag Load { fixed32 least = 0; counter hits = 1; set<uint32> seen = 2; }`.
 abbrev pub load_table : Nodes
@@ -62,13 +62,13 @@ abbrev pub load_lines : ℕ → List Statement
 load_lines rounds = opening ++ in_order round_of rounds ++ Show (42 * rounds) ∷ []
 
 -- The line of a statement: its words with one space between two of them, and a line feed.
-abbrev pub line_of : Statement → List ℕ
-line_of statement = join_with_byte 32 (words_of statement) ++ 10 ∷ []
+abbrev pub statement_line : Statement → List ℕ
+statement_line statement = join_with_byte 32 (statement_words statement) ++ 10 ∷ []
 
 -- The lines of statements.
-unfoldable pub text_of : List Statement → List ℕ
-text_of statements = flat_map line_of statements
+unfoldable pub statements_text : List Statement → List ℕ
+statements_text statements = flat_map statement_line statements
 
 -- The text of the load.
 abbrev pub load_text : ℕ → List ℕ
-load_text rounds = text_of (load_lines rounds)
+load_text rounds = statements_text (load_lines rounds)

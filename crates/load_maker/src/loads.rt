@@ -7,7 +7,7 @@ ghost use Rattle.std.specs.Prelude.{◌≡◌, ◌++◌, ◌*◌, ◌<◌, ◌�
 ghost use Rattle.bag_model.specs.Shapes.{fields};
 ghost use Rattle.field_table.specs.Plain.{nodes_of, shape_of, IsIndexed, IsIndexedShape};
 ghost use Rattle.load_maker.specs.declared.TheConstants.{ROUNDS_MAX};
-ghost use Rattle.load_maker.specs.Loads.{load_table, lane_of, join_of, end_of, round_of, load_text, line_of, text_of};
+ghost use Rattle.load_maker.specs.Loads.{load_table, lane_of, join_of, end_of, round_of, load_text, statement_line, statements_text};
 
 use field_table::{Shape, Slot, Slots, Table};
 use outside::{Memory, Text};
@@ -61,11 +61,11 @@ fn make_table(alloc: Global) -> Result<Table, Memory>
 }
 
 /// Appends the lines of a lane of a round: a branch, a write to each field, and a step to the second service.
-#[tactic(auto, unfolding(crate::specs::Loads::text_of))]
+#[tactic(auto, unfolding(crate::specs::Loads::statements_text))]
 fn put_lane(text: &mut String, round: u32, lane: u32) -> Result<(), Memory>
     requires round { round < ROUNDS_MAX }
     requires lane { lane < 8 }
-    ensures { OnOk result (string_bytes text.new ≡ string_bytes text.old ++ text_of (lane_of round lane)) }
+    ensures { OnOk result (string_bytes text.new ≡ string_bytes text.old ++ statements_text (lane_of round lane)) }
 {
     let start = 42 * round;
     let step = start + 5 * lane;
@@ -88,7 +88,7 @@ fn put_lane(text: &mut String, round: u32, lane: u32) -> Result<(), Memory>
 /// Appends the line that joins the lanes of a round, which begins at this step.
 fn put_join(text: &mut String, start: u32) -> Result<(), Memory>
     requires { start < 42 * ROUNDS_MAX }
-    ensures { OnOk result (string_bytes text.new ≡ string_bytes text.old ++ line_of (join_of start)) }
+    ensures { OnOk result (string_bytes text.new ≡ string_bytes text.old ++ statement_line (join_of start)) }
 {
     writeln!(
         text,
@@ -107,10 +107,10 @@ fn put_join(text: &mut String, start: u32) -> Result<(), Memory>
 }
 
 /// Appends the lines that end a round: its lanes are joined, and what they say goes back to the first service.
-#[tactic(auto, unfolding(crate::specs::Loads::text_of))]
+#[tactic(auto, unfolding(crate::specs::Loads::statements_text))]
 fn put_end(text: &mut String, round: u32) -> Result<(), Memory>
     requires { round < ROUNDS_MAX }
-    ensures { OnOk result (string_bytes text.new ≡ string_bytes text.old ++ text_of (end_of round)) }
+    ensures { OnOk result (string_bytes text.new ≡ string_bytes text.old ++ statements_text (end_of round)) }
 {
     let start = 42 * round;
     put_join(text, start)?;
@@ -121,7 +121,7 @@ fn put_end(text: &mut String, round: u32) -> Result<(), Memory>
 /// Appends the lines of a round.
 fn put_round(text: &mut String, round: u32) -> Result<(), Memory>
     requires { round < ROUNDS_MAX }
-    ensures { OnOk result (string_bytes text.new ≡ string_bytes text.old ++ text_of (round_of round)) }
+    ensures { OnOk result (string_bytes text.new ≡ string_bytes text.old ++ statements_text (round_of round)) }
 {
     for lane in 0..8 {
         put_lane(text, round, lane)?;

@@ -1,7 +1,7 @@
 //! Graphs with an order, and graphs with nodes that reach themselves.
 
 ghost use Rattle.std.specs.Prelude.{◌<◌, All, IsTrue};
-ghost use Rattle.topological_order.specs.Graphs.{graph_of, IsClosed};
+ghost use Rattle.topological_order.specs.Graphs.{edge_lists_of, IsClosed};
 
 use outside::Memory;
 use std::alloc::Global;
@@ -47,7 +47,7 @@ fn is_within(row: &[usize], len: usize) -> bool
 }
 
 fn is_closed(graph: &[Vec<usize>]) -> bool
-    ensures { IsTrue result → IsClosed (graph_of graph.now) }
+    ensures { IsTrue result → IsClosed (edge_lists_of graph.now) }
 {
     for row in graph {
         if !is_within(row, graph.len()) {

@@ -1,6 +1,6 @@
 -- The graphs of the code as plain ones.
 use Rattle.std.specs.Prelude.{ℕ, ◌≤◌, List, length, map}
-use Rattle.field_table.specs.Views.{view_of}
+use Rattle.field_table.specs.Views.{plain_view_of}
 use Rattle.bag_value.specs.Vals.{plain}
 use Rattle.trace_model.specs.Graphs as model
 use Rattle.recorded_graph.specs.declared.graphs.TheConstants.{STEPS_MAX}
@@ -21,7 +21,7 @@ act_of (Join parents) = model.Act.Join parents
 
 -- The plain service.
 abbrev pub service_of : Service → model.Service
-service_of service = record { name = service.name; form = service.form; view = view_of service.view }
+service_of service = record { name = service.name; form = service.form; view = plain_view_of service.view }
 
 -- The plain step.
 abbrev pub step_of : Step → model.Step

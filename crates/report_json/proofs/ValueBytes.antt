@@ -14,7 +14,7 @@ use Rattle.hex.specs.Hex.{encode_lower}
 use Rattle.context_model.specs.KeyedMerge.{EachPair}
 use Rattle.bag_model.specs.declared.Pick.{Pick}
 use Rattle.bag_model.specs.Scalars as scalars
-use Rattle.bag_model.specs.Scalars.{SpellingForm, Word, ScalarKind, ScalarValue, Plain, Truth, Signed, Unsigned, Text, Octets, IsOfForm, IsPlainOf, ArePlainsOf, IsScalarOf, form_of}
+use Rattle.bag_model.specs.Scalars.{SpellingForm, Word, ScalarKind, ScalarValue, Plain, Truth, Signed, Unsigned, Text, Octets, IsOfForm, IsPlainOf, ArePlainsOf, IsScalarOf, spelling_form_of}
 use Rattle.bag_model.specs.Shapes.{Shape, Nodes, no_node, node}
 use Rattle.bag_model.specs.Tables.{IsShape, AreFields}
 use Rattle.bag_model.specs.Values.{Value, Entries, Values, no_entry, entry, no_value, value, pairs, IsOfShape, AreOfShapes}
@@ -94,7 +94,7 @@ plain_utf8 word (Truth true) h = literal_utf8 (codes "true") refl
 plain_utf8 word (Truth false) h = literal_utf8 (codes "false") refl
 plain_utf8 word (Signed z) h = signed_utf8 z
 plain_utf8 word (Unsigned n) h = decimal_utf8 n
-plain_utf8 word (Text bytes) h = quoted_utf8 bytes (text_utf8 (form_of word) bytes h)
+plain_utf8 word (Text bytes) h = quoted_utf8 bytes (text_utf8 (spelling_form_of word) bytes h)
 plain_utf8 word (Octets bytes) h = bytes_utf8 bytes
 
 plains_utf8 : (words : List Word) (vs : List Plain) → ArePlainsOf words vs → AllByRecursion IsUtf8 (map plain_text vs)

@@ -1,7 +1,7 @@
 -- What a kind's values spell: the same as the plain values of its word, or of its fields.
 use Rattle.std.proofs.Common.{◌≡◌, ◌↔◌, ℕ, List, Result, Ok, Err, IfOk, sym, refl, subst}
 use Rattle.bag_model.specs.Scalars as model
-use Rattle.bag_model.specs.Scalars.{Word, SpellingForm, form_of, IsOfForm, ArePlainsOf, IsScalarOf, plain_spelling, packed_spelling, spelling}
+use Rattle.bag_model.specs.Scalars.{Word, SpellingForm, spelling_form_of, IsOfForm, ArePlainsOf, IsScalarOf, plain_spelling, packed_spelling, spelling}
 use Rattle.scalar_types.specs.declared.kinds.ScalarKind.{ScalarKind}
 use Rattle.scalar_types.specs.declared.kinds.ScalarKind.TheVariants.{Packed}
 use Rattle.scalar_types.specs.declared.scalars.Scalar.{Scalar}
@@ -36,33 +36,33 @@ with_scalar kind bytes x s =
 -- ---- a word
 
 as_word : (word : Word) (bytes : List ℕ) (x : model.ScalarValue) → Spells (IsScalarOf (model.ScalarKind.One word)) (spelling (model.ScalarKind.One word)) bytes x
-    → IsSpelled (IsOfForm (form_of word)) (plain_spelling (form_of word)) bytes
+    → IsSpelled (IsOfForm (spelling_form_of word)) (plain_spelling (spelling_form_of word)) bytes
 as_word word bytes (model.ScalarValue.One v) s = (v, record { fit = s.fit; same = s.same })
 as_word word bytes (model.ScalarValue.Packed vs) s = absurd s.fit
 
-word_alone : (word : Word) (bytes : List ℕ) → IsSpelled (IsOfForm (form_of word)) (plain_spelling (form_of word)) bytes ↔ KindSpelled (model.ScalarKind.One word) bytes
+word_alone : (word : Word) (bytes : List ℕ) → IsSpelled (IsOfForm (spelling_form_of word)) (plain_spelling (spelling_form_of word)) bytes ↔ KindSpelled (model.ScalarKind.One word) bytes
 word_alone word bytes = (
   λ s. with_scalar (model.ScalarKind.One word) bytes (model.ScalarValue.One s.0) record { fit = s.1.fit; same = s.1.same },
   λ s. as_word word bytes (value_of s.0) record { fit = s.1.fit; same = s.1.same },
 )
 
-pub word_spelled : (kind : ScalarKind) (f : SpellingForm) → IsPlainWord kind → f ≡ form_of (word_of kind) → (bytes : List ℕ)
+pub word_spelled : (kind : ScalarKind) (f : SpellingForm) → IsPlainWord kind → f ≡ spelling_form_of (word_of kind) → (bytes : List ℕ)
     → IsSpelled (IsOfForm f) (plain_spelling f) bytes ↔ KindSpelled (kind_of kind) bytes
 word_spelled kind f h e bytes =
     subst (λ g. IsSpelled (IsOfForm g) (plain_spelling g) bytes ↔ KindSpelled (kind_of kind) bytes) (sym e)
-    (subst (λ k. IsSpelled (IsOfForm (form_of (word_of kind))) (plain_spelling (form_of (word_of kind))) bytes ↔ KindSpelled k bytes) (sym (word_kind kind h))
+    (subst (λ k. IsSpelled (IsOfForm (spelling_form_of (word_of kind))) (plain_spelling (spelling_form_of (word_of kind))) bytes ↔ KindSpelled k bytes) (sym (word_kind kind h))
     (word_alone (word_of kind) bytes))
 
-word_spells : (kind : ScalarKind) (f : SpellingForm) → IsPlainWord kind → f ≡ form_of (word_of kind) → (bytes : List ℕ) (v : Scalar) → IsPlain v
+word_spells : (kind : ScalarKind) (f : SpellingForm) → IsPlainWord kind → f ≡ spelling_form_of (word_of kind) → (bytes : List ℕ) (v : Scalar) → IsPlain v
     → Spells (IsOfForm f) (plain_spelling f) bytes (plain_of v) → SpellsKind (kind_of kind) bytes v
 word_spells kind f h e bytes v p s =
-    let formed : Spells (IsOfForm (form_of (word_of kind))) (plain_spelling (form_of (word_of kind))) bytes (plain_of v) = subst (λ g. Spells (IsOfForm g) (plain_spelling g) bytes (plain_of v)) e s in
+    let formed : Spells (IsOfForm (spelling_form_of (word_of kind))) (plain_spelling (spelling_form_of (word_of kind))) bytes (plain_of v) = subst (λ g. Spells (IsOfForm g) (plain_spelling g) bytes (plain_of v)) e s in
     let alone : Spells (IsScalarOf (model.ScalarKind.One (word_of kind))) (spelling (model.ScalarKind.One (word_of kind))) bytes (model.ScalarValue.One (plain_of v)) = record { fit = formed.fit; same = formed.same } in
     let valued : Spells (IsScalarOf (model.ScalarKind.One (word_of kind))) (spelling (model.ScalarKind.One (word_of kind))) bytes (value_of v) =
     subst (Spells (IsScalarOf (model.ScalarKind.One (word_of kind))) (spelling (model.ScalarKind.One (word_of kind))) bytes) (sym (plain_value v p)) alone in
     subst (λ k. SpellsKind k bytes v) (sym (word_kind kind h)) record { fit = valued.fit; same = valued.same }
 
-pub word_taken : (kind : ScalarKind) (f : SpellingForm) → IsPlainWord kind → f ≡ form_of (word_of kind) → (bytes : List ℕ) (r : Result Scalar TakeFault)
+pub word_taken : (kind : ScalarKind) (f : SpellingForm) → IsPlainWord kind → f ≡ spelling_form_of (word_of kind) → (bytes : List ℕ) (r : Result Scalar TakeFault)
     → IfOk r IsPlain → IfOk r (λ v. Spells (IsOfForm f) (plain_spelling f) bytes (plain_of v)) → IfOk r (SpellsKind (kind_of kind) bytes)
 word_taken kind f h e bytes (Ok v) p s = word_spells kind f h e bytes v p s
 word_taken kind f h e bytes (Err fault) p s = tt

@@ -1,7 +1,7 @@
 -- The walks over the fields of a struct, in terms of the fields that are left.
 use Rattle.std.proofs.lemmas.Bool.Decides.{nat_tests}
 use Rattle.std.proofs.Common.{◌≡◌, ◌↔◌, ℕ, Bool, IsTrue, ◌==◌, List, [], ◌∷◌, ◌++◌, map, length, sym, refl, ap, ◌∙◌, subst, append_assoc, arith}
-use Rattle.bag_model.specs.Scalars.{Word, SpellingForm, Plain, form_of, IsOfForm, ArePlainsOf, field_spelling, packed_spelling}
+use Rattle.bag_model.specs.Scalars.{Word, SpellingForm, Plain, spelling_form_of, IsOfForm, ArePlainsOf, field_spelling, packed_spelling}
 use Rattle.bag_model.proofs.Codes.{code_rest}
 use Rattle.bag_model.proofs.SpellingOrder.{field_code}
 use Rattle.scalar_types.specs.declared.kinds.ScalarKind.{ScalarKind}
@@ -35,9 +35,9 @@ fits-length words vs h = absurd h
 
 -- The first field of some bytes, by the kind's form.
 abbrev pub FirstField : ScalarKind → List ℕ → Plain → List ℕ → Type 0
-FirstField kind rest v after = Begins (IsOfForm (form_of (word_of kind))) (field_spelling (form_of (word_of kind))) rest v after
+FirstField kind rest v after = Begins (IsOfForm (spelling_form_of (word_of kind))) (field_spelling (spelling_form_of (word_of kind))) rest v after
 
-pub first_field : (kind : ScalarKind) (f : SpellingForm) → f ≡ form_of (word_of kind) → (rest : List ℕ) (v : Plain) (after : List ℕ)
+pub first_field : (kind : ScalarKind) (f : SpellingForm) → f ≡ spelling_form_of (word_of kind) → (rest : List ℕ) (v : Plain) (after : List ℕ)
     → Begins (IsOfForm f) (field_spelling f) rest v after → FirstField kind rest v after
 first_field kind f e rest v after b = subst (λ g. Begins (IsOfForm g) (field_spelling g) rest v after) e b
 
@@ -46,7 +46,7 @@ pub fields_more : (kind : ScalarKind) (kinds : List ScalarKind) (rest after : Li
     → FirstField kind rest v after → SpellsFields kinds after vs → SpellsFields (kind ∷ kinds) rest (v ∷ vs)
 fields_more kind kinds rest after v vs b s = record {
   fit = (b.fit, s.fit);
-  same = ap (λ l. field_spelling (form_of (word_of kind)) v ++ l) s.same ∙ b.same;
+  same = ap (λ l. field_spelling (spelling_form_of (word_of kind)) v ++ l) s.same ∙ b.same;
 }
 
 -- the fields behind the first one
@@ -60,12 +60,12 @@ fields_less kind kinds rest after v b s = by s.0 s.1
       ws,
       record {
         fit = s.fit.1;
-        same = code_rest (field_code (form_of (word_of kind))) w v (fields kinds ws) after s.fit.0 b.fit (s.same ∙ sym b.same);
+        same = code_rest (field_code (spelling_form_of (word_of kind))) w v (fields kinds ws) after s.fit.0 b.fit (s.same ∙ sym b.same);
       },
     )
 
 -- a field put behind others, and the fields behind it
-pub fields_put : (kind : ScalarKind) (kinds : List ScalarKind) (value : Scalar) (values : List Scalar) (f : SpellingForm) → f ≡ form_of (word_of kind)
+pub fields_put : (kind : ScalarKind) (kinds : List ScalarKind) (value : Scalar) (values : List Scalar) (f : SpellingForm) → f ≡ spelling_form_of (word_of kind)
     → (before after all : List ℕ) → after ≡ before ++ field_spelling f (plain_of value)
     → before ++ fields (kind ∷ kinds) (map plain_of (value ∷ values)) ≡ all → after ++ fields kinds (map plain_of values) ≡ all
 fields_put kind kinds value values f e before after all put so_far =

@@ -3,7 +3,7 @@
 ghost use Rattle.std.specs.Prelude.{map, IfOk};
 ghost use Rattle.bag_model.specs.NormalForm.{IsNormalOf};
 ghost use Rattle.bag_value.specs.Vals.{plain};
-ghost use Rattle.field_table.specs.Views.{view_of};
+ghost use Rattle.field_table.specs.Views.{plain_view_of};
 ghost use Rattle.recorded_graph.specs.Plain.{act_of};
 ghost use Rattle.trace_model.specs.Graphs.{parents_of, IsSoundAct, IsActOf, MayBeWritten};
 ghost use Rattle.trace_model.specs.Runs.{list_at, Gives, IsNormalMerge, IsNormalWrite};
@@ -30,7 +30,7 @@ fn normal_copy(
     view: &View,
     context: &Context,
 ) -> Result<Context, Memory>
-    ensures { IfOk result (IsNormalOf table.now (view_of view.now) context.now) }
+    ensures { IfOk result (IsNormalOf table.now (plain_view_of view.now) context.now) }
 {
     let copied = context.copy()?;
     normal(alloc, table, view, copied)
@@ -45,8 +45,8 @@ fn written(
     value: &Val,
     before: &Context,
 ) -> Result<Context, Memory>
-    requires { MayBeWritten table.now (view_of view.now) slot (plain value.now) }
-    ensures { IfOk result (IsNormalWrite table.now (view_of view.now) slot (plain value.now) before.now) }
+    requires { MayBeWritten table.now (plain_view_of view.now) slot (plain value.now) }
+    ensures { IfOk result (IsNormalWrite table.now (plain_view_of view.now) slot (plain value.now) before.now) }
 {
     let written = encode_slot(alloc, table, slot, value)?;
     let merged = merge(alloc, before, &written)?;
@@ -62,7 +62,7 @@ fn joined(
     places: &[usize],
 ) -> Result<Context, Memory>
     requires { AreWithinLists pool.now places.now }
-    ensures { IfOk result (IsNormalMerge table.now (view_of view.now) (map (list_at pool.now) places.now)) }
+    ensures { IfOk result (IsNormalMerge table.now (plain_view_of view.now) (map (list_at pool.now) places.now)) }
 {
     let merged = merge_alone(alloc, pool, places)?;
     normal(alloc, table, view, merged)
@@ -78,7 +78,7 @@ fn joined_beside<R: Threads + Sync>(
     places: &[usize],
 ) -> Result<Context, Memory>
     requires { AreWithinLists pool.now places.now }
-    ensures { IfOk result (IsNormalMerge table.now (view_of view.now) (map (list_at pool.now) places.now)) }
+    ensures { IfOk result (IsNormalMerge table.now (plain_view_of view.now) (map (list_at pool.now) places.now)) }
 {
     let merged = merge_all(rt, alloc, &Open, pool, places)?;
     normal(alloc, table, view, merged)
@@ -94,9 +94,9 @@ pub(crate) fn give(
     places: &[usize],
 ) -> Result<Context, Memory>
     requires sound { IsSoundAct service.now.form (act_of act.now) }
-    requires may { IsActOf table.now (view_of service.now.view) (act_of act.now) }
+    requires may { IsActOf table.now (plain_view_of service.now.view) (act_of act.now) }
     requires places { ArePlacesOf (parents_of (act_of act.now)) pool.now places.now }
-    ensures { IfOk result (Gives table.now service.now.form (view_of service.now.view) (act_of act.now) (map (list_at pool.now) places.now)) }
+    ensures { IfOk result (Gives table.now service.now.form (plain_view_of service.now.view) (act_of act.now) (map (list_at pool.now) places.now)) }
 {
     match act {
         Act::Start => Ok(Context::empty(alloc)),
@@ -131,9 +131,9 @@ pub(crate) fn give_beside<R: Threads + Sync>(
     places: &[usize],
 ) -> Result<Context, Memory>
     requires sound { IsSoundAct service.now.form (act_of act.now) }
-    requires may { IsActOf table.now (view_of service.now.view) (act_of act.now) }
+    requires may { IsActOf table.now (plain_view_of service.now.view) (act_of act.now) }
     requires places { ArePlacesOf (parents_of (act_of act.now)) pool.now places.now }
-    ensures { IfOk result (Gives table.now service.now.form (view_of service.now.view) (act_of act.now) (map (list_at pool.now) places.now)) }
+    ensures { IfOk result (Gives table.now service.now.form (plain_view_of service.now.view) (act_of act.now) (map (list_at pool.now) places.now)) }
 {
     match act {
         Act::Join { parents: _ } => joined_beside(rt, alloc, table, &service.view, pool, places),

@@ -11,9 +11,9 @@ use Rattle.field_table.specs.Plain.{nodes_of}
 use Rattle.text_lines.specs.Readings.{IsFirstOf, NoneOf}
 use Rattle.table_text.specs.declared.builder.Builder.{Builder}
 use Rattle.table_text.specs.declared.faults.TableCode.TheVariants.{Order, DuplicateField, TooDeep, TooManySlots}
-use Rattle.table_text.specs.Builder.{IsSoundBuilder, name_of, least_behind, depth_of, rows_so_far, rows_around}
+use Rattle.table_text.specs.Builder.{IsSoundBuilder, field_name_of, least_behind, depth_of, rows_so_far, rows_around}
 use Rattle.table_text.specs.Rows.{Row}
-use Rattle.table_text.specs.Rules.{siblings, level_at, IsOutOfOrder, Breaks, rules_of_bag}
+use Rattle.table_text.specs.Rules.{siblings, level_at, IsOutOfOrder, RowBreaks, rules_of_bag}
 use Rattle.table_text.proofs.Building.{around_start}
 use Rattle.table_text.proofs.RuleTests.{lines_back, row_name, order_broken, order_kept, named_line, line_named, found_in, in_found}
 use Rattle.table_text.proofs.Siblings.{IsStart, outermost, start_siblings, start_level}
@@ -39,44 +39,44 @@ here builder sound =
     }
 
 module _ (before : List Row) (level : ℕ) (fs : List Field) (count : ℕ) (row : Row) (is : IsHere before row.depth level fs count) where
-  pub breaks_order : row.number < least_behind fs → Breaks before row Order
+  pub breaks_order : row.number < least_behind fs → RowBreaks before row Order
   breaks_order less = subst (λ (l : List Row). IsOutOfOrder l row) (sym is.siblings_are) (order_broken row.depth fs row less)
 
-  pub keeps_order : least_behind fs ≤ row.number → Breaks before row Order → ⊥
+  pub keeps_order : least_behind fs ≤ row.number → RowBreaks before row Order → ⊥
   keeps_order most broken = order_kept row.depth fs row most (subst (λ (l : List Row). IsOutOfOrder l row) is.siblings_are broken)
 
-  pub breaks_name : list_any (bytes_eq row.name) (map name_of fs) ≡ true → Breaks before row DuplicateField
+  pub breaks_name : list_any (bytes_eq row.name) (map field_name_of fs) ≡ true → RowBreaks before row DuplicateField
   breaks_name found =
-      subst (λ (l : List Row). IsIn row.name (map row_name l)) (sym is.siblings_are) (named_line row.depth fs row.name (found_in row.name (map name_of fs) found))
+      subst (λ (l : List Row). IsIn row.name (map row_name l)) (sym is.siblings_are) (named_line row.depth fs row.name (found_in row.name (map field_name_of fs) found))
 
-  pub keeps_name : list_any (bytes_eq row.name) (map name_of fs) ≡ false → Breaks before row DuplicateField → ⊥
+  pub keeps_name : list_any (bytes_eq row.name) (map field_name_of fs) ≡ false → RowBreaks before row DuplicateField → ⊥
   keeps_name none broken =
       let there = line_named row.depth fs row.name (subst (λ (l : List Row). IsIn row.name (map row_name l)) is.siblings_are broken) in
-      let bad : true ≡ false = sym (in_found row.name (map name_of fs) there) ∙ none in cc bad
+      let bad : true ≡ false = sym (in_found row.name (map field_name_of fs) there) ∙ none in cc bad
 
-  pub new_name : (Breaks before row DuplicateField → ⊥) → IsIn row.name (map name_of fs) → ⊥
+  pub new_name : (RowBreaks before row DuplicateField → ⊥) → IsIn row.name (map field_name_of fs) → ⊥
   new_name kept i = kept (subst (λ (l : List Row). IsIn row.name (map row_name l)) (sym is.siblings_are) (named_line row.depth fs row.name i))
 
-  pub breaks_levels : MAX_LEVELS ≤ level + levels_under row.shape → Breaks before row TooDeep
+  pub breaks_levels : MAX_LEVELS ≤ level + levels_under row.shape → RowBreaks before row TooDeep
   breaks_levels deep = omega (arith, deep, is.level_is)
 
-  pub keeps_levels : level + levels_under row.shape < MAX_LEVELS → Breaks before row TooDeep → ⊥
+  pub keeps_levels : level + levels_under row.shape < MAX_LEVELS → RowBreaks before row TooDeep → ⊥
   keeps_levels few broken = omega (arith, few, broken, is.level_is)
 
-  pub breaks_count : MAX_FIELDS ≤ count → Breaks before row TooManySlots
+  pub breaks_count : MAX_FIELDS ≤ count → RowBreaks before row TooManySlots
   breaks_count many = omega (arith, many, is.count_is)
 
-  pub keeps_count : count < MAX_FIELDS → Breaks before row TooManySlots → ⊥
+  pub keeps_count : count < MAX_FIELDS → RowBreaks before row TooManySlots → ⊥
   keeps_count few broken = omega (arith, few, broken, is.count_is)
 
   -- What a field that breaks no rule is.
   pub record MayStand : Type 0 where
     pub number : least_behind fs ≤ row.number
-    pub name : IsIn row.name (map name_of fs) → ⊥
+    pub name : IsIn row.name (map field_name_of fs) → ⊥
     pub levels : level + levels_under row.shape < MAX_LEVELS
     pub fewer : count < MAX_FIELDS
 
-  pub may_stand_here : NoneOf (Breaks before row) rules_of_bag → MayStand
+  pub may_stand_here : NoneOf (RowBreaks before row) rules_of_bag → MayStand
   may_stand_here none = record {
     number = not_less (least_behind fs) row.number (λ less. none.0 (breaks_order less));
     name = new_name none.1.0;
@@ -92,20 +92,20 @@ module _ (before : List Row) (level : ℕ) (fs : List Field) (count : ℕ) (row 
 
   -- ---- the first rule that is broken
 
-  pub order_first : row.number < least_behind fs → IsFirstOf (Breaks before row) rules_of_bag Order
+  pub order_first : row.number < least_behind fs → IsFirstOf (RowBreaks before row) rules_of_bag Order
   order_first less = inl (refl, breaks_order less)
 
-  pub name_first : least_behind fs ≤ row.number → list_any (bytes_eq row.name) (map name_of fs) ≡ true → IsFirstOf (Breaks before row) rules_of_bag DuplicateField
+  pub name_first : least_behind fs ≤ row.number → list_any (bytes_eq row.name) (map field_name_of fs) ≡ true → IsFirstOf (RowBreaks before row) rules_of_bag DuplicateField
   name_first most found = inr (keeps_order most, inl (refl, breaks_name found))
 
-  pub levels_first : least_behind fs ≤ row.number → list_any (bytes_eq row.name) (map name_of fs) ≡ false → MAX_LEVELS ≤ level + levels_under row.shape
-      → IsFirstOf (Breaks before row) rules_of_bag TooDeep
+  pub levels_first : least_behind fs ≤ row.number → list_any (bytes_eq row.name) (map field_name_of fs) ≡ false → MAX_LEVELS ≤ level + levels_under row.shape
+      → IsFirstOf (RowBreaks before row) rules_of_bag TooDeep
   levels_first most none deep = inr (keeps_order most, inr (keeps_name none, inl (refl, breaks_levels deep)))
 
-  pub count_first : least_behind fs ≤ row.number → list_any (bytes_eq row.name) (map name_of fs) ≡ false → level + levels_under row.shape < MAX_LEVELS → MAX_FIELDS ≤ count
-      → IsFirstOf (Breaks before row) rules_of_bag TooManySlots
+  pub count_first : least_behind fs ≤ row.number → list_any (bytes_eq row.name) (map field_name_of fs) ≡ false → level + levels_under row.shape < MAX_LEVELS → MAX_FIELDS ≤ count
+      → IsFirstOf (RowBreaks before row) rules_of_bag TooManySlots
   count_first most none few many = inr (keeps_order most, inr (keeps_name none, inr (keeps_levels few, inl (refl, breaks_count many))))
 
-  pub none_broken : least_behind fs ≤ row.number → list_any (bytes_eq row.name) (map name_of fs) ≡ false → level + levels_under row.shape < MAX_LEVELS → count < MAX_FIELDS
-      → NoneOf (Breaks before row) rules_of_bag
+  pub none_broken : least_behind fs ≤ row.number → list_any (bytes_eq row.name) (map field_name_of fs) ≡ false → level + levels_under row.shape < MAX_LEVELS → count < MAX_FIELDS
+      → NoneOf (RowBreaks before row) rules_of_bag
   none_broken most none few fewer = (keeps_order most, (keeps_name none, (keeps_levels few, (keeps_count fewer, tt))))

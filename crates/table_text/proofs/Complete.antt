@@ -10,9 +10,9 @@ use Rattle.bag_model.specs.Shapes.{Shape, Nodes, Field, fields, Taint, Scalar, S
 use Rattle.bag_model.specs.Tables.{IsShape, AreFields, IsTable, is_name, levels, levels_under, node_count, nodes_under}
 use Rattle.text_lines.specs.Lines.{numbered}
 use Rattle.text_lines.specs.Readings.{AllSay}
-use Rattle.table_text.specs.Builder.{IsFieldBehind, name_of, least_behind}
+use Rattle.table_text.specs.Builder.{IsFieldBehind, field_name_of, least_behind}
 use Rattle.table_text.specs.Rows.{Row, SaysRow}
-use Rattle.table_text.specs.Rules.{deepest, ends_in_bag, IsGood, field_lines}
+use Rattle.table_text.specs.Rules.{deepest, ends_in_bag, IsGoodRow, field_lines}
 use Rattle.text_lines.specs.FedLines.{fed_lines}
 use Rattle.table_text.specs.Reading.{lines_behind}
 use Rattle.table_text.specs.TableRows.{told, told_row, rows_of, rows_in}
@@ -29,7 +29,7 @@ use Rattle.table_text.proofs.ToldShapes.{told_is_told, told_levels, told_maps}
 -- Behind these lines each of the next says what it is printed for.
 abbrev pub AllGood : List Row → List Row → Type 0
 AllGood earlier [] = Unit {0}
-AllGood earlier (row ∷ rows) = IsGood (reverse earlier) (row_line row) row × AllGood (earlier ++ row ∷ []) rows
+AllGood earlier (row ∷ rows) = IsGoodRow (reverse earlier) (row_line row) row × AllGood (earlier ++ row ∷ []) rows
 
 good_append : (earlier xs ys : List Row) → AllGood earlier xs → AllGood (earlier ++ xs) ys → AllGood earlier (xs ++ ys)
 good_append earlier [] ys p q = subst (λ (l : List Row). AllGood l ys) (append-nil earlier) q
@@ -90,7 +90,7 @@ least_low [] name number all = omega arith
 least_low (f ∷ []) name number all = omega (arith, all.0.0)
 least_low (f ∷ g ∷ more) name number all = least_low (g ∷ more) name number all.1
 
-name_new : (fs : List Field) (name : List ℕ) (number : ℕ) → AllByRecursion (IsFieldBehind name number) fs → IsIn name (map name_of fs) → ⊥
+name_new : (fs : List Field) (name : List ℕ) (number : ℕ) → AllByRecursion (IsFieldBehind name number) fs → IsIn name (map field_name_of fs) → ⊥
 name_new [] name number all i = i
 name_new (f ∷ fs) name number all (inl e) = all.0.1 (sym e)
 name_new (f ∷ fs) name number all (inr i) = name_new fs name number all.1 i
@@ -141,7 +141,7 @@ pub record IsPoint (base : List Row) (depth level : ℕ) : Type 0 where
 one_good : (base : List Row) (depth level : ℕ) (front : Nodes) (first : Field) → IsPoint base depth level → depth ≤ deepest (reverse (base ++ rows_of depth front))
     → is_name first.name ≡ true → first.number < 2 ^ 16 → IsShape first.shape → AllByRecursion (IsFieldBehind first.name first.number) (fields front)
     → level + (1 + levels_under first.shape) ≤ MAX_LEVELS → length (base ++ rows_of depth front) < MAX_FIELDS
-    → IsGood (reverse (base ++ rows_of depth front)) (row_line (row_at depth first)) (row_at depth first)
+    → IsGoodRow (reverse (base ++ rows_of depth front)) (row_line (row_at depth first)) (row_at depth first)
 one_good base depth level front first point deep named numbered shaped behind few room =
     let earlier = base ++ rows_of depth front in
     let here : IsHere (reverse earlier) depth level (fields front) (length earlier) = record {
@@ -153,7 +153,7 @@ one_good base depth level front first point deep named numbered shaped behind fe
       (
         λ (broken : deepest (reverse earlier) < depth). omega (arith, deep, broken),
         none_broken (reverse earlier) level (fields front) (length earlier) (row_at depth first) here (least_low (fields front) first.name first.number behind)
-            (not_found first.name (map name_of (fields front)) (name_new (fields front) first.name first.number behind)) (omega (arith, told_levels first.shape, few)) room,
+            (not_found first.name (map field_name_of (fields front)) (name_new (fields front) first.name first.number behind)) (omega (arith, told_levels first.shape, few)) room,
       ),
     )
 

@@ -4,21 +4,21 @@ use Rattle.text_lines.specs.Readings.{IsDefinite, IsFirstBad, IsFirstOf, NoneOf}
 use Rattle.text_lines.proofs.ReadingLaws.{first_of_one, first_of_none, first_bad_one}
 use Rattle.table_text.specs.declared.faults.TableCode.{TableCode}
 use Rattle.table_text.specs.Rows.{Row}
-use Rattle.table_text.specs.Rules.{Breaks, rules, IsGood, IsBad, field_lines}
-use Rattle.table_text.specs.Reading.{head, lines_behind, IsHeadFault, IsTableFault}
+use Rattle.table_text.specs.Rules.{RowBreaks, table_rules, IsGoodRow, IsBadRow, field_lines}
+use Rattle.table_text.specs.Reading.{head_line, lines_behind, IsHeadFault, IsTableFault}
 use Rattle.table_text.proofs.OneShape.{one_row}
 
-one_bad : (before : List Row) (text : List ℕ) (c d : TableCode) → IsBad before text c → IsBad before text d → c ≡ d
+one_bad : (before : List Row) (text : List ℕ) (c d : TableCode) → IsBadRow before text c → IsBadRow before text d → c ≡ d
 one_bad before text c d (inl p) (inl q) = p.1 ∙ sym q.1
 one_bad before text c d (inl p) (inr (row, says, first)) = absurd (p.0 row says)
 one_bad before text c d (inr (row, says, first)) (inl q) = absurd (q.0 row says)
 one_bad before text c d (inr (row, says, first)) (inr (other, also, next)) =
-    first_of_one (Breaks before row) rules c d first (subst (λ r. IsFirstOf (Breaks before r) rules d) (one_row text other row also says) next)
+    first_of_one (RowBreaks before row) table_rules c d first (subst (λ r. IsFirstOf (RowBreaks before r) table_rules d) (one_row text other row also says) next)
 
-good_not_bad_line : (before : List Row) (text : List ℕ) (row : Row) (c : TableCode) → IsGood before text row → IsBad before text c → ⊥
+good_not_bad_line : (before : List Row) (text : List ℕ) (row : Row) (c : TableCode) → IsGoodRow before text row → IsBadRow before text c → ⊥
 good_not_bad_line before text row c good (inl p) = p.0 row good.0
 good_not_bad_line before text row c good (inr (other, also, first)) =
-    first_of_none (Breaks before other) rules c (subst (λ r. NoneOf (Breaks before r) rules) (one_row text row other good.0 also) good.1) first
+    first_of_none (RowBreaks before other) table_rules c (subst (λ r. NoneOf (RowBreaks before r) table_rules) (one_row text row other good.0 also) good.1) first
 
 pub is_definite : IsDefinite field_lines
 is_definite = record {
@@ -29,10 +29,10 @@ is_definite = record {
 
 -- ---- texts
 
-pub one_rest : (rest other : List ℕ) → head ++ 10 ∷ rest ≡ head ++ 10 ∷ other → rest ≡ other
+pub one_rest : (rest other : List ℕ) → head_line ++ 10 ∷ rest ≡ head_line ++ 10 ∷ other → rest ≡ other
 one_rest rest other e = cc e
 
-pub no_head_fault : (text rest : List ℕ) (code : TableCode) → text ≡ head ++ 10 ∷ rest → IsHeadFault text code → ⊥
+pub no_head_fault : (text rest : List ℕ) (code : TableCode) → text ≡ head_line ++ 10 ∷ rest → IsHeadFault text code → ⊥
 no_head_fault text rest code is (inl p) = p.1 rest is
 no_head_fault text rest code is (inr p) = omega (arith, ap length (sym p.0 ∙ is))
 

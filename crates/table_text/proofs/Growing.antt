@@ -11,12 +11,12 @@ use Rattle.table_text.specs.declared.builder.Builder.{Builder}
 use Rattle.table_text.specs.declared.builder.OpenBag.{OpenBag}
 use Rattle.table_text.specs.declared.builder.OpenField.{OpenField}
 use Rattle.table_text.specs.declared.rows.Row.{Row as CodeRow}
-use Rattle.table_text.specs.Builder.{IsSoundRow, IsBag, AreOpen, IsSoundBuilder, IsFresh, name_of, least_behind, head_of, level_inside, open_row, rows_around, rows_so_far, depth_of, IsFieldBehind}
+use Rattle.table_text.specs.Builder.{IsSoundRow, IsBag, AreOpen, IsSoundBuilder, IsFresh, field_name_of, least_behind, head_of, level_inside, open_row, rows_around, rows_so_far, depth_of, IsFieldBehind}
 use Rattle.table_text.specs.Names.{HaveNames}
 use Rattle.table_text.specs.Rows.{Row, IsToldShape}
-use Rattle.table_text.specs.Rules.{deepest, ends_in_bag, Breaks, rules_of_bag}
+use Rattle.table_text.specs.Rules.{deepest, ends_in_bag, RowBreaks, rules_of_bag}
 use Rattle.table_text.specs.TableRows.{filled, rows_of, rows_in}
-use Rattle.table_text.specs.Views.{row_of}
+use Rattle.table_text.specs.Views.{plain_row_of}
 use Rattle.table_text.proofs.Appended.{with_field, is_with, rows_with}
 use Rattle.table_text.proofs.BagRules.{IsHere, here, may_stand_here}
 use Rattle.table_text.proofs.Building.{no_fields, noted, whole, open_push, open_pop, around_push}
@@ -119,7 +119,7 @@ pub record IsNext (builder : Builder) (row : CodeRow) : Type 0 where
   pub row_is : IsSoundRow row
   pub depth : row.depth ≡ depth_of builder
   pub number : least_behind (fields (nodes_of builder.bag.fields)) ≤ row.number
-  pub name : IsIn row.name.now (map name_of (fields (nodes_of builder.bag.fields))) → ⊥
+  pub name : IsIn row.name.now (map field_name_of (fields (nodes_of builder.bag.fields))) → ⊥
   pub levels_fit : builder.bag.level + levels_under (shape_of row.shape) < MAX_LEVELS
   pub fewer : builder.rows < MAX_FIELDS
 
@@ -142,22 +142,22 @@ module _ (builder : Builder) (row : CodeRow) (bag : OpenBag) (next_row : IsNext 
   -- The line is that of a field with a bag.
   pub opened : (next : Builder) → ends_in_bag (shape_of row.shape) ≡ true → next.outer.items ≡ builder.outer.items ++ (record { bag = bag; row = row }) ∷ []
       → next.rows ≡ builder.rows + 1 → nodes_of next.bag.fields ≡ no_node → IsIndexed next.bag.fields → next.bag.names ≡ [] → next.bag.least ≡ 0
-      → next.bag.level ≡ bag.level + levels_under (shape_of row.shape) + 1 → IsGrown builder next (row_of row)
+      → next.bag.level ≡ bag.level + levels_under (shape_of row.shape) + 1 → IsGrown builder next (plain_row_of row)
   opened next ends outer rows empty indexed names least level =
       let field : OpenField = record { bag = bag; row = row } in
       let n = depth_of builder in
       let around = rows_around 0 builder.outer.items in
       let own = rows_of n (nodes_of builder.bag.fields) in
-      let line : open_row n field ≡ row_of row = ap (λ d. record { depth = d; name = row.name.now; number = row.number; shape = shape_of row.shape }) (sym next_row.depth) in
+      let line : open_row n field ≡ plain_row_of row = ap (λ d. record { depth = d; name = row.name.now; number = row.number; shape = shape_of row.shape }) (sym next_row.depth) in
       let kept : rows_of n (nodes_of bag.fields) ≡ own = ap (λ slots. rows_of n (nodes_of slots)) note.fields_same in
-      let all : rows_so_far next ≡ rows_so_far builder ++ row_of row ∷ [] =
+      let all : rows_so_far next ≡ rows_so_far builder ++ plain_row_of row ∷ [] =
       ap (λ (l : List OpenField). rows_around 0 l ++ rows_of (length l) (nodes_of next.bag.fields)) outer
       ∙ ap (λ (m : Nodes). rows_around 0 (builder.outer.items ++ field ∷ []) ++ rows_of (length (builder.outer.items ++ field ∷ [])) m) empty
       ∙ append-nil (rows_around 0 (builder.outer.items ++ field ∷ []))
       ∙ around_more builder.outer.items field
       ∙ ap (λ (l : List Row). around ++ (l ++ open_row n field ∷ [])) kept
       ∙ ap (λ (r : Row). around ++ (own ++ r ∷ [])) line
-      ∙ sym (append_assoc around own (row_of row ∷ []))
+      ∙ sym (append_assoc around own (plain_row_of row ∷ []))
       in
       let deep : depth_of next ≡ row.depth + 1 = omega (arith, ap length outer, longer builder.outer.items field, next_row.depth) in
       let inside : next.bag.level ≡ level_inside builder.bag.level field = omega (arith, level, note.level) in
@@ -170,34 +170,34 @@ module _ (builder : Builder) (row : CodeRow) (bag : OpenBag) (next_row : IsNext 
               (open_push 0 builder.outer.items builder.bag.level field next_row.sound.outer
               (record { bag = bag_noted; row = next_row.row_is; ends = ends; behind = behind; deep = next_row.levels_fit })));
           bag = no_fields next.bag next.bag.level empty indexed names least refl (omega (arith, inside, next_row.levels_fit));
-          count = count_more builder next (row_of row) next_row.sound all rows;
+          count = count_more builder next (plain_row_of row) next_row.sound all rows;
           few = omega (arith, rows, next_row.fewer);
         };
-        fresh = fresh_more builder next (row_of row) true all ends (sym deep);
+        fresh = fresh_more builder next (plain_row_of row) true all ends (sym deep);
       }
 
   -- The line is that of a field without a bag.
   pub added : (next : Builder) → ends_in_bag (shape_of row.shape) ≡ false → next.outer.items ≡ builder.outer.items
       → next.rows ≡ builder.rows + 1 → fields (nodes_of next.bag.fields) ≡ fields (nodes_of bag.fields) ++ head_of row ∷ []
-      → (IsIndexed bag.fields → IsIndexed next.bag.fields) → next.bag.names ≡ bag.names → next.bag.least ≡ bag.least → next.bag.level ≡ bag.level → IsGrown builder next (row_of row)
+      → (IsIndexed bag.fields → IsIndexed next.bag.fields) → next.bag.names ≡ bag.names → next.bag.least ≡ bag.least → next.bag.level ≡ bag.level → IsGrown builder next (plain_row_of row)
   added next ends outer rows more indexed names least level =
       let n = depth_of builder in
       let around = rows_around 0 builder.outer.items in
       let own = rows_of n (nodes_of builder.bag.fields) in
       let shape = shape_of row.shape in
       let with = is_with (nodes_of bag.fields) (nodes_of next.bag.fields) (head_of row) more in
-      let line : row_at n (head_of row) ≡ row_of row =
+      let line : row_at n (head_of row) ≡ plain_row_of row =
       ap (λ (s : Shape). record { depth = n; name = row.name.now; number = row.number; shape = s }) (told_told shape next_row.row_is.told)
       ∙ ap (λ d. record { depth = d; name = row.name.now; number = row.number; shape = shape }) (sym next_row.depth)
       in
-      let one : rows_of n (nodes_of next.bag.fields) ≡ own ++ row_of row ∷ [] =
+      let one : rows_of n (nodes_of next.bag.fields) ≡ own ++ plain_row_of row ∷ [] =
       ap (rows_of n) with ∙ rows_with n (nodes_of bag.fields) (head_of row)
       ∙ ap (λ slots. rows_of n (nodes_of slots) ++ row_at n (head_of row) ∷ rows_in (n + 1) shape) note.fields_same
-      ∙ ap (λ (r : Row). own ++ r ∷ rows_in (n + 1) shape) line ∙ ap (λ (l : List Row). own ++ row_of row ∷ l) (rows_told (n + 1) shape next_row.row_is.told)
+      ∙ ap (λ (r : Row). own ++ r ∷ rows_in (n + 1) shape) line ∙ ap (λ (l : List Row). own ++ plain_row_of row ∷ l) (rows_told (n + 1) shape next_row.row_is.told)
       in
-      let all : rows_so_far next ≡ rows_so_far builder ++ row_of row ∷ [] =
+      let all : rows_so_far next ≡ rows_so_far builder ++ plain_row_of row ∷ [] =
       ap (λ (l : List OpenField). rows_around 0 l ++ rows_of (length l) (nodes_of next.bag.fields)) outer
-      ∙ ap (λ (l : List Row). around ++ l) one ∙ sym (append_assoc around own (row_of row ∷ []))
+      ∙ ap (λ (l : List Row). around ++ l) one ∙ sym (append_assoc around own (plain_row_of row ∷ []))
       in
       let same : builder.bag.level ≡ next.bag.level = sym (level ∙ note.level) in
       record {
@@ -208,17 +208,17 @@ module _ (builder : Builder) (row : CodeRow) (bag : OpenBag) (next_row : IsNext 
               subst (λ l. IsBag next.bag l (fields (nodes_of next.bag.fields))) same
               (whole bag next.bag builder.bag.level (head_of row) (head_of row) bag_noted refl refl more (indexed bag_noted.indexed) names least level
               next_row.row_is.named next_row.row_is.numbered (is_shape_told shape next_row.row_is.told) behind (omega (arith, next_row.levels_fit)));
-          count = count_more builder next (row_of row) next_row.sound all rows;
+          count = count_more builder next (plain_row_of row) next_row.sound all rows;
           few = omega (arith, rows, next_row.fewer);
         };
-        fresh = fresh_more builder next (row_of row) false all ends (omega (arith, ap length outer, next_row.depth));
+        fresh = fresh_more builder next (plain_row_of row) false all ends (omega (arith, ap length outer, next_row.depth));
       }
 
 -- A line that breaks no rule is the next.
-pub is_next : (builder : Builder) (row : CodeRow) → IsSoundBuilder builder → IsSoundRow row → row.depth ≡ depth_of builder → NoneOf (Breaks (reverse (rows_so_far builder)) (row_of row)) rules_of_bag → IsNext builder row
+pub is_next : (builder : Builder) (row : CodeRow) → IsSoundBuilder builder → IsSoundRow row → row.depth ≡ depth_of builder → NoneOf (RowBreaks (reverse (rows_so_far builder)) (plain_row_of row)) rules_of_bag → IsNext builder row
 is_next builder row sound row_is depth good =
     let before = reverse (rows_so_far builder) in
     let fs = fields (nodes_of builder.bag.fields) in
     let is : IsHere before row.depth builder.bag.level fs builder.rows = subst (λ d. IsHere before d builder.bag.level fs builder.rows) (sym depth) (here builder sound) in
-    let may = may_stand_here before builder.bag.level fs builder.rows (row_of row) is good in
+    let may = may_stand_here before builder.bag.level fs builder.rows (plain_row_of row) is good in
     record { sound = sound; row_is = row_is; depth = depth; number = may.number; name = may.name; levels_fit = may.levels; fewer = may.fewer }

@@ -12,7 +12,7 @@ use Rattle.bag_model.specs.Tables.{IsScalarKind}
 use Rattle.bag_model.specs.Words.{word_text}
 use Rattle.table_text.specs.Rows.{Row, SaysRow, IsToldShape}
 use Rattle.table_text.specs.TableTexts.{kind_text, shape_text}
-use Rattle.table_text.specs.Words.{word_named}
+use Rattle.scalar_types.specs.Words.{word_named}
 use Rattle.table_text.proofs.Depths.{depth_free, number_free, same_number}
 use Rattle.table_text.proofs.Free.{same_parts, same_cut, unsnoc, pieces}
 use Rattle.table_text.proofs.NameBytes.{name_free}

@@ -18,7 +18,8 @@ use Rattle.scalar_types.specs.declared.kinds.ScalarKind as code
 use Rattle.scalar_types.specs.declared.kinds.ScalarKind.TheVariants as kinds
 use Rattle.scalar_types.specs.KindViews.{IsPlainWord, word_of, kind_of}
 use Rattle.table_text.specs.TableTexts.{kind_text, pick_word, shape_text}
-use Rattle.table_text.specs.Words.{IsFree, AreScalarWords, IsKindText, IsShapeText, word_named}
+use Rattle.scalar_types.specs.Words.{word_named}
+use Rattle.table_text.specs.Words.{IsFree, AreScalarWords, IsKindText, IsShapeText}
 use Rattle.table_text.specs.Shapes.{IsBareText, IsMapBehind}
 use Rattle.table_text.proofs.Free.{free_there, same_cut, unsnoc, pieces, pieces_joined}
 use Rattle.table_text.proofs.WordReads.{word_is, no_word}

@@ -7,7 +7,8 @@ use Rattle.std.proofs.lemmas.List.Folds.{list_any-append}
 use Rattle.std.proofs.lemmas.Slice.Eq.{bytes_eq-Decides}
 use Rattle.bag_model.specs.Scalars.{Word, Boolean, Int32, Int64, Sint32, Sint64, Uint32, Uint64, Fixed32, Fixed64, Sfixed32, Sfixed64, Str, Bytes}
 use Rattle.bag_model.specs.Words.{word_text, scalar_words, reserved_words}
-use Rattle.table_text.specs.Words.{keywords, word_among, word_named}
+use Rattle.scalar_types.specs.Words.{word_among, word_named}
+use Rattle.table_text.specs.Words.{keywords}
 
 -- Each word is the one with its text.
 pub word_back : (word : Word) → word_named (word_text word) ≡ Some word

@@ -17,6 +17,6 @@ table_code_name TooDeep = codes "TooDeep"
 table_code_name TooManySlots = codes "TooManySlots"
 
 -- The refusal of a text, by that of its line with this number.
-abbrev pub fault_at : ℕ → Refusal → TableFault
-fault_at line (refusals.Code code) = At line code
-fault_at line refusals.Memory = Memory
+abbrev pub table_fault_at : ℕ → Refusal → TableFault
+table_fault_at line (refusals.Code code) = At line code
+table_fault_at line refusals.Memory = Memory

@@ -14,25 +14,25 @@ abbrev pub lines_behind : List ℕ → List Line
 lines_behind rest = numbered 2 (fed_lines rest)
 
 -- The first line of each table's text, without its line feed.
-abbrev pub head : List ℕ
-head = codes "baggage table 1"
+abbrev pub head_line : List ℕ
+head_line = codes "baggage table 1"
 
 -- The first line is bad: it is another one, or all of the text and without its line feed.
 abbrev pub IsHeadFault : List ℕ → TableCode → Type 0
 IsHeadFault text code =
-    ((text ≢ head) × ((rest : List ℕ) → text ≢ head ++ 10 ∷ rest) × (code ≡ Head))
-    ⊎ ((text ≡ head) × (code ≡ Form))
+    ((text ≢ head_line) × ((rest : List ℕ) → text ≢ head_line ++ 10 ∷ rest) × (code ≡ Head))
+    ⊎ ((text ≡ head_line) × (code ≡ Form))
 
 -- The first bad line of the text has this number and this fault.
 abbrev pub IsTableFault : List ℕ → ℕ → TableCode → Type 0
 IsTableFault text line code =
     ((line ≡ 1) × IsHeadFault text code)
-    ⊎ ((rest : List ℕ) × (text ≡ head ++ 10 ∷ rest) × IsFirstBad field_lines (lines_behind rest) line code)
+    ⊎ ((rest : List ℕ) × (text ≡ head_line ++ 10 ∷ rest) × IsFirstBad field_lines (lines_behind rest) line code)
 
 -- The answer names the first fault; want of memory claims nothing.
-abbrev pub IsRefusalOf : List ℕ → TableFault → Type 0
-IsRefusalOf text (At line code) = IsTableFault text line code
-IsRefusalOf text Memory = Unit {0}
+abbrev pub IsTableRefusalOf : List ℕ → TableFault → Type 0
+IsTableRefusalOf text (At line code) = IsTableFault text line code
+IsTableRefusalOf text Memory = Unit {0}
 
 -- The answer names the first bad line behind the first; want of memory claims nothing.
 abbrev pub IsRefusalBehind : List ℕ → TableFault → Type 0

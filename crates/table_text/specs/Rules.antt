@@ -43,36 +43,36 @@ IsOutOfOrder [] row = ⊥
 IsOutOfOrder (other ∷ before) row = row.number ≤ other.number
 
 -- The line breaks the rule of this code behind these lines.
-abbrev pub Breaks : List Row → Row → TableCode → Type 0
-Breaks before row Head = ⊥
-Breaks before row Form = ⊥
-Breaks before row Depth = deepest before < row.depth
-Breaks before row Order = IsOutOfOrder (siblings row.depth before) row
-Breaks before row DuplicateField = IsIn row.name (map (λ other. other.name) (siblings row.depth before))
-Breaks before row TooDeep = MAX_LEVELS ≤ level_at row.depth before + levels_under row.shape
-Breaks before row TooManySlots = MAX_FIELDS ≤ length before
+abbrev pub RowBreaks : List Row → Row → TableCode → Type 0
+RowBreaks before row Head = ⊥
+RowBreaks before row Form = ⊥
+RowBreaks before row Depth = deepest before < row.depth
+RowBreaks before row Order = IsOutOfOrder (siblings row.depth before) row
+RowBreaks before row DuplicateField = IsIn row.name (map (λ other. other.name) (siblings row.depth before))
+RowBreaks before row TooDeep = MAX_LEVELS ≤ level_at row.depth before + levels_under row.shape
+RowBreaks before row TooManySlots = MAX_FIELDS ≤ length before
 
 -- The rules for a line whose depth may be, in the order in which they count.
 abbrev pub rules_of_bag : List TableCode
 rules_of_bag = Order ∷ DuplicateField ∷ TooDeep ∷ TooManySlots ∷ []
 
 -- The rules in the order in which they count.
-abbrev pub rules : List TableCode
-rules = Depth ∷ rules_of_bag
+abbrev pub table_rules : List TableCode
+table_rules = Depth ∷ rules_of_bag
 
 -- The line has the form of a field's and breaks no rule.
-abbrev pub IsGood : List Row → List ℕ → Row → Type 0
-IsGood before text row = SaysRow text row × NoneOf (Breaks before row) rules
+abbrev pub IsGoodRow : List Row → List ℕ → Row → Type 0
+IsGoodRow before text row = SaysRow text row × NoneOf (RowBreaks before row) table_rules
 
 -- The line hasn't the form, or this is the first rule that it breaks.
-abbrev pub IsBad : List Row → List ℕ → TableCode → Type 0
-IsBad before text code =
+abbrev pub IsBadRow : List Row → List ℕ → TableCode → Type 0
+IsBadRow before text code =
     (((row : Row) → SaysRow text row → ⊥) × (code ≡ Form))
-    ⊎ ((row : Row) × SaysRow text row × IsFirstOf (Breaks before row) rules code)
+    ⊎ ((row : Row) × SaysRow text row × IsFirstOf (RowBreaks before row) table_rules code)
 
 -- Lines say fields, each behind those before it.
 abbrev pub field_lines : Reading Row TableCode
 field_lines = record {
-  says = λ earlier text row. IsGood (reverse earlier) text row;
-  faults = λ earlier text code. IsBad (reverse earlier) text code;
+  says = λ earlier text row. IsGoodRow (reverse earlier) text row;
+  faults = λ earlier text code. IsBadRow (reverse earlier) text code;
 }

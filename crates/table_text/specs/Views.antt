@@ -6,12 +6,12 @@ use Rattle.table_text.specs.declared.faults.TableCode.TheVariants.{Form, Depth}
 use Rattle.table_text.specs.declared.faults.Refusal.{Refusal}
 use Rattle.table_text.specs.declared.faults.Refusal.TheVariants.{Code, Memory}
 use Rattle.table_text.specs.Rows.{Row, SaysRow}
-use Rattle.table_text.specs.Rules.{Breaks, rules, IsBad}
+use Rattle.table_text.specs.Rules.{RowBreaks, table_rules, IsBadRow}
 use Rattle.text_lines.specs.Readings.{IsFirstOf}
 
 -- What the line says.
-abbrev pub row_of : CodeRow → Row
-row_of row = record { depth = row.depth; name = row.name.now; number = row.number; shape = shape_of row.shape }
+abbrev pub plain_row_of : CodeRow → Row
+plain_row_of row = record { depth = row.depth; name = row.name.now; number = row.number; shape = shape_of row.shape }
 
 -- The line has no form, or a depth of more than 64 bits, or memory is wanting for it.
 abbrev pub HasNoRow : List ℕ → Refusal → Type 0
@@ -21,11 +21,11 @@ HasNoRow text (Code other) = ⊥
 HasNoRow text Memory = Unit {0}
 
 -- The line is refused behind these lines: it is bad, or memory is wanting for it.
-abbrev pub IsRefused : List Row → List ℕ → Refusal → Type 0
-IsRefused before text (Code code) = IsBad before text code
-IsRefused before text Memory = Unit {0}
+abbrev pub IsRefusedRow : List Row → List ℕ → Refusal → Type 0
+IsRefusedRow before text (Code code) = IsBadRow before text code
+IsRefusedRow before text Memory = Unit {0}
 
 -- A line that has the form is refused behind these lines: it breaks this rule first, or memory is wanting for it.
 abbrev pub IsAddRefused : List Row → Row → Refusal → Type 0
-IsAddRefused before row (Code code) = IsFirstOf (Breaks before row) rules code
+IsAddRefused before row (Code code) = IsFirstOf (RowBreaks before row) table_rules code
 IsAddRefused before row Memory = Unit {0}

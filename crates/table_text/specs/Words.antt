@@ -1,13 +1,12 @@
 -- What the words of a line are read as.
-use Rattle.std.specs.Prelude.{◌≡◌, ◌≢◌, ℕ, ◌^◌, ◌<◌, ◌≤◌, ◌==◌, false, if◌then◌else◌, Option, None, Some, List, [], ◌∷◌, ◌++◌, map, codes}
+use Rattle.std.specs.Prelude.{◌≡◌, ◌≢◌, ℕ, ◌^◌, ◌<◌, ◌≤◌, ◌==◌, false, List, [], ◌∷◌, ◌++◌, map, codes}
 use Rattle.std.specs.Fmt.{decimal}
 use Rattle.std.specs.List.{list_any, join_with_byte}
-use Rattle.std.specs.Str.{bytes_eq}
 use Rattle.bag_model.specs.Scalars as scalars
 use Rattle.bag_model.specs.Scalars.{Word}
 use Rattle.bag_model.specs.Shapes.{Shape}
 use Rattle.bag_model.specs.Tables.{IsScalarKind}
-use Rattle.bag_model.specs.Words.{scalar_words, word_text}
+use Rattle.bag_model.specs.Words.{word_text}
 use Rattle.table_text.specs.declared.faults.TableCode.{TableCode}
 use Rattle.table_text.specs.declared.faults.TableCode.TheVariants.{Form, Depth}
 use Rattle.table_text.specs.Rows.{IsToldShape, map_count, IsDepth}
@@ -22,15 +21,6 @@ abbrev pub keywords : List (List ℕ)
 keywords =
     codes "import" ∷ codes "bag" ∷ codes "struct" ∷ codes "set" ∷ codes "greatest" ∷ codes "map" ∷ codes "counter" ∷ codes "taint" ∷ codes "float"
     ∷ codes "double" ∷ []
-
--- The first of these words that has the text.
-abbrev pub word_among : List ℕ → List Word → Option Word
-word_among text [] = None
-word_among text (word ∷ words) = if bytes_eq text (word_text word) then Some word else word_among text words
-
--- The scalar word with this text.
-unfoldable pub word_named : List ℕ → Option Word
-word_named text = word_among text scalar_words
 
 -- The text is that of this number, which has 16 bits.
 abbrev pub IsFieldNumberText : List ℕ → ℕ → Type 0

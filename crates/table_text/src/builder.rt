@@ -9,9 +9,9 @@ ghost use Rattle.text_lines.specs.Readings.{NoneOf, IsFirstOf};
 ghost use Rattle.table_text.specs.declared.TheConstants.{MAPS_MAX};
 ghost use Rattle.table_text.specs.Names.{HaveNames};
 ghost use Rattle.table_text.specs.Rows.{IsToldShape, map_count};
-ghost use Rattle.table_text.specs.Rules.{ends_in_bag, rules, rules_of_bag, Breaks};
+ghost use Rattle.table_text.specs.Rules.{ends_in_bag, table_rules, rules_of_bag, RowBreaks};
 ghost use Rattle.table_text.specs.TableRows.{filled, rows_of};
-ghost use Rattle.table_text.specs.Views.{row_of, IsAddRefused};
+ghost use Rattle.table_text.specs.Views.{plain_row_of, IsAddRefused};
 ghost use Rattle.table_text.specs.Builder.{IsSoundRow, IsSoundBuilder, IsFresh, depth_of, rows_so_far};
 
 use crate::MAPS_MAX;
@@ -199,8 +199,8 @@ impl<'a> Builder<'a> {
         requires sound { IsSoundBuilder self.now }
         requires row { IsSoundRow row.now }
         requires depth { row.now.depth ≡ depth_of self.now }
-        ensures ok { OnOk result (NoneOf (Breaks (reverse (rows_so_far self.now)) (row_of row.now)) rules_of_bag) }
-        ensures err { IfErr result (IsFirstOf (Breaks (reverse (rows_so_far self.now)) (row_of row.now)) rules_of_bag) }
+        ensures ok { OnOk result (NoneOf (RowBreaks (reverse (rows_so_far self.now)) (plain_row_of row.now)) rules_of_bag) }
+        ensures err { IfErr result (IsFirstOf (RowBreaks (reverse (rows_so_far self.now)) (plain_row_of row.now)) rules_of_bag) }
     {
         if u32::from(row.number) < self.bag.least {
             return Err(TableCode::Order);
@@ -222,8 +222,8 @@ impl<'a> Builder<'a> {
         requires sound { IsSoundBuilder self }
         requires row { IsSoundRow row }
         requires depth { row.depth ≡ depth_of self }
-        requires good { NoneOf (Breaks (reverse (rows_so_far self)) (row_of row)) rules_of_bag }
-        ensures rows { IfOk result (λ next. rows_so_far next ≡ rows_so_far self.entry ++ row_of row.entry ∷ []) }
+        requires good { NoneOf (RowBreaks (reverse (rows_so_far self)) (plain_row_of row)) rules_of_bag }
+        ensures rows { IfOk result (λ next. rows_so_far next ≡ rows_so_far self.entry ++ plain_row_of row.entry ∷ []) }
         ensures sound { IfOk result IsSoundBuilder }
         ensures fresh { IfOk result IsFresh }
     {
@@ -256,11 +256,11 @@ impl<'a> Builder<'a> {
         requires sound { IsSoundBuilder self }
         requires fresh { IsFresh self }
         requires row { IsSoundRow row }
-        ensures good { OnOk result (NoneOf (Breaks (reverse (rows_so_far self.entry)) (row_of row.entry)) rules) }
-        ensures rows { IfOk result (λ next. rows_so_far next ≡ rows_so_far self.entry ++ row_of row.entry ∷ []) }
+        ensures good { OnOk result (NoneOf (RowBreaks (reverse (rows_so_far self.entry)) (plain_row_of row.entry)) table_rules) }
+        ensures rows { IfOk result (λ next. rows_so_far next ≡ rows_so_far self.entry ++ plain_row_of row.entry ∷ []) }
         ensures sound { IfOk result IsSoundBuilder }
         ensures fresh { IfOk result IsFresh }
-        ensures err { IfErr result (IsAddRefused (reverse (rows_so_far self.entry)) (row_of row.entry)) }
+        ensures err { IfErr result (IsAddRefused (reverse (rows_so_far self.entry)) (plain_row_of row.entry)) }
     {
         if row.depth > self.outer.len() as u64 {
             return Err(Refusal::Code(TableCode::Depth));

@@ -1,7 +1,7 @@
 //! The calls of a table by which it is printed and read.
 
 ghost use Rattle.std.specs.Prelude.{◌≡◌, ℕ, List, IfOk, IfErr};
-ghost use Rattle.table_text.specs.Reading.{IsRefusalOf};
+ghost use Rattle.table_text.specs.Reading.{IsTableRefusalOf};
 
 use crate::faults::TableFault;
 use crate::printing::print_table;
@@ -22,7 +22,7 @@ pub trait TableText: Sized {
     /// The table that a text is that of, or what is wrong with its first bad line.
     fn read(alloc: Global, text: &[u8]) -> Result<Self, TableFault>
         ensures ok { IfOk result (λ table. text.now ≡ text_of table) }
-        ensures err { IfErr result (IsRefusalOf text.now) };
+        ensures err { IfErr result (IsTableRefusalOf text.now) };
 }
 
 impl TableText for Table {

@@ -1,7 +1,7 @@
 //! Why a text is no table's.
 
 ghost use Rattle.std.specs.Prelude.{◌≡◌};
-ghost use Rattle.table_text.specs.Faults.{fault_at};
+ghost use Rattle.table_text.specs.Faults.{table_fault_at};
 
 use outside::Memory;
 use std::fmt;
@@ -48,7 +48,7 @@ pub(crate) enum Refusal {
 impl Refusal {
     /// The refusal of a text whose line with this number is refused.
     pub(crate) fn at(self, line: u64) -> TableFault
-        ensures { result ≡ fault_at line self }
+        ensures { result ≡ table_fault_at line self }
     {
         match self {
             Refusal::Code(code) => TableFault::At { line, code },

@@ -3,11 +3,11 @@
 ghost use Rattle.std.specs.Prelude.{◌≡◌, ◌≢◌, ◌<◌, ◌++◌, [], ◌∷◌, ℕ, List, length, reverse, IfOk, IfErr, IfSome, MatchOption};
 ghost use Rattle.text_lines.specs.Readings.{AllSay};
 ghost use Rattle.table_text.specs.Rows.{Row as SaidRow};
-ghost use Rattle.table_text.specs.Rules.{IsGood, field_lines};
+ghost use Rattle.table_text.specs.Rules.{IsGoodRow, field_lines};
 ghost use Rattle.table_text.specs.Builder.{IsSoundBuilder, IsFresh, rows_so_far};
-ghost use Rattle.table_text.specs.Reading.{head, lines_behind, IsHeadFault, IsRefusalOf, IsRefusalBehind};
+ghost use Rattle.table_text.specs.Reading.{head_line, lines_behind, IsHeadFault, IsTableRefusalOf, IsRefusalBehind};
 ghost use Rattle.table_text.specs.TableTexts.{table_text};
-ghost use Rattle.table_text.specs.Views.{IsRefused};
+ghost use Rattle.table_text.specs.Views.{IsRefusedRow};
 
 use crate::builder::Builder;
 use crate::faults::{Refusal, TableCode, TableFault};
@@ -18,7 +18,7 @@ use text_lines::cut_fed_line;
 
 /// What is wrong with the first line of a text that doesn't begin with that of a table.
 fn head_code(text: &[u8]) -> TableCode
-    requires { (rest : List ℕ) → text.now ≢ head ++ 10 ∷ rest }
+    requires { (rest : List ℕ) → text.now ≢ head_line ++ 10 ∷ rest }
     ensures { IsHeadFault text.now result }
 {
     if text == b"baggage table 1".as_slice() {
@@ -33,11 +33,11 @@ impl<'a> Builder<'a> {
     fn read_line(self, alloc: Global, line: &'a [u8]) -> Result<Builder<'a>, Refusal>
         requires sound { IsSoundBuilder self }
         requires fresh { IsFresh self }
-        ensures rows { IfOk result (λ next. (row : SaidRow) × IsGood (reverse (rows_so_far self.entry)) line.now row
+        ensures rows { IfOk result (λ next. (row : SaidRow) × IsGoodRow (reverse (rows_so_far self.entry)) line.now row
             × (rows_so_far next ≡ rows_so_far self.entry ++ row ∷ [])) }
         ensures sound { IfOk result IsSoundBuilder }
         ensures fresh { IfOk result IsFresh }
-        ensures err { IfErr result (IsRefused (reverse (rows_so_far self.entry)) line.now) }
+        ensures err { IfErr result (IsRefusedRow (reverse (rows_so_far self.entry)) line.now) }
     {
         let row = read_row(alloc, line)?;
         self.add(alloc, row)
@@ -70,7 +70,7 @@ fn read_lines(alloc: Global, text: &[u8]) -> Result<Builder<'_>, TableFault>
 /// no carriage return is dropped. See `docs/FORMATS.md` for the form of a line and the rules in their order.
 pub fn read_table(alloc: Global, text: &[u8]) -> Result<Table, TableFault>
     ensures ok { IfOk result (λ table. text.now ≡ table_text table) }
-    ensures err { IfErr result (IsRefusalOf text.now) }
+    ensures err { IfErr result (IsTableRefusalOf text.now) }
 {
     let Some(rest) = text.strip_prefix(b"baggage table 1\n") else {
         return Err(TableFault::At {

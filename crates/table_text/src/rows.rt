@@ -4,7 +4,7 @@ ghost use Rattle.std.specs.Prelude.{◌≡◌, ◌≢◌, ◌++◌, ◌∷◌, [
 ghost use Rattle.field_table.specs.Plain.{IsIndexedShape};
 ghost use Rattle.table_text.specs.Rows.{SaysRow};
 ghost use Rattle.table_text.specs.Words.{IsFree, HasNoParts, parts_line};
-ghost use Rattle.table_text.specs.Views.{row_of, HasNoRow};
+ghost use Rattle.table_text.specs.Views.{plain_row_of, HasNoRow};
 
 use crate::MAPS_MAX;
 use crate::faults::{Refusal, TableCode};
@@ -62,7 +62,7 @@ fn cut_parts(line: &[u8]) -> Option<Parts<'_>>
 
 /// What a line says, with its line feed.
 pub(crate) fn read_row(alloc: Global, line: &[u8]) -> Result<Row<'_>, Refusal>
-    ensures ok { IfOk result (λ row. SaysRow line.now (row_of row)) }
+    ensures ok { IfOk result (λ row. SaysRow line.now (plain_row_of row)) }
     ensures indexed { IfOk result (λ row. IsIndexedShape row.shape) }
     ensures err { IfErr result (HasNoRow line.now) }
 {

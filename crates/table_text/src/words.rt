@@ -8,8 +8,9 @@ ghost use Rattle.std.specs.Str.{bytes_eq};
 ghost use Rattle.bag_model.specs.Words.{is_letter, is_word, is_name, reserved_words};
 ghost use Rattle.decimal_text.specs.Answers.{IsSomeOf};
 ghost use Rattle.scalar_types.specs.KindViews.{IsPlainWord, word_of};
+ghost use Rattle.scalar_types.specs.Words.{word_named};
 ghost use Rattle.table_text.specs.Rows.{IsDepth};
-ghost use Rattle.table_text.specs.Words.{IsFree, IsFieldNumberText, IsNoDepth, keywords, word_named};
+ghost use Rattle.table_text.specs.Words.{IsFree, IsFieldNumberText, IsNoDepth, keywords};
 
 use crate::faults::TableCode;
 use decimal_text::read_decimal;
@@ -44,7 +45,7 @@ pub(crate) fn is(text: &[u8], word: &str) -> bool
 }
 
 /// The kind that a scalar word is.
-#[tactic(auto, unfolding(crate::specs::Words::word_named))]
+#[tactic(auto, unfolding(scalar_types::specs::Words::word_named))]
 pub(crate) fn read_word(text: &[u8]) -> Option<ScalarKind>
     ensures word { option_map word_of result ≡ word_named text.now }
     ensures plain { IfSome result IsPlainWord }

@@ -5,7 +5,7 @@ use Rattle.text_lines.specs.Readings.{IsDefinite, IsFirstOf, NoneOf}
 use Rattle.text_lines.proofs.ReadingLaws.{first_of_one, first_of_none}
 use Rattle.text_carrier.specs.declared.faults.CarryCode.{CarryCode}
 use Rattle.text_carrier.specs.Pieces.{Piece, data_text}
-use Rattle.text_carrier.specs.Rules.{Breaks, HasForm, IsBad, IsGood, piece_lines, rules}
+use Rattle.text_carrier.specs.Rules.{PieceBreaks, HasPieceForm, IsBadPiece, IsGoodPiece, piece_lines, carry_rules}
 use Rattle.text_carrier.proofs.Spaces.{form_words, one_words, small}
 use Rattle.text_carrier.proofs.Standard.{one_data}
 
@@ -15,7 +15,7 @@ pub record AreOne (place count : ℕ) (word : List ℕ) (p c : ℕ) (w : List �
   pub count_is : count ≡ c
   pub word_is : word ≡ w
 
-pub one_form : (text : List ℕ) (place count : ℕ) (word : List ℕ) (p c : ℕ) (w : List ℕ) → HasForm text place count word → HasForm text p c w → AreOne place count word p c w
+pub one_form : (text : List ℕ) (place count : ℕ) (word : List ℕ) (p c : ℕ) (w : List ℕ) → HasPieceForm text place count word → HasPieceForm text p c w → AreOne place count word p c w
 one_form text place count word p c w form other =
     let same = one_words text _ _ word _ _ w (form_words text place count word form) (form_words text p c w other) in
     record {
@@ -24,7 +24,7 @@ one_form text place count word p c w form other =
       word_is = same.word_is;
     }
 
-one_piece : (earlier : List Piece) (text : List ℕ) (a b : Piece) → IsGood earlier text a → IsGood earlier text b → a ≡ b
+one_piece : (earlier : List Piece) (text : List ℕ) (a b : Piece) → IsGoodPiece earlier text a → IsGoodPiece earlier text b → a ≡ b
 one_piece earlier text a b p q =
     let same = one_form text a.place a.count (data_text a.bytes) b.place b.count (data_text b.bytes) p.0 q.0 in
     let bytes = one_data a.bytes b.bytes p.1 q.1 same.word_is in
@@ -35,19 +35,19 @@ moved : (P : ℕ → ℕ → List ℕ → Type 0) (place count : ℕ) (word : Li
 moved P place count word p c w same holds =
     subst (λ n. P n c w) same.place_is (subst (λ n. P place n w) same.count_is (subst (λ t. P place count t) same.word_is holds))
 
-one_fault : (earlier : List Piece) (text : List ℕ) (c d : CarryCode) → IsBad earlier text c → IsBad earlier text d → c ≡ d
+one_fault : (earlier : List Piece) (text : List ℕ) (c d : CarryCode) → IsBadPiece earlier text c → IsBadPiece earlier text d → c ≡ d
 one_fault earlier text c d (inl f) (inl g) = f.1 ∙ sym g.1
 one_fault earlier text c d (inl f) (inr (place, count, word, form, first)) = absurd (f.0 place count word form)
 one_fault earlier text c d (inr (place, count, word, form, first)) (inl g) = absurd (g.0 place count word form)
 one_fault earlier text c d (inr (place, count, word, form, first)) (inr (p, n, w, other, next)) =
-    first_of_one (Breaks earlier p n w) rules c d
-    (moved (λ x y z. IsFirstOf (Breaks earlier x y z) rules c) place count word p n w (one_form text place count word p n w form other) first) next
+    first_of_one (PieceBreaks earlier p n w) carry_rules c d
+    (moved (λ x y z. IsFirstOf (PieceBreaks earlier x y z) carry_rules c) place count word p n w (one_form text place count word p n w form other) first) next
 
-not_both : (earlier : List Piece) (text : List ℕ) (piece : Piece) (c : CarryCode) → IsGood earlier text piece → IsBad earlier text c → ⊥
+not_both : (earlier : List Piece) (text : List ℕ) (piece : Piece) (c : CarryCode) → IsGoodPiece earlier text piece → IsBadPiece earlier text c → ⊥
 not_both earlier text piece c good (inl f) = f.0 piece.place piece.count (data_text piece.bytes) good.0
 not_both earlier text piece c good (inr (place, count, word, form, first)) =
-    first_of_none (Breaks earlier place count word) rules c
-    (moved (λ x y z. NoneOf (Breaks earlier x y z) rules) piece.place piece.count (data_text piece.bytes) place count word
+    first_of_none (PieceBreaks earlier place count word) carry_rules c
+    (moved (λ x y z. NoneOf (PieceBreaks earlier x y z) carry_rules) piece.place piece.count (data_text piece.bytes) place count word
     (one_form text piece.place piece.count (data_text piece.bytes) place count word good.0 form) good.2)
     first
 

@@ -17,7 +17,7 @@ use Rattle.base64.specs.GeneralPurpose.{IsBytes}
 use Rattle.text_lines.specs.Readings.{NoneOf}
 use Rattle.text_carrier.specs.declared.pieces.Pieces.{Pieces}
 use Rattle.text_carrier.specs.Pieces.{Piece, data_text}
-use Rattle.text_carrier.specs.Rules.{Breaks, IsOtherCount, rules}
+use Rattle.text_carrier.specs.Rules.{PieceBreaks, IsOtherCount, carry_rules}
 use Rattle.text_carrier.specs.Collecting.{count_of}
 use Rattle.text_carrier.specs.Views.{first_count, IsTextAt, Keeps}
 
@@ -81,7 +81,7 @@ text_here said piece text is none = (
 )
 
 pub keeps_more : (said : List Piece) (kept : Pieces) (texts : BTreeMap ℕ (Bor (List ℕ))) (piece : Piece) (text : Bor (List ℕ)) → Keeps said kept
-    → NoneOf (Breaks said piece.place piece.count text.now) rules → IsBytes piece.bytes → text.now ≡ data_text piece.bytes
+    → NoneOf (PieceBreaks said piece.place piece.count text.now) carry_rules → IsBytes piece.bytes → text.now ≡ data_text piece.bytes
     → Updates nat_cmp kept.texts texts piece.place (Some text) → Keeps (said ++ piece ∷ []) (record { count = Some piece.count; texts = texts })
 keeps_more said kept texts piece text keeps none are is updates = record {
   count = count_more said piece none.1.1.0;

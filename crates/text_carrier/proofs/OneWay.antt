@@ -15,7 +15,7 @@ use Rattle.text_carrier.specs.declared.faults.CarryCode.{CarryCode}
 use Rattle.text_carrier.specs.declared.faults.CarryFault.{CarryFault}
 use Rattle.text_carrier.specs.declared.faults.CarryFault.TheVariants.{At, NoLine, Missing, TooManyBytes, Memory}
 use Rattle.text_carrier.specs.Pieces.{Piece, data_text}
-use Rattle.text_carrier.specs.Rules.{IsGood, piece_lines}
+use Rattle.text_carrier.specs.Rules.{IsGoodPiece, piece_lines}
 use Rattle.text_carrier.specs.Collecting.{AreWhole, Collects, IsFirstMissing, SaySome}
 use Rattle.text_carrier.proofs.Definite.{is_definite}
 use Rattle.text_carrier.proofs.Kept.{same_text}
@@ -28,7 +28,7 @@ record AreOne (pieces : List Piece) : Type 0 where
   are_bytes : (piece : Piece) → Contains pieces piece → IsBytes piece.bytes
   same : (a b : Piece) → Contains pieces a → Contains pieces b → a.place ≡ b.place → a.bytes ≡ b.bytes
 
-one_more : (earlier : List Piece) (text : List ℕ) (piece : Piece) → AreOne earlier → IsGood earlier text piece → AreOne (earlier ++ piece ∷ [])
+one_more : (earlier : List Piece) (text : List ℕ) (piece : Piece) → AreOne earlier → IsGoodPiece earlier text piece → AreOne (earlier ++ piece ∷ [])
 one_more earlier text piece one good = record {
   are_bytes = λ other i. elim (Contains-push_cases earlier piece other i) [
     | inl before ↦ one.are_bytes other before

@@ -15,7 +15,7 @@ use Rattle.text_lines.specs.Lines.{numbered}
 use Rattle.text_lines.specs.Readings.{AllSay}
 use Rattle.text_carrier.specs.Pieces.{Piece, data_text}
 use Rattle.text_carrier.specs.Carrying.{AreSome, IsCarried, carried_lines, piece_at, piece_count}
-use Rattle.text_carrier.specs.Rules.{HasForm, IsGood, IsOtherCount, piece_lines}
+use Rattle.text_carrier.specs.Rules.{HasPieceForm, IsGoodPiece, IsOtherCount, piece_lines}
 use Rattle.text_carrier.proofs.Cutting.{few_pieces, line_at, part_at}
 use Rattle.text_carrier.proofs.Definite.{one_form}
 use Rattle.text_carrier.proofs.LineBytes.{IsLine, begun, line_bytes}
@@ -118,7 +118,7 @@ module _ (width : ℕ) (bytes : List ℕ) where
       | inr past ↦ subst (λ b. b < 256) (sym (get_or_past (part_at width bytes place) i 0 (omega (arith, past, length-take width (drop (place * width) bytes))))) (omega arith)
     ]
 
-    has_form : (place : ℕ) → is_place place → HasForm (line_at width bytes place) place (piece_count width bytes) (data_text (part_at width bytes place))
+    has_form : (place : ℕ) → is_place place → HasPieceForm (line_at width bytes place) place (piece_count width bytes) (data_text (part_at width bytes place))
     has_form place less = record {
       place_few = omega (arith, less, few);
       count_few = omega (arith, few);
@@ -135,7 +135,7 @@ module _ (width : ℕ) (bytes : List ℕ) where
     pub same_place : (p q : ℕ) → is_place p → is_place q → line_at width bytes p ≡ line_at width bytes q → p ≡ q
     same_place p q less also same =
         (one_form (line_at width bytes q) p (piece_count width bytes) (data_text (part_at width bytes p)) q (piece_count width bytes) (data_text (part_at width bytes q))
-        (subst (λ line. HasForm line p (piece_count width bytes) (data_text (part_at width bytes p))) same (has_form p less)) (has_form q also)).place_is
+        (subst (λ line. HasPieceForm line p (piece_count width bytes) (data_text (part_at width bytes p))) same (has_form p less)) (has_form q also)).place_is
 
     -- A number whose line is among those of some is one of them.
     pub among : (places : List ℕ) → AllByRecursion is_place places → (place : ℕ) → is_place place → Contains (map (line_at width bytes) places) (line_at width bytes place) → Contains places place
@@ -151,7 +151,7 @@ module _ (width : ℕ) (bytes : List ℕ) where
     same_count [] other = other
     same_count (place ∷ earlier) other = other refl
 
-    good_line : (earlier : List ℕ) (place : ℕ) → is_place place → IsGood (map (piece_at width bytes) earlier) (line_at width bytes place) (piece_at width bytes place)
+    good_line : (earlier : List ℕ) (place : ℕ) → is_place place → IsGoodPiece (map (piece_at width bytes) earlier) (line_at width bytes place) (piece_at width bytes place)
     good_line earlier place less =
         let part = part_at width bytes place in (
           has_form place less,

@@ -6,7 +6,7 @@ use Rattle.std.specs.Str.Parse.{AllDigits}
 use Rattle.std.proofs.lemmas.Fmt.{decimal_is_IsNumeral}
 use Rattle.std.proofs.lemmas.List.Elements.{All-nil, All-cons, All-head, All-tail}
 use Rattle.std.proofs.lemmas.Str.Parse.{digit_from_value}
-use Rattle.text_carrier.specs.Rules.{HasNoSpace, HasForm}
+use Rattle.text_carrier.specs.Rules.{HasNoSpace, HasPieceForm}
 use Rattle.text_carrier.specs.Views.{AreLineWords, four_words}
 
 -- The byte is no space.
@@ -85,7 +85,7 @@ one_words text place count word p c w are other =
     same_words text rest place (count ++ 32 ∷ word) count word (sym (ap (λ (l : List ℕ). drop 2 l) are.is)) are.place_whole refl are.count_whole refl p c w other
 
 -- A line that has the form has words.
-pub form_words : (text : List ℕ) (place count : ℕ) (word : List ℕ) → HasForm text place count word → AreLineWords text (decimal place) (decimal count) word
+pub form_words : (text : List ℕ) (place count : ℕ) (word : List ℕ) → HasPieceForm text place count word → AreLineWords text (decimal place) (decimal count) word
 form_words text place count word form = record {
   place_whole = number_no_space place form.place_few;
   count_whole = number_no_space count form.count_few;

@@ -6,19 +6,19 @@ use Rattle.text_lines.specs.Readings.{Reading, IsFirstOf, NoneOf}
 use Rattle.text_carrier.specs.declared.TheConstants.{PIECES_MAX}
 use Rattle.text_carrier.specs.declared.faults.CarryCode.{CarryCode}
 use Rattle.text_carrier.specs.declared.faults.CarryCode.TheVariants.{Form, PieceRange, BadBase64, OtherCount, Clash}
-use Rattle.text_carrier.specs.Pieces.{Piece, data_text, line_of}
+use Rattle.text_carrier.specs.Pieces.{Piece, data_text, numbered_line}
 
 -- No byte is a space.
 abbrev pub HasNoSpace : List ℕ → Type 0
 HasNoSpace text = All (λ byte. byte ≢ 32) text
 
 -- The line has the form: two numbers of at most seven digits, and a word of one or more bytes, whatever they are.
-pub record HasForm (text : List ℕ) (place count : ℕ) (word : List ℕ) : Type 0 where
+pub record HasPieceForm (text : List ℕ) (place count : ℕ) (word : List ℕ) : Type 0 where
   pub place_few : place < 10 ^ 7
   pub count_few : count < 10 ^ 7
   pub word_some : 0 < length word
   pub word_whole : HasNoSpace word
-  pub is : text ≡ line_of place count word
+  pub is : text ≡ numbered_line place count word
 
 -- The number of pieces isn't that of the first line.
 abbrev pub IsOtherCount : List Piece → ℕ → Type 0
@@ -26,34 +26,34 @@ IsOtherCount [] count = ⊥
 IsOtherCount (first ∷ more) count = count ≢ first.count
 
 -- The line breaks the rule of this code behind those that said these pieces.
-abbrev pub Breaks : List Piece → ℕ → ℕ → List ℕ → CarryCode → Type 0
-Breaks earlier place count word Form = ⊥
-Breaks earlier place count word PieceRange = (count ≡ 0) ⊎ ((PIECES_MAX < count) ⊎ (count ≤ place))
-Breaks earlier place count word BadBase64 = (bytes : List ℕ) → IsBytes bytes → word ≢ data_text bytes
-Breaks earlier place count word OtherCount = IsOtherCount earlier count
-Breaks earlier place count word Clash =
+abbrev pub PieceBreaks : List Piece → ℕ → ℕ → List ℕ → CarryCode → Type 0
+PieceBreaks earlier place count word Form = ⊥
+PieceBreaks earlier place count word PieceRange = (count ≡ 0) ⊎ ((PIECES_MAX < count) ⊎ (count ≤ place))
+PieceBreaks earlier place count word BadBase64 = (bytes : List ℕ) → IsBytes bytes → word ≢ data_text bytes
+PieceBreaks earlier place count word OtherCount = IsOtherCount earlier count
+PieceBreaks earlier place count word Clash =
     (other : Piece) × Contains earlier other × (other.place ≡ place) × (data_text other.bytes ≢ word)
 
 -- The rules for a line that has the form, in the order in which they count.
-abbrev pub rules : List CarryCode
-rules = PieceRange ∷ BadBase64 ∷ OtherCount ∷ Clash ∷ []
+abbrev pub carry_rules : List CarryCode
+carry_rules = PieceRange ∷ BadBase64 ∷ OtherCount ∷ Clash ∷ []
 
 -- The line says this piece and breaks no rule.
-abbrev pub IsGood : List Piece → List ℕ → Piece → Type 0
-IsGood earlier text piece = HasForm text piece.place piece.count (data_text piece.bytes) × IsBytes piece.bytes
-    × NoneOf (Breaks earlier piece.place piece.count (data_text piece.bytes)) rules
+abbrev pub IsGoodPiece : List Piece → List ℕ → Piece → Type 0
+IsGoodPiece earlier text piece = HasPieceForm text piece.place piece.count (data_text piece.bytes) × IsBytes piece.bytes
+    × NoneOf (PieceBreaks earlier piece.place piece.count (data_text piece.bytes)) carry_rules
 
 -- The line has no form.
 abbrev pub HasNoForm : List ℕ → Type 0
-HasNoForm text = (place count : ℕ) (word : List ℕ) → HasForm text place count word → ⊥
+HasNoForm text = (place count : ℕ) (word : List ℕ) → HasPieceForm text place count word → ⊥
 
 -- The line hasn't the form, or this is the first rule that it breaks.
-abbrev pub IsBad : List Piece → List ℕ → CarryCode → Type 0
-IsBad earlier text code =
+abbrev pub IsBadPiece : List Piece → List ℕ → CarryCode → Type 0
+IsBadPiece earlier text code =
     (HasNoForm text × (code ≡ Form))
-    ⊎ ((place count : ℕ) × (word : List ℕ) × HasForm text place count word
-    × IsFirstOf (Breaks earlier place count word) rules code)
+    ⊎ ((place count : ℕ) × (word : List ℕ) × HasPieceForm text place count word
+    × IsFirstOf (PieceBreaks earlier place count word) carry_rules code)
 
 -- Lines say pieces, each behind those before it.
 abbrev pub piece_lines : Reading Piece CarryCode
-piece_lines = record { says = IsGood; faults = IsBad }
+piece_lines = record { says = IsGoodPiece; faults = IsBadPiece }

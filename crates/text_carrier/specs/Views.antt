@@ -21,21 +21,21 @@ use Rattle.text_carrier.specs.declared.faults.Refusal.{Refusal}
 use Rattle.text_carrier.specs.declared.faults.Refusal.TheVariants.{Code, Memory}
 use Rattle.text_carrier.specs.declared.pieces.Pieces.{Pieces}
 use Rattle.text_carrier.specs.Pieces.{Piece, data_text}
-use Rattle.text_carrier.specs.Rules.{HasNoSpace, Breaks, rules, IsBad, piece_lines}
+use Rattle.text_carrier.specs.Rules.{HasNoSpace, PieceBreaks, carry_rules, IsBadPiece, piece_lines}
 use Rattle.text_carrier.specs.Collecting.{HasPlace, IsFirstMissing, count_of}
 
 -- The name of a rule, as it is printed.
-abbrev pub code_name : CarryCode → List ℕ
-code_name Form = codes "Form"
-code_name PieceRange = codes "PieceRange"
-code_name BadBase64 = codes "BadBase64"
-code_name OtherCount = codes "OtherCount"
-code_name Clash = codes "Clash"
+abbrev pub carry_code_name : CarryCode → List ℕ
+carry_code_name Form = codes "Form"
+carry_code_name PieceRange = codes "PieceRange"
+carry_code_name BadBase64 = codes "BadBase64"
+carry_code_name OtherCount = codes "OtherCount"
+carry_code_name Clash = codes "Clash"
 
 -- The refusal of a text, by that of its line with this number.
-abbrev pub fault_at : ℕ → Refusal → CarryFault
-fault_at line (Code code) = At line code
-fault_at line Memory = faults.Memory
+abbrev pub carry_fault_at : ℕ → Refusal → CarryFault
+carry_fault_at line (Code code) = At line code
+carry_fault_at line Memory = faults.Memory
 
 -- The text is p and three words behind it, one space between two of them.
 abbrev pub four_words : List ℕ → List ℕ → List ℕ → List ℕ
@@ -59,13 +59,13 @@ IsPieceNumberText text number = (number < 10 ^ 7) × (text ≡ decimal number)
 
 -- A line that has the form is refused behind these pieces: it breaks this rule first, or memory is wanting for it.
 abbrev pub IsPieceRefused : List Piece → ℕ → ℕ → List ℕ → Refusal → Type 0
-IsPieceRefused earlier place count word (Code code) = IsFirstOf (Breaks earlier place count word) rules code
+IsPieceRefused earlier place count word (Code code) = IsFirstOf (PieceBreaks earlier place count word) carry_rules code
 IsPieceRefused earlier place count word Memory = Unit {0}
 
 -- A line is refused behind these pieces: it is bad, or memory is wanting for it.
-abbrev pub IsRefused : List Piece → List ℕ → Refusal → Type 0
-IsRefused earlier text (Code code) = IsBad earlier text code
-IsRefused earlier text Memory = Unit {0}
+abbrev pub IsRefusedPiece : List Piece → List ℕ → Refusal → Type 0
+IsRefusedPiece earlier text (Code code) = IsBadPiece earlier text code
+IsRefusedPiece earlier text Memory = Unit {0}
 
 -- The word is the text of these bytes, or of none.
 abbrev pub IsDecoded : List ℕ → Option (List ℕ) → Type 0

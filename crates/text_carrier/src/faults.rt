@@ -46,11 +46,11 @@ pub(crate) enum Refusal {
 
 impl Refusal {
     ghost use Rattle.std.specs.Prelude.{◌≡◌};
-    ghost use Rattle.text_carrier.specs.Views.{fault_at};
+    ghost use Rattle.text_carrier.specs.Views.{carry_fault_at};
 
     /// The refusal of a text whose line with this number is refused.
     pub(crate) fn at(self, line: u64) -> CarryFault
-        ensures { result ≡ fault_at line self }
+        ensures { result ≡ carry_fault_at line self }
     {
         match self {
             Refusal::Code(code) => CarryFault::At { line, code },
@@ -94,9 +94,9 @@ impl<T: Drop> From<AllocFailed<T>> for CarryFault {
 
 impl fmt::Display for CarryCode {
     ghost use Rattle.std.specs.Prelude.{Some};
-    ghost use Rattle.text_carrier.specs.Views.{code_name};
+    ghost use Rattle.text_carrier.specs.Views.{carry_code_name};
 
-    ghost output = { λ code. Some (code_name code) };
+    ghost output = { λ code. Some (carry_code_name code) };
 
     fn fmt<W: fmt::Write>(&self, f: &mut fmt::Formatter<W>) -> fmt::Result {
         match self {

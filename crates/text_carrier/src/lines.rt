@@ -2,7 +2,7 @@
 
 ghost use Rattle.std.specs.Prelude.{◌≡◌, ◌≢◌, ◌<◌, ◌++◌, ◌∷◌, ℕ, length, slice_index, IsTrue, ◌↔◌, None, IfSome, MatchOption};
 ghost use Rattle.decimal_text.specs.Answers.{IsSomeOf};
-ghost use Rattle.text_carrier.specs.Rules.{HasForm, HasNoForm, HasNoSpace};
+ghost use Rattle.text_carrier.specs.Rules.{HasPieceForm, HasNoForm, HasNoSpace};
 ghost use Rattle.text_carrier.specs.Views.{AreLineWords, HasNoWords, IsPieceNumberText};
 
 use decimal_text::read_decimal;
@@ -82,7 +82,7 @@ fn read_number(text: &[u8]) -> Option<u64>
 /// What a line says that has the form; none where it hasn't.
 pub(crate) fn read_line(text: &[u8]) -> Option<PieceLine<'_>>
     ensures { MatchOption result (HasNoForm text.now)
-        (λ line. HasForm text.now line.place line.count line.word.now) }
+        (λ line. HasPieceForm text.now line.place line.count line.word.now) }
 {
     let words = cut_words(text)?;
     let place = read_number(words.place)?;

@@ -6,8 +6,8 @@ ghost use Rattle.std.specs.Option.{option_map};
 ghost use Rattle.base64.specs.GeneralPurpose.{IsBytes};
 ghost use Rattle.text_lines.specs.Readings.{NoneOf};
 ghost use Rattle.text_carrier.specs.Pieces.{Piece, data_text};
-ghost use Rattle.text_carrier.specs.Rules.{Breaks, IsGood, IsOtherCount, rules};
-ghost use Rattle.text_carrier.specs.Views.{IsTextAt, Keeps, IsData, IsPieceRefused, IsRefused, AreTextsOf, IsOrderFault};
+ghost use Rattle.text_carrier.specs.Rules.{PieceBreaks, IsGoodPiece, IsOtherCount, carry_rules};
+ghost use Rattle.text_carrier.specs.Views.{IsTextAt, Keeps, IsData, IsPieceRefused, IsRefusedPiece, AreTextsOf, IsOrderFault};
 
 use crate::PIECES_MAX;
 use crate::data::decode;
@@ -78,7 +78,7 @@ impl<'a> Pieces<'a> {
         requires { 0 < length line.now.word.now }
         ensures data { OnOk result (IsData line.now.word.now) }
         ensures ok { OnOk result ((said : List Piece) → Keeps said self.now
-            → NoneOf (Breaks said line.now.place line.now.count line.now.word.now) rules) }
+            → NoneOf (PieceBreaks said line.now.place line.now.count line.now.word.now) carry_rules) }
         ensures err { IfErr result (λ refusal. (said : List Piece) → Keeps said self.now
             → IsPieceRefused said line.now.place line.now.count line.now.word.now refusal) }
     {
@@ -100,7 +100,7 @@ impl<'a> Pieces<'a> {
     /// Keeps the piece of a line that breaks no rule.
     fn keep(&mut self, line: PieceLine<'a>) -> Result<(), Memory>
         ensures { OnOk result ((said : List Piece) (bytes : List ℕ) → Keeps said self.old
-            → NoneOf (Breaks said line.entry.place line.entry.count line.entry.word.now) rules
+            → NoneOf (PieceBreaks said line.entry.place line.entry.count line.entry.word.now) carry_rules
             → IsBytes bytes → line.entry.word.now ≡ data_text bytes
             → Keeps (said ++ record { place = line.entry.place; count = line.entry.count; bytes = bytes } ∷ []) self.new) }
     {
@@ -112,8 +112,8 @@ impl<'a> Pieces<'a> {
     /// Adds what the next line says.
     pub(crate) fn add(&mut self, alloc: Global, text: &'a [u8]) -> Result<(), Refusal>
         ensures ok { OnOk result ((said : List Piece) → Keeps said self.old
-            → (piece : Piece) × IsGood said text.now piece × Keeps (said ++ piece ∷ []) self.new) }
-        ensures err { IfErr result (λ refusal. (said : List Piece) → Keeps said self.old → IsRefused said text.now refusal) }
+            → (piece : Piece) × IsGoodPiece said text.now piece × Keeps (said ++ piece ∷ []) self.new) }
+        ensures err { IfErr result (λ refusal. (said : List Piece) → Keeps said self.old → IsRefusedPiece said text.now refusal) }
     {
         let Some(line) = read_line(text) else {
             return Err(Refusal::Code(CarryCode::Form));

@@ -5,7 +5,7 @@ use Rattle.std.specs.declared.vec.Vec.{Vec}
 use Rattle.std.specs.List.{Contains, slice_get}
 use Rattle.std.proofs.lemmas.List.{length-map, get_or-map}
 use Rattle.std.proofs.lemmas.Option.{slice_get-get_or, slice_get_within, get_or_from_slice_get, slice_get_read}
-use Rattle.topological_order.specs.Graphs.{EdgeLists, graph_of, row_of, HasEdge, IsClosed, LeadsTo, by_edge, by_walk, ReachesOrIs}
+use Rattle.topological_order.specs.Graphs.{EdgeLists, edge_lists_of, row_of, HasEdge, IsClosed, LeadsTo, by_edge, by_walk, ReachesOrIs}
 
 -- An element of a row is an edge.
 pub has_edge : (graph : EdgeLists) (node edge to : ℕ) → node < length graph → slice_get (row_of graph node) edge ≡ Some to → HasEdge graph node to
@@ -38,13 +38,13 @@ row_edge graph node to l c = record { row = row_of graph node; is = slice_get-ge
 
 -- The row that the code reads.
 pub row_read : (rows : List (Vec ℕ Global)) (node : ℕ) (item : Vec ℕ Global) (items : List ℕ) → node < length rows
-    → item ≡ get_or rows node item → items ≡ item.items → row_of (graph_of rows) node ≡ items
+    → item ≡ get_or rows node item → items ≡ item.items → row_of (edge_lists_of rows) node ≡ items
 row_read rows node item items l is same = get_or-map (λ row. row.items) rows node item [] l ∙ ap (λ row. row.items) (sym is) ∙ sym same
 
 -- The edge that the code reads.
 pub edge_read : (rows : List (Vec ℕ Global)) (node edge : ℕ) (item : Vec ℕ Global) (items : List ℕ) → node < length rows
     → item ≡ get_or rows node item → items ≡ item.items → edge < length items
-    → slice_get (row_of (graph_of rows) node) edge ≡ Some (get_or items edge 0)
+    → slice_get (row_of (edge_lists_of rows) node) edge ≡ Some (get_or items edge 0)
 edge_read rows node edge item items l is same m =
     ap (λ row. slice_get row edge) (row_read rows node item items l is same) ∙ slice_get-get_or items edge 0 m
 
@@ -61,11 +61,11 @@ to_within graph node edge to whole l is =
     subst P (get_or_from_slice_get row edge to to is) (whole node [] l edge to (slice_get_within row edge to is))
 
 -- The code's graph has as many nodes.
-pub graph_length : (rows : List (Vec ℕ Global)) → length (graph_of rows) ≡ length rows
+pub graph_length : (rows : List (Vec ℕ Global)) → length (edge_lists_of rows) ≡ length rows
 graph_length rows = length-map rows (λ row. row.items)
 
 -- The row of a node in the code's graph has a length that fits.
-pub row_small : (rows : List (Vec ℕ Global)) (node : ℕ) → length (row_of (graph_of rows) node) < 2 ^ 63
+pub row_small : (rows : List (Vec ℕ Global)) (node : ℕ) → length (row_of (edge_lists_of rows) node) < 2 ^ 63
 row_small [] node = omega arith
 row_small (v ∷ rows) zero = omega (arith, v.ok.0, v.ok.1, v.small)
 row_small (v ∷ rows) (suc node) = row_small rows node

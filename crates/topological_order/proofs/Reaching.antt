@@ -6,7 +6,7 @@ use Rattle.std.specs.List.{slice_get}
 use Rattle.std.proofs.lemmas.Bool.{cases_eq}
 use Rattle.topological_order.specs.declared.walk.Walk.{Walk}
 use Rattle.topological_order.specs.declared.walk.Mark.TheVariants.{New}
-use Rattle.topological_order.specs.Graphs.{EdgeLists, graph_of, row_of, HasEdge, LeadsTo, by_edge, by_walk, ReachesOrIs}
+use Rattle.topological_order.specs.Graphs.{EdgeLists, edge_lists_of, row_of, HasEdge, LeadsTo, by_edge, by_walk, ReachesOrIs}
 use Rattle.topological_order.specs.Components.{IsNumbered}
 use Rattle.topological_order.specs.Cycles.{Stays}
 use Rattle.topological_order.specs.Walk.{trail_of, mark_of, IsAtRest, IsWalkedFrom}
@@ -40,21 +40,21 @@ cyclic_stays graph numbers node h r =
 
 -- The edges of a node up to that one lead to nodes that a walk at rest has met, and all that it has met is reached from the node.
 pub record IsFrom (graph : List (Vec ℕ Global)) (node edge : ℕ) (walk : Walk) : Type 0 where
-  pub same : graph_of walk.graph.now ≡ graph_of graph
+  pub same : edge_lists_of walk.graph.now ≡ edge_lists_of graph
   pub rests : IsAtRest (trail_of walk)
-  pub met : (k next : ℕ) → k < edge → slice_get (row_of (graph_of graph) node) k ≡ Some next → mark_of walk.marks.items next ≡ New → ⊥
-  pub reached : (to : ℕ) → (mark_of walk.marks.items to ≡ New → ⊥) → LeadsTo (graph_of graph) node to
+  pub met : (k next : ℕ) → k < edge → slice_get (row_of (edge_lists_of graph) node) k ≡ Some next → mark_of walk.marks.items next ≡ New → ⊥
+  pub reached : (to : ℕ) → (mark_of walk.marks.items to ≡ New → ⊥) → LeadsTo (edge_lists_of graph) node to
 
 -- One more edge of the node was followed to its end.
 pub from_more : (graph : List (Vec ℕ Global)) (node edge next : ℕ) (walk after : Walk) → IsFrom graph node edge walk
-    → slice_get (row_of (graph_of graph) node) edge ≡ Some next → HasEdge (graph_of graph) node next
+    → slice_get (row_of (edge_lists_of graph) node) edge ≡ Some next → HasEdge (edge_lists_of graph) node next
     → IsWalkedFrom (trail_of walk) (trail_of after) next → length after.path.items ≡ 0 → IsFrom graph node (edge + 1) after
 from_more graph node edge next walk after h is e f none = record {
   same = f.graph ∙ h.same;
   rests = record { walk = f.walk; path = none };
   met = λ k other l there new. elim (cases_eq k edge) [
     | inl same ↦
-        let again : slice_get (row_of (graph_of graph) node) edge ≡ Some other = ap (slice_get (row_of (graph_of graph) node)) (sym same) ∙ there in
+        let again : slice_get (row_of (edge_lists_of graph) node) edge ≡ Some other = ap (slice_get (row_of (edge_lists_of graph) node)) (sym same) ∙ there in
         let one : next ≡ other = cc in
         f.here (ap (mark_of after.marks.items) one ∙ new)
     | inr less ↦ h.met k other (omega arith) there (f.kept other new)
@@ -62,9 +62,9 @@ from_more graph node edge next walk after h is e f none = record {
   reached = λ to now. elim (mark_kinds (mark_of walk.marks.items to)) [
     | inl new ↦
         let P : EdgeLists → Type 0 = λ g. ReachesOrIs g next to in
-        let there : ReachesOrIs (graph_of graph) next to = subst P h.same (f.reached to new now) in
+        let there : ReachesOrIs (edge_lists_of graph) next to = subst P h.same (f.reached to new now) in
         elim there [
-          | inl one ↦ let Q : ℕ → Type 0 = HasEdge (graph_of graph) node in by_edge node to (subst Q one e)
+          | inl one ↦ let Q : ℕ → Type 0 = HasEdge (edge_lists_of graph) node in by_edge node to (subst Q one e)
           | inr r ↦ by_walk node next to e r
         ]
     | inr (inl op) ↦ h.reached to (λ new. (cc))
@@ -74,10 +74,10 @@ from_more graph node edge next walk after h is e f none = record {
 
 -- Where all edges of the node were followed to their end, what it reaches was met.
 pub from_all : (graph : List (Vec ℕ Global)) (node edge to : ℕ) (walk : Walk) → IsFrom graph node edge walk
-    → length (row_of (graph_of graph) node) ≤ edge → LeadsTo (graph_of graph) node to → mark_of walk.marks.items to ≡ New → ⊥
+    → length (row_of (edge_lists_of graph) node) ≤ edge → LeadsTo (edge_lists_of graph) node to → mark_of walk.marks.items to ≡ New → ⊥
 from_all graph node edge to walk h all r =
-    let f = first_edge (graph_of graph) node to r in
-    let k = edge_at (graph_of graph) node f.0 f.1 in
+    let f = first_edge (edge_lists_of graph) node to r in
+    let k = edge_at (edge_lists_of graph) node f.0 f.1 in
     let met = h.met k.0 f.0 (omega (arith, k.1)) k.2 in
     elim f.2 [
       | inl is ↦ λ new. met (ap (mark_of walk.marks.items) is ∙ new)

@@ -8,7 +8,7 @@ use Rattle.std.proofs.lemmas.Option.{slice_get_within, get_or_from_slice_get}
 use Rattle.std.specs.declared.alloc.Global.{Global}
 use Rattle.std.specs.declared.vec.Vec.{Vec}
 use Rattle.topological_order.specs.declared.walk.Walk.{Walk}
-use Rattle.topological_order.specs.Graphs.{EdgeLists, graph_of, HasEdge, LeadsTo, by_edge, by_walk, ReachesOrIs}
+use Rattle.topological_order.specs.Graphs.{EdgeLists, edge_lists_of, HasEdge, LeadsTo, by_edge, by_walk, ReachesOrIs}
 use Rattle.topological_order.specs.declared.walk.Mark.TheVariants.{New, Open, Done}
 use Rattle.topological_order.specs.Walk.{Trail, trail_of, mark_of, is_new, opened, met, IsAtRest, Follows, IsWalkedFrom, IsFinishingOrder}
 use Rattle.topological_order.proofs.Edges.{edge_at, reach_on, graph_length}
@@ -127,7 +127,7 @@ walk_more s t u root r h f =
 
 -- A walk over the code's graph that has met the nodes below that one, and is at rest.
 pub record IsUpTo (graph : List (Vec ℕ Global)) (walk : Walk) (root : ℕ) : Type 0 where
-  pub same : graph_of walk.graph.now ≡ graph_of graph
+  pub same : edge_lists_of walk.graph.now ≡ edge_lists_of graph
   pub rests : IsAtRest (trail_of walk)
   pub met : (node : ℕ) → node < root → mark_of walk.marks.items node ≡ New → ⊥
 
@@ -145,7 +145,7 @@ up_walked graph walk next root h f none = record {
 
 -- The order in which walks from all nodes left them.
 pub all_finished : (graph : List (Vec ℕ Global)) (walk : Walk) (root : ℕ) → IsUpTo graph walk root → length graph ≤ root
-    → IsFinishingOrder (graph_of graph) walk.order.items
+    → IsFinishingOrder (edge_lists_of graph) walk.order.items
 all_finished graph walk root h all =
     let s = trail_of walk in
     let w = h.rests.walk in
@@ -163,6 +163,6 @@ all_finished graph walk root h all =
     subst P h.same there
 
 -- A root below the end is a node of the walk.
-pub up_within : (graph : List (Vec ℕ Global)) (walk : Walk) (root : ℕ) → graph_of walk.graph.now ≡ graph_of graph → root < length graph
+pub up_within : (graph : List (Vec ℕ Global)) (walk : Walk) (root : ℕ) → edge_lists_of walk.graph.now ≡ edge_lists_of graph → root < length graph
     → root < length walk.graph.now
 up_within graph walk root same l = omega (arith, ap (λ g. length g) same, graph_length graph, graph_length walk.graph.now)

@@ -8,8 +8,8 @@ abbrev pub EdgeLists : Type 0
 EdgeLists = List (List ℕ)
 
 -- The graph that the code has.
-abbrev pub graph_of : List (Vec ℕ Global) → EdgeLists
-graph_of rows = map (λ row. row.items) rows
+abbrev pub edge_lists_of : List (Vec ℕ Global) → EdgeLists
+edge_lists_of rows = map (λ row. row.items) rows
 
 -- The nodes to which a node's edges lead.
 abbrev pub row_of : EdgeLists → ℕ → List ℕ

@@ -3,7 +3,7 @@ use Rattle.std.specs.Prelude.{◌≡◌, ℕ, ◌+◌, ◌-◌, ◌<◌, ◌≤�
 use Rattle.topological_order.specs.declared.walk.Mark.{Mark}
 use Rattle.topological_order.specs.declared.walk.Mark.TheVariants.{New, Open, Done}
 use Rattle.topological_order.specs.declared.walk.Walk.{Walk}
-use Rattle.topological_order.specs.Graphs.{EdgeLists, graph_of, row_of, HasEdge, IsClosed, LeadsTo, ReachesOrIs}
+use Rattle.topological_order.specs.Graphs.{EdgeLists, edge_lists_of, row_of, HasEdge, IsClosed, LeadsTo, ReachesOrIs}
 
 -- What a walk has met so far: the fields of the code's walk, as lists.
 pub record Trail : Type 0 where
@@ -16,7 +16,7 @@ pub record Trail : Type 0 where
 -- The same of the code's walk.
 abbrev pub trail_of : Walk → Trail
 trail_of w = record {
-  graph = graph_of w.graph.now;
+  graph = edge_lists_of w.graph.now;
   marks = w.marks.items;
   followed = w.followed.items;
   path = w.path.items;
@@ -85,8 +85,8 @@ abbrev pub counted : Trail → ℕ → Trail
 counted s node = record s { followed = slice_set s.followed node (slice_index s.followed node + 1) }
 
 -- The last node on the path is done.
-abbrev pub left : Trail → ℕ → Trail
-left s node = record s {
+abbrev pub after_leaving : Trail → ℕ → Trail
+after_leaving s node = record s {
   marks = slice_set s.marks node Done;
   path = take (length s.path - 1) s.path;
   order = s.order ++ node ∷ [];

@@ -2,7 +2,7 @@
 //! round, from the nodes in the reverse of the order in which walks over the graph left them, meet one component each.
 
 ghost use Rattle.std.specs.Prelude.{◌≡◌, ◌<◌, All, IfOk, OnOk, length};
-ghost use Rattle.topological_order.specs.Graphs.{graph_of, IsClosed};
+ghost use Rattle.topological_order.specs.Graphs.{edge_lists_of, IsClosed};
 ghost use Rattle.topological_order.specs.Components.{IsTurned, IsTurnedAt, IsNumbered, AreNumbered};
 ghost use Rattle.topological_order.specs.Walk.{IsFinishingOrder};
 
@@ -14,9 +14,9 @@ use std::alloc::Global;
 fn turn_edges(turned: &mut Vec<Vec<usize>>, from: usize, row: &[usize]) -> Result<(), Memory>
     requires from { from < length turned.old.items }
     requires row { All (λ to. to < length turned.old.items) row.now }
-    requires closed { IsClosed (graph_of turned.old.items) }
+    requires closed { IsClosed (edge_lists_of turned.old.items) }
     ensures { OnOk result
-        (IsTurnedAt (graph_of turned.old.items) (graph_of turned.new.items) from row.now) }
+        (IsTurnedAt (edge_lists_of turned.old.items) (edge_lists_of turned.new.items) from row.now) }
 {
     for to in row {
         turned[*to].push(from)?;
@@ -26,8 +26,8 @@ fn turn_edges(turned: &mut Vec<Vec<usize>>, from: usize, row: &[usize]) -> Resul
 
 /// The graph with its edges turned round.
 fn turned(alloc: Global, graph: &[Vec<usize>]) -> Result<Vec<Vec<usize>>, Memory>
-    requires { IsClosed (graph_of graph.now) }
-    ensures { IfOk result (λ turned. IsTurned (graph_of graph.now) (graph_of turned.items)) }
+    requires { IsClosed (edge_lists_of graph.now) }
+    ensures { IfOk result (λ turned. IsTurned (edge_lists_of graph.now) (edge_lists_of turned.items)) }
 {
     let mut turned = Vec::new(alloc);
     for _ in graph {
@@ -56,9 +56,9 @@ pub(crate) fn component_numbers(
     graph: &[Vec<usize>],
     order: &[usize],
 ) -> Result<Vec<usize>, Memory>
-    requires closed { IsClosed (graph_of graph.now) }
-    requires order { IsFinishingOrder (graph_of graph.now) order.now }
-    ensures { IfOk result (λ numbers. IsNumbered (graph_of graph.now) numbers.items) }
+    requires closed { IsClosed (edge_lists_of graph.now) }
+    requires order { IsFinishingOrder (edge_lists_of graph.now) order.now }
+    ensures { IfOk result (λ numbers. IsNumbered (edge_lists_of graph.now) numbers.items) }
 {
     let turned = turned(alloc, graph)?;
     let mut walk = Walk::new(alloc, &turned)?;

@@ -1,7 +1,7 @@
 //! The first node of a graph that reaches itself.
 
 ghost use Rattle.std.specs.Prelude.{◌≡◌, ℕ, ◌<◌, ◌↔◌, IfOk, IsTrue, length, slice_index};
-ghost use Rattle.topological_order.specs.Graphs.{graph_of, IsClosed, HasEdge, LeadsTo};
+ghost use Rattle.topological_order.specs.Graphs.{edge_lists_of, IsClosed, HasEdge, LeadsTo};
 ghost use Rattle.topological_order.specs.Components.{IsNumbered};
 ghost use Rattle.topological_order.specs.Cycles.{Stays, IsFirstInCycle};
 
@@ -11,10 +11,10 @@ use std::alloc::Global;
 
 /// Whether a node has an edge to a node of its own component.
 fn stays(graph: &[Vec<usize>], numbers: &[usize], node: usize) -> bool
-    requires numbers { IsNumbered (graph_of graph.now) numbers.now }
-    requires closed { IsClosed (graph_of graph.now) }
+    requires numbers { IsNumbered (edge_lists_of graph.now) numbers.now }
+    requires closed { IsClosed (edge_lists_of graph.now) }
     requires node { node < length graph.now }
-    ensures { Stays (graph_of graph.now) numbers.now node result }
+    ensures { Stays (edge_lists_of graph.now) numbers.now node result }
 {
     for to in &graph[node] {
         if numbers[*to] == numbers[node] {
@@ -26,9 +26,9 @@ fn stays(graph: &[Vec<usize>], numbers: &[usize], node: usize) -> bool
 
 /// Whether a node reaches itself.
 fn reaches_itself(alloc: Global, graph: &[Vec<usize>], node: usize) -> Result<bool, Memory>
-    requires closed { IsClosed (graph_of graph.now) }
+    requires closed { IsClosed (edge_lists_of graph.now) }
     requires node { node < length graph.now }
-    ensures { IfOk result (λ yes. IsTrue yes ↔ LeadsTo (graph_of graph.now) node node) }
+    ensures { IfOk result (λ yes. IsTrue yes ↔ LeadsTo (edge_lists_of graph.now) node node) }
 {
     let mut walk = Walk::new(alloc, graph)?;
     for next in &graph[node] {
@@ -44,9 +44,9 @@ pub(crate) fn first_cyclic(
     graph: &[Vec<usize>],
     numbers: &[usize],
 ) -> Result<Option<usize>, Memory>
-    requires closed { IsClosed (graph_of graph.now) }
-    requires numbers { IsNumbered (graph_of graph.now) numbers.now }
-    ensures { IfOk result (IsFirstInCycle (graph_of graph.now)) }
+    requires closed { IsClosed (edge_lists_of graph.now) }
+    requires numbers { IsNumbered (edge_lists_of graph.now) numbers.now }
+    ensures { IfOk result (IsFirstInCycle (edge_lists_of graph.now)) }
 {
     for node in 0..graph.len() {
         if stays(graph, numbers, node) && reaches_itself(alloc, graph, node)? {

@@ -14,7 +14,7 @@ pub mod laws;
 mod walk;
 
 ghost use Rattle.std.specs.Prelude.{IfOk};
-ghost use Rattle.topological_order.specs.Graphs.{graph_of, IsClosed};
+ghost use Rattle.topological_order.specs.Graphs.{edge_lists_of, IsClosed};
 ghost use Rattle.topological_order.specs.Orders.{IsSorted};
 
 use crate::components::component_numbers;
@@ -36,8 +36,8 @@ pub enum Sorted {
 /// themselves are those whose strongly connected component has several nodes, or which have an edge to themselves.
 /// Each edge is followed a few times, however many there are, and long paths take no deep recursion.
 pub fn topological_order(alloc: Global, graph: &[Vec<usize>]) -> Result<Sorted, Memory>
-    requires { IsClosed (graph_of graph.now) }
-    ensures { IfOk result (IsSorted (graph_of graph.now)) }
+    requires { IsClosed (edge_lists_of graph.now) }
+    ensures { IfOk result (IsSorted (edge_lists_of graph.now)) }
 {
     let order = finishing_order(alloc, graph)?;
     let numbers = component_numbers(alloc, graph, &order)?;

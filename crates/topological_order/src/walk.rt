@@ -1,7 +1,7 @@
 //! Depth-first walks over a graph, with a stack of their own, so that long paths take no deep recursion.
 
 ghost use Rattle.std.specs.Prelude.{◌≡◌, ℕ, ◌-◌, ◌<◌, IsTrue, Some, length, OnOk, IfOk, slice_get};
-ghost use Rattle.topological_order.specs.Graphs.{graph_of, row_of, IsClosed};
+ghost use Rattle.topological_order.specs.Graphs.{edge_lists_of, row_of, IsClosed};
 ghost use Rattle.topological_order.specs.Walk.{mark_of, is_new, trail_of, opened, met, IsGraphWalk, IsBegun, IsAtEdge, IsAtEnd, IsAtRest, Follows, IsWalkedFrom, IsFinishingOrder};
 
 use outside::Memory;
@@ -33,14 +33,14 @@ pub(crate) struct Walk<'a> {
 /// The node to which an edge leads, if the node has so many.
 fn edge(graph: &[Vec<usize>], node: usize, at: usize) -> Option<usize>
     requires { node < length graph.now }
-    ensures { result ≡ slice_get (row_of (graph_of graph.now) node) at }
+    ensures { result ≡ slice_get (row_of (edge_lists_of graph.now) node) at }
 {
     graph[node].get(at).copied()
 }
 
 impl<'a> Walk<'a> {
     pub fn new(alloc: Global, graph: &'a [Vec<usize>]) -> Result<Walk<'a>, Memory>
-        requires { IsClosed (graph_of graph.now) }
+        requires { IsClosed (edge_lists_of graph.now) }
         ensures graph { IfOk result (λ walk. walk.graph.now ≡ graph.now) }
         ensures begun { IfOk result (λ walk. IsBegun (trail_of walk)) }
     {
@@ -131,8 +131,8 @@ impl<'a> Walk<'a> {
 
 /// The nodes of a graph in the order in which walks from all of them leave them.
 pub(crate) fn finishing_order(alloc: Global, graph: &[Vec<usize>]) -> Result<Vec<usize>, Memory>
-    requires { IsClosed (graph_of graph.now) }
-    ensures { IfOk result (λ order. IsFinishingOrder (graph_of graph.now) order.items) }
+    requires { IsClosed (edge_lists_of graph.now) }
+    ensures { IfOk result (λ order. IsFinishingOrder (edge_lists_of graph.now) order.items) }
 {
     let mut walk = Walk::new(alloc, graph)?;
     for root in 0..graph.len() {

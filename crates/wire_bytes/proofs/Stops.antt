@@ -21,7 +21,7 @@ use Rattle.wire_bytes.specs.declared.reading.WireFault.{WireFault}
 use Rattle.wire_bytes.specs.declared.reading.WireFault.TheVariants.{At, Memory}
 use Rattle.wire_bytes.specs.declared.contexts.ContextFault.{ContextFault}
 use Rattle.wire_bytes.specs.declared.contexts.ContextFault.TheVariants as contexts
-use Rattle.wire_bytes.specs.Reading.{code_of, byte_code_of, IsFaultOf, IsContextFaultOf, ReadsAny, ReadsAnyContext, StopsAt, ReadsUpTo}
+use Rattle.wire_bytes.specs.Reading.{code_of, byte_code_of, IsWireFaultOf, IsContextFaultOf, ReadsAny, ReadsAnyContext, StopsAt, ReadsUpTo}
 
 -- ---- what was read
 
@@ -131,7 +131,7 @@ context_wire_fault input list fault formed reads =
 -- ---- refusals
 
 -- Bytes that are refused for what is wrong with them aren't those of a list.
-pub only_err : (input : List ℕ) (answer : Result (List Atom) WireFault) → IsErr answer → IfErr answer (IsFaultOf input) → ReadsAny input answer
+pub only_err : (input : List ℕ) (answer : Result (List Atom) WireFault) → IsErr answer → IfErr answer (IsWireFaultOf input) → ReadsAny input answer
 only_err input (Ok list) is fault = absurd (cc is)
 only_err input (Err (At offset code)) is fault = λ form list short e. absurd ((reads_one_way input).either list offset (code_of code) short ((reads_one_way input).any form list short e) fault)
 only_err input (Err Memory) is fault = λ form list short e. refl

@@ -37,9 +37,9 @@ byte_code_of bytes.LevelJump = plain.ByteCode.LevelJump
 byte_code_of bytes.OutOfOrder = plain.ByteCode.OutOfOrder
 
 -- The answer names the first fault; want of memory claims nothing.
-abbrev pub IsFaultOf : List ℕ → WireFault → Type 0
-IsFaultOf input (At offset code) = IsFirstWireFault input offset (code_of code)
-IsFaultOf input Memory = Unit {0}
+abbrev pub IsWireFaultOf : List ℕ → WireFault → Type 0
+IsWireFaultOf input (At offset code) = IsFirstWireFault input offset (code_of code)
+IsWireFaultOf input Memory = Unit {0}
 
 -- The answer names the first fault of a context; want of memory claims nothing.
 abbrev pub IsContextFaultOf : List ℕ → ContextFault → Type 0

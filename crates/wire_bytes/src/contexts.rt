@@ -85,7 +85,7 @@ impl From<WireCode> for ByteCode {
 
 impl From<ShapeFault> for ByteCode {
     ghost use Rattle.std.specs.Prelude.{◌≡◌};
-    ghost use Rattle.atom_list.specs.Contexts.{code_of as shape_code_of};
+    ghost use Rattle.atom_list.specs.Contexts.{shape_code_of};
     ghost use Rattle.wire_bytes.specs.Reading.{byte_code_of};
 
     ghost from_gives = { λ shape code. byte_code_of code ≡ shape_code_of shape };

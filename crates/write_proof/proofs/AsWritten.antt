@@ -18,7 +18,7 @@ use Rattle.text_lines.specs.Lines.{numbered}
 use Rattle.text_lines.specs.Readings.{AllSay, NoneOf}
 use Rattle.text_lines.proofs.FedLines.{fed_line}
 use Rattle.trace_model.specs.Graphs.{Graph}
-use Rattle.write_proof.specs.Entries.{Entry, Why, ValueText, Reach, Uses, IsSound, entry_text, entry_line}
+use Rattle.write_proof.specs.Entries.{Entry, Why, ValueText, Reach, Uses, IsSoundEntry, entry_text, entry_line}
 use Rattle.write_proof.specs.LineRules.{last_of, MayFollow, IsNoMore, HasParent, IsWriteStep, BreaksAlone, rules_alone, certificate_lines}
 use Rattle.write_proof.specs.WholeRules.{reached, used}
 use Rattle.write_proof.specs.Certificates.{entries_of}
@@ -26,7 +26,7 @@ use Rattle.write_proof.proofs.Feeds.{IsFed, decimal_fed, path_fed}
 
 -- ---- lines
 
-pub entry_fed : (entry : Entry) → IsSound entry → ((text : List ℕ) → entry ≡ ValueText text → IsFed text) → IsFed (entry_text entry)
+pub entry_fed : (entry : Entry) → IsSoundEntry entry → ((text : List ℕ) → entry ≡ ValueText text → IsFed text) → IsFed (entry_text entry)
 entry_fed (Why n path) sound plain =
     free_append 10 (codes "why") (32 ∷ (decimal n ++ 32 ∷ path)) refl (free_append 10 (decimal n) (32 ∷ path) (decimal_fed n) (path_fed path sound.1))
 entry_fed (ValueText text) sound plain = free_append 10 (codes "value ") text refl (plain text refl)
@@ -37,7 +37,7 @@ entry_fed (Uses w) sound plain = free_append 10 (codes "uses") (32 ∷ decimal w
 module _ (table : Nodes) (graph : Graph) where
   -- An entry has a line, may stand behind these, and breaks no rule by itself.
   pub record Stands (earlier : List Entry) (entry : Entry) : Type 0 where
-    pub sound : IsSound entry
+    pub sound : IsSoundEntry entry
     pub fed : IsFed (entry_text entry)
     pub follows : MayFollow (last_of earlier) entry
     pub none : NoneOf (BreaksAlone table graph earlier entry) rules_alone

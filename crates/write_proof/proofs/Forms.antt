@@ -17,7 +17,7 @@ use Rattle.graph_lines.specs.Forms.{IsNumber, IsName, IsPath, HasNoSpace}
 use Rattle.graph_lines.specs.Reading.{IsCut}
 use Rattle.graph_lines.proofs.Decimals.{same_number, number_no_space}
 use Rattle.graph_lines.proofs.Separated.{same_cut}
-use Rattle.write_proof.specs.Entries.{Entry, Why, ValueText, Reach, Uses, IsSound, entry_text, HasForm}
+use Rattle.write_proof.specs.Entries.{Entry, Why, ValueText, Reach, Uses, IsSoundEntry, entry_text, HasEntryForm}
 use Rattle.write_proof.specs.Views.{IsOfWords, IsInWords}
 
 -- ---- a line says one entry
@@ -46,7 +46,7 @@ first_byte (byte ∷ bytes) = byte
 apart : (a b : List ℕ) → (first_byte a == first_byte b) ≡ false → a ≡ b → ⊥
 apart a b differ e = let bad : true ≡ false = sym (eq-eqb (first_byte a) (first_byte b) (ap first_byte e)) ∙ differ in cc bad
 
-one_entry : (a b : Entry) → IsSound a → IsSound b → entry_text a ≡ entry_text b → a ≡ b
+one_entry : (a b : Entry) → IsSoundEntry a → IsSoundEntry b → entry_text a ≡ entry_text b → a ≡ b
 one_entry (Why m way) (Why n path) p q e =
     let behind : decimal m ++ 32 ∷ way ≡ decimal n ++ 32 ∷ path = cc e in
     let same = one_number m n way path p.0 q.0 behind in
@@ -72,7 +72,7 @@ one_entry (Uses v) (Reach w child) p q e = absurd (apart (entry_text (Uses v)) (
 one_entry (Uses v) (Uses w) p q e = let behind : decimal v ≡ decimal w = cc e in ap Uses (same_number v w p q behind)
 
 -- A line says one entry.
-pub one_form : (line : List ℕ) (a b : Entry) → HasForm line a → HasForm line b → a ≡ b
+pub one_form : (line : List ℕ) (a b : Entry) → HasEntryForm line a → HasEntryForm line b → a ≡ b
 one_form line a b f g = one_entry a b f.0 g.0 (unsnoc (entry_text a) (entry_text b) 10 10 (sym f.1 ∙ g.1))
 
 -- ---- the first word
@@ -140,7 +140,7 @@ small_codes : (text : List ℕ) → list_all (λ byte. nat_lt byte 128) text ≡
 small_codes [] is = tt
 small_codes (byte ∷ bytes) is = let parts = and_parts (nat_lt byte 128) (list_all (λ b. nat_lt b 128) bytes) is in (ltb-true byte 128 parts.0, small_codes bytes parts.1)
 
-small_words : (entry : Entry) → IsOfWords entry → IsSound entry → AreSmall (entry_text entry)
+small_words : (entry : Entry) → IsOfWords entry → IsSoundEntry entry → AreSmall (entry_text entry)
 small_words (Why n path) words sound =
     small_append (codes "why") (32 ∷ (decimal n ++ 32 ∷ path)) (small_codes (codes "why") refl)
     (omega arith, small_append (decimal n) (32 ∷ path) (small_number n sound.0) (omega arith, small_path path sound.1))
@@ -151,14 +151,14 @@ small_words (Reach w child) words sound =
 small_words (Uses w) words sound = small_append (codes "uses") (32 ∷ decimal w) (small_codes (codes "uses") refl) (omega arith, small_number w sound)
 
 -- The words of an entry are made of characters.
-pub words_utf8 : (entry : Entry) → IsOfWords entry → IsSound entry → IsUtf8 (entry_text entry)
+pub words_utf8 : (entry : Entry) → IsOfWords entry → IsSoundEntry entry → IsUtf8 (entry_text entry)
 words_utf8 entry words sound = IsUtf8-from_ascii (entry_text entry) (ascii (entry_text entry) (small_words entry words sound))
 
 -- A line whose text is neither that of a value nor made of characters says nothing.
-pub no_characters : (line text : List ℕ) → line ≡ text ++ 10 ∷ [] → ((rest : List ℕ) → text ≢ codes "value " ++ rest) → (IsUtf8 text → ⊥) → (entry : Entry) → HasForm line entry → ⊥
+pub no_characters : (line text : List ℕ) → line ≡ text ++ 10 ∷ [] → ((rest : List ℕ) → text ≢ codes "value " ++ rest) → (IsUtf8 text → ⊥) → (entry : Entry) → HasEntryForm line entry → ⊥
 no_characters line text is plain bad entry form = by entry form (unsnoc text (entry_text entry) 10 10 (sym is ∙ form.1))
   where
-    by : (entry : Entry) → HasForm line entry → text ≡ entry_text entry → ⊥
+    by : (entry : Entry) → HasEntryForm line entry → text ≡ entry_text entry → ⊥
     by (Why n path) form same = bad (subst IsUtf8 (sym same) (words_utf8 (Why n path) tt form.0))
     by (ValueText rest) form same = plain rest same
     by (Reach w child) form same = bad (subst IsUtf8 (sym same) (words_utf8 (Reach w child) tt form.0))

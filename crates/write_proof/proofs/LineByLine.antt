@@ -7,7 +7,7 @@ use Rattle.text_lines.specs.Readings.{AllSay}
 use Rattle.text_lines.proofs.ReadingLaws.{all_say_more}
 use Rattle.trace_model.specs.Graphs.{Graph}
 use Rattle.write_proof.specs.Entries.{Entry, lines_in}
-use Rattle.write_proof.specs.LineRules.{IsGood, certificate_lines}
+use Rattle.write_proof.specs.LineRules.{IsGoodEntry, certificate_lines}
 
 module _ (table : Nodes) (graph : Graph) where
   -- The lines so far said these entries, and the rest is what stands behind them.
@@ -17,7 +17,7 @@ module _ (table : Nodes) (graph : Graph) where
     pub all : AllSay (certificate_lines table graph) [] before said
 
   pub said_more : (certificate rest line behind : List ℕ) (said : List Entry) (entry : Entry) → HasSaid certificate rest said → fed_lines rest ≡ line ∷ fed_lines behind
-      → IsGood table graph said line entry → HasSaid certificate behind (said ++ entry ∷ [])
+      → IsGoodEntry table graph said line entry → HasSaid certificate behind (said ++ entry ∷ [])
   said_more certificate rest line behind said entry s cut good = record {
     before = s.before ++ (length said + 1, line) ∷ [];
     split =

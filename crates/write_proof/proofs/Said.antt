@@ -8,7 +8,7 @@ use Rattle.text_lines.specs.Readings.{AllSay}
 use Rattle.trace_model.specs.Graphs.{Graph, Step, parents_of}
 use Rattle.trace_model.proofs.ReachLaws.{one_step}
 use Rattle.write_proof.specs.Entries.{Entry, Why, ValueText, Reach, Uses}
-use Rattle.write_proof.specs.LineRules.{step_of, MayFollow, HasParent, IsGood, certificate_lines}
+use Rattle.write_proof.specs.LineRules.{certified_step, MayFollow, HasParent, IsGoodEntry, certificate_lines}
 use Rattle.write_proof.specs.WholeRules.{reached, used, IsListed}
 use Rattle.write_proof.proofs.Decided.{same_number, in_or_not}
 
@@ -25,9 +25,9 @@ parent_or_not graph c w = by (slice_get graph.steps c) refl
     ]
 
 pub listed_or_not : (said : List Entry) (w : ℕ) → IsListed said w ⊎ (IsListed said w → ⊥)
-listed_or_not said w = by (same_number w (step_of said)) (in_or_not w (reached said))
+listed_or_not said w = by (same_number w (certified_step said)) (in_or_not w (reached said))
   where
-    by : (w ≡ step_of said) ⊎ (w ≡ step_of said → ⊥) → IsIn w (reached said) ⊎ (IsIn w (reached said) → ⊥) → IsListed said w ⊎ (IsListed said w → ⊥)
+    by : (w ≡ certified_step said) ⊎ (w ≡ certified_step said → ⊥) → IsIn w (reached said) ⊎ (IsIn w (reached said) → ⊥) → IsListed said w ⊎ (IsListed said w → ⊥)
     by (inl e) t = inl (inl e)
     by (inr n) (inl i) = inl (inr i)
     by (inr n) (inr m) = inr (λ s. elim s [ inl e ↦ n e | inr i ↦ m i ])
@@ -53,11 +53,11 @@ used_at (Uses v ∷ more) w (inr i) = let s = used_at more w i in (suc s.0, s.1)
 
 -- Each entry is said by a good line behind some others.
 pub said_at : (table : Nodes) (graph : Graph) (earlier : List Entry) (lines : List Line) (said : List Entry) → AllSay (certificate_lines table graph) earlier lines said
-    → (place : ℕ) (entry : Entry) → slice_get said place ≡ Some entry → (before : List Entry) × (line : List ℕ) × IsGood table graph before line entry
+    → (place : ℕ) (entry : Entry) → slice_get said place ≡ Some entry → (before : List Entry) × (line : List ℕ) × IsGoodEntry table graph before line entry
 said_at table graph earlier [] [] all place entry at = absurd (cc at)
 said_at table graph earlier [] (a ∷ said) all place entry at = absurd all
 said_at table graph earlier (line ∷ lines) [] all place entry at = absurd all
-said_at table graph earlier (line ∷ lines) (a ∷ said) all zero entry at = let same : a ≡ entry = cc at in (earlier, line.1, subst (IsGood table graph earlier line.1) same all.0)
+said_at table graph earlier (line ∷ lines) (a ∷ said) all zero entry at = let same : a ≡ entry = cc at in (earlier, line.1, subst (IsGoodEntry table graph earlier line.1) same all.0)
 said_at table graph earlier (line ∷ lines) (a ∷ said) all (suc place) entry at = said_at table graph (earlier ++ a ∷ []) lines said all.1 place entry at
 
 -- ---- the first two

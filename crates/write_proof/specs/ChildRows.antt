@@ -5,15 +5,15 @@ use Rattle.trace_model.specs.Graphs.{Graph}
 use Rattle.write_proof.specs.LineRules.{HasParent}
 
 -- The row of the step with this number, and no child where there is none.
-abbrev pub row_at : List (List ℕ) → ℕ → List ℕ
-row_at rows w = slice_index_or rows w []
+abbrev pub child_row_at : List (List ℕ) → ℕ → List ℕ
+child_row_at rows w = slice_index_or rows w []
 
 -- The child was added to the rows of these steps, and to no others.
 pub record AreAdded (steps : List ℕ) (child : ℕ) (old new : List (List ℕ)) : Type 0 where
   pub as_many : length new ≡ length old
-  pub each : (w c : ℕ) → IsIn c (row_at new w) ↔ (IsIn c (row_at old w) ⊎ ((c ≡ child) × IsIn w steps))
+  pub each : (w c : ℕ) → IsIn c (child_row_at new w) ↔ (IsIn c (child_row_at old w) ⊎ ((c ≡ child) × IsIn w steps))
 
 -- In the row of each step stand those of the first m steps that have it as a parent, and no others.
 pub record AreRowsTo (graph : Graph) (m : ℕ) (rows : List (List ℕ)) : Type 0 where
   pub as_many : length rows ≡ length graph.steps
-  pub each : (w c : ℕ) → IsIn c (row_at rows w) ↔ ((c < m) × HasParent graph c w)
+  pub each : (w c : ℕ) → IsIn c (child_row_at rows w) ↔ ((c < m) × HasParent graph c w)

@@ -26,15 +26,15 @@ abbrev pub entry_line : Entry → List ℕ
 entry_line entry = entry_text entry ++ 10 ∷ []
 
 -- Numbers have at most ten digits, and a path is names with dots between them; the text of a value may be any bytes.
-abbrev pub IsSound : Entry → Type 0
-IsSound (Why n path) = IsNumber n × IsPath path
-IsSound (ValueText text) = Unit {0}
-IsSound (Reach w child) = IsNumber w × IsNumber child
-IsSound (Uses w) = IsNumber w
+abbrev pub IsSoundEntry : Entry → Type 0
+IsSoundEntry (Why n path) = IsNumber n × IsPath path
+IsSoundEntry (ValueText text) = Unit {0}
+IsSoundEntry (Reach w child) = IsNumber w × IsNumber child
+IsSoundEntry (Uses w) = IsNumber w
 
 -- The line has a form, and says this.
-abbrev pub HasForm : List ℕ → Entry → Type 0
-HasForm line entry = IsSound entry × (line ≡ entry_line entry)
+abbrev pub HasEntryForm : List ℕ → Entry → Type 0
+HasEntryForm line entry = IsSoundEntry entry × (line ≡ entry_line entry)
 
 -- The lines of a certificate, with their numbers from 1. None is skipped, and the last may be without its line feed.
 abbrev pub lines_in : List ℕ → List Line

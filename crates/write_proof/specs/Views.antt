@@ -5,7 +5,7 @@ use Rattle.graph_lines.specs.Forms.{IsNumber, IsPath}
 use Rattle.write_proof.specs.declared.entries.Entry.{Entry}
 use Rattle.write_proof.specs.declared.entries.Entry.TheVariants.{Why, Value, Reach, Uses}
 use Rattle.write_proof.specs.Entries as lines
-use Rattle.write_proof.specs.Entries.{IsSound, entry_text}
+use Rattle.write_proof.specs.Entries.{IsSoundEntry, entry_text}
 
 -- What the code's entry says.
 abbrev pub entry_of : Entry → lines.Entry
@@ -31,4 +31,4 @@ IsOfWords (lines.Uses w) = Unit {0}
 
 -- The text is the words of an entry.
 abbrev pub IsInWords : List ℕ → lines.Entry → Type 0
-IsInWords text entry = IsOfWords entry × IsSound entry × (text ≡ entry_text entry)
+IsInWords text entry = IsOfWords entry × IsSoundEntry entry × (text ≡ entry_text entry)

@@ -2,7 +2,7 @@
 
 ghost use Rattle.std.specs.Prelude.{◌≡◌, ◌<◌, [], ℕ, length, IfOk, OnOk};
 ghost use Rattle.context_model.specs.Orders.{IsIn};
-ghost use Rattle.write_proof.specs.ChildRows.{AreAdded, AreRowsTo, row_at};
+ghost use Rattle.write_proof.specs.ChildRows.{AreAdded, AreRowsTo, child_row_at};
 
 use outside::Memory;
 use recorded_graph::{Graph, Places};
@@ -11,7 +11,7 @@ use std::alloc::Global;
 /// A row without children for each of so many steps.
 fn empty_rows(alloc: Global, steps: usize) -> Result<Vec<Places>, Memory>
     ensures many { IfOk result (λ rows. length rows.items ≡ steps) }
-    ensures empty { IfOk result (λ rows. (w : ℕ) → row_at rows.items w ≡ []) }
+    ensures empty { IfOk result (λ rows. (w : ℕ) → child_row_at rows.items w ≡ []) }
 {
     let mut rows = Vec::with_capacity(alloc, steps)?;
     for _ in 0..steps {

@@ -4,7 +4,7 @@ ghost use Rattle.std.specs.Prelude.{◌≡◌, ◌≢◌, ◌++◌, [], ◌∷�
 ghost use Rattle.decimal_text.specs.Answers.{IsSomeOf};
 ghost use Rattle.graph_lines.specs.Reading.{IsNumberText};
 ghost use Rattle.write_proof.specs.Entries as plain;
-ghost use Rattle.write_proof.specs.Entries.{HasForm};
+ghost use Rattle.write_proof.specs.Entries.{HasEntryForm};
 ghost use Rattle.write_proof.specs.Views.{IsWhyText, IsReachText, IsInWords, entry_of};
 
 use graph_lines::{cut_word, is_path, read_number, take_number};
@@ -90,8 +90,8 @@ fn read_words(text: &str) -> Option<Entry<'_>>
 
 /// What a line says, or none where it has no form.
 pub(crate) fn read_entry(line: &[u8]) -> Option<Entry<'_>>
-    ensures { MatchOption result ((entry : plain.Entry) → HasForm line.now entry → ⊥)
-        (λ entry. HasForm line.now (entry_of entry)) }
+    ensures { MatchOption result ((entry : plain.Entry) → HasEntryForm line.now entry → ⊥)
+        (λ entry. HasEntryForm line.now (entry_of entry)) }
 {
     let text = without_feed(line)?;
     match behind_value(text) {

@@ -40,9 +40,9 @@ pub enum Verified {
 
 impl fmt::Display for VerifyCode {
     ghost use Rattle.std.specs.Prelude.{Some};
-    ghost use Rattle.write_proof.specs.CodeNames.{code_name};
+    ghost use Rattle.write_proof.specs.CodeNames.{verify_code_name};
 
-    ghost output = { λ code. Some (code_name code) };
+    ghost output = { λ code. Some (verify_code_name code) };
 
     fn fmt<W: fmt::Write>(&self, f: &mut fmt::Formatter<W>) -> fmt::Result {
         match self {

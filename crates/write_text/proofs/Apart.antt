@@ -13,7 +13,7 @@ use Rattle.std.proofs.lemmas.Str.Parse.{digit_from_value}
 use Rattle.hex.specs.Hex.{decode_of, is_hex_digit}
 use Rattle.hex.proofs.HexLemmas.{decode_of-ok, decode_of-same}
 use Rattle.bag_model.specs.Scalars as scalars
-use Rattle.bag_model.specs.Scalars.{Word, Plain, Truth, Signed, Unsigned, Text, Octets, SpellingForm, TruthByte, UnsignedVarint, SignedVarint, FixedBytes, SignedFixedBytes, TextBytes, RawBytes, IsOfForm, IsPlainOf, form_of, plain_rank}
+use Rattle.bag_model.specs.Scalars.{Word, Plain, Truth, Signed, Unsigned, Text, Octets, SpellingForm, TruthByte, UnsignedVarint, SignedVarint, FixedBytes, SignedFixedBytes, TextBytes, RawBytes, IsOfForm, IsPlainOf, spelling_form_of, plain_rank}
 use Rattle.text_model.specs.ScalarTexts.{truth_text}
 use Rattle.write_text.specs.Literals.{IsPlainText}
 use Rattle.write_text.specs.Ends.{is_stop, IsNoStop, IsEnd, BeginsWithOne}
@@ -135,7 +135,7 @@ rank_is _ _ p = absurd p
 
 -- Two values of a word are of one rank.
 pub one_rank : (word : Word) (v w : Plain) → IsPlainOf word v → IsPlainOf word w → plain_rank v ≡ plain_rank w
-one_rank word v w p q = rank_is (form_of word) v p ∙ sym (rank_is (form_of word) w q)
+one_rank word v w p q = rank_is (spelling_form_of word) v p ∙ sym (rank_is (spelling_form_of word) w q)
 
 pub signed_fits : (form : SpellingForm) (z : ℤ) → IsOfForm form (Signed z) → FitsSigned w64 z
 signed_fits (SignedVarint false) (pos n) p = record { sfits = omega (arith, ints) }
@@ -168,13 +168,13 @@ word_apart word (Truth a) (Truth b) text s r p q =
     let cut = fronts_apart (truth_text a) (truth_text b) text s r (truth_inside a) (truth_inside b) (p.same ∙ ap (λ l. l ++ s) p.fact.1) (q.same ∙ ap (λ l. l ++ r) q.fact.1) p.end q.end in
     (ap Truth (truth_one a b cut.0), cut.1)
 word_apart word (Signed y) (Signed z) text s r p q =
-    let f = signed_fits (form_of word) y p.fact.0 in
-    let g = signed_fits (form_of word) z q.fact.0 in
+    let f = signed_fits (spelling_form_of word) y p.fact.0 in
+    let g = signed_fits (spelling_form_of word) z q.fact.0 in
     let cut = fronts_apart (signed_decimal y) (signed_decimal z) text s r (signed_inside y f) (signed_inside z g) (p.same ∙ ap (λ l. l ++ s) p.fact.1) (q.same ∙ ap (λ l. l ++ r) q.fact.1) p.end q.end in
     (ap Signed (signed_one y z f g cut.0), cut.1)
 word_apart word (Unsigned m) (Unsigned n) text s r p q =
-    let f = unsigned_fits (form_of word) m p.fact.0 in
-    let g = unsigned_fits (form_of word) n q.fact.0 in
+    let f = unsigned_fits (spelling_form_of word) m p.fact.0 in
+    let g = unsigned_fits (spelling_form_of word) n q.fact.0 in
     let cut = fronts_apart (decimal m) (decimal n) text s r (decimal_inside m f) (decimal_inside n g) (p.same ∙ ap (λ l. l ++ s) p.fact.1) (q.same ∙ ap (λ l. l ++ r) q.fact.1) p.end q.end in
     (ap Unsigned (decimal_injective m n f g cut.0), cut.1)
 word_apart word (Text a) (Text b) text s r p q =
@@ -201,7 +201,7 @@ text_word _ bytes p = absurd p
 -- They have no byte at which a literal ends.
 pub word_inside : (word : Word) (v : Plain) (front : List ℕ) → (word ≡ scalars.Word.Str → ⊥) → IsWordText word v front → AreInside front
 word_inside word (Truth b) front other p = subst AreInside (sym p.1) (truth_inside b)
-word_inside word (Signed z) front other p = subst AreInside (sym p.1) (signed_inside z (signed_fits (form_of word) z p.0))
-word_inside word (Unsigned n) front other p = subst AreInside (sym p.1) (decimal_inside n (unsigned_fits (form_of word) n p.0))
+word_inside word (Signed z) front other p = subst AreInside (sym p.1) (signed_inside z (signed_fits (spelling_form_of word) z p.0))
+word_inside word (Unsigned n) front other p = subst AreInside (sym p.1) (decimal_inside n (unsigned_fits (spelling_form_of word) n p.0))
 word_inside word (Text bytes) front other p = absurd (other (text_word word bytes p.0))
 word_inside word (Octets bytes) front other p = subst AreInside (sym p.1.1) (octets_inside p.1.0 bytes p.1.2)

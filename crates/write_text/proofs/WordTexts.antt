@@ -5,7 +5,7 @@ use Rattle.std.specs.Int.{w64}
 use Rattle.std.proofs.lemmas.Fmt.{decimal_injective}
 use Rattle.hex.specs.Hex.{decode_of}
 use Rattle.bag_model.specs.Scalars as scalars
-use Rattle.bag_model.specs.Scalars.{Word, Plain, Signed, Unsigned, Octets, SpellingForm, IsOfForm, IsPlainOf, IsScalarOf, form_of}
+use Rattle.bag_model.specs.Scalars.{Word, Plain, Signed, Unsigned, Octets, SpellingForm, IsOfForm, IsPlainOf, IsScalarOf, spelling_form_of}
 use Rattle.scalar_types.specs.declared.kinds.ScalarKind.{ScalarKind}
 use Rattle.scalar_types.specs.declared.kinds.ScalarKind.TheVariants as kinds
 use Rattle.scalar_types.specs.KindViews.{IsPlainWord, kind_of, word_of}
@@ -62,17 +62,17 @@ unsigned_only form wide v is p =
 pub no_signed : (word : Word) (text : List ℕ) (z : ℤ) → HasSign word → text ≡ signed_decimal z → FitsSigned w64 z → (IsPlainOf word (Signed z) → ⊥)
     → (a : Plain) → IsWordText word a text → ⊥
 no_signed word text z sign e fits none a p =
-    let only = signed_only (form_of word) sign.0 a sign.1 p.0 in
+    let only = signed_only (spelling_form_of word) sign.0 a sign.1 p.0 in
     let q = subst (λ (v : Plain). IsWordText word v text) only.1 p in
-    let same : only.0 ≡ z = signed_one only.0 z (signed_fits (form_of word) only.0 q.0) fits (sym q.1 ∙ e) in
+    let same : only.0 ≡ z = signed_one only.0 z (signed_fits (spelling_form_of word) only.0 q.0) fits (sym q.1 ∙ e) in
     none (subst (λ (y : ℤ). IsPlainOf word (Signed y)) same q.0)
 
 pub no_unsigned_of : (word : Word) (text : List ℕ) (n : ℕ) → HasNoSign word → text ≡ decimal n → n < 2 ^ 64 → (IsPlainOf word (Unsigned n) → ⊥)
     → (a : Plain) → IsWordText word a text → ⊥
 no_unsigned_of word text n sign e small none a p =
-    let only = unsigned_only (form_of word) sign.0 a sign.1 p.0 in
+    let only = unsigned_only (spelling_form_of word) sign.0 a sign.1 p.0 in
     let q = subst (λ (v : Plain). IsWordText word v text) only.1 p in
-    let same : only.0 ≡ n = decimal_injective only.0 n (unsigned_fits (form_of word) only.0 q.0) small (sym q.1 ∙ e) in
+    let same : only.0 ≡ n = decimal_injective only.0 n (unsigned_fits (spelling_form_of word) only.0 q.0) small (sym q.1 ∙ e) in
     none (subst (λ (m : ℕ). IsPlainOf word (Unsigned m)) same q.0)
 
 -- A text that says no bytes is no literal of a byte string.

@@ -5,7 +5,7 @@ use Rattle.std.specs.Fmt.{decimal, signed_decimal}
 use Rattle.hex.specs.Hex.{decode_of}
 use Rattle.context_model.specs.declared.Form.{Form as WireForm}
 use Rattle.context_model.specs.Framing.{most}
-use Rattle.bag_model.specs.Scalars.{Word, ScalarKind, Plain, ScalarValue, Truth, Signed, Unsigned, Text, Octets, IsScalarOf, spelling, Str, Bytes, form_of, SignedVarint, SignedFixedBytes, UnsignedVarint, FixedBytes}
+use Rattle.bag_model.specs.Scalars.{Word, ScalarKind, Plain, ScalarValue, Truth, Signed, Unsigned, Text, Octets, IsScalarOf, spelling, Str, Bytes, spelling_form_of, SignedVarint, SignedFixedBytes, UnsignedVarint, FixedBytes}
 use Rattle.text_model.specs.Commas.{in_parentheses}
 use Rattle.text_model.specs.ScalarTexts.{is_marked, truth_text}
 
@@ -52,11 +52,11 @@ ArePlainTexts (v ∷ vs) (text ∷ texts) = IsPlainText v text × ArePlainTexts 
 
 -- The word is of numbers with a sign.
 abbrev pub HasSign : Word → Type 0
-HasSign word = (wide : Bool) × ((form_of word ≡ SignedVarint wide) ⊎ (form_of word ≡ SignedFixedBytes wide))
+HasSign word = (wide : Bool) × ((spelling_form_of word ≡ SignedVarint wide) ⊎ (spelling_form_of word ≡ SignedFixedBytes wide))
 
 -- The word is of numbers without a sign.
 abbrev pub HasNoSign : Word → Type 0
-HasNoSign word = (wide : Bool) × ((form_of word ≡ UnsignedVarint wide) ⊎ (form_of word ≡ FixedBytes wide))
+HasNoSign word = (wide : Bool) × ((spelling_form_of word ≡ UnsignedVarint wide) ⊎ (spelling_form_of word ≡ FixedBytes wide))
 
 -- The text says the value of a word, or the values of a struct's fields between parentheses.
 abbrev pub IsScalarText : ScalarValue → List ℕ → Type 0

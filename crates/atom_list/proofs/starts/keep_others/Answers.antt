@@ -1,7 +1,7 @@
 use Rattle.std.proofs.Common.{◌≡◌, ℕ, ◌+◌, ◌<◌, List, [], length, take, set, get_or, refl, sym, ◌∙◌, ap, subst, arith}
 use Rattle.std.proofs.lemmas.List.{length-map, take-set-le}
 use Rattle.context_model.specs.Atoms.{Atom}
-use Rattle.atom_list.specs.Starts.{atom_at, atoms_at, AreStarts, IsStart}
+use Rattle.atom_list.specs.Starts.{atom_framed_at, atoms_at, AreStarts, IsStart}
 use Rattle.atom_list.proofs.Flat.{AreStarts-take, AreStarts-set, starts_at}
 use Rattle.atom_list.proofs.TakingOut.{Done, done_first, done_taken, done_kept, stays_behind, stays_before, atoms_at-set, as_many, left_out}
 use Rattle.atom_list.proofs.starts.keep_others.Goals as goal
@@ -12,7 +12,7 @@ loop-at-init c =
     let starts = c.args.starts.now in
     let within : get_or c.args.gone.now 0 0 < length starts.items = omega (arith, c.requires.within 0 c.requires.some, starts.ok.0) in
     record {
-      done = λ bytes. done_first c.args.gone.now (atoms_at bytes starts.items) c.requires.rises c.requires.some (omega (arith, length-map starts.items (atom_at bytes)));
+      done = λ bytes. done_first c.args.gone.now (atoms_at bytes starts.items) c.requires.rises c.requires.some (omega (arith, length-map starts.items (atom_framed_at bytes)));
       fit = λ bytes fit. fit;
       first = omega arith;
       front = refl;
@@ -44,7 +44,7 @@ loop-at-preserved c =
     let done = c.loop-at.invariant.done in
     let many = as_many gone start now at kept taken done in
     let within : at < length start = omega (arith, c.args.starts.now.ok.0) in
-    let all : (bytes : List ℕ) → at < length (atoms_at bytes start) = λ bytes. omega (arith, length-map start (atom_at bytes)) in
+    let all : (bytes : List ℕ) → at < length (atoms_at bytes start) = λ bytes. omega (arith, length-map start (atom_framed_at bytes)) in
     elim c.if-taken-gone.branch [
       | then-taken-gone+then-gone-taken w ↦ record {
         done = λ bytes. moved gone (atoms_at bytes start) (atoms_at bytes now) _ (at + 1) kept _ (taken + 1) _ (ap (λ v. atoms_at bytes v.items) w.starts-is) w.kept-is w.taken-is

@@ -3,14 +3,14 @@ use Rattle.context_model.specs.Atoms.{Atom}
 use Rattle.bag_model.specs.NormalForm.{IsNormalOf}
 use Rattle.bag_value.specs.Vals.{plain, val_of}
 use Rattle.bag_value.specs.ValLaws.{val_back}
-use Rattle.field_table.specs.Views.{view_of}
+use Rattle.field_table.specs.Views.{plain_view_of}
 use Rattle.bag_codec.proofs.Said.{Says, normal_says, says_one}
 use Rattle.bag_codec.proofs.normal_readings.normal_and_read.Goals as goal
 
 pub decode-requires : goal.decode-requires
 decode-requires c =
     let nodes = c.args.table.now in
-    let view = view_of c.args.view.now in
+    let view = plain_view_of c.args.view.now in
     let list = c.args.context.now in
     let is = subst (λ (l : List Atom). IsNormalOf nodes view l c.in_ok-fewer.fewer) c.in_ok-copy.ensures c.in_ok-fewer.ensures in
     (c.normal_form_keeps.ensures.values nodes view list c.in_ok-fewer.fewer c.nodes.ensures.table c.list.ensures.well_formed c.requires is).typed
@@ -18,7 +18,7 @@ decode-requires c =
 pub returns-clause-one : goal.returns-clause-one
 returns-clause-one c =
     let nodes = c.args.table.now in
-    let view = view_of c.args.view.now in
+    let view = plain_view_of c.args.view.now in
     let list = c.args.context.now in
     let is = subst (λ (l : List Atom). IsNormalOf nodes view l c.in_ok-fewer.fewer) c.in_ok-copy.ensures c.in_ok-fewer.ensures in
     let keeps = c.normal_form_keeps.ensures.values nodes view list c.in_ok-fewer.fewer c.nodes.ensures.table c.list.ensures.well_formed c.requires is in
@@ -29,7 +29,7 @@ returns-clause-one c =
 pub returns-clause-kept : goal.returns-clause-kept
 returns-clause-kept c =
     let nodes = c.args.table.now in
-    let view = view_of c.args.view.now in
+    let view = plain_view_of c.args.view.now in
     let list = c.args.context.now in
     let is = subst (λ (l : List Atom). IsNormalOf nodes view l c.in_ok-fewer.fewer) c.in_ok-copy.ensures c.in_ok-fewer.ensures in
     let keeps = c.normal_form_keeps.ensures.lists nodes view list c.in_ok-fewer.fewer c.nodes.ensures.table c.list.ensures.well_formed is in

@@ -5,14 +5,14 @@ use Rattle.bag_model.specs.NormalForm.{IsNormalOf}
 use Rattle.bag_model.specs.Slots.{slots_of}
 use Rattle.bag_model.proofs.SlotsBelow.{get_in}
 use Rattle.bag_scan.specs.declared.states.State.TheVariants.{Exact}
-use Rattle.field_table.specs.Views.{view_of}
+use Rattle.field_table.specs.Views.{plain_view_of}
 use Rattle.bag_codec.proofs.Said.{slot_at, states_one}
 use Rattle.bag_codec.proofs.normal_readings.normal_and_states.Goals as goal
 
 pub returns-clause-one : goal.returns-clause-one
 returns-clause-one c =
     let nodes = c.args.table.now in
-    let view = view_of c.args.view.now in
+    let view = plain_view_of c.args.view.now in
     let list = c.args.context.now in
     let is = subst (λ (l : List Atom). IsNormalOf nodes view l c.in_ok-fewer.fewer) c.in_ok-copy.ensures c.in_ok-fewer.ensures in
     let keeps = c.normal_form_keeps.ensures.lists nodes view list c.in_ok-fewer.fewer c.nodes.ensures.table c.list.ensures.well_formed is in
@@ -25,7 +25,7 @@ returns-clause-one c =
 pub returns-clause-kept : goal.returns-clause-kept
 returns-clause-kept c =
     let nodes = c.args.table.now in
-    let view = view_of c.args.view.now in
+    let view = plain_view_of c.args.view.now in
     let list = c.args.context.now in
     let is = subst (λ (l : List Atom). IsNormalOf nodes view l c.in_ok-fewer.fewer) c.in_ok-copy.ensures c.in_ok-fewer.ensures in
     let keeps = c.normal_form_keeps.ensures.lists nodes view list c.in_ok-fewer.fewer c.nodes.ensures.table c.list.ensures.well_formed is in

@@ -9,7 +9,7 @@ use Rattle.bag_model.proofs.SlotLaws.{slots_of-list, starts-bound}
 use Rattle.bag_scan.proofs.FieldGets.{opened}
 use Rattle.field_table.specs.declared.shapes.Slot.{Slot}
 use Rattle.field_table.specs.Plain.{field_of, nodes_of, shape_of}
-use Rattle.field_table.specs.Views.{view_of}
+use Rattle.field_table.specs.Views.{plain_view_of}
 use Rattle.field_table.proofs.Held.{field_is, levels_there, no_bag, start_next}
 use Rattle.bag_normal.specs.Data.{AddsPlaces}
 use Rattle.bag_normal.specs.Headers.{IsFieldFound}
@@ -27,7 +27,7 @@ add_known-returns-then-knows-clause-adds t c =
     let list = c.args.list.now in
     let q = path_before list c.args.from in
     let shape = shape_of c.args.shape.now in
-    let view = view_of c.args.view.now in
+    let view = plain_view_of c.args.view.now in
     on_ok c.add_field.result (adds_same (IsSupersededIn shape list q) (IsKnownSuperseded view c.args.before shape list q) c.args.gone.now.items c.add_field.new.gone.items
     (known_slot view c.args.before shape list q (no_bag c.args.shape.now c.in_default.not-Bag) (c.if-knows.ensures.0 refl))) c.add_field.ensures.adds
 
@@ -39,7 +39,7 @@ add_known-returns-else-knows-clause-adds t c =
     let list = c.args.list.now in
     let q = path_before list c.args.from in
     let shape = shape_of c.args.shape.now in
-    let view = view_of c.args.view.now in
+    let view = plain_view_of c.args.view.now in
     adds_none (IsKnownSuperseded view c.args.before shape list q) c.args.gone.now.items
     (unknown_slot view c.args.before shape list q (no_bag c.args.shape.now c.in_default.not-Bag) (λ knows. let e = c.if-knows.ensures.1 knows in cc))
 
@@ -62,7 +62,7 @@ add_known_fields-add_known-requires t c =
     let f = opened c.in-Ok.field.now in
     let i = c.in-Ok.at in
     let found = found_open nodes list c.args.level c.headers.place i c.in-Ok.field.now c.in-Ok.behind c.in-Ok.ensures.found in
-    let R = KnownInField (view_of c.args.view.now) c.args.before nodes list in
+    let R = KnownInField (plain_view_of c.args.view.now) c.args.before nodes list in
     let come = c.headers.invariant.fields in
     let before = c.args.gone.now.items in
     let held = c.headers.gone.items in
@@ -98,7 +98,7 @@ add_known_fields-headers-preserved t c =
     let list = c.args.list.now in
     let q = path_before list c.args.from in
     let nodes = nodes_of c.args.fields.now in
-    let view = view_of c.args.view.now in
+    let view = plain_view_of c.args.view.now in
     let f = opened c.in-Ok.field.now in
     let i = c.in-Ok.at in
     let found = found_open nodes list c.args.level c.headers.place i c.in-Ok.field.now c.in-Ok.behind c.in-Ok.ensures.found in
@@ -119,7 +119,7 @@ add_known_fields-returns-in-Err-clause-adds t c =
     let list = c.args.list.now in
     let q = path_before list c.args.from in
     let nodes = nodes_of c.args.fields.now in
-    let view = view_of c.args.view.now in
+    let view = plain_view_of c.args.view.now in
     let R = KnownInField view c.args.before nodes list in
     adds_same (HoldsAtField nodes R q) (IsKnownSuperseded view c.args.before (model.Shape.Bag nodes) list q) c.args.gone.now.items c.headers.gone.items (known_bag view c.args.before nodes list q)
     (fields_all nodes R list q c.args.level c.args.from c.headers.place c.requires.level c.requires.ready.fields c.requires.room c.requires.behind c.args.gone.now.items c.headers.gone.items
@@ -130,7 +130,7 @@ add_known_fields-returns-clause-adds t c =
     let list = c.args.list.now in
     let q = path_before list c.args.from in
     let nodes = nodes_of c.args.fields.now in
-    let view = view_of c.args.view.now in
+    let view = plain_view_of c.args.view.now in
     let R = KnownInField view c.args.before nodes list in
     adds_same (HoldsAtField nodes R q) (IsKnownSuperseded view c.args.before (model.Shape.Bag nodes) list q) c.args.gone.now.items c.headers.gone.items (known_bag view c.args.before nodes list q)
     (fields_all nodes R list q c.args.level c.args.from c.headers.place c.requires.level c.requires.ready.fields c.requires.room c.requires.behind c.args.gone.now.items c.headers.gone.items

@@ -3,7 +3,7 @@ use Rattle.context_model.specs.Atoms.{Atom}
 use Rattle.context_model.specs.WithoutData.{AreDataPlaces, without, without_from}
 use Rattle.bag_model.specs.Views.{Knows}
 use Rattle.field_table.specs.declared.views.View.{View}
-use Rattle.field_table.specs.Views.{view_of}
+use Rattle.field_table.specs.Views.{plain_view_of}
 use Rattle.bag_normal.proofs.SlotTurns.{superseded_data}
 use Rattle.bag_normal.proofs.normal_form.normal.Goals as goal
 
@@ -18,7 +18,7 @@ returns-in-Nothing c = record {
   rises = tt;
   exact = λ place. (
     λ none. absurd none,
-    λ s. absurd (subst (λ (v : View). Knows (view_of v) s.1.slot) c.in-Nothing.is s.1.knows),
+    λ s. absurd (subst (λ (v : View). Knows (plain_view_of v) s.1.slot) c.in-Nothing.is s.1.knows),
   );
   left = sym (without_none 0 c.args.context);
 }
@@ -26,7 +26,7 @@ returns-in-Nothing c = record {
 pub drop_data-requires-clause-data : goal.drop_data-requires-clause-data
 drop_data-requires-clause-data c =
     subst (λ (gone : List ℕ). AreDataPlaces gone c.args.context) (sym c.as_slice.ensures.value)
-    (superseded_data c.args.table.now (view_of c.args.view.now) c.args.context c.in_ok-gone.gone.items (λ place i. (c.in_ok-gone.ensures.exact place).0 i))
+    (superseded_data c.args.table.now (plain_view_of c.args.view.now) c.args.context c.in_ok-gone.gone.items (λ place i. (c.in_ok-gone.ensures.exact place).0 i))
 
 pub returns : goal.returns
 returns c = record {

@@ -2,7 +2,7 @@ use Rattle.std.proofs.Common.{List, [], subst}
 use Rattle.context_model.specs.Atoms.{Atom}
 use Rattle.bag_model.specs.NormalForm.{IsSupersededAt}
 use Rattle.bag_model.specs.Shapes as model
-use Rattle.field_table.specs.Views.{view_of}
+use Rattle.field_table.specs.Views.{plain_view_of}
 use Rattle.bag_normal.specs.Data.{AddsPlaces}
 use Rattle.bag_normal.specs.Known.{IsKnownSuperseded}
 use Rattle.bag_normal.proofs.Places.{adds_same, whole}
@@ -12,7 +12,7 @@ use Rattle.bag_normal.proofs.normal_form.superseded.Goals as goal
 pub returns-clause-exact : goal.returns-clause-exact
 returns-clause-exact c =
     let nodes = c.args.table.now in
-    let view = view_of c.args.view.now in
+    let view = plain_view_of c.args.view.now in
     let list = c.args.context.now in
     let gone = c.add_known_fields.new.gone.items in
     let one = c.list.ensures.list in

@@ -1,6 +1,6 @@
 use Rattle.std.proofs.Common.{[], ◌∷◌, ◌++◌, map, take, sym, ap, ◌∙◌, refl}
 use Rattle.bdl_parser.specs.Views.{struct_field_of}
-use Rattle.bdl_check.specs.Layouts.{words_of}
+use Rattle.bdl_check.specs.Layouts.{struct_words}
 use Rattle.bdl_check.proofs.BagSizes.{up_to}
 use Rattle.bdl_check.proofs.LayoutKinds.{word_more, no_more}
 use Rattle.scalar_types.specs.KindViews.{word_of}
@@ -14,12 +14,12 @@ loop-field-preserved c =
     let front = map struct_field_of (take i items) in
     let field = c.field-item.result in
     let here = struct_field_of field in
-    let more = ap words_of (sym (up_to struct_field_of items i field c.loop-field-test.true c.field-item.is)) in
+    let more = ap struct_words (sym (up_to struct_field_of items i field c.loop-field-test.true c.field-item.is)) in
     elim c.match-field.branch [
       | in-Scalar+in_ok-push w ↦ (
           let pushed = w.in_ok-push.ensures.ok in
           let grown = ap (λ words. words ++ word_of w.word_kind.result ∷ []) c.loop-field.invariant in
-          let word = ap (λ word. words_of front ++ word ∷ []) w.word_kind.ensures.word in
+          let word = ap (λ word. struct_words front ++ word ∷ []) w.word_kind.ensures.word in
           w.kinds-is ∙ pushed ∙ grown ∙ word ∙ word_more front here field.kind.at field.kind.form w.in-Scalar.word refl w.in-Scalar.is ∙ more
           )
       | in_default w ↦ w.kinds-is ∙ c.loop-field.invariant ∙ no_more front here field.kind.at field.kind.form refl w.in_default.not-Scalar ∙ more

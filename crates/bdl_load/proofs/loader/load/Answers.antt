@@ -4,7 +4,7 @@ use Rattle.bdl_load.specs.declared.faults.DefFault.{DefFault}
 use Rattle.bdl_load.specs.declared.faults.DefFault.TheVariants.{Memory}
 use Rattle.bdl_load.specs.declared.files.LoadedFile.{LoadedFile}
 use Rattle.bdl_load.specs.Loader.{IsFound}
-use Rattle.bdl_load.specs.Loading.{is_among, names_of}
+use Rattle.bdl_load.specs.Loading.{is_among, file_names}
 use Rattle.bdl_load.proofs.Answering.{end_fault, end_asked, loaded_all, loaded_asked}
 use Rattle.bdl_load.proofs.Exits.{exit_err}
 use Rattle.bdl_load.proofs.FilesSoFar.{sound_empty, sound_begun}
@@ -69,7 +69,7 @@ take_imports-requires-clause-sound g c =
     let read = subst (IsFound files root) c.in-Some.is c.in_ok-file.ensures.found in
     let none = c.new.ensures.items in
     sound_begun c.new.result.items c.begin.new.self.files.items file c.new-2.result.items c.begin.new.self.taking.items (sound_empty c.new.result.items c.new-2.result.items none c.new-2.ensures.items)
-    (ap (λ files. is_among file.name (names_of files)) none) (omega (arith, ap length none)) (read_spelled files root file read) c.in_ok-from.ensures.files c.in_ok-from.ensures.taking
+    (ap (λ files. is_among file.name (file_names files)) none) (omega (arith, ap length none)) (read_spelled files root file read) c.in_ok-from.ensures.files c.in_ok-from.ensures.taking
 
 pub returns-in_err-take_imports-clause-fault : goal.returns-in_err-take_imports-clause-fault
 returns-in_err-take_imports-clause-fault g c =

@@ -1,7 +1,7 @@
 use Rattle.std.proofs.Common.{map}
 use Rattle.std.proofs.lemmas.Result.{IfOk-weaker}
 use Rattle.bag_model.specs.NormalForm.{IsNormalOf}
-use Rattle.field_table.specs.Views.{view_of}
+use Rattle.field_table.specs.Views.{plain_view_of}
 use Rattle.trace_model.specs.Runs.{list_at, IsNormalMerge}
 use Rattle.step_rules.proofs.Places.{all_within}
 use Rattle.step_rules.proofs.acts.joined.Goals as goal
@@ -12,7 +12,7 @@ merge_alone-requires c = all_within c.args.pool.now c.args.places.now c.requires
 pub returns : goal.returns
 returns c =
     let nodes = c.args.table.now in
-    let view = view_of c.args.view.now in
+    let view = plain_view_of c.args.view.now in
     let merged = c.in_ok-merged.merged in
     IfOk-weaker c.normal.result (IsNormalOf nodes view merged)
     (IsNormalMerge nodes view (map (list_at c.args.pool.now) c.args.places.now))

@@ -2,7 +2,7 @@ use Rattle.std.proofs.Common.{◌≡◌, ◌+◌, ◌-◌, List, ℕ, Some, leng
 use Rattle.std.specs.List.{slice_get}
 use Rattle.std.proofs.lemmas.List.{take_rest}
 use Rattle.std.proofs.lemmas.Option.{slice_get-get_or}
-use Rattle.topological_order.specs.Graphs.{EdgeLists, graph_of}
+use Rattle.topological_order.specs.Graphs.{EdgeLists, edge_lists_of}
 use Rattle.topological_order.specs.Components.{IsTurned, AreNumbered}
 use Rattle.topological_order.specs.Walk.{trail_of}
 use Rattle.topological_order.proofs.Edges.{graph_length}
@@ -16,11 +16,11 @@ end_of before after items start is same = take_rest items start ∙ ap (drop sta
 
 pub loop-at-init : goal.loop-at-init
 loop-at-init c =
-    let graph = graph_of c.args.graph.now in
+    let graph = edge_lists_of c.args.graph.now in
     let walk = c.in_ok-walk.walk in
     let same = c.in_ok-walk.ensures.graph ∙ c.deref.ensures.value in
     let P : EdgeLists → Type 0 = IsTurned graph in
-    let turned : IsTurned graph (graph_of walk.graph.now) = subst P (sym (ap graph_of same)) c.in_ok-turned.ensures in
+    let turned : IsTurned graph (edge_lists_of walk.graph.now) = subst P (sym (ap edge_lists_of same)) c.in_ok-turned.ensures in
     numbered_begun graph c.args.order.now (trail_of walk) c.in_ok-numbers.numbers.items turned c.in_ok-walk.ensures.begun
     (omega (arith, graph_length c.args.graph.now, c.in_ok-numbers.ensures.len, c.in_ok-numbers.numbers.ok.0))
 
@@ -38,13 +38,13 @@ number-requires c =
     let t = trail_of c.walk_from.new.self in
     let start = c.len-component.result in
     let items = c.deref-in-loop-at.result.now in
-    numbers_within (graph_of c.args.graph.now) c.args.order.now c.loop-at.at (get_or c.args.order.now (c.loop-at.at - 1) 0) s t
+    numbers_within (edge_lists_of c.args.graph.now) c.args.order.now c.loop-at.at (get_or c.args.order.now (c.loop-at.at - 1) 0) s t
     (take (length items - start) (drop start items)) c.loop-at.numbers.items c.loop-at.invariant c.in_ok-walk_from.ensures.walk
     (end_of s.order t.order items start (omega arith) c.deref-in-loop-at.ensures.value)
 
 pub loop-at-preserved : goal.loop-at-preserved
 loop-at-preserved c =
-    let graph = graph_of c.args.graph.now in
+    let graph = edge_lists_of c.args.graph.now in
     let order = c.args.order.now in
     let at = c.loop-at.at - 1 in
     let s = trail_of c.loop-at.walk in
@@ -63,7 +63,7 @@ loop-at-preserved c =
 
 pub returns : goal.returns
 returns c =
-    let graph = graph_of c.args.graph.now in
+    let graph = edge_lists_of c.args.graph.now in
     let s = trail_of c.loop-at.walk in
     let done : c.loop-at.at ≡ 0 = omega arith in
     let P : ℕ → Type 0 = λ n. IsNumberedTo graph c.args.order.now n s c.loop-at.numbers.items in

@@ -1,5 +1,5 @@
 use Rattle.std.proofs.Common.{[], length, get_or, ap, arith}
-use Rattle.topological_order.specs.Graphs.{graph_of}
+use Rattle.topological_order.specs.Graphs.{edge_lists_of}
 use Rattle.topological_order.proofs.Edges.{graph_length, row_read}
 use Rattle.topological_order.proofs.Turning.{turned_next, turned_all}
 use Rattle.topological_order.proofs.components.turned.Goals as goal
@@ -17,9 +17,9 @@ loop-from-preserved c =
     let graph = c.args.graph.now in
     let from = c.loop-from.from in
     let row = row_read graph from c.index-graph-from.result c.deref.result.now c.loop-from-test.true c.index-graph-from.is c.deref.ensures.value in
-    turned_next (graph_of graph) (graph_of c.loop-from.turned.items) (graph_of c.turn_edges.new.turned.items) from c.deref.result.now row
+    turned_next (edge_lists_of graph) (edge_lists_of c.loop-from.turned.items) (edge_lists_of c.turn_edges.new.turned.items) from c.deref.result.now row
     c.loop-from.invariant c.in_ok-turn_edges.ensures
 
 pub returns : goal.returns
-returns c = turned_all (graph_of c.args.graph.now) (graph_of c.loop-from.turned.items) c.loop-from.from
+returns c = turned_all (edge_lists_of c.args.graph.now) (edge_lists_of c.loop-from.turned.items) c.loop-from.from
     (omega (arith, graph_length c.args.graph.now, c.loop-from-test.false)) c.loop-from.invariant

@@ -1,5 +1,5 @@
 use Rattle.std.proofs.Common.{rules, ◌≡◌, ◌+◌, ◌<◌, Bool, true, false, not, IsTrue, refl, length, get_or, sym, ap, ◌∙◌, arith}
-use Rattle.topological_order.specs.Graphs.{graph_of, row_of, HasEdge}
+use Rattle.topological_order.specs.Graphs.{edge_lists_of, row_of, HasEdge}
 use Rattle.topological_order.specs.Walk.{mark_of, is_new}
 use Rattle.topological_order.proofs.Edges.{graph_length, row_read, edge_read, has_edge, to_within}
 use Rattle.topological_order.proofs.Marks.{new_mark}
@@ -15,7 +15,7 @@ walk_from-requires-clause-root c =
     let items = c.deref-next-items.result.now in
     let edge = edge_read graph node at c.index-graph-node.result items c.requires.node c.index-graph-node.is c.deref-next-items.ensures.value
     c.loop-next-test.true in
-    let within : get_or items at 0 < length (graph_of graph) = to_within (graph_of graph) node at (get_or items at 0) c.requires.closed
+    let within : get_or items at 0 < length (edge_lists_of graph) = to_within (edge_lists_of graph) node at (get_or items at 0) c.requires.closed
     (omega (arith, c.requires.node, graph_length graph)) edge in
     up_within graph c.loop-next.walk (get_or items at 0) c.loop-next.invariant.same (omega (arith, graph_length graph))
 
@@ -27,7 +27,7 @@ loop-next-preserved c =
     let items = c.deref-next-items.result.now in
     let edge = edge_read graph node at c.index-graph-node.result items c.requires.node c.index-graph-node.is c.deref-next-items.ensures.value
     c.loop-next-test.true in
-    let leads : HasEdge (graph_of graph) node (get_or items at 0) = has_edge (graph_of graph) node at (get_or items at 0)
+    let leads : HasEdge (edge_lists_of graph) node (get_or items at 0) = has_edge (edge_lists_of graph) node at (get_or items at 0)
     (omega (arith, c.requires.node, graph_length graph)) edge in
     from_more graph node at (get_or items at 0) c.loop-next.walk c.walk_from.new.self c.loop-next.invariant edge leads c.in_ok-walk_from.ensures.walk
     c.in_ok-walk_from.ensures.path
@@ -49,7 +49,7 @@ returns c =
     let walk = c.loop-next.walk in
     let row = row_read graph node c.index-graph-node.result c.deref-next-items.result.now c.requires.node c.index-graph-node.is
     c.deref-next-items.ensures.value in
-    let all : length (row_of (graph_of graph) node) < c.loop-next.next-index + 1 = omega (arith, ap (λ xs. length xs) row, c.loop-next-test.false) in (
+    let all : length (row_of (edge_lists_of graph) node) < c.loop-next.next-index + 1 = omega (arith, ap (λ xs. length xs) row, c.loop-next-test.false) in (
       λ yes. c.loop-next.invariant.reached node (λ new. yes_met c.is_new.result yes (c.is_new.ensures ∙ ap is_new new)),
       λ r. let met = from_all graph node c.loop-next.next-index node walk c.loop-next.invariant (omega arith) r in met_yes c.is_new.result
           (λ new. met (new_mark (mark_of walk.marks.items node) (sym c.is_new.ensures ∙ new))),

@@ -6,7 +6,7 @@ use Rattle.context_model.specs.WellFormed.{IsWellFormed}
 use Rattle.context_model.specs.ContextFault.{IsContextOf, IsFirstContextFault}
 use Rattle.context_model.proofs.Heads.{AreWithin-atoms}
 use Rattle.context_model.proofs.ContextFronts.{has_one_context}
-use Rattle.atom_list.specs.Contexts.{code_of as shape_code_of}
+use Rattle.atom_list.specs.Contexts.{shape_code_of}
 use Rattle.wire_bytes.specs.Reading.{byte_code_of, code_of, ReadsUpTo}
 use Rattle.wire_bytes.proofs.Stops.{wire_list, stop_within, shape_fault, context_wire_fault, only_context_err}
 use Rattle.wire_bytes.proofs.contexts.read_context_owned.Goals as goal

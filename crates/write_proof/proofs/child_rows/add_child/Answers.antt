@@ -1,6 +1,6 @@
 use Rattle.std.proofs.Common.{◌≡◌, ◌+◌, ◌<◌, ℕ, List, [], ◌∷◌, ◌++◌, length, take, get_or, set, refl, sym, ap, ◌∙◌, subst, arith}
 use Rattle.std.proofs.lemmas.List.{get_or_read}
-use Rattle.write_proof.specs.ChildRows.{AreAdded, row_at}
+use Rattle.write_proof.specs.ChildRows.{AreAdded, child_row_at}
 use Rattle.write_proof.proofs.ChildRows.{added_none, added_more}
 use Rattle.write_proof.proofs.Reached.{place_in}
 use Rattle.write_proof.proofs.child_rows.add_child.Goals as goal
@@ -24,7 +24,7 @@ loop-parent-preserved c =
     let k = get_or ks i 0 in
     let now = c.loop-parent.rows.items in
     let within : k < length now = (let asked = c.requires k (place_in i ks k (omega arith) refl) in let many = c.loop-parent.invariant.as_many in omega (arith, asked, many)) in
-    let longer : c.push.new.self ≡ row_at now k ++ c.args.child ∷ [] =
+    let longer : c.push.new.self ≡ child_row_at now k ++ c.args.child ∷ [] =
     c.in_ok-push.ensures.ok ∙ ap (λ (row : List ℕ). row ++ c.args.child ∷ []) (get_or_read now k c.index_mut.result.now within c.index_mut.ensures.value [])
     in
     subst (λ (row : List ℕ). AreAdded (take (i + 1) ks) c.args.child c.args.rows.now.items (set now k row)) (sym longer)

@@ -2,7 +2,7 @@ use Rattle.std.proofs.Common.{◌≡◌, ℕ, ◌+◌, ◌-◌, ◌<◌, ◌≤�
 use Rattle.std.proofs.lemmas.List.{length-take, length-drop}
 use Rattle.context_model.specs.declared.Form.TheVariants.{One}
 use Rattle.context_model.specs.Framing.{frame, frames}
-use Rattle.atom_list.specs.Starts.{atom_at, atoms_at, BeginsFrame, IsFlat, IsPieceOf}
+use Rattle.atom_list.specs.Starts.{atom_framed_at, atoms_at, BeginsFrame, IsFlat, IsPieceOf}
 use Rattle.atom_list.proofs.Flat.{start_is, end_is, front_frame, piece_of, ends_within}
 use Rattle.atom_list.proofs.lists.AtomList.front_piece.Goals as goal
 
@@ -16,13 +16,13 @@ frame_end-end-requires c =
 
 -- What is known where both ends were looked up.
 ends : (bytes seen starts : List ℕ) (laid from to start last end : ℕ) → IsFlat bytes starts laid → seen ≡ bytes → from < to → to ≤ laid
-    → start ≡ get_or starts from start → last ≡ get_or starts (to - 1) last → end ≡ last + length (frame One (atom_at seen last))
+    → start ≡ get_or starts from start → last ≡ get_or starts (to - 1) last → end ≡ last + length (frame One (atom_framed_at seen last))
     → (start ≡ length (frames One (take from (atoms_at bytes starts)))) × (end ≡ length (frames One (take to (atoms_at bytes starts)))) × (start ≤ end) × (end ≤ length bytes)
 ends bytes seen starts laid from to start last end flat same order within at_start at_last at_end =
     let s : start ≡ length (frames One (take from (atoms_at bytes starts))) = at_start ∙ start_is bytes starts laid flat from start (omega arith) in
     let next : to - 1 + 1 ≡ to = omega arith in
     let t : end ≡ length (frames One (take to (atoms_at bytes starts))) =
-    at_end ∙ ap (λ v. last + length (frame One (atom_at v last))) same ∙ ap (λ n. n + length (frame One (atom_at bytes n))) at_last ∙ end_is bytes starts laid flat (to - 1) last (omega arith)
+    at_end ∙ ap (λ v. last + length (frame One (atom_framed_at v last))) same ∙ ap (λ n. n + length (frame One (atom_framed_at bytes n))) at_last ∙ end_is bytes starts laid flat (to - 1) last (omega arith)
     ∙ ap (λ n. length (frames One (take n (atoms_at bytes starts)))) next in
     let b = ends_within bytes starts laid flat from to (omega arith) within in
     (s, t, omega arith, omega arith)

@@ -4,7 +4,7 @@ use Rattle.std.proofs.lemmas.Option.{get_or_from_slice_get, slice_get_within}
 use Rattle.context_model.specs.declared.Form.TheVariants.{One}
 use Rattle.context_model.specs.Framing.{frames}
 use Rattle.context_model.specs.WithoutData.{without}
-use Rattle.atom_list.specs.Starts.{atom_at, atoms_at, AreStarts, IsFlat}
+use Rattle.atom_list.specs.Starts.{atom_framed_at, atoms_at, AreStarts, IsFlat}
 use Rattle.atom_list.proofs.Flat.{flat_front}
 use Rattle.atom_list.proofs.TakingOut.{without-none, without-lighter, none_first}
 use Rattle.atom_list.proofs.lists.AtomList.take_out.Goals as goal
@@ -29,5 +29,5 @@ invariant_of-self c =
     let some : 0 < length gone = slice_get_within gone 0 c.in-Some.first.now (sym c.in-Some.ensures.value) in
     let within : get_or gone 0 0 < length c.args.self.now = c.requires.within 0 some in
     flat_left bytes starts c.keep_others.new.starts.items c.self.inside.laid (get_or gone 0 0) c.min-self-inside.result c.self.invariant (omega arith) (omega arith)
-    (omega (arith, ap length c.self.view_is, length-map starts (atom_at bytes))) c.keep_others.ensures.front (c.keep_others.ensures.fit bytes c.self.invariant.fit)
+    (omega (arith, ap length c.self.view_is, length-map starts (atom_framed_at bytes))) c.keep_others.ensures.front (c.keep_others.ensures.fit bytes c.self.invariant.fit)
     (subst (λ v. length (frames One v) ≤ length (frames One (atoms_at bytes starts))) (sym (c.keep_others.ensures.atoms bytes)) (without-lighter 0 gone (atoms_at bytes starts)))

@@ -1,7 +1,7 @@
 use Rattle.std.proofs.Common.{Option, List, sym, ap, ◌∙◌}
 use Rattle.std.specs.Option.{option_map}
 use Rattle.bdl_check.specs.declared.struct_kinds.WithKinds.{WithKinds}
-use Rattle.bdl_check.specs.Declarations.{Placed, named}
+use Rattle.bdl_check.specs.Declarations.{Placed, decl_named}
 use Rattle.bdl_check.specs.DeclarationViews.{placed_of}
 use Rattle.bdl_check.proofs.LayoutKinds.{words_at}
 use Rattle.bdl_check.proofs.PassedTypes.{named_at, not_named}
@@ -12,7 +12,7 @@ returns-in_err-number c =
     let ds = c.self.inside.declarations.now in
     let nothing = ap (λ (found : Option WithKinds). option_map (λ (listed : WithKinds). placed_of listed.declaration) found)
     c.from_residual.ensures in
-    nothing ∙ sym (not_named ds c.args.name.now (sym c.in_err-number.ensures)) ∙ ap (λ (all : List Placed). named all c.args.name.now) c.self.view_is
+    nothing ∙ sym (not_named ds c.args.name.now (sym c.in_err-number.ensures)) ∙ ap (λ (all : List Placed). decl_named all c.args.name.now) c.self.view_is
 
 pub returns-in_err-declaration : goal.returns-in_err-declaration
 returns-in_err-declaration c =
@@ -20,7 +20,7 @@ returns-in_err-declaration c =
     let nothing = ap (λ (found : Option WithKinds). option_map (λ (listed : WithKinds). placed_of listed.declaration) found)
     c.from_residual-in_err-declaration.ensures in
     let there = named_at ds c.args.name.now c.in_ok-number.number (sym c.in_ok-number.ensures) in
-    nothing ∙ c.in_err-declaration.ensures ∙ sym there ∙ ap (λ (all : List Placed). named all c.args.name.now) c.self.view_is
+    nothing ∙ c.in_err-declaration.ensures ∙ sym there ∙ ap (λ (all : List Placed). decl_named all c.args.name.now) c.self.view_is
 
 pub invariant_of-result : goal.invariant_of-result
 invariant_of-result c =
@@ -34,4 +34,4 @@ pub returns : goal.returns
 returns c =
     let ds = c.self.inside.declarations.now in
     let there = named_at ds c.args.name.now c.in_ok-number.number (sym c.in_ok-number.ensures) in
-    c.in_ok-declaration.ensures ∙ sym there ∙ ap (λ (all : List Placed). named all c.args.name.now) c.self.view_is
+    c.in_ok-declaration.ensures ∙ sym there ∙ ap (λ (all : List Placed). decl_named all c.args.name.now) c.self.view_is

@@ -2,7 +2,7 @@ use Rattle.std.proofs.Common.{reverse, sym, subst, ◌∙◌, arith}
 use Rattle.bag_model.specs.Shapes.{fields}
 use Rattle.field_table.specs.Plain.{nodes_of}
 use Rattle.table_text.specs.Builder.{rows_so_far}
-use Rattle.table_text.specs.Views.{row_of}
+use Rattle.table_text.specs.Views.{plain_row_of}
 use Rattle.table_text.proofs.BagRules.{IsHere, here, order_first, name_first, levels_first, count_first, none_broken}
 use Rattle.table_text.proofs.builder.Builder.check.Goals as goal
 
@@ -10,7 +10,7 @@ pub returns-then-from-self-clause-err : goal.returns-then-from-self-clause-err
 returns-then-from-self-clause-err c =
     let builder = c.args.self.now in
     let before = reverse (rows_so_far builder) in
-    let row = row_of c.args.row.now in
+    let row = plain_row_of c.args.row.now in
     let fs = fields (nodes_of builder.bag.fields) in
     let is : IsHere before row.depth builder.bag.level fs builder.rows = subst (λ d. IsHere before d builder.bag.level fs builder.rows) (sym c.requires.depth) (here builder c.requires.sound) in
     order_first before builder.bag.level fs builder.rows row is (omega (arith, c.if-from-self.true, c.from.ensures, c.requires.sound.bag.least))
@@ -19,7 +19,7 @@ pub returns-then-contains-clause-err : goal.returns-then-contains-clause-err
 returns-then-contains-clause-err c =
     let builder = c.args.self.now in
     let before = reverse (rows_so_far builder) in
-    let row = row_of c.args.row.now in
+    let row = plain_row_of c.args.row.now in
     let fs = fields (nodes_of builder.bag.fields) in
     let is : IsHere before row.depth builder.bag.level fs builder.rows = subst (λ d. IsHere before d builder.bag.level fs builder.rows) (sym c.requires.depth) (here builder c.requires.sound) in
     name_first before builder.bag.level fs builder.rows row is (omega (arith, c.if-from-self.false, c.from.ensures, c.requires.sound.bag.least))
@@ -29,7 +29,7 @@ pub returns-then-self-levels_under-ge-MAX_LEVELS-clause-err : goal.returns-then-
 returns-then-self-levels_under-ge-MAX_LEVELS-clause-err c =
     let builder = c.args.self.now in
     let before = reverse (rows_so_far builder) in
-    let row = row_of c.args.row.now in
+    let row = plain_row_of c.args.row.now in
     let fs = fields (nodes_of builder.bag.fields) in
     let is : IsHere before row.depth builder.bag.level fs builder.rows = subst (λ d. IsHere before d builder.bag.level fs builder.rows) (sym c.requires.depth) (here builder c.requires.sound) in
     levels_first before builder.bag.level fs builder.rows row is (omega (arith, c.if-from-self.false, c.from.ensures, c.requires.sound.bag.least))
@@ -40,7 +40,7 @@ pub returns-then-self-ge-MAX_FIELDS-clause-err : goal.returns-then-self-ge-MAX_F
 returns-then-self-ge-MAX_FIELDS-clause-err c =
     let builder = c.args.self.now in
     let before = reverse (rows_so_far builder) in
-    let row = row_of c.args.row.now in
+    let row = plain_row_of c.args.row.now in
     let fs = fields (nodes_of builder.bag.fields) in
     let is : IsHere before row.depth builder.bag.level fs builder.rows = subst (λ d. IsHere before d builder.bag.level fs builder.rows) (sym c.requires.depth) (here builder c.requires.sound) in
     count_first before builder.bag.level fs builder.rows row is (omega (arith, c.if-from-self.false, c.from.ensures, c.requires.sound.bag.least))
@@ -51,7 +51,7 @@ pub returns-clause-ok : goal.returns-clause-ok
 returns-clause-ok c =
     let builder = c.args.self.now in
     let before = reverse (rows_so_far builder) in
-    let row = row_of c.args.row.now in
+    let row = plain_row_of c.args.row.now in
     let fs = fields (nodes_of builder.bag.fields) in
     let is : IsHere before row.depth builder.bag.level fs builder.rows = subst (λ d. IsHere before d builder.bag.level fs builder.rows) (sym c.requires.depth) (here builder c.requires.sound) in
     none_broken before builder.bag.level fs builder.rows row is (omega (arith, c.if-from-self.false, c.from.ensures, c.requires.sound.bag.least))

@@ -1,6 +1,6 @@
 use Rattle.std.proofs.Common.{◌+◌, refl, sym, ◌∙◌, arith}
 use Rattle.table_text.specs.declared.builder.Builder.{Builder}
-use Rattle.table_text.specs.Views.{row_of}
+use Rattle.table_text.specs.Views.{plain_row_of}
 use Rattle.table_text.proofs.Growing.{IsGrown, IsNoted, is_next, opened, added}
 use Rattle.table_text.proofs.builder.Builder.with_row.Goals as goal
 
@@ -10,7 +10,7 @@ returns-in_ok-push c =
     let note : IsNoted c.args.self c.args.row c.note.new.self =
     record { fields_same = c.in_ok-note.ensures.fields; names = c.in_ok-note.ensures.names; least = c.in_ok-note.ensures.least; level = c.in_ok-note.ensures.level }
     in
-    let is : IsGrown c.args.self next (row_of c.args.row) =
+    let is : IsGrown c.args.self next (plain_row_of c.args.row) =
     opened c.args.self c.args.row c.note.new.self (is_next c.args.self c.args.row c.requires.sound c.requires.row c.requires.depth c.requires.good) note next
     (sym c.ends_in_bag.ensures ∙ c.if-ends_in_bag.true) c.in_ok-push.ensures.items refl c.new.ensures.fields c.new.ensures.indexed c.new.ensures.names c.new.ensures.least (omega (arith, c.new.ensures.level, c.levels_under.ensures.levels))
     in
@@ -22,7 +22,7 @@ returns-in_ok-push-2 c =
     let note : IsNoted c.args.self c.args.row c.note.new.self =
     record { fields_same = c.in_ok-note.ensures.fields; names = c.in_ok-note.ensures.names; least = c.in_ok-note.ensures.least; level = c.in_ok-note.ensures.level }
     in
-    let is : IsGrown c.args.self next (row_of c.args.row) =
+    let is : IsGrown c.args.self next (plain_row_of c.args.row) =
     added c.args.self c.args.row c.note.new.self (is_next c.args.self c.args.row c.requires.sound c.requires.row c.requires.depth c.requires.good) note next
     (sym c.ends_in_bag.ensures ∙ c.if-ends_in_bag.false) refl refl c.in_ok-push-2.ensures.fields (λ indexed. c.in_ok-push-2.ensures.indexed indexed c.requires.row.indexed)
     c.in_ok-push-2.ensures.names c.in_ok-push-2.ensures.least c.in_ok-push-2.ensures.level
