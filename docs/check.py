@@ -13,6 +13,9 @@ DOCUMENTS = ["README.md"] + sorted(f"docs/{name}" for name in os.listdir(f"{TOP}
 # Where the script `baggage` and the toolchain leave the program.
 PROGRAMS = [f"{TOP}/.baggage/baggage", f"{TOP}/crates/baggage/out/baggage"]
 
+# What is defined in two crates, alike. (`mutual` begins a block of definitions.)
+ALIKE = {"HasNoSpace", "bag_values", "is_letter", "left", "name_code", "right", "mutual"}
+
 bad = []
 
 
@@ -97,6 +100,18 @@ def check_libraries():
         bad.extend(f"crates.txt: {crate} lists {name}, which no file of it names" for name in libraries.split() if name not in named)
 
 
+def check_definitions():
+    """No name of a definition stands in two crates, but for those that mean the same in both."""
+    crates = {}
+    for path in sources(".antt"):
+        if path.split("/")[2] == "specs":
+            for name in re.findall(r"(?m)^(?:pub )?(?:abbrev|unfoldable|data|record) (?:pub )?([^\s:(]+)", text_of(path)):
+                crates.setdefault(name, set()).add(path.split("/")[1])
+    for name in sorted(crates.keys() - ALIKE):
+        if 1 < len(crates[name]):
+            bad.append(f"crates/: {' and '.join(sorted(crates[name]))} define {name}")
+
+
 def check_examples():
     """Each shell example prints what stands below it, where the program is built."""
     program = next((path for path in PROGRAMS if os.path.isfile(path)), None)
@@ -114,7 +129,7 @@ def check_examples():
                         bad.append(f"{document}: {command!r} prints {(ran.stdout + ran.stderr)[:200]!r}")
 
 
-for check in (check_links, check_names, check_excerpts, check_crates, check_libraries, check_examples):
+for check in (check_links, check_names, check_excerpts, check_crates, check_libraries, check_definitions, check_examples):
     check()
 for line in bad:
     print(line)

@@ -16,7 +16,7 @@ use Rattle.context_model.proofs.Beyond.{beyond_none, beyond_all, beyond_less, be
 use Rattle.context_model.proofs.EndedLaws.{EndsByCases, IsEnded-markers}
 use Rattle.context_model.proofs.HeadersAfter.{headers_after-other, headers_after-header}
 use Rattle.context_model.proofs.Places.{last_path_after-more, front_of-take, IsEnded-at, marker_place}
-use Rattle.atom_list.specs.OpenPlaces.{atom_framed_at, path_before}
+use Rattle.atom_list.specs.OpenPlaces.{atom_at, path_before}
 use Rattle.atom_list.proofs.Walking.{path_next, fits_at}
 
 -- ---- a field, header by header
@@ -84,9 +84,9 @@ ended_at_marker list s at w within unmarked marked = (λ ends. beyond_at [] list
     from : (at : ℕ) → at < length list → ((k : ℕ) → k < at → slice_get list k ≡ Some [] → ⊥) → slice_get list at ≡ Some [] → IsBeyond s (path_before list at) → IsEnded list s
     from zero within unmarked marked beyond = absurd (beyond_none s beyond)
     from (suc i) within unmarked marked beyond =
-        let there : slice_get list i ≡ Some (atom_framed_at list i) = slice_get-get_or list i [] (omega arith) in
-        let path : path_before list (suc i) ≡ path_after (path_before list i) (atom_framed_at list i) = ap (path_before list) (sym (add-one i)) ∙ last_path_after-more [] list i (atom_framed_at list i) there in
-        IsEnded-at list s (suc i) i (atom_framed_at list i) (front_of-take list (suc i) unmarked (inl marked)) (omega arith) there (subst (IsBeyond s) path beyond)
+        let there : slice_get list i ≡ Some (atom_at list i) = slice_get-get_or list i [] (omega arith) in
+        let path : path_before list (suc i) ≡ path_after (path_before list i) (atom_at list i) = ap (path_before list) (sym (add-one i)) ∙ last_path_after-more [] list i (atom_at list i) there in
+        IsEnded-at list s (suc i) i (atom_at list i) (front_of-take list (suc i) unmarked (inl marked)) (omega arith) there (subst (IsBeyond s) path beyond)
 
 -- where no marker stands each field is ended
 pub ended_unmarked : (list : List Atom) (s : Path) → ((k : ℕ) → k < length list → slice_get list k ≡ Some [] → ⊥) → IsEnded list s
@@ -94,23 +94,23 @@ ended_unmarked list s unmarked = inl (λ marker. (let place = marker_place list 
 
 -- ---- the headers that are open, one atom further
 
-pub headers_length : (list : List Atom) (headers : List ℕ) (q : Path) → map (atom_framed_at list) headers ≡ headers_of q → length headers ≡ header_count q
-headers_length list headers q e = sym (length_map (atom_framed_at list) headers) ∙ ap length e ∙ length-take-le (header_count q) q (header_count-length q)
+pub headers_length : (list : List Atom) (headers : List ℕ) (q : Path) → map (atom_at list) headers ≡ headers_of q → length headers ≡ header_count q
+headers_length list headers q e = sym (length_map (atom_at list) headers) ∙ ap length e ∙ length-take-le (header_count q) q (header_count-length q)
   where
     length_map : (f : ℕ → Atom) (xs : List ℕ) → length (map f xs) ≡ length xs
     length_map f [] = refl
     length_map f (x ∷ xs) = ap (λ v. suc v) (length_map f xs)
 
-pub open_other : (list : List Atom) (headers : List ℕ) (at : ℕ) → at < length list → is_header (atom_framed_at list at) ≡ false → map (atom_framed_at list) headers ≡ headers_of (path_before list at)
-    → map (atom_framed_at list) headers ≡ headers_of (path_before list (at + 1))
-open_other list headers at within other e = e ∙ sym (ap headers_of (path_next list at within) ∙ headers_after-other (path_before list at) (atom_framed_at list at) other)
+pub open_other : (list : List Atom) (headers : List ℕ) (at : ℕ) → at < length list → is_header (atom_at list at) ≡ false → map (atom_at list) headers ≡ headers_of (path_before list at)
+    → map (atom_at list) headers ≡ headers_of (path_before list (at + 1))
+open_other list headers at within other e = e ∙ sym (ap headers_of (path_next list at within) ∙ headers_after-other (path_before list at) (atom_at list at) other)
 
-pub open_header : (list : List Atom) (headers : List ℕ) (at : ℕ) → IsWellFormed list → at < length list → is_header (atom_framed_at list at) ≡ true → map (atom_framed_at list) headers ≡ headers_of (path_before list at)
-    → map (atom_framed_at list) (take (level (atom_framed_at list at)) headers ++ at ∷ []) ≡ headers_of (path_before list (at + 1))
+pub open_header : (list : List Atom) (headers : List ℕ) (at : ℕ) → IsWellFormed list → at < length list → is_header (atom_at list at) ≡ true → map (atom_at list) headers ≡ headers_of (path_before list at)
+    → map (atom_at list) (take (level (atom_at list at)) headers ++ at ∷ []) ≡ headers_of (path_before list (at + 1))
 open_header list headers at w within header e =
-    map_push (atom_framed_at list) (take (level (atom_framed_at list at)) headers) at
-    ∙ ap (λ v. v ++ atom_framed_at list at ∷ []) (sym (take-map (atom_framed_at list) (level (atom_framed_at list at)) headers) ∙ ap (take (level (atom_framed_at list at))) e)
-    ∙ sym (ap headers_of (path_next list at within) ∙ headers_after-header (path_before list at) (atom_framed_at list at) header ((fits_at list at w within).level header))
+    map_push (atom_at list) (take (level (atom_at list at)) headers) at
+    ∙ ap (λ v. v ++ atom_at list at ∷ []) (sym (take-map (atom_at list) (level (atom_at list at)) headers) ∙ ap (take (level (atom_at list at))) e)
+    ∙ sym (ap headers_of (path_next list at within) ∙ headers_after-header (path_before list at) (atom_at list at) header ((fits_at list at w within).level header))
 
 pub within_push : (l : ℕ) (headers : List ℕ) (at n : ℕ) → ((k : ℕ) → k < length headers → get_or headers k 0 < n) → at < n → (k : ℕ) → k < length (take l headers ++ at ∷ []) → get_or (take l headers ++ at ∷ []) k 0 < n
 within_push zero headers at n all here zero below = here

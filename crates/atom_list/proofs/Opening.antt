@@ -16,7 +16,7 @@ use Rattle.context_model.proofs.Following.{Fits-marker, header_count-length, nex
 use Rattle.context_model.proofs.PathPlaces.{place_below, place_at, length_at, later_end, later_place}
 use Rattle.atom_kinds.specs.declared.Kind.TheVariants.{Marker, Datum, Indexed, Keyed}
 use Rattle.atom_kinds.specs.Kinds.{outer_kind, TellsKind}
-use Rattle.atom_list.specs.OpenPlaces.{atom_framed_at, EndsWith, IsOpenPath, IsHeaderOf, MayStandBehind}
+use Rattle.atom_list.specs.OpenPlaces.{atom_at, EndsWith, IsOpenPath, IsHeaderOf, MayStandBehind}
 
 -- A header's path has as many headers before it as its level.
 header_path : (q : Path) (a : Atom) → is_header a ≡ true → path_after q a ≡ take (level a) q ++ a ∷ []
@@ -55,18 +55,18 @@ marker_opens list q above datum opened = record {
 
 -- A datum comes later than what stands in its place.
 pub datum_later : (list : List Atom) (q : Path) (above : List ℕ) (datum : Option ℕ) (payload : List ℕ) → IsOpenPath list q above datum
-    → ((place : ℕ) → datum ≡ Some place → atom_cmp (atom_framed_at list place) (0 ∷ payload) ≡ Less) → path_cmp q (path_after q (0 ∷ payload)) ≡ Less
+    → ((place : ℕ) → datum ≡ Some place → atom_cmp (atom_at list place) (0 ∷ payload) ≡ Less) → path_cmp q (path_after q (0 ∷ payload)) ≡ Less
 datum_later list q above datum payload opened less =
     subst (λ n. path_cmp q (take n q ++ (0 ∷ payload) ∷ []) ≡ Less) opened.number (by datum opened.behind less)
   where
-    by : (datum : Option ℕ) → EndsWith list q (length above) datum → ((place : ℕ) → datum ≡ Some place → atom_cmp (atom_framed_at list place) (0 ∷ payload) ≡ Less) → path_cmp q (take (length above) q ++ (0 ∷ payload) ∷ []) ≡ Less
+    by : (datum : Option ℕ) → EndsWith list q (length above) datum → ((place : ℕ) → datum ≡ Some place → atom_cmp (atom_at list place) (0 ∷ payload) ≡ Less) → path_cmp q (take (length above) q ++ (0 ∷ payload) ∷ []) ≡ Less
     by (Some place) (other, stands) less =
         (later_place (length above) q (0 ∷ payload) (0 ∷ other) stands.1).1 (subst (λ x. atom_cmp x (0 ∷ payload) ≡ Less) (get_or_from_slice_get list place (0 ∷ other) [] stands.0) (less place refl))
     by None (inl whole) less = later_end (length above) q (0 ∷ payload) whole
     by None (inr marker) less = (later_place (length above) q (0 ∷ payload) [] marker).1 refl
 
 pub datum_is_less : (list : List Atom) (q : Path) (above : List ℕ) (datum : Option ℕ) (payload : List ℕ) → IsOpenPath list q above datum
-    → path_cmp q (path_after q (0 ∷ payload)) ≡ Less → (place : ℕ) → datum ≡ Some place → atom_cmp (atom_framed_at list place) (0 ∷ payload) ≡ Less
+    → path_cmp q (path_after q (0 ∷ payload)) ≡ Less → (place : ℕ) → datum ≡ Some place → atom_cmp (atom_at list place) (0 ∷ payload) ≡ Less
 datum_is_less list q above datum payload opened later place is =
     let stands : EndsWith list q (length above) (Some place) = subst (EndsWith list q (length above)) is opened.behind in
     let same = get_or_from_slice_get list place (0 ∷ stands.0) [] stands.1.0 in
@@ -123,7 +123,7 @@ header_below list q above datum a opened header level_is =
 
 -- A header of an open level comes later exactly where it is greater than the one that is open.
 pub header_beside : (list : List Atom) (q : Path) (above : List ℕ) (datum : Option ℕ) (a : Atom) → IsOpenPath list q above datum → is_header a ≡ true → level a < length above
-    → (path_cmp q (path_after q a) ≡ Less) ↔ (atom_cmp (atom_framed_at list (get_or above (level a) 0)) a ≡ Less)
+    → (path_cmp q (path_after q a) ≡ Less) ↔ (atom_cmp (atom_at list (get_or above (level a) 0)) a ≡ Less)
 header_beside list q above datum a opened header below =
     let h = opened.stand (level a) below in
     let same = get_or_from_slice_get list (get_or above (level a) 0) h.0 [] h.1.0 in
@@ -219,55 +219,55 @@ told_keyed a n (f, is) = by f.kind f.spelled f.fits is
 
 -- It may stand there where it is greater than the datum before it, and comes out of order otherwise.
 pub datum_follows : (list : List Atom) (q : Path) (above : List ℕ) (datum : Option ℕ) (a : Atom) → IsOpenPath list q above datum → (payload : List ℕ) × (a ≡ 0 ∷ payload)
-    → ((place : ℕ) → datum ≡ Some place → atom_cmp (atom_framed_at list place) a ≡ Less) → MayStandBehind q a
+    → ((place : ℕ) → datum ≡ Some place → atom_cmp (atom_at list place) a ≡ Less) → MayStandBehind q a
 datum_follows list q above datum a opened (payload, is) less =
     subst (MayStandBehind q) (sym is) (record {
       kind = record { kind = PlainDatum payload; fits = tt; spelled = refl };
       level = λ e. cc;
-      later = datum_later list q above datum payload opened (λ place at. subst (λ x. atom_cmp (atom_framed_at list place) x ≡ Less) is (less place at));
+      later = datum_later list q above datum payload opened (λ place at. subst (λ x. atom_cmp (atom_at list place) x ≡ Less) is (less place at));
     })
 
 pub datum_wrong : (list : List Atom) (q : Path) (above : List ℕ) (datum : Option ℕ) (a : Atom) → IsOpenPath list q above datum → (payload : List ℕ) × (a ≡ 0 ∷ payload)
-    → (((place : ℕ) → datum ≡ Some place → atom_cmp (atom_framed_at list place) a ≡ Less) → ⊥) → IsWrong OutOfOrder q a
+    → (((place : ℕ) → datum ≡ Some place → atom_cmp (atom_at list place) a ≡ Less) → ⊥) → IsWrong OutOfOrder q a
 datum_wrong list q above datum a opened (payload, is) not_less =
     subst (IsWrong OutOfOrder q) (sym is) (
       record { kind = PlainDatum payload; fits = tt; spelled = refl },
       λ jump. cc (jump.0),
-      λ later. not_less (λ place at. subst (λ x. atom_cmp (atom_framed_at list place) x ≡ Less) (sym is) (datum_is_less list q above datum payload opened later place at)),
+      λ later. not_less (λ place at. subst (λ x. atom_cmp (atom_at list place) x ≡ Less) (sym is) (datum_is_less list q above datum payload opened later place at)),
     )
 
-pub datum_taken : (list : List Atom) (q : Path) (above : List ℕ) (datum : Option ℕ) (at : ℕ) → IsOpenPath list q above datum → at < length list → (payload : List ℕ) × (atom_framed_at list at ≡ 0 ∷ payload)
-    → IsOpenPath list (path_after q (atom_framed_at list at)) above (Some at)
+pub datum_taken : (list : List Atom) (q : Path) (above : List ℕ) (datum : Option ℕ) (at : ℕ) → IsOpenPath list q above datum → at < length list → (payload : List ℕ) × (atom_at list at ≡ 0 ∷ payload)
+    → IsOpenPath list (path_after q (atom_at list at)) above (Some at)
 datum_taken list q above datum at opened within (payload, is) =
     subst (λ a. IsOpenPath list (path_after q a) above (Some at)) (sym is) (datum_opens list q above datum at payload opened (slice_get-get_or list at [] within ∙ ap Some is))
 
 -- ---- a header, where it stands
 
 pub header_wrong : (list : List Atom) (q : Path) (above : List ℕ) (datum : Option ℕ) (a : Atom) (n : ℕ) → IsOpenPath list q above datum → IsHeaderOf a n → n < length above
-    → (atom_cmp (atom_framed_at list (get_or above n 0)) a ≡ Less → ⊥) → IsWrong OutOfOrder q a
+    → (atom_cmp (atom_at list (get_or above n 0)) a ≡ Less → ⊥) → IsWrong OutOfOrder q a
 header_wrong list q above datum a n opened header below not_less =
     let at_level : level a < length above = (let l = header.level in omega arith) in (
       header.kind,
       λ jump. (let l = header.level in let m = opened.number in let j = jump.1 in absurd (omega arith)),
-      λ later. not_less (subst (λ k. atom_cmp (atom_framed_at list (get_or above k 0)) a ≡ Less) header.level ((header_beside list q above datum a opened header.header at_level).0 later)),
+      λ later. not_less (subst (λ k. atom_cmp (atom_at list (get_or above k 0)) a ≡ Less) header.level ((header_beside list q above datum a opened header.header at_level).0 later)),
     )
 
 pub header_follows : (list : List Atom) (q : Path) (above : List ℕ) (datum : Option ℕ) (a : Atom) (n : ℕ) → IsOpenPath list q above datum → IsHeaderOf a n → n ≤ length above
-    → (n < length above → atom_cmp (atom_framed_at list (get_or above n 0)) a ≡ Less) → MayStandBehind q a
+    → (n < length above → atom_cmp (atom_at list (get_or above n 0)) a ≡ Less) → MayStandBehind q a
 header_follows list q above datum a n opened header upto less = record {
   kind = header.kind;
   level = λ e. (let l = header.level in let m = opened.number in omega arith);
   later = elim (cases_lt n (length above)) [
     | inl below ↦ (
         let at_level : level a < length above = (let l = header.level in omega arith) in
-        (header_beside list q above datum a opened header.header at_level).1 (subst (λ k. atom_cmp (atom_framed_at list (get_or above k 0)) a ≡ Less) (sym header.level) (less below))
+        (header_beside list q above datum a opened header.header at_level).1 (subst (λ k. atom_cmp (atom_at list (get_or above k 0)) a ≡ Less) (sym header.level) (less below))
         )
     | inr last ↦ header_below list q above datum a opened header.header (let l = header.level in omega arith)
   ];
 }
 
-pub header_taken : (list : List Atom) (q : Path) (above : List ℕ) (datum : Option ℕ) (at n : ℕ) → IsOpenPath list q above datum → at < length list → IsHeaderOf (atom_framed_at list at) n → n ≤ length above
-    → IsOpenPath list (path_after q (atom_framed_at list at)) (take n above ++ at ∷ []) None
+pub header_taken : (list : List Atom) (q : Path) (above : List ℕ) (datum : Option ℕ) (at n : ℕ) → IsOpenPath list q above datum → at < length list → IsHeaderOf (atom_at list at) n → n ≤ length above
+    → IsOpenPath list (path_after q (atom_at list at)) (take n above ++ at ∷ []) None
 header_taken list q above datum at n opened within header upto =
-    subst (λ k. IsOpenPath list (path_after q (atom_framed_at list at)) (take k above ++ at ∷ []) None) header.level
-    (header_opens list q above datum at (atom_framed_at list at) opened header.header (let l = header.level in omega arith) (let l = header.level in let f = header.few in omega arith) (slice_get-get_or list at [] within))
+    subst (λ k. IsOpenPath list (path_after q (atom_at list at)) (take k above ++ at ∷ []) None) header.level
+    (header_opens list q above datum at (atom_at list at) opened header.header (let l = header.level in omega arith) (let l = header.level in let f = header.few in omega arith) (slice_get-get_or list at [] within))

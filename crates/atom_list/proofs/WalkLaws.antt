@@ -10,49 +10,49 @@ use Rattle.context_model.specs.WellFormed.{IsWellFormed}
 use Rattle.context_model.specs.Nearest.{IsNearestPlace}
 use Rattle.context_model.proofs.PathPlaces.{IsNearestPlace-here, IsNearestPlace-later}
 use Rattle.atom_list.specs.declared.places.Place.{Place}
-use Rattle.atom_list.specs.OpenPlaces.{atom_framed_at, path_before}
+use Rattle.atom_list.specs.OpenPlaces.{atom_at, path_before}
 use Rattle.atom_list.specs.Places.{nearest_place, nearest_places, headers_around, padded, place_of, places_behind, depth_from, depth_behind, IsPlaceAt, WalksFindNearest}
 use Rattle.atom_list.proofs.Walking.{nearest_place-more, fits_at, header_count-next}
 
 -- ---- the open headers are the nearest ones
 
 module _ (list : List Atom) (w : IsWellFormed list) (at n : ℕ) (within : at < length list) where
-  there : slice_get list at ≡ Some (atom_framed_at list at)
+  there : slice_get list at ≡ Some (atom_at list at)
   there = slice_get-get_or list at [] within
 
-  more : nearest_place (take (at + 1) list) n ≡ cond (is_header (atom_framed_at list at) && (level (atom_framed_at list at) == n)) at (nearest_place (take at list) n)
-  more = ap (λ v. nearest_place v n) (take_more list at [] within) ∙ nearest_place-more (take at list) (atom_framed_at list at) n
-      ∙ ap (λ v. cond (is_header (atom_framed_at list at) && (level (atom_framed_at list at) == n)) v (nearest_place (take at list) n)) (length-take-le at list (omega arith))
+  more : nearest_place (take (at + 1) list) n ≡ cond (is_header (atom_at list at) && (level (atom_at list at) == n)) at (nearest_place (take at list) n)
+  more = ap (λ v. nearest_place v n) (take_more list at [] within) ∙ nearest_place-more (take at list) (atom_at list at) n
+      ∙ ap (λ v. cond (is_header (atom_at list at) && (level (atom_at list at) == n)) v (nearest_place (take at list) n)) (length-take-le at list (omega arith))
 
-  later : (is_header (atom_framed_at list at) && (level (atom_framed_at list at) == n)) ≡ false → (is_header (atom_framed_at list at) ≡ true → level (atom_framed_at list at) ≡ n → ⊥)
+  later : (is_header (atom_at list at) && (level (atom_at list at) == n)) ≡ false → (is_header (atom_at list at) ≡ true → level (atom_at list at) ≡ n → ⊥)
       → IsNearestPlace list at n (nearest_place (take at list) n) → IsNearestPlace list (at + 1) n (nearest_place (take (at + 1) list) n)
   later e other deeper =
-      subst (IsNearestPlace list (at + 1) n) (sym (more ∙ ap (λ b. cond b at (nearest_place (take at list) n)) e)) (IsNearestPlace-later list at n (nearest_place (take at list) n) (atom_framed_at list at) deeper there other)
+      subst (IsNearestPlace list (at + 1) n) (sym (more ∙ ap (λ b. cond b at (nearest_place (take at list) n)) e)) (IsNearestPlace-later list at n (nearest_place (take at list) n) (atom_at list at) deeper there other)
 
-  here : is_header (atom_framed_at list at) ≡ true → level (atom_framed_at list at) ≡ n → IsNearestPlace list (at + 1) n (nearest_place (take (at + 1) list) n)
+  here : is_header (atom_at list at) ≡ true → level (atom_at list at) ≡ n → IsNearestPlace list (at + 1) n (nearest_place (take (at + 1) list) n)
   here header same =
       subst (IsNearestPlace list (at + 1) n)
-      (sym (more ∙ ap (λ b. cond (b && (level (atom_framed_at list at) == n)) at (nearest_place (take at list) n)) header ∙ ap (λ b. cond b at (nearest_place (take at list) n)) (eq-eqb (level (atom_framed_at list at)) n same)))
-      (subst (λ m. IsNearestPlace list (at + 1) m at) same (IsNearestPlace-here list at (atom_framed_at list at) there header))
+      (sym (more ∙ ap (λ b. cond (b && (level (atom_at list at) == n)) at (nearest_place (take at list) n)) header ∙ ap (λ b. cond b at (nearest_place (take at list) n)) (eq-eqb (level (atom_at list at)) n same)))
+      (subst (λ m. IsNearestPlace list (at + 1) m at) same (IsNearestPlace-here list at (atom_at list at) there header))
 
   nearest_step : n < header_count (path_before list (at + 1)) → (n < header_count (path_before list at) → IsNearestPlace list at n (nearest_place (take at list) n))
       → IsNearestPlace list (at + 1) n (nearest_place (take (at + 1) list) n)
-  nearest_step below deeper = by (is_header (atom_framed_at list at)) refl
+  nearest_step below deeper = by (is_header (atom_at list at)) refl
     where
-      count : header_count (path_before list (at + 1)) ≡ cond (is_header (atom_framed_at list at)) (level (atom_framed_at list at) + 1) (header_count (path_before list at))
+      count : header_count (path_before list (at + 1)) ≡ cond (is_header (atom_at list at)) (level (atom_at list at) + 1) (header_count (path_before list at))
       count = header_count-next list at w within
 
-      by : (b : Bool) → is_header (atom_framed_at list at) ≡ b → IsNearestPlace list (at + 1) n (nearest_place (take (at + 1) list) n)
+      by : (b : Bool) → is_header (atom_at list at) ≡ b → IsNearestPlace list (at + 1) n (nearest_place (take (at + 1) list) n)
       by true e =
-          let now : header_count (path_before list (at + 1)) ≡ level (atom_framed_at list at) + 1 = count ∙ ap (λ b. cond b (level (atom_framed_at list at) + 1) (header_count (path_before list at))) e in
-          let few : level (atom_framed_at list at) ≤ header_count (path_before list at) = (fits_at list at w within).level e in
-          elim (cases_eq (level (atom_framed_at list at)) n) [
+          let now : header_count (path_before list (at + 1)) ≡ level (atom_at list at) + 1 = count ∙ ap (λ b. cond b (level (atom_at list at) + 1) (header_count (path_before list at))) e in
+          let few : level (atom_at list at) ≤ header_count (path_before list at) = (fits_at list at w within).level e in
+          elim (cases_eq (level (atom_at list at)) n) [
             | inl same ↦ here e same
-            | inr apart ↦ later (ap (λ b. b && (level (atom_framed_at list at) == n)) e ∙ ne_eqb (level (atom_framed_at list at)) n apart) (λ h k. apart k) (deeper (omega arith))
+            | inr apart ↦ later (ap (λ b. b && (level (atom_at list at) == n)) e ∙ ne_eqb (level (atom_at list at)) n apart) (λ h k. apart k) (deeper (omega arith))
           ]
       by false e =
-          let now : header_count (path_before list (at + 1)) ≡ header_count (path_before list at) = count ∙ ap (λ b. cond b (level (atom_framed_at list at) + 1) (header_count (path_before list at))) e in
-          later (ap (λ b. b && (level (atom_framed_at list at) == n)) e) (λ h k. (let clash : true ≡ false = sym h ∙ e in cc)) (deeper (omega arith))
+          let now : header_count (path_before list (at + 1)) ≡ header_count (path_before list at) = count ∙ ap (λ b. cond b (level (atom_at list at) + 1) (header_count (path_before list at))) e in
+          later (ap (λ b. b && (level (atom_at list at) == n)) e) (λ h k. (let clash : true ≡ false = sym h ∙ e in cc)) (deeper (omega arith))
 
 open_nearest : (list : List Atom) → IsWellFormed list → (at n : ℕ) → at ≤ length list → n < header_count (path_before list at) → IsNearestPlace list at n (nearest_place (take at list) n)
 open_nearest list w zero n within below = absurd (omega arith)
@@ -67,10 +67,10 @@ level_few (b ∷ bytes) e = let high : 128 ≤ b = leb-true 128 b e in omega ari
 open_few : (list : List Atom) → IsWellFormed list → (at : ℕ) → at ≤ length list → header_count (path_before list at) ≤ 16
 open_few list w zero within = omega arith
 open_few list w (suc at) within =
-    subst (λ i. header_count (path_before list i) ≤ 16) (add-one at) (subst (λ n. n ≤ 16) (sym (header_count-next list at w (omega arith))) (by (is_header (atom_framed_at list at)) refl (open_few list w at (omega arith))))
+    subst (λ i. header_count (path_before list i) ≤ 16) (add-one at) (subst (λ n. n ≤ 16) (sym (header_count-next list at w (omega arith))) (by (is_header (atom_at list at)) refl (open_few list w at (omega arith))))
   where
-    by : (b : Bool) → is_header (atom_framed_at list at) ≡ b → header_count (path_before list at) ≤ 16 → cond b (level (atom_framed_at list at) + 1) (header_count (path_before list at)) ≤ 16
-    by true e rest = let few : level (atom_framed_at list at) < 16 = level_few (atom_framed_at list at) e in omega arith
+    by : (b : Bool) → is_header (atom_at list at) ≡ b → header_count (path_before list at) ≤ 16 → cond b (level (atom_at list at) + 1) (header_count (path_before list at)) ≤ 16
+    by true e rest = let few : level (atom_at list at) < 16 = level_few (atom_at list at) e in omega arith
     by false e rest = rest
 
 -- ---- the places of a list, one by one
@@ -101,15 +101,15 @@ depth_is list w zero within = refl
 depth_is list w (suc at) within =
     let next : suc at ≡ at + 1 = omega arith in
     let here : at < length list = omega arith in
-    ap (λ n. depth_behind (take n list)) next ∙ ap depth_behind (take_more list at [] here) ∙ depth_from-more 0 (take at list) (atom_framed_at list at)
-    ∙ ap (cond (is_header (atom_framed_at list at)) (level (atom_framed_at list at) + 1)) (depth_is list w at (omega arith))
+    ap (λ n. depth_behind (take n list)) next ∙ ap depth_behind (take_more list at [] here) ∙ depth_from-more 0 (take at list) (atom_at list at)
+    ∙ ap (cond (is_header (atom_at list at)) (level (atom_at list at) + 1)) (depth_is list w at (omega arith))
     ∙ sym (header_count-next list at w here) ∙ ap (λ n. header_count (path_before list n)) (sym next)
 
 module _ (list : List Atom) (w : IsWellFormed list) (at : ℕ) (within : at < length list) where
-  few_around : headers_around (path_before list at) (atom_framed_at list at) ≤ header_count (path_before list at)
-  few_around = by (is_header (atom_framed_at list at)) refl
+  few_around : headers_around (path_before list at) (atom_at list at) ≤ header_count (path_before list at)
+  few_around = by (is_header (atom_at list at)) refl
     where
-      by : (b : Bool) → is_header (atom_framed_at list at) ≡ b → cond b (level (atom_framed_at list at)) (header_count (path_before list at)) ≤ header_count (path_before list at)
+      by : (b : Bool) → is_header (atom_at list at) ≡ b → cond b (level (atom_at list at)) (header_count (path_before list at)) ≤ header_count (path_before list at)
       by true e = (fits_at list at w within).level e
       by false e = omega arith
 
@@ -126,14 +126,14 @@ module _ (list : List Atom) (w : IsWellFormed list) (at : ℕ) (within : at < le
       get_or-append_right (nearest_places count (take at list)) (replicate (16 - length (nearest_places count (take at list))) 0) count n 0 (long count) upto
       ∙ zeros (16 - length (nearest_places count (take at list))) (n - count)
 
-  pub place_found : IsPlaceAt list at (place_of (take at list) (atom_framed_at list at))
+  pub place_found : IsPlaceAt list at (place_of (take at list) (atom_at list at))
   place_found = record {
     number = length-take-le at list (omega arith);
     few = omega (arith, few_around, open_few list w at (omega arith));
-    header = λ e. ap (λ b. cond b (level (atom_framed_at list at)) (header_count (path_before list at))) e;
-    other = λ e. ap (λ b. cond b (level (atom_framed_at list at)) (header_count (path_before list at))) e ∙ sym (depth_is list w at (omega arith));
-    nearest = λ n below. subst (IsNearestPlace list at n) (sym (padded_below (headers_around (path_before list at) (atom_framed_at list at)) n below)) (open_nearest list w at n (omega arith) (omega (arith, few_around)));
-    others = λ n upto. padded_above (headers_around (path_before list at) (atom_framed_at list at)) n upto;
+    header = λ e. ap (λ b. cond b (level (atom_at list at)) (header_count (path_before list at))) e;
+    other = λ e. ap (λ b. cond b (level (atom_at list at)) (header_count (path_before list at))) e ∙ sym (depth_is list w at (omega arith));
+    nearest = λ n below. subst (IsNearestPlace list at n) (sym (padded_below (headers_around (path_before list at) (atom_at list at)) n below)) (open_nearest list w at n (omega arith) (omega (arith, few_around)));
+    others = λ n upto. padded_above (headers_around (path_before list at) (atom_at list at)) n upto;
   }
 
 pub walks_find_nearest : WalksFindNearest

@@ -6,7 +6,7 @@ use Rattle.context_model.specs.Orders.{Path}
 use Rattle.context_model.specs.Paths.{is_header, level, header_count, last_path_after}
 use Rattle.context_model.specs.WellFormed.{IsWellFormed}
 use Rattle.context_model.specs.Nearest.{IsNearestPlace}
-use Rattle.atom_list.specs.OpenPlaces.{atom_framed_at}
+use Rattle.atom_list.specs.OpenPlaces.{atom_at}
 use Rattle.atom_list.specs.declared.places.Place.{Place}
 
 -- The place of the last header of level n in a list whose first atom has the place i, or the one given where there is none.
@@ -65,8 +65,8 @@ depth_behind = depth_from 0
 pub record IsPlaceAt (list : List Atom) (at : ℕ) (place : Place) : Type 0 where
   pub number : place.at ≡ at
   pub few : place.level ≤ 16
-  pub header : is_header (atom_framed_at list at) ≡ true → place.level ≡ level (atom_framed_at list at)
-  pub other : is_header (atom_framed_at list at) ≡ false → place.level ≡ depth_behind (take at list)
+  pub header : is_header (atom_at list at) ≡ true → place.level ≡ level (atom_at list at)
+  pub other : is_header (atom_at list at) ≡ false → place.level ≡ depth_behind (take at list)
   pub nearest : (n : ℕ) → n < place.level → IsNearestPlace list at n (slice_index place.above n)
   pub others : (n : ℕ) → place.level ≤ n → slice_index place.above n ≡ 0
 

@@ -4,7 +4,7 @@ ghost use Rattle.std.specs.Prelude.{◌≡◌, ◌+◌, ◌<◌, ◌≤◌, ◌�
 ghost use Rattle.std.specs.declared.cmp.Ordering.TheVariants.{Less};
 ghost use Rattle.context_model.specs.Orders.{atom_cmp};
 ghost use Rattle.atom_list.specs.Contexts.{shape_code_of};
-ghost use Rattle.atom_list.specs.OpenPlaces.{IsOpenAt, IsHeaderOf, IsWrongAt, MayStand, RisesTo, atom_framed_at};
+ghost use Rattle.atom_list.specs.OpenPlaces.{IsOpenAt, IsHeaderOf, IsWrongAt, MayStand, RisesTo, atom_at};
 
 use crate::contexts::ShapeFault;
 use crate::lists::AtomList;
@@ -22,7 +22,7 @@ pub(crate) struct OpenHeaders {
 /// Whether an atom is greater than the one at an earlier place.
 fn rises(list: &AtomList, earlier: usize, atom: &[u8]) -> bool
     requires { earlier < length list.now }
-    ensures { IsTrue result ↔ (atom_cmp (atom_framed_at list.now earlier) atom.now ≡ Less) }
+    ensures { IsTrue result ↔ (atom_cmp (atom_at list.now earlier) atom.now ≡ Less) }
 {
     compare(list.get(earlier).unwrap(), atom) == Ordering::Less
 }
@@ -73,9 +73,9 @@ impl OpenHeaders {
     /// Admits a datum.
     fn admit_datum(&mut self, list: &AtomList, at: usize, atom: &[u8]) -> Result<(), ShapeFault>
         requires at { at < length list.now }
-        requires atom { atom.now ≡ atom_framed_at list.now at }
+        requires atom { atom.now ≡ atom_at list.now at }
         requires open { IsOpenAt list.now at self.old.headers self.old.datum }
-        requires datum { (payload : List ℕ) × (atom_framed_at list.now at ≡ 0 ∷ payload) }
+        requires datum { (payload : List ℕ) × (atom_at list.now at ≡ 0 ∷ payload) }
         ensures ok { OnOk result (MayStand list.now at) }
         ensures open { OnOk result (IsOpenAt list.now (at + 1) self.new.headers self.new.datum) }
         ensures err { IfErr result (λ fault. IsWrongAt (shape_code_of fault) list.now at) }
@@ -96,9 +96,9 @@ impl OpenHeaders {
         level: usize,
     ) -> Result<(), ShapeFault>
         requires at { at < length list.now }
-        requires atom { atom.now ≡ atom_framed_at list.now at }
+        requires atom { atom.now ≡ atom_at list.now at }
         requires open { IsOpenAt list.now at self.old.headers self.old.datum }
-        requires header { IsHeaderOf (atom_framed_at list.now at) level }
+        requires header { IsHeaderOf (atom_at list.now at) level }
         ensures ok { OnOk result (MayStand list.now at) }
         ensures open { OnOk result (IsOpenAt list.now (at + 1) self.new.headers self.new.datum) }
         ensures err { IfErr result (λ fault. IsWrongAt (shape_code_of fault) list.now at) }

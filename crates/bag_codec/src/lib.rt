@@ -10,6 +10,13 @@
 //!   reads the whole bag and `decode_slot` one slot; `spans_of` and `slot_value` read all slots one after another.
 //! - `state_of` tells whether what a context says of a slot is whole, or may have been cut off.
 //! - `normal` takes out the data to which others are preferred: the same is read of what is left.
+//!
+//! ```rust
+//! match check_typed(&table, &received) {
+//!     Ok(()) => decode(alloc, &table, &received)?,   // the value, a field each
+//!     Err(place) => ..                               // the first atom that isn't spelled as its type says
+//! }
+//! ```
 #![tactic(auto)]
 
 mod encodable;

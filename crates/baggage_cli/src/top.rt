@@ -53,7 +53,7 @@ use crate::under::read_under;
 use crate::verifying::check_certificate;
 use bdl_check::laws;
 use command_line::{Command, command_of};
-use def_evolve::fitting_tables_are_safe;
+use def_evolve::laws::fitting_tables_are_safe;
 use graph_report::laws::lists_have_one_report;
 use graph_text::laws::{lines_are_definite, texts_give_recorded_graphs};
 use outside::{Gate, Library, Sink, Source, Words};
@@ -64,7 +64,7 @@ use std::thread::Threads;
 use table_text::laws::{printed_texts_have_no_fault, texts_have_one_fault, texts_have_one_table};
 use text_carrier::laws::lines_collect_one_way;
 use trace_model::laws::{graphs_have_one_run, shown_values_are_honest};
-use write_proof::{certificates_have_one_verdict, certificates_that_verify_tell_the_truth};
+use write_proof::laws::{certificates_have_one_verdict, certificates_that_verify_tell_the_truth};
 
 /// Tells that a definition and the text of a table have one table or one first fault, that a printed table has no fault, that a
 /// list has one block, lines of pieces come to one thing, and a text has one graph or one first fault; that a graph has one run

@@ -1,6 +1,11 @@
 //! An example of the libraries, to start from: a client that writes fields of a bag by their names, and reads them behind
 //! services that merge and cut what was written and know no definition. `client_tests/src/checkout.rt` goes the whole way,
 //! from a definition on.
+//!
+//! ```rust
+//! let sent = write_field(alloc, &table, "hops", "0x6e:3")?;   // none where the table has no such field, or the text is no write of it
+//! let read = read_field(alloc, &table, &received, "hops")?;
+//! ```
 #![tactic(auto)]
 
 ghost use Rattle.std.specs.Prelude.{IfOk, IfErr};

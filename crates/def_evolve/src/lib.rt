@@ -4,15 +4,21 @@
 //! `evolve` gives the verdict. Where the new table fits, each slot that both tables have says under the new one what it says under
 //! the old one, of every context of the old table and in every graph. It doesn't say that each such context is typed under the
 //! new table: something that the old table doesn't name may stand where the new one has a field.
+//!
+//! ```rust
+//! match evolve(alloc, &old, &new)? {
+//!     Verdict::Fits { common } => ..           // so many slots are in both
+//!     Verdict::Breaks { path, change } => ..   // the first field that may not become what the new table says
+//! }
+//! ```
 #![tactic(auto)]
 
 mod breaks;
 mod common;
 mod evolution;
-mod laws;
+pub mod laws;
 mod verdicts;
 mod widening;
 
 pub use evolution::evolve;
-pub use laws::{fitting_tables_are_safe, tables_have_one_verdict, wider_kinds_spell_alike};
 pub use verdicts::{Change, Part, Verdict};

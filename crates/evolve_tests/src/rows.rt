@@ -1,7 +1,7 @@
 //! Definitions, and what comes of one in place of another.
 
 use crate::verdicts::verdict_on;
-use def_evolve::{fitting_tables_are_safe, tables_have_one_verdict, wider_kinds_spell_alike};
+use def_evolve::laws::{fitting_tables_are_safe, tables_have_one_verdict, wider_kinds_spell_alike};
 use std::test::Fail;
 use test_tables::table_of;
 

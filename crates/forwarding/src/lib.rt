@@ -1,5 +1,9 @@
 //! An example of the libraries: a service that merges the contexts of two branches and sends the result on within a budget of
 //! bytes. It reads either form of bytes and sends one, and knows no definition and no type.
+//!
+//! ```rust
+//! let sent = forward(alloc, Form::One, &ours, &theirs, 512)?;   // at most 512 bytes
+//! ```
 #![tactic(auto)]
 
 ghost use Rattle.std.specs.Prelude.{◌≤◌, IfOk, IfErr};

@@ -7,7 +7,7 @@ use std::process::Abort;
 use std::test::Fail;
 use test_graphs::graph_of;
 use test_tables::table_of;
-use write_proof::runs_have_certificates_that_verify;
+use write_proof::laws::runs_have_certificates_that_verify;
 
 /// A graph, a step, the path of a slot, and the certificate for it.
 type Row = (&'static str, usize, &'static str, &'static str);

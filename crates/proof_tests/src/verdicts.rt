@@ -10,7 +10,7 @@ use std::process::Abort;
 use std::test::Fail;
 use test_graphs::graph_of;
 use test_tables::table_of;
-use write_proof::{
+use write_proof::laws::{
     certificates_have_one_verdict, certificates_that_verify_tell_the_truth, lines_are_definite,
 };
 

@@ -17,7 +17,7 @@ mod contributions;
 mod entries;
 mod first_lines;
 mod joins;
-mod laws;
+pub mod laws;
 mod line_rules;
 mod marks;
 mod reaching;
@@ -28,8 +28,4 @@ mod verdicts;
 
 pub use certificates::why;
 pub use checker::verify;
-pub use laws::{
-    certificates_have_one_verdict, certificates_that_verify_tell_the_truth, lines_are_definite,
-    runs_have_certificates_that_verify,
-};
 pub use verdicts::{Verified, VerifyCode};

@@ -10,18 +10,18 @@ use Rattle.context_model.specs.Ended.{field_path}
 use Rattle.context_model.specs.Orders.{atom_cmp}
 use Rattle.context_model.proofs.FieldPaths.{length-field_path}
 use Rattle.context_model.proofs.OrderLaws.{atoms_total}
-use Rattle.atom_list.specs.OpenPlaces.{atom_framed_at}
+use Rattle.atom_list.specs.OpenPlaces.{atom_at}
 use Rattle.atom_list.proofs.Ending.{field_at, Stand, beyond_by_less, not_by_greater, beyond_by_equal, not_at_end}
 use Rattle.atom_list.proofs.ended.are_beyond.Goals as goal
 
 -- What stands at a level of the field and of the headers.
 at_level : (list : List Atom) (headers numbers : List ℕ) (n place : ℕ) (header : Atom) → n < length numbers → n < length headers → place ≡ get_or headers n 0 → slice_get list place ≡ Some header
-    → Stand (field_path numbers) (map (atom_framed_at list) headers) n (atom_of (Indexed n (get_or numbers n 0))) header
+    → Stand (field_path numbers) (map (atom_at list) headers) n (atom_of (Indexed n (get_or numbers n 0))) header
 at_level list headers numbers n place header in_numbers in_headers is there = record {
   in_field = omega (arith, length-field_path 0 numbers);
-  in_headers = omega (arith, length-map headers (atom_framed_at list));
+  in_headers = omega (arith, length-map headers (atom_at list));
   field_atom = field_at 0 numbers n in_numbers ∙ (let e : 0 + n ≡ n = omega arith in ap (λ v. atom_of (Indexed v (get_or numbers n 0))) e);
-  header_atom = get_or-map (atom_framed_at list) headers n 0 [] in_headers ∙ ap (atom_framed_at list) (sym is) ∙ get_or_from_slice_get list place header [] there;
+  header_atom = get_or-map (atom_at list) headers n 0 [] in_headers ∙ ap (atom_at list) (sym is) ∙ get_or_from_slice_get list place header [] there;
 }
 
 -- The order of a field's header and an atom, seen from the header.
@@ -48,12 +48,12 @@ loop-level-preserved c =
     (λ b. c.loop-level.invariant.0 (step.0 b), λ b. step.1 (c.loop-level.invariant.1 b))
 
 -- One of the two ends here.
-one_ends : (list : List Atom) (headers numbers : List ℕ) (n : ℕ) → min (length numbers) (length headers) ≤ n → (length (field_path numbers) ≤ n) ⊎ (length (map (atom_framed_at list) headers) ≤ n)
+one_ends : (list : List Atom) (headers numbers : List ℕ) (n : ℕ) → min (length numbers) (length headers) ≤ n → (length (field_path numbers) ≤ n) ⊎ (length (map (atom_at list) headers) ≤ n)
 one_ends list headers numbers n least = elim (cases_lt n (length numbers)) [
-  | inl less ↦ inr (omega (arith, length-map headers (atom_framed_at list)))
+  | inl less ↦ inr (omega (arith, length-map headers (atom_at list)))
   | inr most ↦ inl (omega (arith, length-field_path 0 numbers))
 ]
 
 pub returns : goal.returns
 returns c =
-    (λ t. cc, λ b. absurd (not_at_end (field_path c.args.numbers.now) (map (atom_framed_at c.args.list.now) c.args.headers.now) c.loop-level.level (one_ends c.args.list.now c.args.headers.now c.args.numbers.now c.loop-level.level (omega arith)) (c.loop-level.invariant.1 b)))
+    (λ t. cc, λ b. absurd (not_at_end (field_path c.args.numbers.now) (map (atom_at c.args.list.now) c.args.headers.now) c.loop-level.level (one_ends c.args.list.now c.args.headers.now c.args.numbers.now c.loop-level.level (omega arith)) (c.loop-level.invariant.1 b)))

@@ -4,13 +4,13 @@ use Rattle.std.proofs.lemmas.Option.{slice_get-get_or}
 use Rattle.context_model.specs.Atoms.{Atom}
 use Rattle.context_model.specs.WellFormed.{IsWellFormed}
 use Rattle.context_model.proofs.Following.{Fits, IsWellFormed-empty, IsWellFormed-more}
-use Rattle.atom_list.specs.OpenPlaces.{MayStandBehind, atom_framed_at, path_before}
+use Rattle.atom_list.specs.OpenPlaces.{MayStandBehind, atom_at, path_before}
 use Rattle.atom_list.proofs.contexts.Context.check.Goals as goal
 
-more_well_formed : (list : List Atom) (at : ℕ) → at < length list → IsWellFormed (take at list) → MayStandBehind (path_before list at) (atom_framed_at list at) → IsWellFormed (take (at + 1) list)
+more_well_formed : (list : List Atom) (at : ℕ) → at < length list → IsWellFormed (take at list) → MayStandBehind (path_before list at) (atom_at list at) → IsWellFormed (take (at + 1) list)
 more_well_formed list at within before may =
-    let fits : Fits (path_before list at) (atom_framed_at list at) = record { level = may.level; later = may.later } in
-    subst IsWellFormed (sym (take_more list at [] within)) (IsWellFormed-more (take at list) (atom_framed_at list at) before may.kind fits)
+    let fits : Fits (path_before list at) (atom_at list at) = record { level = may.level; later = may.later } in
+    subst IsWellFormed (sym (take_more list at [] within)) (IsWellFormed-more (take at list) (atom_at list at) before may.kind fits)
 
 pub loop-at-init : goal.loop-at-init
 loop-at-init c = record {
@@ -20,7 +20,7 @@ loop-at-init c = record {
 
 pub returns-in-Err-clause-fault : goal.returns-in-Err-clause-fault
 returns-in-Err-clause-fault c = record {
-  atom = atom_framed_at c.args.list c.loop-at.at;
+  atom = atom_at c.args.list c.loop-at.at;
   there = slice_get-get_or c.args.list c.loop-at.at [] (omega arith);
   before = c.loop-at.invariant.before;
   wrong = c.in-Err.ensures.err;

@@ -7,7 +7,7 @@ use Rattle.context_model.specs.WellFormed.{IsWellFormed}
 use Rattle.context_model.specs.Ended.{IsBeyond, IsEnded, field_path}
 use Rattle.context_model.proofs.Beyond.{headers_of, beyond_headers, beyond_from_headers}
 use Rattle.context_model.proofs.FieldPaths.{field_path-headers}
-use Rattle.atom_list.specs.OpenPlaces.{atom_framed_at, path_before}
+use Rattle.atom_list.specs.OpenPlaces.{atom_at, path_before}
 use Rattle.atom_list.proofs.Walking.{fits_at}
 use Rattle.atom_list.proofs.Ending.{ended_at_marker, ended_unmarked, headers_length, open_other, open_header, within_push}
 use Rattle.atom_list.proofs.contexts.Context.ended.Goals as goal
@@ -15,7 +15,7 @@ use Rattle.atom_list.proofs.contexts.Context.ended.Goals.{in-Some, in_default}
 
 -- Where the headers before the first marker are those of the path there, they say whether the field is ended.
 by_headers : (list : List (List ℕ)) (numbers headers : List ℕ) (at : ℕ) → IsWellFormed list → length numbers ≤ 16 → at < length list → ((k : ℕ) → k < at → slice_get list k ≡ Some [] → ⊥)
-    → slice_get list at ≡ Some [] → map (atom_framed_at list) headers ≡ headers_of (path_before list at) → IsBeyond (field_path numbers) (map (atom_framed_at list) headers) ↔ IsEnded list (field_path numbers)
+    → slice_get list at ≡ Some [] → map (atom_at list) headers ≡ headers_of (path_before list at) → IsBeyond (field_path numbers) (map (atom_at list) headers) ↔ IsEnded list (field_path numbers)
 by_headers list numbers headers at w few within unmarked marked same =
     let path : Path = path_before list at in
     let field = field_path-headers 0 numbers (omega arith) in
@@ -42,10 +42,10 @@ pub truncate-requires : goal.truncate-requires
 truncate-requires c =
     let list : List (List ℕ) = c.list-list.result.now in
     let there : slice_get list c.loop-at.at ≡ Some c.unwrap-atom.result.now = sym c.get.ensures.value ∙ ap option_copied c.unwrap-atom.ensures in
-    let same : c.unwrap-atom.result.now ≡ atom_framed_at list c.loop-at.at = sym (get_or_from_slice_get list c.loop-at.at c.unwrap-atom.result.now [] there) in
-    let few : level (atom_framed_at list c.loop-at.at) ≤ _ = (fits_at list c.loop-at.at (subst IsWellFormed (sym c.list-list.ensures.list) c.list-list.ensures.well_formed)
+    let same : c.unwrap-atom.result.now ≡ atom_at list c.loop-at.at = sym (get_or_from_slice_get list c.loop-at.at c.unwrap-atom.result.now [] there) in
+    let few : level (atom_at list c.loop-at.at) ≤ _ = (fits_at list c.loop-at.at (subst IsWellFormed (sym c.list-list.ensures.list) c.list-list.ensures.well_formed)
     (omega (arith, c.len-at-end.ensures.len, c.loop-at-test.true))).level (ap is_header (sym same) ∙ c.in-Some.ensures.0) in
-    let found : c.in-Some.level ≡ level (atom_framed_at list c.loop-at.at) = c.in-Some.ensures.1 ∙ ap level same in
+    let found : c.in-Some.level ≡ level (atom_at list c.loop-at.at) = c.in-Some.ensures.1 ∙ ap level same in
     omega (arith, few, found, headers_length list c.loop-at.headers (path_before list c.loop-at.at) c.loop-at.invariant.open_headers)
 
 pub returns : goal.returns
@@ -60,22 +60,22 @@ loop-at-preserved c =
     let list : List (List ℕ) = c.list-list.result.now in
     let at : ℕ = c.loop-at.at in
     let there : slice_get list at ≡ Some c.unwrap-atom.result.now = sym c.get.ensures.value ∙ ap option_copied c.unwrap-atom.ensures in
-    let same : c.unwrap-atom.result.now ≡ atom_framed_at list at = sym (get_or_from_slice_get list at c.unwrap-atom.result.now [] there) in
+    let same : c.unwrap-atom.result.now ≡ atom_at list at = sym (get_or_from_slice_get list at c.unwrap-atom.result.now [] there) in
     let within : at < length list = omega (arith, c.len-at-end.ensures.len, c.loop-at-test.true) in
     let unmarked = below_more _ _ c.loop-at.invariant.unmarked (λ e. let one : Some c.unwrap-atom.result.now ≡ Some [] = sym there ∙ e in let atom : c.unwrap-atom.result.now ≡ [] = cc in empty_not c.unwrap-atom.result.now c.if-is_empty.ensures atom) in
     elim c.match-header_level.branch [
       | in-Some w ↦
-          let headers : c.match-header_level.headers ≡ take (level (atom_framed_at list at)) c.loop-at.headers ++ at ∷ [] =
+          let headers : c.match-header_level.headers ≡ take (level (atom_at list at)) c.loop-at.headers ++ at ∷ [] =
           w.headers-is ∙ w.push.ensures ∙ ap (λ v. v ++ at ∷ []) (w.truncate.ensures ∙ ap (λ n. take n c.loop-at.headers) (w.in-Some.ensures.1 ∙ ap level same)) in
           record {
             unmarked = unmarked;
-            open_headers = ap (map (atom_framed_at list)) headers ∙ open_header list c.loop-at.headers at (subst IsWellFormed (sym c.list-list.ensures.list) c.list-list.ensures.well_formed) within
+            open_headers = ap (map (atom_at list)) headers ∙ open_header list c.loop-at.headers at (subst IsWellFormed (sym c.list-list.ensures.list) c.list-list.ensures.well_formed) within
                 (ap is_header (sym same) ∙ w.in-Some.ensures.0) c.loop-at.invariant.open_headers;
-            within = subst (λ v. (k : ℕ) → k < length v → get_or v k 0 < length list) (sym headers) (within_push (level (atom_framed_at list at)) c.loop-at.headers at (length list) c.loop-at.invariant.within within);
+            within = subst (λ v. (k : ℕ) → k < length v → get_or v k 0 < length list) (sym headers) (within_push (level (atom_at list at)) c.loop-at.headers at (length list) c.loop-at.invariant.within within);
           }
       | in_default w ↦ record {
         unmarked = unmarked;
-        open_headers = ap (map (atom_framed_at list)) w.headers-is ∙ open_other list c.loop-at.headers at within (ap is_header (sym same) ∙ w.in_default.ensures) c.loop-at.invariant.open_headers;
+        open_headers = ap (map (atom_at list)) w.headers-is ∙ open_other list c.loop-at.headers at within (ap is_header (sym same) ∙ w.in_default.ensures) c.loop-at.invariant.open_headers;
         within = subst (λ v. (k : ℕ) → k < length v → get_or v k 0 < length list) (sym w.headers-is) c.loop-at.invariant.within;
       }
     ]

@@ -3,13 +3,13 @@ use Rattle.std.proofs.lemmas.Option.{get_or_from_slice_get}
 use Rattle.context_model.specs.Kinds.{HasBadPrefix, HasBadIndex}
 use Rattle.context_model.specs.Paths.{path_after}
 use Rattle.atom_kinds.specs.declared.Kind.TheVariants.{Marker, Datum, Indexed, Keyed}
-use Rattle.atom_list.specs.OpenPlaces.{atom_framed_at, path_before, IsOpenPath, IsHeaderOf, MayStandBehind}
+use Rattle.atom_list.specs.OpenPlaces.{atom_at, path_before, IsOpenPath, IsHeaderOf, MayStandBehind}
 use Rattle.atom_list.proofs.Opening.{told_datum, told_marker, told_indexed, told_keyed, marker_follows, marker_opens}
 use Rattle.atom_list.proofs.Walking.{path_next}
 use Rattle.atom_list.proofs.open_headers.OpenHeaders.admit.Goals as goal
 
 -- What the look-up gave is the atom at the place.
-is_there : (list : List (List ℕ)) (at : ℕ) (x : List ℕ) → slice_get list at ≡ Some x → x ≡ atom_framed_at list at
+is_there : (list : List (List ℕ)) (at : ℕ) (x : List ℕ) → slice_get list at ≡ Some x → x ≡ atom_at list at
 is_there list at x there = sym (get_or_from_slice_get list at x [] there)
 
 pub admit_datum-requires-clause-atom : goal.admit_datum-requires-clause-atom
@@ -31,13 +31,13 @@ pub admit_header-requires-clause-header : goal.admit_header-requires-clause-head
 admit_header-requires-clause-header c =
     let same = is_there c.args.list.now c.args.at c.unwrap-atom.result.now (sym c.get.ensures.value ∙ ap option_copied c.unwrap-atom.ensures) in
     let header = told_indexed c.unwrap-atom.result.now c.in-Ok-Indexed.level c.in-Ok-Indexed.field-0-1 ((c.in-Ok-Indexed.ensures.kind (Indexed c.in-Ok-Indexed.level c.in-Ok-Indexed.field-0-1)).0 (ap Ok c.in-Ok-Indexed.field-0-is)) in
-    subst (IsHeaderOf (atom_framed_at c.args.list.now c.args.at)) (sym c.from.ensures) (subst (λ a. IsHeaderOf a c.in-Ok-Indexed.level) same header)
+    subst (IsHeaderOf (atom_at c.args.list.now c.args.at)) (sym c.from.ensures) (subst (λ a. IsHeaderOf a c.in-Ok-Indexed.level) same header)
 
 pub admit_header-requires-in-Ok-Keyed-clause-header : goal.admit_header-requires-in-Ok-Keyed-clause-header
 admit_header-requires-in-Ok-Keyed-clause-header c =
     let same = is_there c.args.list.now c.args.at c.unwrap-atom.result.now (sym c.get.ensures.value ∙ ap option_copied c.unwrap-atom.ensures) in
     let header = told_keyed c.unwrap-atom.result.now c.in-Ok-Keyed.level ((c.in-Ok-Keyed.ensures.kind (Keyed c.in-Ok-Keyed.level)).0 (ap Ok c.in-Ok-Keyed.field-0-is)) in
-    subst (IsHeaderOf (atom_framed_at c.args.list.now c.args.at)) (sym c.from-in-Ok-Keyed.ensures) (subst (λ a. IsHeaderOf a c.in-Ok-Keyed.level) same header)
+    subst (IsHeaderOf (atom_at c.args.list.now c.args.at)) (sym c.from-in-Ok-Keyed.ensures) (subst (λ a. IsHeaderOf a c.in-Ok-Keyed.level) same header)
 
 pub returns-in-Ok-Marker-clause-ok : goal.returns-in-Ok-Marker-clause-ok
 returns-in-Ok-Marker-clause-ok c =

@@ -1,5 +1,5 @@
 use Rattle.std.proofs.Common.{Some, refl, sym, subst}
-use Rattle.atom_list.specs.OpenPlaces.{IsOpenPath, RisesTo, atom_framed_at, path_before}
+use Rattle.atom_list.specs.OpenPlaces.{IsOpenPath, RisesTo, atom_at, path_before}
 use Rattle.atom_list.proofs.Opening.{datum_wrong, datum_follows, datum_taken, datum_within}
 use Rattle.atom_list.proofs.Walking.{path_next}
 use Rattle.atom_list.proofs.open_headers.OpenHeaders.admit_datum.Goals as goal
@@ -9,12 +9,12 @@ rises_behind-requires c = datum_within c.args.list.now _ _ _ c.requires.«open»
 
 pub returns-then-not-rises_behind-clause-err : goal.returns-then-not-rises_behind-clause-err
 returns-then-not-rises_behind-clause-err c =
-    datum_wrong c.args.list.now _ _ _ (atom_framed_at c.args.list.now c.args.at) c.requires.«open» c.requires.datum
+    datum_wrong c.args.list.now _ _ _ (atom_at c.args.list.now c.args.at) c.requires.«open» c.requires.datum
     (λ less. cc (c.if-not-rises_behind.ensures.1 (subst (RisesTo c.args.list.now c.args.self.now.datum) (sym c.requires.atom) less)))
 
 pub returns-clause-ok : goal.returns-clause-ok
 returns-clause-ok c =
-    datum_follows c.args.list.now _ _ _ (atom_framed_at c.args.list.now c.args.at) c.requires.«open» c.requires.datum
+    datum_follows c.args.list.now _ _ _ (atom_at c.args.list.now c.args.at) c.requires.«open» c.requires.datum
     (subst (RisesTo c.args.list.now c.args.self.now.datum) c.requires.atom (c.if-not-rises_behind.ensures.0 refl))
 
 pub returns-clause-open : goal.returns-clause-open
