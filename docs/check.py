@@ -13,8 +13,10 @@ DOCUMENTS = ["README.md"] + sorted(f"docs/{name}" for name in os.listdir(f"{TOP}
 # Where the script `baggage` and the toolchain leave the program.
 PROGRAMS = [f"{TOP}/.baggage/baggage", f"{TOP}/crates/baggage/out/baggage"]
 
-# What is defined in two crates, alike. (`mutual` begins a block of definitions.)
-ALIKE = {"HasNoSpace", "bag_values", "is_letter", "left", "name_code", "right", "mutual"}
+# What two crates define alike.
+ALIKE = {"HasNoSpace", "bag_values", "is_letter", "left", "name_code", "right"}
+# What two crates define and mean two things by: none may be added.
+TWO_MEANINGS = {"Takes", "kind_back", "plain", "plain_back", "scalar_back", "scalar_undone", "size_of", "slots_in"}
 
 bad = []
 
@@ -100,14 +102,28 @@ def check_libraries():
         bad.extend(f"crates.txt: {crate} lists {name}, which no file of it names" for name in libraries.split() if name not in named)
 
 
+def defined_in(text):
+    """The names that a file of definitions defines, those in its blocks of definitions that name one another too."""
+    names, in_block = set(), False
+    for line in text.split("\n"):
+        if line[:1].strip():
+            in_block = bool(re.match(r"(?:\w+ )*mutual\b", line))
+            found = not in_block and re.match(r"(?:(?:pub|abbrev|unfoldable|data|record) )*([^\s:({=]+) ?[:({]", line)
+        else:
+            found = in_block and re.match(r"  (?:(?:pub|data|record) )*([^\s:({=]+) [:({](?!.*=)", line)
+        if found:
+            names.add(found.group(1))
+    return names
+
+
 def check_definitions():
-    """No name of a definition stands in two crates, but for those that mean the same in both."""
+    """No name of a definition stands in two crates, but for those above."""
     crates = {}
     for path in sources(".antt"):
         if path.split("/")[2] == "specs":
-            for name in re.findall(r"(?m)^(?:pub )?(?:abbrev|unfoldable|data|record) (?:pub )?([^\s:(]+)", text_of(path)):
+            for name in defined_in(text_of(path)):
                 crates.setdefault(name, set()).add(path.split("/")[1])
-    for name in sorted(crates.keys() - ALIKE):
+    for name in sorted(crates.keys() - ALIKE - TWO_MEANINGS):
         if 1 < len(crates[name]):
             bad.append(f"crates/: {' and '.join(sorted(crates[name]))} define {name}")
 
