@@ -2,7 +2,9 @@
 //! whether that is whole, and makes the context that says one value of the slot and nothing else.
 //!
 //! ```rust
-//! let tags = accessor(alloc, &table, "tags")?;              // None where the table has no such slot
+//! let Some(tags) = accessor(alloc, &table, "tags")? else {
+//!     ..                                                    // the table has no such slot
+//! };
 //! let reading = tags.get(alloc, &table, &context)?;         // its value, and whether that is exact
 //! ```
 #![tactic(auto)]

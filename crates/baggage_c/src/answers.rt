@@ -42,7 +42,8 @@ pub const TYPE: u32 = 9;
 pub struct Answer {
     /// One of the constants of this module.
     pub status: u32,
-    /// Beside `FAULT` and `TABLE`: what is wrong, from 1 on. Beside `OK`: the state of a field that was read.
+    /// Beside `FAULT` one of `enum baggage_code`, beside `TABLE` one of `enum baggage_table_code`, both from 1 on; beside the `OK`
+    /// of a field that was read one of `enum baggage_state`.
     pub code: u32,
     /// Beside `FAULT`: the place of the input among the contexts that were handed in, from 0 on.
     pub context: usize,
@@ -52,7 +53,7 @@ pub struct Answer {
     pub size: usize,
 }
 
-/// The number of a code.
+/// The number of a code in `enum baggage_code`.
 pub(crate) fn code_number(code: ByteCode) -> u32
     ensures { result ≡ code_number code }
 {

@@ -7,7 +7,7 @@ use crate::answers::{Answer, FAULT, FIELD, MEMORY, OK, ROOM, TABLE, TYPE, WRITE,
 use field_calls::{FieldRefusal, State};
 use table_text::TableCode;
 
-/// The number of a state.
+/// The number of a state in `enum baggage_state`.
 fn state_number(state: State) -> u32
     ensures { result ≡ state_number state }
 {
@@ -17,7 +17,7 @@ fn state_number(state: State) -> u32
     }
 }
 
-/// The number of a rule that a table's text breaks.
+/// The number of a rule that a table's text breaks, in `enum baggage_table_code`.
 fn table_number(code: TableCode) -> u32
     ensures { result ≡ table_number code }
 {

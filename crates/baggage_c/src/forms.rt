@@ -6,7 +6,7 @@ ghost use Rattle.baggage_c.specs.Forms.{form_numbered, form_within};
 use crate::answers::{BUDGET, FORM};
 use wire_bytes::Form;
 
-/// The form that has this number. `FORM` is the only refusal.
+/// The form that has this number in `enum baggage_form`. `FORM` is the only refusal.
 pub(crate) fn form_numbered(number: u32) -> Result<Form, u32>
     ensures { result ≡ form_numbered number }
 {

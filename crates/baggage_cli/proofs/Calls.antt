@@ -6,7 +6,7 @@ use Rattle.baggage_cli.specs.declared.refusals.Notice.TheVariants.{WordsRefused}
 use Rattle.baggage_cli.specs.Delivery.{TellsLine, Delivers}
 use Rattle.baggage_cli.specs.Outcomes.{Outcome}
 use Rattle.baggage_cli.specs.Refusals.{notice_line}
-use Rattle.baggage_cli.specs.Scene.{Change, Scene, IsSame, IsSteady, NeverFell, HasFailed, Takes}
+use Rattle.baggage_cli.specs.Scene.{Change, Scene, IsSame, IsSteady, NeverFell, HasFailed, TakesWhole}
 use Rattle.baggage_cli.specs.Top.{Comes, Answers}
 use Rattle.baggage_cli.proofs.Facts.{steady_done, unread_task, quiet_task, sink_told, never_seven}
 
@@ -22,7 +22,7 @@ pub record KeepsCounts (scene : Scene) : Type 0 where
 same_never_fell : {A : Type 0} (c : Change A) → IsSame c → NeverFell c
 same_never_fell c same = let e = same.1 in omega arith
 
-takes_never_fell : (c : Change (List ℕ)) (bytes : List ℕ) → Takes c bytes → NeverFell c
+takes_never_fell : (c : Change (List ℕ)) (bytes : List ℕ) → TakesWhole c bytes → NeverFell c
 takes_never_fell c bytes takes = let e = takes.1 in omega arith
 
 told_never_fell : (status : ℕ) (line : List ℕ) (errs : Change (List ℕ)) (answer : ℕ) → TellsLine status line errs answer → NeverFell errs

@@ -24,7 +24,7 @@ use Rattle.baggage_cli.specs.Loading.{IsLoadOutput, LoadGives}
 use Rattle.baggage_cli.specs.Outcomes.{Outcome, Then}
 use Rattle.baggage_cli.specs.Reading.{IsInputRead, ReadsAll}
 use Rattle.baggage_cli.specs.Refusals.{status_of, refusal_line, input_status, input_line, notice_line, piece_refusal}
-use Rattle.baggage_cli.specs.Scene.{Change, Halfway, until, since, Scene, IsSame, HasFailed, Takes}
+use Rattle.baggage_cli.specs.Scene.{Change, Halfway, until, since, Scene, IsSame, HasFailed, TakesWhole}
 use Rattle.baggage_cli.specs.Tables.{IsUntaken, FileGives, IsUnprinted, TableGives, AsksForTable, AsksFront, TakesFrom, Obtains}
 use Rattle.baggage_cli.specs.Top.{RefusesFiles, Answers}
 use Rattle.baggage_cli.specs.Under.{InputUnder}
@@ -45,11 +45,11 @@ Gives (checking origin file) scene = λ input outcome.
 
 -- The line was said, and nothing was written.
 abbrev pub Said : Scene → List ℕ → Type 0
-Said scene line = IsSame scene.out × Takes scene.errs line
+Said scene line = IsSame scene.out × TakesWhole scene.errs line
 
 -- The output was written, and nothing was said.
 abbrev pub Written : Scene → List ℕ → Type 0
-Written scene output = Takes scene.out output × IsSame scene.errs
+Written scene output = TakesWhole scene.out output × IsSame scene.errs
 
 pub data Ending (task : Task) (scene : Scene) (answer : ℕ) : Type 0 where
   read_out : (input output : List ℕ) → answer ≡ 0 → ReadsSource task → IsInputRead scene.source input → Gives task scene input (Ok output)

@@ -51,7 +51,7 @@ use Rattle.baggage_cli.specs.Reading.{Framed, IsInputRead, Within, ReadsOne, cut
 use Rattle.baggage_cli.specs.Refusals.{status_of, input_status, input_line, refusal_line, notice_line}
 use Rattle.baggage_cli.specs.Loading.{load_heading, IsLoadOutput}
 use Rattle.baggage_cli.specs.Running.{IsReportAs, IsRunReport, ShowsTruth}
-use Rattle.baggage_cli.specs.Scene.{Change, Scene, scene_of, IsSame, IsSteady, HasFailed, Takes, HasNoFault}
+use Rattle.baggage_cli.specs.Scene.{Change, Scene, scene_of, IsSame, IsSteady, HasFailed, TakesWhole, HasNoFault}
 use Rattle.baggage_cli.specs.Tables.{TableGives}
 use Rattle.baggage_cli.specs.Top.{TellsFiles, TellsAll, InputGives, RefusesFiles, Comes, Answers, SaysList, SaysContexts, SaysBytes, SaysPieces, IsRefusedFor, FailsSink, IsFailure}
 use Rattle.baggage_cli.specs.Top.IsRefusedFor.{by_files, by_input}
@@ -139,7 +139,7 @@ pub record ReadOut (task : Task) (scene : Scene) : Type 0 where
   pub output : List ℕ
   pub read : IsInputRead scene.source input
   pub gave : Gives task scene input (Ok output)
-  pub out : Takes scene.out output
+  pub out : TakesWhole scene.out output
 
 pub read_done : (task : Task) (scene : Scene) (answer : ℕ) → Ending task scene answer → ReadsSource task → answer ≡ 0 → ReadOut task scene
 read_done task scene answer (read_out input output zero reads read gave written) some is =

@@ -6,12 +6,12 @@ use Rattle.baggage_cli.specs.declared.refusals.Refusal.{Refusal}
 use Rattle.baggage_cli.specs.declared.refusals.Refusal.TheVariants.{Input, Definition, Table, Plain}
 use Rattle.baggage_cli.specs.Outcomes.{Outcome}
 use Rattle.baggage_cli.specs.Refusals.{status_of, refusal_line, notice_status, notice_line}
-use Rattle.baggage_cli.specs.Scene.{Change, IsSame, Takes, TakesPart}
+use Rattle.baggage_cli.specs.Scene.{Change, IsSame, TakesWhole, TakesPart}
 
 -- A line with its status: it was written to the sink of errors, or that failed.
 abbrev pub TellsLine : ℕ → List ℕ → Change (List ℕ) → ℕ → Type 0
 TellsLine status line errs answer =
-    ((answer ≡ status) × Takes errs line) ⊎ ((answer ≡ notice_status SinkFailed) × TakesPart errs line)
+    ((answer ≡ status) × TakesWhole errs line) ⊎ ((answer ≡ notice_status SinkFailed) × TakesPart errs line)
 
 -- A notice with its status.
 abbrev pub Notifies : Notice → Change (List ℕ) → ℕ → Type 0
@@ -32,7 +32,7 @@ Refuses (Table file line code) errs answer =
 -- after a refusal nothing is written and the refusal is said.
 abbrev pub Delivers : Outcome → Change (List ℕ) → Change (List ℕ) → ℕ → Type 0
 Delivers (Ok output) out errs answer =
-    ((answer ≡ 0) × Takes out output × IsSame errs)
+    ((answer ≡ 0) × TakesWhole out output × IsSame errs)
     ⊎ ((answer ≡ notice_status SinkFailed) × TakesPart out output
-    × (Takes errs (notice_line SinkFailed) ⊎ TakesPart errs (notice_line SinkFailed)))
+    × (TakesWhole errs (notice_line SinkFailed) ⊎ TakesPart errs (notice_line SinkFailed)))
 Delivers (Err refusal) out errs answer = IsSame out × TellsLine (status_of refusal) (refusal_line refusal) errs answer

@@ -74,8 +74,8 @@ abbrev pub HeldContent : {A : Type 0} → Change A → A → Type 0
 HeldContent c content = IfSome c.before (λ told. told ≡ content)
 
 -- The bytes were appended to it.
-abbrev pub Takes : Change (List ℕ) → List ℕ → Type 0
-Takes c bytes = Appends c.before c.after bytes × IsSteady c
+abbrev pub TakesWhole : Change (List ℕ) → List ℕ → Type 0
+TakesWhole c bytes = Appends c.before c.after bytes × IsSteady c
 
 -- It failed, and a front of the bytes was appended to it.
 abbrev pub TakesPart : Change (List ℕ) → List ℕ → Type 0

@@ -20,7 +20,7 @@ use Rattle.baggage_cli.specs.Loading.{LoadGives}
 use Rattle.baggage_cli.specs.Outcomes.{Outcome}
 use Rattle.baggage_cli.specs.Reading.{Framed, ReadsAll, cut_lines, context_lines}
 use Rattle.baggage_cli.specs.Refusals.{refusal_line, notice_line}
-use Rattle.baggage_cli.specs.Scene.{Change, Scene, IsSame, Takes, TakesPart}
+use Rattle.baggage_cli.specs.Scene.{Change, Scene, IsSame, TakesWhole, TakesPart}
 use Rattle.baggage_cli.specs.Tables.{FileGives, TableGives, AsksForTable}
 use Rattle.baggage_cli.specs.Under.{InputUnder, ReadsUnder}
 
@@ -134,7 +134,7 @@ pub data IsRefusedFor (task : Task) (files : Option Holding) (content : Option (
 abbrev pub FailsSink : Task → Scene → Type 0
 FailsSink task scene =
     ((output : List ℕ) × Comes task scene.library scene.requests scene.source (Ok output) × TakesPart scene.out output
-    × (Takes scene.errs (notice_line SinkFailed) ⊎ TakesPart scene.errs (notice_line SinkFailed)))
+    × (TakesWhole scene.errs (notice_line SinkFailed) ⊎ TakesPart scene.errs (notice_line SinkFailed)))
     ⊎ ((refusal : Refusal) × Comes task scene.library scene.requests scene.source (Err refusal) × IsSame scene.out
     × TakesPart scene.errs (refusal_line refusal))
 

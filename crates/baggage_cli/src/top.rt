@@ -172,6 +172,19 @@ fn answer_words<R: Threads + Sync, G: Gate, L: Library, S: Source, K: Sink, E: S
 /// Files come from the library, and lines from the source; lines that are empty or begin with `#` are skipped. Where a
 /// definition, a table or the file of a certificate is refused, the source isn't read. A rank of steps and a join of many contexts may be cut into
 /// pieces that run in threads; each piece passes the gate.
+///
+/// The answer is the status of the program, and the line is written to `errs`:
+///
+/// | status | comes where | line |
+/// |---|---|---|
+/// | 0 | all is done | none |
+/// | 1 | a definition, a printed table or the file of a certificate is refused | `definition FILE LINE:COLUMN CODE` |
+/// | 2 | the input or a line of it is refused; line 0 is the input as a whole | `input line LINE CODE` |
+/// | 3 | bytes aren't those of a list or a context, or an atom is ill typed | `context line LINE offset OFFSET CODE` |
+/// | 4 | the library or the source counted a fault | `library failed` or `source failed` |
+/// | 5 | `out` or `errs` counted a fault | `sink failed`, as far as `errs` takes it |
+/// | 6 | there is no memory | `memory` |
+/// | 7 | the words ask for no command | `words refused` |
 pub fn baggage_top<R: Threads + Sync, G: Gate, L: Library, S: Source, K: Sink, E: Sink>(
     rt: &R,
     alloc: Global,

@@ -25,10 +25,10 @@ IsFaultAt (bytes ∷ inputs) zero offset code = IsFirstContextFault bytes offset
 IsFaultAt (bytes ∷ inputs) (suc place) offset code = ((list : List Atom) × IsContextOf list bytes) × IsFaultAt inputs place offset code
 
 -- The refusal tells the fault of some inputs; want of memory claims nothing.
-abbrev pub IsContextRefusalOf : List (List ℕ) → Refusal → Type 0
-IsContextRefusalOf inputs (Fault context offset code) = IsFaultAt inputs context offset (byte_code_of code)
-IsContextRefusalOf inputs Memory = Unit {0}
-IsContextRefusalOf inputs (Room size) = ⊥
+abbrev pub IsInputsRefusalOf : List (List ℕ) → Refusal → Type 0
+IsInputsRefusalOf inputs (Fault context offset code) = IsFaultAt inputs context offset (byte_code_of code)
+IsInputsRefusalOf inputs Memory = Unit {0}
+IsInputsRefusalOf inputs (Room size) = ⊥
 
 -- The refusal tells the fault of the bytes at this place.
 abbrev pub IsRefusalAt : ℕ → List ℕ → Refusal → Type 0

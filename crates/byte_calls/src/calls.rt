@@ -15,7 +15,7 @@ use overflow_trim::trim_context;
 use std::alloc::Global;
 use wire_bytes::Form;
 
-/// How many atoms the context has whose bytes these are, in either form.
+/// How many atoms the context has whose bytes these are, in either form. Other bytes are a [`Refusal::Fault`] of context 0.
 pub fn check(alloc: Global, context: &[u8]) -> Result<usize, Refusal>
     ensures { ChecksBytes context.now result }
 {
@@ -23,8 +23,8 @@ pub fn check(alloc: Global, context: &[u8]) -> Result<usize, Refusal>
     Ok(context.list().len())
 }
 
-/// Writes the merge of two contexts in the form that is asked for, and answers how many bytes it has. Each context is read in the form
-/// that its own bytes begin with.
+/// Writes the bytes of the merge of two contexts at the front of `room`, in the form that is asked for, and answers how many they
+/// are. Each context is read in the form that its own bytes begin with. [`Refusal`] says when nothing is written.
 pub fn merge_into(
     alloc: Global,
     form: Form,
@@ -53,7 +53,8 @@ pub fn merge_many_into(
     write_into(alloc, form, merged.list(), room)
 }
 
-/// Writes a context, cut to a budget of bytes in the form that is asked for, and answers how many bytes it has.
+/// Writes a context, cut to `budget` bytes in the form that is asked for, as [`merge_into`] writes a merge. A budget is at least
+/// [`Form::least_budget`]: 1 in form one, 13 in form two.
 pub fn trim_into(
     alloc: Global,
     form: Form,
@@ -69,8 +70,7 @@ pub fn trim_into(
     write_into(alloc, form, context.list(), room)
 }
 
-/// Writes the merge of two contexts, cut to a budget of bytes in the form that is asked for, and answers how many bytes it has: what a
-/// service sends on that received both.
+/// Writes the merge of two contexts, cut as by [`trim_into`]: what a service sends on that received both.
 pub fn forward_into(
     alloc: Global,
     form: Form,

@@ -2,7 +2,7 @@
 
 ghost use Rattle.std.specs.Prelude.{◌+◌, ◌^◌, ◌<◌, [], ◌∷◌, length, IfOk, IfErr};
 ghost use Rattle.context_model.specs.ContextFault.{IsContextOf};
-ghost use Rattle.byte_calls.specs.Contexts.{IsMergeOf, IsRefusalAt, IsRefusalFrom, IsContextRefusalOf};
+ghost use Rattle.byte_calls.specs.Contexts.{IsMergeOf, IsRefusalAt, IsRefusalFrom, IsInputsRefusalOf};
 ghost use Rattle.byte_calls.specs.Spans.{inputs_of};
 
 use crate::refusals::Refusal;
@@ -32,7 +32,7 @@ pub(crate) fn read_at(alloc: Global, place: usize, bytes: &[u8]) -> Result<Conte
 /// The merge of the contexts of two inputs.
 pub(crate) fn read_merged(alloc: Global, first: &[u8], second: &[u8]) -> Result<Context, Refusal>
     ensures merged { IfOk result (IsMergeOf (first.now ∷ second.now ∷ [])) }
-    ensures refused { IfErr result (IsContextRefusalOf (first.now ∷ second.now ∷ [])) }
+    ensures refused { IfErr result (IsInputsRefusalOf (first.now ∷ second.now ∷ [])) }
 {
     let first = read_at(alloc, 0, first)?;
     let second = read_at(alloc, 1, second)?;

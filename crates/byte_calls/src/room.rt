@@ -39,7 +39,7 @@ pub(crate) fn write_into(
 ) -> Result<usize, Refusal>
     ensures { WritesList form (λ written. written ≡ list.now) (λ _ _ _. ⊥) room.old room.new result }
 {
-    // It says that the frames of a list are no more than a buffer may have.
+    // For the cast below: the bytes of a list are no more than a buffer may have.
     let _count = list.len();
     let size = size(form, list);
     if (room.len() as u128) < size {

@@ -29,9 +29,9 @@ use write_text::read_write;
 pub enum FieldFault {
     /// No slot of the table has the name.
     NoField,
-    /// The bytes cease here to be those of a context.
+    /// Behind `offset` bytes they cease to be those of a context; `code` says why.
     NoContext { offset: usize, code: ByteCode },
-    /// The atom at this place isn't spelled as the type of its field says.
+    /// The atom at `place` of the context, from 0 on, isn't spelled as the type of its field says. It is the first.
     IllTyped { place: usize },
     /// There is no memory for the reading.
     Memory,
@@ -71,7 +71,7 @@ pub fn write_field(
 ) -> Result<Option<Vec<u8>>, Memory>
     ensures { IfOk result (λ sent. IsSomeOf (SaysWrite table.now name.now text.now) (option_map (λ bytes. bytes.items) sent)) }
 {
-    // The proof rests on these laws.
+    // These do nothing when they run: they tell the prover that what was read as a write fits its slot.
     writes_are_of_their_shape();
     values_fit_at_slots();
     let Some(field) = accessor(alloc, table, name)? else {

@@ -5,7 +5,7 @@ use Rattle.std.proofs.lemmas.Bool.Decides.{nat_tests}
 use Rattle.text_carrier.specs.declared.TheConstants.{WIDTH_MIN, WIDTH_MAX}
 use Rattle.load_maker.specs.declared.TheConstants.{ROUNDS_MAX}
 use Rattle.command_line.specs.declared.commands.Command.{Command}
-use Rattle.command_line.specs.Commands.{Task, IsWithinLimits, carry, check, collect, command_of, decode, evolve, load, merge, count_of_word, print, rounds_of, run, run_json, run_table, step_of_word, task_of, trim, verify, why, width_of}
+use Rattle.command_line.specs.Commands.{Task, IsWithinLimits, carry, check, collect, command_of, decode, evolve, load, merge, positive_number_of, print, rounds_of, run, run_json, run_table, step_of_word, task_of, trim, verify, why, width_of}
 use Rattle.command_line.proofs.Numbers.{positive}
 
 -- What is asked for, if anything, is within its limits.
@@ -43,9 +43,9 @@ limited [] = tt
 limited (name ∷ []) =
     either (bytes_eq name (codes "merge")) (Some merge) _ tt (either (bytes_eq name (codes "collect")) (Some collect) None tt tt)
 limited (name ∷ word ∷ []) =
-    either (bytes_eq name (codes "trim")) (option_map trim (count_of_word word)) _ (mapped trim (λ n. tt) (count_of_word word))
-    (either (bytes_eq name (codes "carry")) (option_map carry (width_of word)) _ (carried (count_of_word word))
-    (either (bytes_eq name (codes "load")) (option_map load (rounds_of word)) _ (loaded (count_of_word word) (positive word))
+    either (bytes_eq name (codes "trim")) (option_map trim (positive_number_of word)) _ (mapped trim (λ n. tt) (positive_number_of word))
+    (either (bytes_eq name (codes "carry")) (option_map carry (width_of word)) _ (carried (positive_number_of word))
+    (either (bytes_eq name (codes "load")) (option_map load (rounds_of word)) _ (loaded (positive_number_of word) (positive word))
     (either (bytes_eq name (codes "runtable")) (Some (run_table word)) None tt tt)))
 limited (name ∷ file ∷ bag ∷ []) =
     either (bytes_eq name (codes "check")) (Some (check file bag)) _ tt (either (bytes_eq name (codes "table")) (Some (print file bag)) _ tt

@@ -10,7 +10,7 @@ use Rattle.std.proofs.lemmas.Fmt.{decimal_injective, decimal_is_IsNumeral}
 use Rattle.std.proofs.lemmas.Slice.Eq.{bytes_eq-Decides}
 use Rattle.graph_lines.specs.Reading.{IsNumberText}
 use Rattle.decimal_text.specs.Answers.{IsSomeOf}
-use Rattle.command_line.specs.Commands.{count_of_word, step_of_word}
+use Rattle.command_line.specs.Commands.{positive_number_of, step_of_word}
 
 -- A fact holds of this number alone or of none, and a test tells which.
 told : (Holds : ℕ → Type 0) (number : ℕ) (test : Bool) (result : Option ℕ) → ((other : ℕ) → Holds other → other ≡ number) → Decides test (Holds number) → IsSomeOf Holds result
@@ -29,8 +29,8 @@ abbrev pub IsCountText : List ℕ → ℕ → Type 0
 IsCountText word number = ((word ≡ decimal number) × (0 < number)) × (number < 2 ^ 32)
 
 -- The number that a word says, by what is read of it.
-pub number_read : (word : List ℕ) (result : Option ℕ) → IsSomeOf (IsCountText word) result → result ≡ count_of_word word
-unfolding count_of_word
+pub number_read : (word : List ℕ) (result : Option ℕ) → IsSomeOf (IsCountText word) result → result ≡ positive_number_of word
+unfolding positive_number_of
 number_read word result says =
     let value = digits_value 10 word in
     let same = bytes_eq word (decimal value) in
@@ -41,7 +41,7 @@ number_read word result says =
     (λ n is. let small = is.1 in value_of word n (omega (arith, small)) is.0.0) (Decides-and (same && some) few front (Decides-ltb value (2 ^ 32))) says
 
 -- The number that is read of a word, where it has 32 bits.
-pub narrowed : {E : Type 0} (word : List ℕ) (number : ℕ) (r : Result ℕ E) → word ≡ decimal number → number < 2 ^ 64 → 0 < number → OkIff r (number < 2 ^ 32) number → result_ok r ≡ count_of_word word
+pub narrowed : {E : Type 0} (word : List ℕ) (number : ℕ) (r : Result ℕ E) → word ≡ decimal number → number < 2 ^ 64 → 0 < number → OkIff r (number < 2 ^ 32) number → result_ok r ≡ positive_number_of word
 narrowed word number (Ok n) is few some (fits, same) = number_read word (Some n) ((cc (is, same), omega (arith, some, same)), omega (arith, fits, same))
 narrowed word number (Err e) is few some big = number_read word None (λ n says.
     let small = says.1 in
@@ -49,8 +49,8 @@ narrowed word number (Err e) is few some big = number_read word None (λ n says.
     big (omega (arith, same, small)))
 
 -- A number of that form isn't 0.
-pub positive : (word : List ℕ) → IfSome (count_of_word word) (λ n. 0 < n)
-unfolding count_of_word
+pub positive : (word : List ℕ) → IfSome (positive_number_of word) (λ n. 0 < n)
+unfolding positive_number_of
 positive word =
     let value = digits_value 10 word in
     let same = bytes_eq word (decimal value) in
@@ -59,7 +59,7 @@ positive word =
     cond_both (same && some && few) (Some value) None (λ number. IfSome number (λ n. 0 < n))
     (λ e. ltb-true 0 value (and_parts same some (and_parts (same && some) few e).0).1) (λ e. tt)
 
-pub positive_at : (word : List ℕ) (n : ℕ) → Some n ≡ count_of_word word → 0 < n
+pub positive_at : (word : List ℕ) (n : ℕ) → Some n ≡ positive_number_of word → 0 < n
 positive_at word n e = rw (← e) at (positive word)
 
 -- ---- numbers of steps

@@ -142,19 +142,19 @@ task_of (code.Verify origin certificate) = checking (origin_of origin) certifica
 -- ---- words
 
 -- A number from 1 to 4,294,967,295, whose decimal digits the word is.
-unfoldable pub count_of_word : List ℕ → Option ℕ
-count_of_word word =
+unfoldable pub positive_number_of : List ℕ → Option ℕ
+positive_number_of word =
     if bytes_eq word (decimal (digits_value 10 word)) && nat_lt 0 (digits_value 10 word) && nat_lt (digits_value 10 word) (2 ^ 32)
     then Some (digits_value 10 word)
     else None
 
 -- Such a number, but for those above `ROUNDS_MAX`.
 abbrev pub rounds_of : List ℕ → Option ℕ
-rounds_of word = option_and_then (λ rounds. if nat_lt ROUNDS_MAX rounds then None else Some rounds) (count_of_word word)
+rounds_of word = option_and_then (λ rounds. if nat_lt ROUNDS_MAX rounds then None else Some rounds) (positive_number_of word)
 
 -- Such a number, where it may be the width of a piece.
 abbrev pub width_of : List ℕ → Option ℕ
-width_of word = option_and_then (λ width. if nat_lt width WIDTH_MIN || nat_lt WIDTH_MAX width then None else Some width) (count_of_word word)
+width_of word = option_and_then (λ width. if nat_lt width WIDTH_MIN || nat_lt WIDTH_MAX width then None else Some width) (positive_number_of word)
 
 -- The number of a step, whose decimal digits the word is, at most ten of them.
 unfoldable pub step_of_word : List ℕ → Option ℕ
@@ -179,7 +179,7 @@ command_of (name ∷ file ∷ bag ∷ []) =
     else if bytes_eq name (codes "runjson") then Some (run_json file bag)
     else None
 command_of (name ∷ word ∷ []) =
-    if bytes_eq name (codes "trim") then option_map trim (count_of_word word)
+    if bytes_eq name (codes "trim") then option_map trim (positive_number_of word)
     else if bytes_eq name (codes "carry") then option_map carry (width_of word)
     else if bytes_eq name (codes "load") then option_map load (rounds_of word)
     else if bytes_eq name (codes "runtable") then Some (run_table word)

@@ -44,18 +44,18 @@ pub enum Purpose<'a> {
     Decode,
     /// The report of the graph that the lines say.
     Run(ReportForm),
-    /// The certificate for the slot with this name path at the step of this number, in the graph that the lines say.
+    /// The certificate for the slot with this name path at the step of this number, from 0 on, in the graph that the lines say.
     Explain { step: u64, path: &'a str },
 }
 
 /// What is made of an input by itself.
 #[derive(Clone, Copy, Debug)]
 pub enum Filter {
-    /// The one line's list of atoms, cut to a budget of bytes.
+    /// The one line's list of atoms, cut to a budget of bytes. The least of its form is looked at when the line is read.
     Trim { budget: NonZeroU32 },
     /// The merge of the contexts of all lines.
     Merge,
-    /// The one line's context as lines of pieces of so many bytes.
+    /// The one line's context as lines of pieces of `width` bytes each, from [`WIDTH_MIN`] to [`WIDTH_MAX`].
     Carry { width: u32 },
     /// The context whose pieces the lines say.
     Collect,

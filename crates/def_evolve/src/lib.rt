@@ -1,8 +1,8 @@
 //! Whether a definition may take the place of an older one: what contexts that were written under the old table say under the
 //! new one. Fields are matched by number; names don't matter.
 //!
-//! `evolve` gives the verdict. Where the new table fits, each slot that both tables have says under the new one what it says under
-//! the old one, of every context of the old table and in every graph. It doesn't say that each such context is typed under the
+//! `evolve` gives the verdict. Where the new table fits, each slot that both tables have says under the new one what agrees with what it says
+//! under the old one, of every context of the old table and in every graph. It doesn't say that each such context is typed under the
 //! new table: something that the old table doesn't name may stand where the new one has a field.
 //!
 //! ```rust

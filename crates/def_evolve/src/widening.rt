@@ -6,7 +6,7 @@ ghost use Rattle.def_evolve.specs.Widening.{AreWider, Widens};
 
 use scalar_types::ScalarKind;
 
-/// Whether a kind may take the place of another: each value of that one is one of its own, and is spelled alike.
+/// Whether `wider` may take the place of `kind`: each value of `kind` is one of `wider`, spelled alike.
 pub(crate) fn widens(kind: &ScalarKind, wider: &ScalarKind) -> bool
     ensures { IsTrue result ↔ Widens (kind_of kind.now) (kind_of wider.now) }
 {
@@ -19,7 +19,7 @@ pub(crate) fn widens(kind: &ScalarKind, wider: &ScalarKind) -> bool
     }
 }
 
-/// Whether the fields of a struct may give way to those of another: there are as many, and each may give way to that at its place.
+/// Whether the fields of a struct may give way to `more`: there are as many, and each may give way to that at its place.
 fn are_wider(words: &[ScalarKind], more: &[ScalarKind]) -> bool
     requires words { All IsPlainWord words.now }
     requires more { All IsPlainWord more.now }
@@ -36,7 +36,7 @@ fn are_wider(words: &[ScalarKind], more: &[ScalarKind]) -> bool
     true
 }
 
-/// Whether a kind that is no struct may give way to another.
+/// Whether `word`, the kind of no struct, may give way to `wider`.
 fn is_wider(word: &ScalarKind, wider: &ScalarKind) -> bool
     requires { IsPlainWord word.now }
     ensures { IsTrue result ↔ Widens (kind_of word.now) (kind_of wider.now) }

@@ -24,8 +24,5 @@ pub(crate) fn field_named(
     let Ok(name) = str::from_utf8(name) else {
         return Err(FieldRefusal::NoField);
     };
-    match accessor(alloc, table, name)? {
-        Some(field) => Ok(field),
-        None => Err(FieldRefusal::NoField),
-    }
+    accessor(alloc, table, name)?.ok_or(FieldRefusal::NoField)
 }

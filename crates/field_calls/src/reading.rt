@@ -8,7 +8,7 @@ use crate::refusals::FieldRefusal;
 use atom_list::Context;
 use bag_scan::State;
 use bag_typed::check_typed;
-use byte_calls::{TooShort, write_front};
+use byte_calls::write_front;
 use field_table::Table;
 use report_text::value_text;
 use std::alloc::Global;
@@ -47,8 +47,12 @@ fn field_text(
     Ok((reading.state, text))
 }
 
-/// Writes the text of what a context says of the field with this name path into the room, and answers how many bytes it has and whether
-/// that is all that was said of the field. The table is a printed one.
+/// Writes what a context says of one field, as text, at the front of `room`, and answers whether that is all that was said of the
+/// field, and how many bytes the text has.
+///
+/// `table` is a table as `table_text::print_table` writes it, `name` the name path of one of its slots (names joined by dots), and
+/// `context` the bytes of a context in either form. The text is one of `docs/FORMATS.md`, Texts of values. [`FieldRefusal`] has what
+/// may be wrong, in the order in which it is looked for; then `room` stays.
 pub fn read_field_into(
     alloc: Global,
     table: &[u8],
@@ -60,8 +64,6 @@ pub fn read_field_into(
 {
     let table = read_table(alloc, table)?;
     let (state, text) = field_text(alloc, &table, context, name)?;
-    match write_front(&text, room) {
-        Ok(size) => Ok((state, size)),
-        Err(TooShort { size }) => Err(FieldRefusal::Room { size }),
-    }
+    let size = write_front(&text, room)?;
+    Ok((state, size))
 }

@@ -14,9 +14,9 @@ pub enum FieldRefusal {
     NoField,
     /// The text is no write to the field.
     NoWrite,
-    /// Behind so many bytes they cease to be those of a context.
+    /// Behind `offset` bytes they cease to be those of a context; `code` says why.
     Fault { offset: usize, code: ByteCode },
-    /// The atom behind so many bytes of the context isn't spelled as the type of its field says. It is the first.
+    /// The atom behind `offset` bytes of the context, the first such one, isn't spelled as the type of its field says.
     IllTyped { offset: usize },
     /// There is no memory.
     Memory,

@@ -15,8 +15,8 @@ use overflow_trim::trim_context;
 use std::alloc::Global;
 use wire_bytes::{ContextFault, Form, read_context, write};
 
-/// The bytes to send on, in the form that is asked for: the merge of two received contexts, cut to the budget where it is longer. The
-/// refusal is the first fault of the first context that has one.
+/// The bytes to send on, in the form that is asked for: the merge of two received contexts, cut to the budget where it is longer. A budget
+/// is at least `form.least_budget()`. The refusal is the first fault of the first context that has one, or want of memory.
 pub fn forward(
     alloc: Global,
     form: Form,

@@ -1,7 +1,7 @@
 //! Calls one of whose objects fails.
 
 use outside::{MemorySink, MemorySource, Open};
-use program_calls::{Objects, answer_of, call, library_of};
+use program_calls::{Objects, answer_of_line, call, library_of};
 use std::alloc::Global;
 use std::process::Abort;
 use std::test::Fail;
@@ -233,7 +233,7 @@ fn fails<R: Abort + Threads + Sync>(
 ) -> Result<(), Fail> {
     let (line, input, object, text) = row;
     let mut objects = failing(alloc, input, object, number)?;
-    let came = answer_of(rt, alloc, line, &mut objects)?;
+    let came = answer_of_line(rt, alloc, line, &mut objects)?;
     let length = text.len().min(number as usize);
     let front = text.get(..length).unwrap_or("");
     let (status, out, errs) = match object {
@@ -282,7 +282,7 @@ fn is_full<R: Abort + Threads + Sync>(rt: &R, alloc: Global, row: Full) -> Resul
     let mut objects = Objects::new(alloc, FILES, input.as_bytes())?;
     objects.out = MemorySink::new(alloc, out, 1, Vec::new(alloc))?;
     objects.errs = MemorySink::new(alloc, errs, 64, Vec::new(alloc))?;
-    let came = answer_of(rt, alloc, line, &mut objects)?;
+    let came = answer_of_line(rt, alloc, line, &mut objects)?;
     assert_eq!(rt; came.status, 5, "{line}");
     assert_eq!(rt; came.out.as_slice(), written.as_bytes(), "{line}");
     assert_eq!(rt; came.errs.as_slice(), told.as_bytes(), "{line}");

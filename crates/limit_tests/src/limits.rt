@@ -1,6 +1,6 @@
 //! Inputs and files at the edge of what is read.
 
-use program_calls::{FILES, Objects, RUN, answer_of, holds};
+use program_calls::{FILES, Objects, RUN, answer_of_line, expect_row};
 use std::alloc::Global;
 use std::test::Fail;
 
@@ -262,7 +262,7 @@ fn long_inputs(rt: HostRuntime) -> Result<(), Fail> {
     let alloc = rt.alloc();
     for (line, long, status, text) in &INPUTS {
         let input = spelled(alloc, long)?;
-        holds(&rt, alloc, FILES, line, input.as_bytes(), *status, text)?;
+        expect_row(&rt, alloc, FILES, line, input.as_bytes(), *status, text)?;
     }
     Ok(())
 }
@@ -275,7 +275,7 @@ fn a_long_atom(rt: HostRuntime) -> Result<(), Fail> {
     let bytes = spelled(alloc, &WIDE_BYTES)?;
     let value = spelled(alloc, &WIDE_VALUE)?;
     let report = format!(in alloc; "{bytes}{value}")?;
-    holds(&rt, alloc, FILES, RUN, wide.as_bytes(), 0, report.as_str())
+    expect_row(&rt, alloc, FILES, RUN, wide.as_bytes(), 0, report.as_str())
 }
 
 /// What stands behind an input that is too long is left.
@@ -284,7 +284,7 @@ fn what_is_left_of_a_long_input(rt: HostRuntime) -> Result<(), Fail> {
     let alloc = rt.alloc();
     let input = spelled(alloc, &("", "#", 16_777_216, "\n-"))?;
     let mut objects = Objects::new(alloc, FILES, input.as_bytes())?;
-    let came = answer_of(&rt, alloc, "merge", &mut objects)?;
+    let came = answer_of_line(&rt, alloc, "merge", &mut objects)?;
     assert_eq!(rt; came.status, 2);
     assert_eq!(rt; came.left.as_slice(), b"-".as_slice());
     Ok(())
@@ -448,7 +448,7 @@ fn long_files(rt: HostRuntime) -> Result<(), Fail> {
     for (line, long, input, status, text) in &LONG_FILES {
         let files = spelled(alloc, long)?;
         let text = spelled(alloc, text)?;
-        holds(
+        expect_row(
             &rt,
             alloc,
             files.as_str(),
@@ -490,7 +490,7 @@ fn many_lines(rt: HostRuntime) -> Result<(), Fail> {
     for (behind, status, text) in &BEHIND {
         let input = format!(in alloc; "{lines}{behind}")?;
         let text = if *status == 0 { merged.as_str() } else { *text };
-        holds(&rt, alloc, FILES, "merge", input.as_bytes(), *status, text)?;
+        expect_row(&rt, alloc, FILES, "merge", input.as_bytes(), *status, text)?;
     }
     Ok(())
 }

@@ -62,7 +62,7 @@ pub struct Answer {
 }
 
 /// What a call with this status came to.
-fn what_came(alloc: Global, status: u8, objects: &mut Objects) -> Result<Answer, Fail> {
+fn answer_with(alloc: Global, status: u8, objects: &mut Objects) -> Result<Answer, Fail> {
     Ok(Answer {
         status,
         out: Vec::from_slice(alloc, objects.out.taken())?,
@@ -72,23 +72,23 @@ fn what_came(alloc: Global, status: u8, objects: &mut Objects) -> Result<Answer,
 }
 
 /// Calls the program with these words, of which one may be empty or have blanks. Its steps pass an open gate.
-pub fn answer_to<R: Threads + Sync>(
+pub fn answer_of_words<R: Threads + Sync>(
     rt: &R,
     alloc: Global,
     words: &[&str],
     objects: &mut Objects,
 ) -> Result<Answer, Fail> {
     let status = call_with(rt, alloc, &Open, words, objects)?;
-    what_came(alloc, status, objects)
+    answer_with(alloc, status, objects)
 }
 
 /// Calls the program with the words of this line, which is cut at blanks. Its steps pass an open gate.
-pub fn answer_of<R: Threads + Sync>(
+pub fn answer_of_line<R: Threads + Sync>(
     rt: &R,
     alloc: Global,
     line: &str,
     objects: &mut Objects,
 ) -> Result<Answer, Fail> {
     let words = words_of(alloc, line)?;
-    answer_to(rt, alloc, words.as_slice(), objects)
+    answer_of_words(rt, alloc, words.as_slice(), objects)
 }

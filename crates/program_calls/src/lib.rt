@@ -5,9 +5,9 @@ mod calls;
 mod objects;
 mod rows;
 
-pub use calls::{Answer, answer_of, answer_to, call, words_of};
+pub use calls::{Answer, answer_of_line, answer_of_words, call, words_of};
 pub use objects::{Objects, asked, library_of};
-pub use rows::{holds, is_told, output_of};
+pub use rows::{expect_answer, expect_row, output_of};
 
 /// The definitions that most calls are made with. In a text of files each one begins with its name and a bar, and an empty
 /// line stands between two.

@@ -1,14 +1,14 @@
 //! What calls must come to, as rows of tables have it.
 
 use crate::FILES;
-use crate::calls::{Answer, answer_of};
+use crate::calls::{Answer, answer_of_line};
 use crate::objects::Objects;
 use std::alloc::Global;
 use std::test::Fail;
 use std::thread::Threads;
 
 /// Fails where the bytes that a call wrote or left are others than these.
-fn is_same(found: &[u8], wanted: &[u8], line: &str, place: &str) -> Result<(), Fail> {
+fn expect_same(found: &[u8], wanted: &[u8], line: &str, place: &str) -> Result<(), Fail> {
     if found == wanted {
         return Ok(());
     }
@@ -18,15 +18,21 @@ fn is_same(found: &[u8], wanted: &[u8], line: &str, place: &str) -> Result<(), F
 
 /// Fails where a call came to something else than a row has: its status, what it wrote, and what it left of the input. It must
 /// write the text to the output with status 0, and to the errors otherwise. Nothing may stand on the other one.
-pub fn is_told(came: &Answer, line: &str, status: u8, text: &str, left: &[u8]) -> Result<(), Fail> {
+pub fn expect_answer(
+    came: &Answer,
+    line: &str,
+    status: u8,
+    text: &str,
+    left: &[u8],
+) -> Result<(), Fail> {
     let (out, errs) = if status == 0 { (text, "") } else { ("", text) };
     if came.status != status {
         let found = came.status;
         return Err(Fail::new(format_args!("{line}: status {found} in place of {status}, {text}")));
     }
-    is_same(came.out.as_slice(), out.as_bytes(), line, "output")?;
-    is_same(came.errs.as_slice(), errs.as_bytes(), line, "errors")?;
-    is_same(came.left.as_slice(), left, line, "rest of the input")
+    expect_same(came.out.as_slice(), out.as_bytes(), line, "output")?;
+    expect_same(came.errs.as_slice(), errs.as_bytes(), line, "errors")?;
+    expect_same(came.left.as_slice(), left, line, "rest of the input")
 }
 
 /// Whether a call with this status must leave the input as it was: it answers before it reads, or doesn't read.
@@ -37,7 +43,7 @@ fn leaves_input(line: &str, status: u8) -> bool {
 
 /// Calls the program with these files and this input, and fails where it answers, writes or leaves something else than a row
 /// has. It leaves the input where it answers before it reads.
-pub fn holds<R: Threads + Sync>(
+pub fn expect_row<R: Threads + Sync>(
     rt: &R,
     alloc: Global,
     files: &str,
@@ -47,13 +53,13 @@ pub fn holds<R: Threads + Sync>(
     text: &str,
 ) -> Result<(), Fail> {
     let mut objects = Objects::new(alloc, files, input)?;
-    let came = answer_of(rt, alloc, line, &mut objects)?;
+    let came = answer_of_line(rt, alloc, line, &mut objects)?;
     let left = if leaves_input(line, status) {
         input
     } else {
         b"".as_slice()
     };
-    is_told(&came, line, status, text, left)
+    expect_answer(&came, line, status, text, left)
 }
 
 /// What the program writes with status 0, with the definitions that most calls are made with.
@@ -64,7 +70,7 @@ pub fn output_of<R: Threads + Sync>(
     input: &str,
 ) -> Result<String, Fail> {
     let mut objects = Objects::new(alloc, FILES, input.as_bytes())?;
-    let came = answer_of(rt, alloc, line, &mut objects)?;
+    let came = answer_of_line(rt, alloc, line, &mut objects)?;
     if came.status != 0 {
         let found = came.status;
         return Err(Fail::new(format_args!("{line}: status {found}")));

@@ -1,6 +1,6 @@
 //! Calls of the program, as rows of tables.
 
-use program_calls::{FILES, holds};
+use program_calls::{FILES, expect_row};
 use std::alloc::Global;
 use std::test::Fail;
 use std::thread::Threads;
@@ -10,9 +10,9 @@ use std::thread::Threads;
 pub type Row = (&'static str, &'static str, u8, &'static str);
 
 /// Calls the program for each row, with the definitions that most calls are made with.
-pub fn all_hold<R: Threads + Sync>(rt: &R, alloc: Global, rows: &[Row]) -> Result<(), Fail> {
+pub fn expect_rows<R: Threads + Sync>(rt: &R, alloc: Global, rows: &[Row]) -> Result<(), Fail> {
     for (line, input, status, text) in rows {
-        holds(rt, alloc, FILES, line, input.as_bytes(), *status, text)?;
+        expect_row(rt, alloc, FILES, line, input.as_bytes(), *status, text)?;
     }
     Ok(())
 }

@@ -1,7 +1,7 @@
 //! Certificates, written and verified.
 
-use crate::calls::{Row, all_hold};
-use program_calls::{FILES, Objects, answer_of, asked, is_told};
+use crate::calls::{Row, expect_rows};
+use program_calls::{FILES, Objects, answer_of_line, asked, expect_answer};
 use std::alloc::Global;
 use std::process::Abort;
 use std::test::Fail;
@@ -196,9 +196,9 @@ fn objects_with(alloc: Global, certificate: &str, input: &str) -> Result<Objects
 fn fetches<R: Abort + Threads + Sync>(rt: &R, alloc: Global, row: &Fetching) -> Result<(), Fail> {
     let (line, input, status, text, names) = row;
     let mut objects = objects_with(alloc, CERTIFICATE, input)?;
-    let came = answer_of(rt, alloc, line, &mut objects)?;
+    let came = answer_of_line(rt, alloc, line, &mut objects)?;
     let left = if *status == 1 { *input } else { "" };
-    is_told(&came, line, *status, text, left.as_bytes())?;
+    expect_answer(&came, line, *status, text, left.as_bytes())?;
     assert_eq!(rt; asked(alloc, &objects.library)?.as_str(), *names, "{line}");
     Ok(())
 }
@@ -206,7 +206,7 @@ fn fetches<R: Abort + Threads + Sync>(rt: &R, alloc: Global, row: &Fetching) -> 
 #[test]
 fn certificates_are_written(rt: HostRuntime) -> Result<(), Fail> {
     let alloc = rt.alloc();
-    all_hold(&rt, alloc, &WRITTEN)
+    expect_rows(&rt, alloc, &WRITTEN)
 }
 
 /// Verifies a certificate for the meeting, and compares the verdict.
@@ -217,8 +217,8 @@ fn has_verdict<R: Threads + Sync>(
     verdict: &str,
 ) -> Result<(), Fail> {
     let mut objects = objects_with(alloc, certificate, MEETING)?;
-    let came = answer_of(rt, alloc, "verify q.bdl Req c", &mut objects)?;
-    is_told(&came, certificate, 0, verdict, b"")
+    let came = answer_of_line(rt, alloc, "verify q.bdl Req c", &mut objects)?;
+    expect_answer(&came, certificate, 0, verdict, b"")
 }
 
 #[test]

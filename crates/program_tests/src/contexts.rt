@@ -1,7 +1,7 @@
 //! Lines of contexts: what is trimmed and merged, and what is refused.
 
-use crate::calls::{Row, all_hold};
-use program_calls::{FILES, holds};
+use crate::calls::{Row, expect_rows};
+use program_calls::{FILES, expect_row};
 use std::test::Fail;
 
 /// Two values of one field.
@@ -316,11 +316,11 @@ static WITH_HEADS: [Row; 21] = [
 #[test]
 fn lines_of_contexts(rt: HostRuntime) -> Result<(), Fail> {
     let alloc = rt.alloc();
-    all_hold(&rt, alloc, &TRIMS)?;
-    all_hold(&rt, alloc, &LINES)?;
-    all_hold(&rt, alloc, &MERGES)?;
-    all_hold(&rt, alloc, &NO_CONTEXTS)?;
-    all_hold(&rt, alloc, &WITH_HEADS)
+    expect_rows(&rt, alloc, &TRIMS)?;
+    expect_rows(&rt, alloc, &LINES)?;
+    expect_rows(&rt, alloc, &MERGES)?;
+    expect_rows(&rt, alloc, &NO_CONTEXTS)?;
+    expect_rows(&rt, alloc, &WITH_HEADS)
 }
 
 /// A comment isn't UTF-8, and a line isn't.
@@ -328,7 +328,7 @@ fn lines_of_contexts(rt: HostRuntime) -> Result<(), Fail> {
 fn lines_of_bytes(rt: HostRuntime) -> Result<(), Fail> {
     let alloc = rt.alloc();
     let skipped = b"# a line\r\n#\n0101\n#\xff\r";
-    holds(&rt, alloc, FILES, "trim 9", skipped, 0, "0101\n")?;
+    expect_row(&rt, alloc, FILES, "trim 9", skipped, 0, "0101\n")?;
     let bad = "input line 2 BadHex\n";
-    holds(&rt, alloc, FILES, "merge", b"-\n01\xff\n", 2, bad)
+    expect_row(&rt, alloc, FILES, "merge", b"-\n01\xff\n", 2, bad)
 }

@@ -1,6 +1,6 @@
 //! Contexts decoded under the tables of definitions.
 
-use crate::calls::{Row, all_hold};
+use crate::calls::{Row, expect_rows};
 use std::test::Fail;
 
 /// The words that decode a context of a request.
@@ -247,6 +247,6 @@ static REFUSALS: [Row; 25] = [
 #[test]
 fn decoded_contexts(rt: HostRuntime) -> Result<(), Fail> {
     let alloc = rt.alloc();
-    all_hold(&rt, alloc, &BLOCKS)?;
-    all_hold(&rt, alloc, &REFUSALS)
+    expect_rows(&rt, alloc, &BLOCKS)?;
+    expect_rows(&rt, alloc, &REFUSALS)
 }

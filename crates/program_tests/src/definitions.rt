@@ -1,6 +1,6 @@
 //! Definitions that are checked.
 
-use program_calls::holds;
+use program_calls::expect_row;
 use std::test::Fail;
 
 /// Files, each with its name and a bar before what it holds, and an empty line between two; the words that check them; and what
@@ -187,7 +187,7 @@ static ROWS: [Row; 31] = [
 #[test]
 fn checked_definitions(rt: HostRuntime) -> Result<(), Fail> {
     for (files, line, status, text) in &ROWS {
-        holds(&rt, rt.alloc(), files, line, b"-\n", *status, text)?;
+        expect_row(&rt, rt.alloc(), files, line, b"-\n", *status, text)?;
     }
     Ok(())
 }

@@ -1,6 +1,6 @@
 //! A definition in place of an older one.
 
-use program_calls::{Objects, answer_of, asked, is_told};
+use program_calls::{Objects, answer_of_line, asked, expect_answer};
 use std::alloc::Global;
 use std::process::Abort;
 use std::test::Fail;
@@ -141,8 +141,8 @@ static ROWS: [Row; 28] = [
 fn evolves<R: Abort + Threads + Sync>(rt: &R, alloc: Global, row: &Row) -> Result<(), Fail> {
     let (line, status, text, names) = row;
     let mut objects = Objects::new(alloc, FILES, b"-\n")?;
-    let came = answer_of(rt, alloc, line, &mut objects)?;
-    is_told(&came, line, *status, text, b"-\n")?;
+    let came = answer_of_line(rt, alloc, line, &mut objects)?;
+    expect_answer(&came, line, *status, text, b"-\n")?;
     assert_eq!(rt; asked(alloc, &objects.library)?.as_str(), *names, "{line}");
     Ok(())
 }

@@ -1,7 +1,7 @@
 //! Contexts that are carried as lines of pieces, and such lines that are collected.
 
-use crate::calls::{Row, all_hold};
-use program_calls::{FILES, holds, output_of};
+use crate::calls::{Row, expect_rows};
+use program_calls::{FILES, expect_row, output_of};
 use std::test::Fail;
 
 static CARRIED: [Row; 9] = [
@@ -70,8 +70,8 @@ static COLLECTED: [Row; 13] = [
 
 #[test]
 fn pieces_of_contexts(rt: HostRuntime) -> Result<(), Fail> {
-    all_hold(&rt, rt.alloc(), &CARRIED)?;
-    all_hold(&rt, rt.alloc(), &COLLECTED)
+    expect_rows(&rt, rt.alloc(), &CARRIED)?;
+    expect_rows(&rt, rt.alloc(), &COLLECTED)
 }
 
 /// A context, and the words that carry it in pieces of several widths.
@@ -85,7 +85,7 @@ fn what_is_carried_is_collected(rt: HostRuntime) -> Result<(), Fail> {
     for width in &WIDTHS {
         let pieces = output_of(&rt, rt.alloc(), width, LINE)?;
         let pieces = pieces.as_bytes();
-        holds(&rt, rt.alloc(), FILES, "collect", pieces, 0, LINE)?;
+        expect_row(&rt, rt.alloc(), FILES, "collect", pieces, 0, LINE)?;
     }
     Ok(())
 }

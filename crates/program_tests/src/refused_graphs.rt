@@ -1,8 +1,8 @@
 //! Graphs one of whose lines is refused.
 
-use crate::calls::{Row, all_hold};
+use crate::calls::{Row, expect_rows};
 use crate::runs::graph;
-use program_calls::{FILES, RUN, holds};
+use program_calls::{FILES, RUN, expect_row};
 use std::alloc::Global;
 use std::test::Fail;
 use std::thread::Threads;
@@ -206,7 +206,7 @@ fn fifth_is_refused<R: Threads + Sync>(rt: &R, alloc: Global, row: &str) -> Resu
     let input = format!(in alloc; "{before}{line}")?;
     let text = format!(in alloc; "{refusal}\n")?;
     let (input, text) = (input.as_bytes(), text.as_str());
-    holds(rt, alloc, FILES, RUN, input, status, text)
+    expect_row(rt, alloc, FILES, RUN, input, status, text)
 }
 
 #[test]
@@ -219,8 +219,8 @@ fn refused_lines(rt: HostRuntime) -> Result<(), Fail> {
 
 #[test]
 fn refused_graphs(rt: HostRuntime) -> Result<(), Fail> {
-    all_hold(&rt, rt.alloc(), &GRAPHS)?;
+    expect_rows(&rt, rt.alloc(), &GRAPHS)?;
     // A line that isn't UTF-8, behind good ones.
     let input = b"service a all\nstart 0 a\nset 1 0 tags \"\xff\"\nshow 1\n";
-    holds(&rt, rt.alloc(), FILES, RUN, input, 2, "input line 3 Form\n")
+    expect_row(&rt, rt.alloc(), FILES, RUN, input, 2, "input line 3 Form\n")
 }

@@ -1,7 +1,7 @@
 //! Graphs that are run, under definitions and under printed tables, and loads.
 
 use crate::reports::REPORTS;
-use program_calls::{FILES, RUN, holds, output_of};
+use program_calls::{FILES, RUN, expect_row, output_of};
 use std::alloc::Global;
 use std::process::Abort;
 use std::test::Fail;
@@ -26,7 +26,7 @@ fn runs<R: Threads + Sync>(
     text: &str,
 ) -> Result<(), Fail> {
     let run = format!(in alloc; "run {words}")?;
-    holds(rt, alloc, FILES, run.as_str(), input.as_bytes(), 0, text)
+    expect_row(rt, alloc, FILES, run.as_str(), input.as_bytes(), 0, text)
 }
 
 /// A file `t` with the printed table of a definition.
@@ -37,7 +37,7 @@ fn printed<R: Threads + Sync>(rt: &R, alloc: Global, words: &str) -> Result<Stri
 }
 
 /// Runs one graph with its report, under the definition and under its printed table.
-fn report_holds<R: Threads + Sync>(rt: &R, alloc: Global, case: &str) -> Result<(), Fail> {
+fn expect_report<R: Threads + Sync>(rt: &R, alloc: Global, case: &str) -> Result<(), Fail> {
     let (first, report) = case.split_once('\n').unwrap_or((case, ""));
     let (words, joined) = first.split_once(" | ").ok_or("a graph")?;
     let end = if report.is_empty() { "" } else { "\n" };
@@ -46,13 +46,13 @@ fn report_holds<R: Threads + Sync>(rt: &R, alloc: Global, case: &str) -> Result<
     runs(rt, alloc, words, input.as_str(), text.as_str())?;
     let files = printed(rt, alloc, words)?;
     let (files, input, text) = (files.as_str(), input.as_bytes(), text.as_str());
-    holds(rt, alloc, files, "runtable t", input, 0, text)
+    expect_row(rt, alloc, files, "runtable t", input, 0, text)
 }
 
 #[test]
 fn reports_of_graphs(rt: HostRuntime) -> Result<(), Fail> {
     for case in REPORTS.split("\n\n") {
-        report_holds(&rt, rt.alloc(), case)?;
+        expect_report(&rt, rt.alloc(), case)?;
     }
     Ok(())
 }
@@ -71,7 +71,7 @@ fn is_trimmed<R: Threads + Sync>(
         "service a all\nstart 0 a\nrecv 1 a {whole}\ntrim 2 1 {budget}\nshow 2\n"
     )?;
     let text = format!(in alloc; "step 2\n{block}")?;
-    holds(rt, alloc, FILES, RUN, input.as_bytes(), 0, text.as_str())
+    expect_row(rt, alloc, FILES, RUN, input.as_bytes(), 0, text.as_str())
 }
 
 #[test]
@@ -90,18 +90,18 @@ static JSON: &str =
 service a all / start 0 a => []"#;
 
 /// Runs one graph with its report as JSON.
-fn json_holds<R: Threads + Sync>(rt: &R, alloc: Global, row: &str) -> Result<(), Fail> {
+fn expect_json<R: Threads + Sync>(rt: &R, alloc: Global, row: &str) -> Result<(), Fail> {
     let (joined, report) = row.split_once(" => ").ok_or("a report")?;
     let input = graph(alloc, joined)?;
     let text = format!(in alloc; "{report}\n")?;
     let (input, text) = (input.as_bytes(), text.as_str());
-    holds(rt, alloc, FILES, "runjson q.bdl Req", input, 0, text)
+    expect_row(rt, alloc, FILES, "runjson q.bdl Req", input, 0, text)
 }
 
 #[test]
 fn reports_as_json(rt: HostRuntime) -> Result<(), Fail> {
     for row in JSON.lines() {
-        json_holds(&rt, rt.alloc(), row)?;
+        expect_json(&rt, rt.alloc(), row)?;
     }
     Ok(())
 }
@@ -175,7 +175,7 @@ fn load_holds<R: Abort + Threads + Sync>(rt: &R, alloc: Global, row: &Load) -> R
 
 #[test]
 fn loads(rt: HostRuntime) -> Result<(), Fail> {
-    holds(&rt, rt.alloc(), FILES, "load 1", b"-", 0, ONE_ROUND)?;
+    expect_row(&rt, rt.alloc(), FILES, "load 1", b"-", 0, ONE_ROUND)?;
     for row in &LOADS {
         load_holds(&rt, rt.alloc(), row)?;
     }

@@ -1,7 +1,7 @@
 //! Tables that are printed, and files that are no printed tables.
 
 use crate::runs::graph;
-use program_calls::{FILES, holds};
+use program_calls::{FILES, expect_row};
 use std::alloc::Global;
 use std::test::Fail;
 use std::thread::Threads;
@@ -35,14 +35,14 @@ fn is_refused<R: Threads + Sync>(
     let files = format!(in alloc; "t|{content}")?;
     let text = format!(in alloc; "definition t {place}\n")?;
     let (files, text) = (files.as_str(), text.as_str());
-    holds(rt, alloc, files, "runtable t", INPUT, 1, text)
+    expect_row(rt, alloc, files, "runtable t", INPUT, 1, text)
 }
 
 #[test]
 fn printed_tables(rt: HostRuntime) -> Result<(), Fail> {
     let text = format!(in rt.alloc(); "{PRINTED}\n")?;
     let text = text.as_str();
-    holds(&rt, rt.alloc(), FILES, "table q.bdl Req", b"-", 0, text)
+    expect_row(&rt, rt.alloc(), FILES, "table q.bdl Req", b"-", 0, text)
 }
 
 #[test]
@@ -61,5 +61,5 @@ fn cut_tables(rt: HostRuntime) -> Result<(), Fail> {
     is_refused(&rt, rt.alloc(), PRINTED, "6:1 Form")?;
     is_refused(&rt, rt.alloc(), "", "1:1 Head")?;
     let text = "definition t 1:1 NoFile\n";
-    holds(&rt, rt.alloc(), "", "runtable t", INPUT, 1, text)
+    expect_row(&rt, rt.alloc(), "", "runtable t", INPUT, 1, text)
 }

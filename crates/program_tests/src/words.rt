@@ -1,6 +1,6 @@
 //! Words without a form.
 
-use program_calls::{FILES, Objects, answer_to, is_told, words_of};
+use program_calls::{FILES, Objects, answer_of_words, expect_answer, words_of};
 use std::alloc::Global;
 use std::process::Abort;
 use std::test::Fail;
@@ -93,9 +93,9 @@ fn are_refused<R: Abort + Threads + Sync>(
     words: &[&str],
 ) -> Result<(), Fail> {
     let mut objects = Objects::new(alloc, FILES, b"02f800\n")?;
-    let came = answer_to(rt, alloc, words, &mut objects)?;
+    let came = answer_of_words(rt, alloc, words, &mut objects)?;
     let line = format!(in alloc; "{words:?}")?;
-    is_told(&came, line.as_str(), 7, "words refused\n", b"02f800\n")?;
+    expect_answer(&came, line.as_str(), 7, "words refused\n", b"02f800\n")?;
     let is_unasked = objects
         .library
         .asked()

@@ -9,7 +9,7 @@ use Rattle.std.proofs.lemmas.List.Folds.{concat-append}
 use Rattle.std.proofs.lemmas.List.FromFn.{map-range_with_len_more}
 use Rattle.std.proofs.lemmas.Nat.{div-add-mod'}
 use Rattle.text_carrier.specs.Pieces.{piece_line}
-use Rattle.text_carrier.specs.Carrying.{piece_at, piece_count, carried_text_of}
+use Rattle.text_carrier.specs.Carrying.{piece_at, piece_count, text_of_lines}
 
 -- ---- how many pieces
 
@@ -88,11 +88,11 @@ abbrev pub line_at : ℕ → List ℕ → ℕ → List ℕ
 line_at width bytes place = piece_line (piece_at width bytes place)
 
 abbrev pub first_lines : ℕ → List ℕ → ℕ → List ℕ
-first_lines width bytes n = carried_text_of (map (line_at width bytes) (range_with_len 0 n))
+first_lines width bytes n = text_of_lines (map (line_at width bytes) (range_with_len 0 n))
 
 pub lines_more : (width : ℕ) (bytes before after : List ℕ) (place : ℕ) → before ≡ first_lines width bytes place → after ≡ before ++ (line_at width bytes place ++ 10 ∷ [])
     → after ≡ first_lines width bytes (place + 1)
 lines_more width bytes before after place so_far is =
     is ∙ ap (λ (l : List ℕ). l ++ (line_at width bytes place ++ 10 ∷ [])) so_far
     ∙ flat_map_more (λ (line : List ℕ). line ++ 10 ∷ []) [] (map (line_at width bytes) (range_with_len 0 place)) (line_at width bytes place)
-    ∙ ap carried_text_of (sym (map-range_with_len_more (line_at width bytes) 0 place place (omega arith)))
+    ∙ ap text_of_lines (sym (map-range_with_len_more (line_at width bytes) 0 place place (omega arith)))

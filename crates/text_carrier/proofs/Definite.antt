@@ -5,7 +5,7 @@ use Rattle.text_lines.specs.Readings.{IsDefinite, IsFirstOf, NoneOf}
 use Rattle.text_lines.proofs.ReadingLaws.{first_of_one, first_of_none}
 use Rattle.text_carrier.specs.declared.faults.CarryCode.{CarryCode}
 use Rattle.text_carrier.specs.Pieces.{Piece, data_text}
-use Rattle.text_carrier.specs.Rules.{PieceBreaks, HasPieceForm, IsBadPiece, IsGoodPiece, piece_lines, carry_rules}
+use Rattle.text_carrier.specs.Rules.{PieceBreaks, HasPieceForm, IsBadPieceLine, IsGoodPiece, piece_lines, carry_rules}
 use Rattle.text_carrier.proofs.Spaces.{form_words, one_words, small}
 use Rattle.text_carrier.proofs.Standard.{one_data}
 
@@ -35,7 +35,7 @@ moved : (P : ℕ → ℕ → List ℕ → Type 0) (place count : ℕ) (word : Li
 moved P place count word p c w same holds =
     subst (λ n. P n c w) same.place_is (subst (λ n. P place n w) same.count_is (subst (λ t. P place count t) same.word_is holds))
 
-one_fault : (earlier : List Piece) (text : List ℕ) (c d : CarryCode) → IsBadPiece earlier text c → IsBadPiece earlier text d → c ≡ d
+one_fault : (earlier : List Piece) (text : List ℕ) (c d : CarryCode) → IsBadPieceLine earlier text c → IsBadPieceLine earlier text d → c ≡ d
 one_fault earlier text c d (inl f) (inl g) = f.1 ∙ sym g.1
 one_fault earlier text c d (inl f) (inr (place, count, word, form, first)) = absurd (f.0 place count word form)
 one_fault earlier text c d (inr (place, count, word, form, first)) (inl g) = absurd (g.0 place count word form)
@@ -43,7 +43,7 @@ one_fault earlier text c d (inr (place, count, word, form, first)) (inr (p, n, w
     first_of_one (PieceBreaks earlier p n w) carry_rules c d
     (moved (λ x y z. IsFirstOf (PieceBreaks earlier x y z) carry_rules c) place count word p n w (one_form text place count word p n w form other) first) next
 
-not_both : (earlier : List Piece) (text : List ℕ) (piece : Piece) (c : CarryCode) → IsGoodPiece earlier text piece → IsBadPiece earlier text c → ⊥
+not_both : (earlier : List Piece) (text : List ℕ) (piece : Piece) (c : CarryCode) → IsGoodPiece earlier text piece → IsBadPieceLine earlier text c → ⊥
 not_both earlier text piece c good (inl f) = f.0 piece.place piece.count (data_text piece.bytes) good.0
 not_both earlier text piece c good (inr (place, count, word, form, first)) =
     first_of_none (PieceBreaks earlier place count word) carry_rules c

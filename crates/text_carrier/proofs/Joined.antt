@@ -19,7 +19,7 @@ use Rattle.text_carrier.specs.declared.pieces.Pieces.{Pieces}
 use Rattle.text_carrier.specs.Pieces.{Piece}
 use Rattle.text_carrier.specs.Rules.{piece_lines}
 use Rattle.text_carrier.specs.Collecting.{AreWhole, Collects, SaySome}
-use Rattle.text_carrier.specs.Views.{AreTextsOf, IsData, IsJoinFault, IsLineFault, IsOrderFault, IsRefusedPiece, Keeps, all_bytes, data_bytes, carry_fault_at}
+use Rattle.text_carrier.specs.Views.{AreTextsOf, IsData, IsJoinFault, IsLineFault, IsOrderFault, IsRefusedPieceLine, Keeps, all_bytes, data_bytes, carry_fault_at}
 use Rattle.text_carrier.proofs.Standard.{decoded_bytes}
 
 -- What borrowed texts are.
@@ -81,7 +81,7 @@ both_ok (Ok x) P Q R f p q = f x p q
 both_ok (Err e) P Q R f p q = tt
 
 pub refused_at : (lines before rest after : List Line) (line : Line) (said : List Piece) (refusal : Refusal) → lines ≡ before ++ rest → rest ≡ line ∷ after → AllSay piece_lines [] before said
-    → IsRefusedPiece said line.1 refusal → IsLineFault lines (carry_fault_at line.0 refusal)
+    → IsRefusedPieceLine said line.1 refusal → IsLineFault lines (carry_fault_at line.0 refusal)
 refused_at lines before rest after line said (refusals.Code code) split next all bad = next_bad piece_lines lines before line after rest said code split next all bad
 refused_at lines before rest after line said refusals.Memory split next all bad = tt
 

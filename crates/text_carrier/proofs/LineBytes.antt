@@ -11,8 +11,8 @@ use Rattle.std.proofs.lemmas.List.Elements.{All-nil, All-cons, All-append, All-w
 use Rattle.std.proofs.lemmas.List.Splits.{slice_split_at, length-slice_split}
 use Rattle.std.proofs.lemmas.Str.Parse.{digit_from_value}
 use Rattle.text_lines.specs.Lines.{is_skipped, kept, lines_of, numbered}
-use Rattle.text_carrier.specs.Pieces.{data_text, numbered_line}
-use Rattle.text_carrier.specs.Carrying.{carried_text_of}
+use Rattle.text_carrier.specs.Pieces.{data_text, line_in_piece_form}
+use Rattle.text_carrier.specs.Carrying.{text_of_lines}
 use Rattle.text_carrier.proofs.Spaces.{small}
 use Rattle.text_carrier.proofs.Standard.{IsPlain, data_plain}
 
@@ -34,7 +34,7 @@ plain_of_line : (byte : ℕ) → IsPlain byte → IsLineByte byte
 plain_of_line byte (inl zero) = inl zero
 plain_of_line byte (inr more) = inr (omega arith)
 
-pub line_bytes : (place count : ℕ) (bytes : List ℕ) → place < 10 ^ 7 → count < 10 ^ 7 → All IsLineByte (numbered_line place count (data_text bytes))
+pub line_bytes : (place count : ℕ) (bytes : List ℕ) → place < 10 ^ 7 → count < 10 ^ 7 → All IsLineByte (line_in_piece_form place count (data_text bytes))
 line_bytes place count bytes p c =
     let written = All-weaker IsPlain IsLineByte plain_of_line (data_text bytes) (data_plain bytes) in
     let last = All-cons IsLineByte 32 (data_text bytes) (inr (omega arith)) written in
@@ -89,9 +89,9 @@ pub record IsLine (line : List ℕ) : Type 0 where
   pub bytes : All IsLineByte line
   pub read : is_skipped line ≡ false
 
-lines_again : (sent : List (List ℕ)) → AllByRecursion IsLine sent → lines (carried_text_of sent) ≡ sent
+lines_again : (sent : List (List ℕ)) → AllByRecursion IsLine sent → lines (text_of_lines sent) ≡ sent
 lines_again [] all = refl
-lines_again (line ∷ sent) all = first_line line (carried_text_of sent) all.0.bytes ∙ ap (λ (l : List (List ℕ)). line ∷ l) (lines_again sent all.1)
+lines_again (line ∷ sent) all = first_line line (text_of_lines sent) all.0.bytes ∙ ap (λ (l : List (List ℕ)). line ∷ l) (lines_again sent all.1)
 
 kept_again : (n : ℕ) (sent : List (List ℕ)) → AllByRecursion IsLine sent → kept (numbered n sent) ≡ numbered n sent
 kept_again n [] all = refl
@@ -102,6 +102,6 @@ kept_again n (line ∷ sent) all = by (is_skipped line) all.0.read (kept_again (
     by true bad more = absurd (cc bad)
     by false is more = ap (λ ls. (n, line) ∷ ls) more
 
-pub lines_of_sent : (sent : List (List ℕ)) → AllByRecursion IsLine sent → lines_of (carried_text_of sent) ≡ numbered 1 sent
+pub lines_of_sent : (sent : List (List ℕ)) → AllByRecursion IsLine sent → lines_of (text_of_lines sent) ≡ numbered 1 sent
 unfolding lines_of
 lines_of_sent sent all = ap (λ ls. kept (numbered 1 ls)) (lines_again sent all) ∙ kept_again 1 sent all

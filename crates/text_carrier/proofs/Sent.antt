@@ -9,7 +9,7 @@ use Rattle.text_lines.specs.Lines.{Line, lines_of}
 use Rattle.text_lines.specs.Readings.{AllSay}
 use Rattle.text_carrier.specs.declared.faults.CarryFault.TheVariants.{Missing}
 use Rattle.text_carrier.specs.Pieces.{Piece}
-use Rattle.text_carrier.specs.Carrying.{AreAll, AreSome, IsCarried, IsFirstLost, carried_lines, piece_at, piece_count, carried_text_of}
+use Rattle.text_carrier.specs.Carrying.{AreAll, AreSome, IsCarried, IsFirstLost, carried_lines, piece_at, piece_count, text_of_lines}
 use Rattle.text_carrier.specs.Rules.{piece_lines}
 use Rattle.text_carrier.specs.Collecting.{AreWhole, Collects, count_of}
 use Rattle.text_carrier.proofs.Cutting.{all_parts, line_at, part_at}
@@ -22,10 +22,10 @@ module _ (width : ℕ) (bytes : List ℕ) (carried : IsCarried width bytes) wher
   pieces places = map (piece_at width bytes) places
 
   -- The lines of a text of lines say the pieces.
-  all_said : (sent : List (List ℕ)) (places : List ℕ) → sent ≡ map (line_at width bytes) places → AllByRecursion (is_place width bytes) places → AllSay piece_lines [] (lines_of (carried_text_of sent)) (pieces places)
+  all_said : (sent : List (List ℕ)) (places : List ℕ) → sent ≡ map (line_at width bytes) places → AllByRecursion (is_place width bytes) places → AllSay piece_lines [] (lines_of (text_of_lines sent)) (pieces places)
   all_said sent places is all =
       let lines = lines_of_sent (map (line_at width bytes) places) (are_lines width bytes carried places all) in
-      subst (λ (ls : List Line). AllSay piece_lines [] ls (pieces places)) (sym (ap (λ s. lines_of (carried_text_of s)) is ∙ lines)) (all_say width bytes carried [] places 1 all)
+      subst (λ (ls : List Line). AllSay piece_lines [] ls (pieces places)) (sym (ap (λ s. lines_of (text_of_lines s)) is ∙ lines)) (all_say width bytes carried [] places 1 all)
 
   count_told : (places : List ℕ) → 0 < length places → count_of (pieces places) ≡ piece_count width bytes
   count_told [] some = absurd (omega arith)
@@ -54,7 +54,7 @@ module _ (width : ℕ) (bytes : List ℕ) (carried : IsCarried width bytes) wher
 
   -- ---- all lines
 
-  pub come_back : (sent : List (List ℕ)) → AreSome width bytes sent → AreAll width bytes sent → Collects (lines_of (carried_text_of sent)) (Ok bytes)
+  pub come_back : (sent : List (List ℕ)) → AreSome width bytes sent → AreAll width bytes sent → Collects (lines_of (text_of_lines sent)) (Ok bytes)
   come_back sent some every =
       let (places, is, all) = places_of width bytes sent some in
       let has : (place : ℕ) → is_place width bytes place → Contains places place = (λ place less.
@@ -69,7 +69,7 @@ module _ (width : ℕ) (bytes : List ℕ) (carried : IsCarried width bytes) wher
       → (place : ℕ) → is_place width bytes place → Contains sent (line_at width bytes place) → Contains places place
   has_place sent places is all place less i = among width bytes carried places all place less (subst (λ s. Contains s (line_at width bytes place)) is i)
 
-  pub lost_told : (sent : List (List ℕ)) (place : ℕ) → AreSome width bytes sent → sent ≢ [] → IsFirstLost width bytes sent place → Collects (lines_of (carried_text_of sent)) (Err (Missing place))
+  pub lost_told : (sent : List (List ℕ)) (place : ℕ) → AreSome width bytes sent → sent ≢ [] → IsFirstLost width bytes sent place → Collects (lines_of (text_of_lines sent)) (Err (Missing place))
   lost_told sent place some any lost =
       let (places, is, all) = places_of width bytes sent some in
       let many = some_places places (λ none. any (is ∙ ap (map (line_at width bytes)) none)) in

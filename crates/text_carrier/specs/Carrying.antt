@@ -24,12 +24,12 @@ carried_lines width bytes =
     map (λ place. piece_line (piece_at width bytes place)) (range_with_len 0 (piece_count width bytes))
 
 -- Lines as a text: each ends with a line feed.
-abbrev pub carried_text_of : List (List ℕ) → List ℕ
-carried_text_of lines = flat_map (λ line. line ++ 10 ∷ []) lines
+abbrev pub text_of_lines : List (List ℕ) → List ℕ
+text_of_lines lines = flat_map (λ line. line ++ 10 ∷ []) lines
 
 -- The text of the lines of all pieces.
 abbrev pub carried_text : ℕ → List ℕ → List ℕ
-carried_text width bytes = carried_text_of (carried_lines width bytes)
+carried_text width bytes = text_of_lines (carried_lines width bytes)
 
 -- Bytes that may be carried in pieces of this width.
 pub record IsCarried (width : ℕ) (bytes : List ℕ) : Type 0 where

@@ -16,9 +16,9 @@ abbrev pub data_text : List ℕ → List ℕ
 data_text bytes = if length bytes == 0 then codes "-" else encode_of standard bytes
 
 -- A line: p, two numbers and a word, one space between two of them.
-abbrev pub numbered_line : ℕ → ℕ → List ℕ → List ℕ
-numbered_line place count word = join_with_byte 32 (codes "p" ∷ decimal place ∷ decimal count ∷ word ∷ [])
+abbrev pub line_in_piece_form : ℕ → ℕ → List ℕ → List ℕ
+line_in_piece_form place count word = join_with_byte 32 (codes "p" ∷ decimal place ∷ decimal count ∷ word ∷ [])
 
 -- The line that says a piece.
 abbrev pub piece_line : Piece → List ℕ
-piece_line piece = numbered_line piece.place piece.count (data_text piece.bytes)
+piece_line piece = line_in_piece_form piece.place piece.count (data_text piece.bytes)

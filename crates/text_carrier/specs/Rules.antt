@@ -6,7 +6,7 @@ use Rattle.text_lines.specs.Readings.{Reading, IsFirstOf, NoneOf}
 use Rattle.text_carrier.specs.declared.TheConstants.{PIECES_MAX}
 use Rattle.text_carrier.specs.declared.faults.CarryCode.{CarryCode}
 use Rattle.text_carrier.specs.declared.faults.CarryCode.TheVariants.{Form, PieceRange, BadBase64, OtherCount, Clash}
-use Rattle.text_carrier.specs.Pieces.{Piece, data_text, numbered_line}
+use Rattle.text_carrier.specs.Pieces.{Piece, data_text, line_in_piece_form}
 
 -- No byte is a space.
 abbrev pub HasNoSpace : List ℕ → Type 0
@@ -18,7 +18,7 @@ pub record HasPieceForm (text : List ℕ) (place count : ℕ) (word : List ℕ) 
   pub count_few : count < 10 ^ 7
   pub word_some : 0 < length word
   pub word_whole : HasNoSpace word
-  pub is : text ≡ numbered_line place count word
+  pub is : text ≡ line_in_piece_form place count word
 
 -- The number of pieces isn't that of the first line.
 abbrev pub IsOtherCount : List Piece → ℕ → Type 0
@@ -48,12 +48,12 @@ abbrev pub HasNoForm : List ℕ → Type 0
 HasNoForm text = (place count : ℕ) (word : List ℕ) → HasPieceForm text place count word → ⊥
 
 -- The line hasn't the form, or this is the first rule that it breaks.
-abbrev pub IsBadPiece : List Piece → List ℕ → CarryCode → Type 0
-IsBadPiece earlier text code =
+abbrev pub IsBadPieceLine : List Piece → List ℕ → CarryCode → Type 0
+IsBadPieceLine earlier text code =
     (HasNoForm text × (code ≡ Form))
     ⊎ ((place count : ℕ) × (word : List ℕ) × HasPieceForm text place count word
     × IsFirstOf (PieceBreaks earlier place count word) carry_rules code)
 
 -- Lines say pieces, each behind those before it.
 abbrev pub piece_lines : Reading Piece CarryCode
-piece_lines = record { says = IsGoodPiece; faults = IsBadPiece }
+piece_lines = record { says = IsGoodPiece; faults = IsBadPieceLine }

@@ -21,7 +21,7 @@ use Rattle.text_carrier.specs.declared.faults.Refusal.{Refusal}
 use Rattle.text_carrier.specs.declared.faults.Refusal.TheVariants.{Code, Memory}
 use Rattle.text_carrier.specs.declared.pieces.Pieces.{Pieces}
 use Rattle.text_carrier.specs.Pieces.{Piece, data_text}
-use Rattle.text_carrier.specs.Rules.{HasNoSpace, PieceBreaks, carry_rules, IsBadPiece, piece_lines}
+use Rattle.text_carrier.specs.Rules.{HasNoSpace, PieceBreaks, carry_rules, IsBadPieceLine, piece_lines}
 use Rattle.text_carrier.specs.Collecting.{HasPlace, IsFirstMissing, count_of}
 
 -- The name of a rule, as it is printed.
@@ -63,9 +63,9 @@ IsPieceRefused earlier place count word (Code code) = IsFirstOf (PieceBreaks ear
 IsPieceRefused earlier place count word Memory = Unit {0}
 
 -- A line is refused behind these pieces: it is bad, or memory is wanting for it.
-abbrev pub IsRefusedPiece : List Piece → List ℕ → Refusal → Type 0
-IsRefusedPiece earlier text (Code code) = IsBadPiece earlier text code
-IsRefusedPiece earlier text Memory = Unit {0}
+abbrev pub IsRefusedPieceLine : List Piece → List ℕ → Refusal → Type 0
+IsRefusedPieceLine earlier text (Code code) = IsBadPieceLine earlier text code
+IsRefusedPieceLine earlier text Memory = Unit {0}
 
 -- The word is the text of these bytes, or of none.
 abbrev pub IsDecoded : List ℕ → Option (List ℕ) → Type 0

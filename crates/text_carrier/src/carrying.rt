@@ -2,7 +2,7 @@
 
 ghost use Rattle.std.specs.Prelude.{◌≡◌, ◌≤◌, ◌++◌, ◌∷◌, [], length, IfOk, OnOk, string_bytes};
 ghost use Rattle.text_carrier.specs.Carrying.{carried_text};
-ghost use Rattle.text_carrier.specs.Pieces.{numbered_line, data_text};
+ghost use Rattle.text_carrier.specs.Pieces.{line_in_piece_form, data_text};
 
 use crate::{CARRIED_MAX, WIDTH_MAX, WIDTH_MIN};
 use base64::engine::general_purpose::STANDARD;
@@ -24,7 +24,7 @@ fn put_data(bytes: &[u8], into: &mut String) -> Result<(), Memory>
 /// Appends the line of a piece.
 fn put_line(place: usize, count: usize, bytes: &[u8], into: &mut String) -> Result<(), Memory>
     ensures { OnOk result (string_bytes into.new
-        ≡ string_bytes into.old ++ (numbered_line place count (data_text bytes.now) ++ 10 ∷ [])) }
+        ≡ string_bytes into.old ++ (line_in_piece_form place count (data_text bytes.now) ++ 10 ∷ [])) }
 {
     write!(into, "p {place} {count} ")?;
     put_data(bytes, into)?;

@@ -16,7 +16,7 @@ fn is_dash(word: &[u8]) -> bool
     word == b"-".as_slice()
 }
 
-/// The bytes whose text a word is: those of its base64, or none for a dash. `None` where it is no such text.
+/// The bytes whose text a word is: those of its base64, or no bytes for a dash. `None` where it is neither.
 pub(crate) fn decode(alloc: Global, word: &[u8]) -> Result<Option<Vec<u8>>, Memory>
     requires { 0 < length word.now }
     ensures { IfOk result (λ decoded. IsDecoded word.now (option_map (λ bytes. bytes.items) decoded)) }

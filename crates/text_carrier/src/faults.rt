@@ -11,7 +11,7 @@ pub enum CarryCode {
     Form,
     /// The number of pieces is 0 or above [`crate::PIECES_MAX`], or the piece's number isn't less than it.
     PieceRange,
-    /// The last word is neither a dash nor the base64 of at least one byte.
+    /// The last word is neither a dash nor the base64 of at least one byte, with its padding and unused bits that are 0.
     BadBase64,
     /// The number of pieces isn't that of the first line of a piece.
     OtherCount,

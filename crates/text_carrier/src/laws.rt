@@ -7,7 +7,7 @@ ghost use Rattle.base64.specs.GeneralPurpose.{IsConsistent, IsStrict, encode_of}
 ghost use Rattle.text_lines.specs.Lines.{lines_of};
 ghost use Rattle.text_lines.specs.Readings.{IsDefinite};
 ghost use Rattle.text_carrier.specs.declared.faults.CarryFault.TheVariants as faults;
-ghost use Rattle.text_carrier.specs.Carrying.{AreAll, AreSome, IsCarried, IsFirstLost, carried_lines, carried_text_of};
+ghost use Rattle.text_carrier.specs.Carrying.{AreAll, AreSome, IsCarried, IsFirstLost, carried_lines, text_of_lines};
 ghost use Rattle.text_carrier.specs.Collecting.{CollectOneWay, Collects};
 ghost use Rattle.text_carrier.specs.Rules.{piece_lines};
 
@@ -39,7 +39,7 @@ pub fn carried_lines_are_short()
 /// The lines of all pieces of some bytes, in any order and each as often as one likes, collect to the bytes.
 pub fn carried_lines_come_back()
     ensures { (width : ℕ) (bytes : List ℕ) (sent : List (List ℕ)) → IsCarried width bytes
-        → AreSome width bytes sent → AreAll width bytes sent → Collects (lines_of (carried_text_of sent)) (Ok bytes) }
+        → AreSome width bytes sent → AreAll width bytes sent → Collects (lines_of (text_of_lines sent)) (Ok bytes) }
 {}
 
 /// One or more of the lines of some bytes, of which one is missing, are refused, and the least number is told whose line
@@ -47,5 +47,5 @@ pub fn carried_lines_come_back()
 pub fn lost_lines_are_told()
     ensures { (width : ℕ) (bytes : List ℕ) (sent : List (List ℕ)) (line : List ℕ) → IsCarried width bytes
         → AreSome width bytes sent → sent ≢ [] → Contains (carried_lines width bytes) line → (Contains sent line → ⊥)
-        → (place : ℕ) × IsFirstLost width bytes sent place × Collects (lines_of (carried_text_of sent)) (Err (faults.Missing place)) }
+        → (place : ℕ) × IsFirstLost width bytes sent place × Collects (lines_of (text_of_lines sent)) (Err (faults.Missing place)) }
 {}

@@ -20,14 +20,14 @@ pub use collecting::collect;
 pub use faults::{CarryCode, CarryFault};
 pub use round_trip::carry_and_collect;
 
-/// The least bytes of a piece that isn't the last.
+/// The least width of [`carry`], in bytes: each piece but the last has as many.
 pub const WIDTH_MIN: usize = 4;
 
-/// The most bytes of a piece that is carried.
+/// The greatest width of [`carry`], in bytes.
 pub const WIDTH_MAX: usize = 300;
 
-/// The most bytes that are carried, and that are collected.
+/// The most bytes that [`carry`] takes and [`collect`] puts together.
 pub const CARRIED_MAX: usize = 1_048_576;
 
-/// The most pieces.
+/// The most pieces: those of [`CARRIED_MAX`] bytes at the width [`WIDTH_MIN`].
 pub const PIECES_MAX: u64 = 262_144;

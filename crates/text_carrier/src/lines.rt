@@ -14,7 +14,9 @@ const NUMBER_END: u64 = 10_000_000;
 /// What a line says that has the form.
 #[derive(Clone, Copy)]
 pub(crate) struct PieceLine<'a> {
+    /// The number of the piece, from 0 on.
     pub place: u64,
+    /// How many pieces there are.
     pub count: u64,
     /// The text of the piece's bytes, whether or not it is one.
     pub word: &'a [u8],

@@ -7,7 +7,7 @@ ghost use Rattle.base64.specs.GeneralPurpose.{IsBytes};
 ghost use Rattle.text_lines.specs.Readings.{NoneOf};
 ghost use Rattle.text_carrier.specs.Pieces.{Piece, data_text};
 ghost use Rattle.text_carrier.specs.Rules.{PieceBreaks, IsGoodPiece, IsOtherCount, carry_rules};
-ghost use Rattle.text_carrier.specs.Views.{IsTextAt, Keeps, IsData, IsPieceRefused, IsRefusedPiece, AreTextsOf, IsOrderFault};
+ghost use Rattle.text_carrier.specs.Views.{IsTextAt, Keeps, IsData, IsPieceRefused, IsRefusedPieceLine, AreTextsOf, IsOrderFault};
 
 use crate::PIECES_MAX;
 use crate::data::decode;
@@ -113,7 +113,7 @@ impl<'a> Pieces<'a> {
     pub(crate) fn add(&mut self, alloc: Global, text: &'a [u8]) -> Result<(), Refusal>
         ensures ok { OnOk result ((said : List Piece) → Keeps said self.old
             → (piece : Piece) × IsGoodPiece said text.now piece × Keeps (said ++ piece ∷ []) self.new) }
-        ensures err { IfErr result (λ refusal. (said : List Piece) → Keeps said self.old → IsRefusedPiece said text.now refusal) }
+        ensures err { IfErr result (λ refusal. (said : List Piece) → Keeps said self.old → IsRefusedPieceLine said text.now refusal) }
     {
         let Some(line) = read_line(text) else {
             return Err(Refusal::Code(CarryCode::Form));

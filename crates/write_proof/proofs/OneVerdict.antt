@@ -13,7 +13,7 @@ use Rattle.write_proof.specs.declared.verdicts.VerifyCode.{VerifyCode}
 use Rattle.write_proof.specs.declared.verdicts.Verified.{Verified}
 use Rattle.write_proof.specs.declared.verdicts.Verified.TheVariants.{Yes, No}
 use Rattle.write_proof.specs.Entries.{Entry, Why, lines_in}
-use Rattle.write_proof.specs.LineRules.{BreaksAlone, rules_alone, IsGoodEntry, IsBadEntry, certificate_lines}
+use Rattle.write_proof.specs.LineRules.{BreaksAlone, rules_alone, IsGoodEntry, IsBadEntryLine, certificate_lines}
 use Rattle.write_proof.specs.WholeRules.{AppliesSomewhere, IsFirstLine, rules_over_all}
 use Rattle.write_proof.specs.Verdicts.{SaysAll, IsAbout, IsCertificateRead, IsCutShort, IsAccepted, IsRejected, IsVerdictOf, VerdictsAreOne}
 use Rattle.write_proof.proofs.Forms.{one_form}
@@ -21,7 +21,7 @@ use Rattle.write_proof.proofs.Forms.{one_form}
 -- ---- lines
 
 module _ (table : Nodes) (graph : Graph) where
-  one_fault : (earlier : List Entry) (text : List ℕ) (f g : VerifyCode) → IsBadEntry table graph earlier text f → IsBadEntry table graph earlier text g → f ≡ g
+  one_fault : (earlier : List Entry) (text : List ℕ) (f g : VerifyCode) → IsBadEntryLine table graph earlier text f → IsBadEntryLine table graph earlier text g → f ≡ g
   one_fault earlier text f g (inl p) (inl q) = p.1 ∙ sym q.1
   one_fault earlier text f g (inl p) (inr q) = absurd (p.0 q.0 q.1 q.2)
   one_fault earlier text f g (inr p) (inl q) = absurd (q.0 p.0 p.1 p.2)
@@ -29,7 +29,7 @@ module _ (table : Nodes) (graph : Graph) where
       let same : q.0 ≡ p.0 = one_form text q.0 p.0 q.1 p.1 in
       first_of_one (BreaksAlone table graph earlier p.0) rules_alone f g p.3 (subst (λ e. IsFirstOf (BreaksAlone table graph earlier e) rules_alone g) same q.3)
 
-  not_both : (earlier : List Entry) (text : List ℕ) (said : Entry) (fault : VerifyCode) → IsGoodEntry table graph earlier text said → IsBadEntry table graph earlier text fault → ⊥
+  not_both : (earlier : List Entry) (text : List ℕ) (said : Entry) (fault : VerifyCode) → IsGoodEntry table graph earlier text said → IsBadEntryLine table graph earlier text fault → ⊥
   not_both earlier text said fault good (inl p) = p.0 said good.0 good.1
   not_both earlier text said fault good (inr p) =
       let same : p.0 ≡ said = one_form text p.0 said p.1 good.0 in

@@ -8,7 +8,7 @@ use Rattle.text_lines.specs.Readings.{AllSay}
 use Rattle.trace_model.specs.Graphs.{Graph, Step, parents_of}
 use Rattle.trace_model.proofs.ReachLaws.{one_step}
 use Rattle.write_proof.specs.Entries.{Entry, Why, ValueText, Reach, Uses}
-use Rattle.write_proof.specs.LineRules.{certified_step, MayFollow, HasParent, IsGoodEntry, certificate_lines}
+use Rattle.write_proof.specs.LineRules.{certificate_step, MayFollow, HasParent, IsGoodEntry, certificate_lines}
 use Rattle.write_proof.specs.WholeRules.{reached, used, IsListed}
 use Rattle.write_proof.proofs.Decided.{same_number, in_or_not}
 
@@ -25,9 +25,9 @@ parent_or_not graph c w = by (slice_get graph.steps c) refl
     ]
 
 pub listed_or_not : (said : List Entry) (w : ℕ) → IsListed said w ⊎ (IsListed said w → ⊥)
-listed_or_not said w = by (same_number w (certified_step said)) (in_or_not w (reached said))
+listed_or_not said w = by (same_number w (certificate_step said)) (in_or_not w (reached said))
   where
-    by : (w ≡ certified_step said) ⊎ (w ≡ certified_step said → ⊥) → IsIn w (reached said) ⊎ (IsIn w (reached said) → ⊥) → IsListed said w ⊎ (IsListed said w → ⊥)
+    by : (w ≡ certificate_step said) ⊎ (w ≡ certificate_step said → ⊥) → IsIn w (reached said) ⊎ (IsIn w (reached said) → ⊥) → IsListed said w ⊎ (IsListed said w → ⊥)
     by (inl e) t = inl (inl e)
     by (inr n) (inl i) = inl (inr i)
     by (inr n) (inr m) = inr (λ s. elim s [ inl e ↦ n e | inr i ↦ m i ])

@@ -15,7 +15,7 @@ use Rattle.trace_model.specs.Graphs.{Graph, IsRecorded}
 use Rattle.trace_model.specs.Truth.{Reaches, itself, through}
 use Rattle.trace_model.proofs.ContributedLaws.{truths_are_contributed}
 use Rattle.write_proof.specs.Entries.{Entry, Why, ValueText, Reach, Uses, lines_in}
-use Rattle.write_proof.specs.LineRules.{certified_step, HasParent}
+use Rattle.write_proof.specs.LineRules.{certificate_step, HasParent}
 use Rattle.write_proof.specs.WholeRules.{reached, used, IsListed, SpeaksOf, StepContributes, IsJoinOfUsed, AppliesSomewhere, rules_over_all}
 use Rattle.write_proof.specs.Verdicts.{IsAbout, IsCertificateRead, IsAccepted, TellsTruth}
 use Rattle.write_proof.proofs.Decided.{surely, coded_same, same_text, in_or_not}
@@ -34,7 +34,7 @@ module _ (table : Nodes) (graph : Graph) (recorded : IsRecorded table graph) (ce
   first = begins table graph _ said read.all read.enough
 
   abbrev n : ℕ
-  n = certified_step said
+  n = certificate_step said
 
   -- ---- each line by itself
 
@@ -81,7 +81,7 @@ module _ (table : Nodes) (graph : Graph) (recorded : IsRecorded table graph) (ce
     0,
     Why first.n first.path,
     ap (λ l. slice_get l 0) first.is,
-    e ∙ ap certified_step first.is,
+    e ∙ ap certificate_step first.is,
   )
   spoken w (inr i) = let s = reached_at said w i in (s.0, Reach w s.1, s.2, refl)
 

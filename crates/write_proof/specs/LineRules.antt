@@ -17,9 +17,9 @@ last_of (entry ∷ []) = Some entry
 last_of (entry ∷ next ∷ more) = last_of (next ∷ more)
 
 -- The step for which a certificate is, by its first entry.
-abbrev pub certified_step : List Entry → ℕ
-certified_step (Why n path ∷ more) = n
-certified_step other = 0
+abbrev pub certificate_step : List Entry → ℕ
+certificate_step (Why n path ∷ more) = n
+certificate_step other = 0
 
 -- An entry of this kind may stand behind the last: first the step, then the value's text, then the steps that reach, then those that are used.
 abbrev pub MayFollow : Option Entry → Entry → Type 0
@@ -61,9 +61,9 @@ IsWriteStep graph w = (step : model.Step) × HasStep graph w step × BringsValue
 abbrev pub BreaksAlone : Nodes → Graph → List Entry → Entry → VerifyCode → Type 0
 BreaksAlone table graph earlier (Why n path) StepRange = length graph.steps ≤ n
 BreaksAlone table graph earlier (Why n path) NoSuchPath = FindsSlot table path None
-BreaksAlone table graph earlier (Reach w child) Order = IsNoMore (last_of earlier) (Reach w child) ⊎ (certified_step earlier ≤ w)
+BreaksAlone table graph earlier (Reach w child) Order = IsNoMore (last_of earlier) (Reach w child) ⊎ (certificate_step earlier ≤ w)
 BreaksAlone table graph earlier (Reach w child) NotParent = HasParent graph child w → ⊥
-BreaksAlone table graph earlier (Uses w) Order = IsNoMore (last_of earlier) (Uses w) ⊎ (certified_step earlier < w)
+BreaksAlone table graph earlier (Uses w) Order = IsNoMore (last_of earlier) (Uses w) ⊎ (certificate_step earlier < w)
 BreaksAlone table graph earlier (Uses w) NotWrite = IsWriteStep graph w → ⊥
 BreaksAlone table graph earlier entry code = ⊥
 
@@ -77,12 +77,12 @@ IsGoodEntry table graph earlier line entry =
     HasEntryForm line entry × MayFollow (last_of earlier) entry × NoneOf (BreaksAlone table graph earlier entry) rules_alone
 
 -- The line says no entry that may stand there, or this is the first rule that its entry breaks.
-abbrev pub IsBadEntry : Nodes → Graph → List Entry → List ℕ → VerifyCode → Type 0
-IsBadEntry table graph earlier line code =
+abbrev pub IsBadEntryLine : Nodes → Graph → List Entry → List ℕ → VerifyCode → Type 0
+IsBadEntryLine table graph earlier line code =
     (((entry : Entry) → HasEntryForm line entry → MayFollow (last_of earlier) entry → ⊥) × (code ≡ Form))
     ⊎ ((entry : Entry) × HasEntryForm line entry × MayFollow (last_of earlier) entry
     × IsFirstOf (BreaksAlone table graph earlier entry) rules_alone code)
 
 -- Lines say entries, each behind those before it.
 abbrev pub certificate_lines : Nodes → Graph → Reading Entry VerifyCode
-certificate_lines table graph = record { says = IsGoodEntry table graph; faults = IsBadEntry table graph }
+certificate_lines table graph = record { says = IsGoodEntry table graph; faults = IsBadEntryLine table graph }

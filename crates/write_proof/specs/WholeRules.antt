@@ -12,7 +12,7 @@ use Rattle.trace_model.specs.Graphs.{Graph, HasStep}
 use Rattle.write_proof.specs.declared.verdicts.VerifyCode.{VerifyCode}
 use Rattle.write_proof.specs.declared.verdicts.VerifyCode.TheVariants as codes
 use Rattle.write_proof.specs.Entries.{Entry, Why, ValueText, Reach, Uses}
-use Rattle.write_proof.specs.LineRules.{certified_step, HasParent}
+use Rattle.write_proof.specs.LineRules.{certificate_step, HasParent}
 
 -- The steps of the lines that name a step that reaches.
 abbrev pub reached : List Entry → List ℕ
@@ -28,7 +28,7 @@ used (other ∷ more) = used more
 
 -- The step is that of the certificate, or stands on a line of a step that reaches it.
 abbrev pub IsListed : List Entry → ℕ → Type 0
-IsListed said w = (w ≡ certified_step said) ⊎ IsIn w (reached said)
+IsListed said w = (w ≡ certificate_step said) ⊎ IsIn w (reached said)
 
 -- An entry speaks of a step that reaches: the first of the certificate's step, and others of their own.
 abbrev pub SpeaksOf : Entry → ℕ → Type 0

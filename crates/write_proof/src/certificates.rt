@@ -141,7 +141,8 @@ fn steps_on_way(alloc: Global, reaching: &[Reach], last: usize) -> Result<Vec<us
 /// The certificate for the value of a slot in the context of a step: the step with the slot's path, the value's text, the steps
 /// that reach the step, each with its least child on the way, and the steps whose writes and received contexts make up the value.
 ///
-/// The contexts are those of a run of the graph, and the slot is ended in that of the step.
+/// The contexts are those of a run of the graph, and the slot is exact in that of the step. The lines are those of
+/// `docs/FORMATS.md`, Certificates.
 pub fn why(
     alloc: Global,
     table: &Table,

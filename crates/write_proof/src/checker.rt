@@ -58,7 +58,6 @@ fn check_together(
     ensures { IfOk result (λ verdict. (certificate : List ℕ) (at : SlotAt) → IsCertificateRead table.now graph.now certificate (map entry_of entries.now) slot at
         → IsVerdictOf table.now graph.now certificate verdict) }
 {
-    // The proof learns here that both are sound.
     known(table, graph);
     let marks = reached_marks(alloc, graph.steps(), entries)?;
     if let Some(line) = not_listed(entries, &marks) {
@@ -95,7 +94,6 @@ fn check_entries(
     ensures { IfOk result (λ verdict. (certificate : List ℕ) → SaysAll table.now graph.now certificate (map entry_of entries.now)
         → IsVerdictOf table.now graph.now certificate verdict) }
 {
-    // The proof learns here that both are sound.
     known(table, graph);
     match heading_of(entries) {
         Some(Heading { path, text }) => {
@@ -124,7 +122,6 @@ pub fn verify(
     ensures verdict { IfOk result (IsVerdictOf table.now graph.now certificate.now) }
     ensures sound { result ≡ Ok Verified.Yes → TellsTruth table.now graph.now certificate.now }
 {
-    // The proof learns here that both are sound.
     known(table, graph);
     match read_entries(alloc, table, graph, certificate)? {
         Ok(entries) => check_entries(alloc, table, graph, entries.as_slice()),

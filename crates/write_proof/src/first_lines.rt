@@ -133,7 +133,6 @@ fn contributes_more(
     ensures { IfOk result (λ more. (at : SlotAt) → HasSlot table.now slot at
         → IsTrue more ↔ ((x : model.Value) × StepContributes graph.now slot at step x × (IsValueBelow x (plain joined.now) → ⊥))) }
 {
-    // The proof learns here that both are sound.
     known(table, graph);
     let own = contribution_of(alloc, table, graph, slot, step)?;
     match own.value() {
@@ -158,7 +157,6 @@ fn is_too_much(
     ensures { IfOk result (λ more. (at : SlotAt) → HasSlot table.now slot at
         → IsTrue more ↔ Applies graph.now slot at (map entry_of entries.now) codes.TooMuch (entry_of entry.entry)) }
 {
-    // The proof learns here that both are sound.
     known(table, graph);
     match spoken_step(entry) {
         Some(step) => {

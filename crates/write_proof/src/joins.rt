@@ -40,7 +40,6 @@ pub(crate) fn join_steps(
     requires steps { (step : ℕ) → IsIn step steps.now → step < length graph.now.steps }
     ensures { IfOk result (λ joined. IsJoinAt table.now graph.now slot steps.now (plain joined)) }
 {
-    // The proof learns here that both are sound.
     known(table, graph);
     match steps {
         [] => bottom_of(alloc, table.shape(slot)),

@@ -4,7 +4,7 @@ ghost use Rattle.std.specs.Prelude.{◌≡◌, ◌↔◌, ◌<◌, length, map, 
 ghost use Rattle.std.specs.Option.{option_map};
 ghost use Rattle.text_lines.specs.Readings.{IsFirstOf, NoneOf};
 ghost use Rattle.write_proof.specs.ChildRows.{AreRowsTo};
-ghost use Rattle.write_proof.specs.LineRules.{BreaksAlone, HasParent, IsNoMore, IsWriteStep, MayFollow, last_of, rules_alone, certified_step};
+ghost use Rattle.write_proof.specs.LineRules.{BreaksAlone, HasParent, IsNoMore, IsWriteStep, MayFollow, last_of, rules_alone, certificate_step};
 ghost use Rattle.write_proof.specs.Views.{entry_of};
 
 use crate::entries::Entry;
@@ -39,7 +39,7 @@ fn is_no_more(last: Option<Entry<'_>>, entry: Entry<'_>) -> bool
 
 /// The step of the first entry.
 pub(crate) fn first_step(entries: &[Entry<'_>]) -> u64
-    ensures { result ≡ certified_step (map entry_of entries.now) }
+    ensures { result ≡ certificate_step (map entry_of entries.now) }
 {
     match entries {
         [Entry::Why { step, .. }, ..] => *step,

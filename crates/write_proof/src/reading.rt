@@ -3,7 +3,7 @@
 ghost use Rattle.std.specs.Prelude.{length, map, IfOk, IfErr, MatchResult};
 ghost use Rattle.text_lines.specs.Readings.{IsFirstBad};
 ghost use Rattle.write_proof.specs.ChildRows.{AreRowsTo};
-ghost use Rattle.write_proof.specs.LineRules.{IsBadEntry, IsGoodEntry, certificate_lines};
+ghost use Rattle.write_proof.specs.LineRules.{IsBadEntryLine, IsGoodEntry, certificate_lines};
 ghost use Rattle.write_proof.specs.Entries.{lines_in};
 ghost use Rattle.write_proof.specs.Verdicts.{SaysAll};
 ghost use Rattle.write_proof.specs.Views.{entry_of};
@@ -35,7 +35,7 @@ fn next_entry<'a>(
 ) -> Result<Entry<'a>, VerifyCode>
     requires { AreRowsTo graph.now (length graph.now.steps) rows.now }
     ensures ok { IfOk result (λ entry. IsGoodEntry table.now graph.now (map entry_of earlier.now) line.now (entry_of entry)) }
-    ensures err { IfErr result (IsBadEntry table.now graph.now (map entry_of earlier.now) line.now) }
+    ensures err { IfErr result (IsBadEntryLine table.now graph.now (map entry_of earlier.now) line.now) }
 {
     let Some(entry) = read_entry(line) else {
         return Err(VerifyCode::Form);

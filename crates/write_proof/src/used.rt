@@ -98,7 +98,6 @@ fn use_next(
     ensures next { OnOk result (IsNextAt table.now graph.now slot step used.old.steps.items used.new.steps.items) }
     ensures parts { OnOk result (ArePartsAt table.now graph.now slot used.new.steps.items (map plain used.new.parts.items)) }
 {
-    // The proof learns here that both are sound.
     known(table, graph);
     let own = contribution_of(alloc, table, graph, slot, step)?;
     match own.value() {

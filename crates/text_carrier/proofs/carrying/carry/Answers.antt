@@ -1,6 +1,6 @@
 use Rattle.std.proofs.Common.{◌≡◌, ◌*◌, ◌++◌, ◌∷◌, [], ℕ, List, max, string_bytes, ◌∙◌, ap}
 use Rattle.text_carrier.specs.Carrying.{piece_count}
-use Rattle.text_carrier.specs.Pieces.{numbered_line, data_text}
+use Rattle.text_carrier.specs.Pieces.{line_in_piece_form, data_text}
 use Rattle.text_carrier.proofs.Cutting.{piece_slice, lines_more, part_at}
 use Rattle.text_carrier.proofs.carrying.carry.Goals as goal
 
@@ -14,5 +14,5 @@ loop-place-preserved c =
     let part = piece_slice bytes (place * width) width c.min-end.result c.min-end.ensures in
     lines_more width bytes before (string_bytes c.put_line.new.into) place c.loop-place.invariant
     (c.in_ok-put_line.ensures
-    ∙ ap (λ (piece : List ℕ). before ++ (numbered_line place c.max-count.result (data_text piece) ++ 10 ∷ [])) part
-    ∙ ap (λ n. before ++ (numbered_line place n (data_text (part_at width bytes place)) ++ 10 ∷ [])) count)
+    ∙ ap (λ (piece : List ℕ). before ++ (line_in_piece_form place c.max-count.result (data_text piece) ++ 10 ∷ [])) part
+    ∙ ap (λ n. before ++ (line_in_piece_form place n (data_text (part_at width bytes place)) ++ 10 ∷ [])) count)
