@@ -94,7 +94,7 @@ pub enum Command<'a> {
 
 /// A number from 1 to 4,294,967,295, without sign or leading zero.
 fn read_number(word: &str) -> Option<u32>
-    ensures { result ≡ spec.count_of_word word.now }
+    ensures { result ≡ spec.positive_number_of word.now }
 {
     let number = read_decimal(word.as_bytes())?;
     if number == 0 {
@@ -124,7 +124,7 @@ fn bare_command(name: &str) -> Option<Command<'static>>
 
 /// The command that cuts to the budget of this word.
 fn trim_command(word: &str) -> Option<Command<'static>>
-    ensures { option_map spec.task_of result ≡ option_map spec.trim (spec.count_of_word word.now) }
+    ensures { option_map spec.task_of result ≡ option_map spec.trim (spec.positive_number_of word.now) }
 {
     let budget = NonZeroU32::new(read_number(word)?)?;
     Some(Command::Alone(Filter::Trim { budget }))

@@ -8,7 +8,7 @@ use crate::refusals::FieldRefusal;
 use atom_list::Context;
 use bag_scan::State;
 use bag_typed::check_typed;
-use byte_calls::write_front;
+use byte_calls::{TooShort, write_front};
 use field_table::Table;
 use report_text::value_text;
 use std::alloc::Global;
@@ -64,6 +64,8 @@ pub fn read_field_into(
 {
     let table = read_table(alloc, table)?;
     let (state, text) = field_text(alloc, &table, context, name)?;
-    let size = write_front(&text, room)?;
-    Ok((state, size))
+    match write_front(&text, room) {
+        Ok(size) => Ok((state, size)),
+        Err(TooShort { size }) => Err(FieldRefusal::Room { size }),
+    }
 }
