@@ -1,4 +1,4 @@
-//! Tests of the layer of bytes: texts, numbers, atoms, and the bytes of lists and contexts. Nothing but tests stands here.
+//! Tests of the layer of bytes below lists: texts, numbers, streams and atoms. Nothing but tests stands here.
 #![tactic(auto)]
 
 #[cfg(test)]
@@ -7,5 +7,3 @@ mod atom_tests;
 mod outside_tests;
 #[cfg(test)]
 mod text_tests;
-#[cfg(test)]
-mod wire_tests;
