@@ -152,7 +152,7 @@ fn ill_typed_atoms(rt: HostRuntime) -> Result<(), Fail> {
     let alloc = rt.alloc();
     let table = table_of(alloc, REQ, "Req")?;
     for (atoms, wanted) in &ILL_TYPED {
-        is_ill_typed(alloc, &table, atoms, *wanted)?;
+        is_ill_typed(&rt, alloc, &table, atoms, *wanted)?;
     }
     Ok(())
 }
