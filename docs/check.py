@@ -16,7 +16,7 @@ PROGRAMS = [f"{TOP}/.baggage/baggage", f"{TOP}/crates/baggage/out/baggage"]
 # What two crates define alike.
 ALIKE = {"HasNoSpace", "bag_values", "is_letter", "left", "name_code", "right"}
 # What two crates define and mean two things by: none may be added.
-TWO_MEANINGS = {"Takes", "kind_back", "plain", "plain_back", "scalar_back", "scalar_undone", "size_of", "slots_in"}
+TWO_MEANINGS = {"kind_back", "plain", "plain_back", "scalar_back", "scalar_undone", "size_of", "slots_in"}
 
 bad = []
 
