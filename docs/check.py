@@ -15,8 +15,6 @@ PROGRAMS = [f"{TOP}/.baggage/baggage", f"{TOP}/crates/baggage/out/baggage"]
 
 # What two crates define alike.
 ALIKE = {"HasNoSpace", "bag_values", "is_letter", "left", "name_code", "right"}
-# What two crates define and mean two things by: none may be added.
-TWO_MEANINGS = {"kind_back", "plain", "plain_back", "scalar_back", "scalar_undone", "size_of", "slots_in"}
 
 bad = []
 
@@ -123,7 +121,7 @@ def check_definitions():
         if path.split("/")[2] == "specs":
             for name in defined_in(text_of(path)):
                 crates.setdefault(name, set()).add(path.split("/")[1])
-    for name in sorted(crates.keys() - ALIKE - TWO_MEANINGS):
+    for name in sorted(crates.keys() - ALIKE):
         if 1 < len(crates[name]):
             bad.append(f"crates/: {' and '.join(sorted(crates[name]))} define {name}")
 

@@ -5,14 +5,14 @@ use Rattle.context_model.specs.Atoms.{Atom}
 use Rattle.context_model.specs.declared.Form.TheVariants.{One}
 use Rattle.context_model.specs.Framing.{base_128, frame, frames}
 use Rattle.context_model.proofs.FramingLaws.{length-base_128}
-use Rattle.atom_list.specs.Builder.{room_for}
+use Rattle.atom_list.specs.Builder.{byte_room_for}
 
-pub room_of-append : (xs ys : List Atom) → room_for (xs ++ ys) ≡ room_for xs + room_for ys
+pub room_of-append : (xs ys : List Atom) → byte_room_for (xs ++ ys) ≡ byte_room_for xs + byte_room_for ys
 room_of-append [] ys = omega arith
 room_of-append (x ∷ xs) ys = omega (arith, room_of-append xs ys)
 
 -- The room of a list is its size, and at most two bytes an atom more.
-pub room_of-size : (list : List Atom) → (length (frames One list) ≤ room_for list) × (room_for list ≤ length (frames One list) + 2 * length list)
+pub room_of-size : (list : List Atom) → (length (frames One list) ≤ byte_room_for list) × (byte_room_for list ≤ length (frames One list) + 2 * length list)
 room_of-size [] = (omega arith, omega arith)
 room_of-size (x ∷ list) =
     let rest = room_of-size list in
@@ -21,12 +21,12 @@ room_of-size (x ∷ list) =
     let size : length (frames One (x ∷ list)) ≡ length (frame One x) + length (frames One list) = length-append (frame One x) (frames One list) in
     (omega arith, omega arith)
 
-pub room_of-front : (m n : ℕ) (list : List Atom) → m ≤ n → room_for (take m list) ≤ room_for (take n list)
+pub room_of-front : (m n : ℕ) (list : List Atom) → m ≤ n → byte_room_for (take m list) ≤ byte_room_for (take n list)
 room_of-front m n list below =
-    let e : room_for (take n list) ≡ room_for (take m list) + room_for (drop m (take n list)) =
-    ap room_for (sym (take-append-drop m (take n list))) ∙ room_of-append (take m (take n list)) (drop m (take n list)) ∙ ap (λ v. room_for v + room_for (drop m (take n list))) (take-take m n list below) in
+    let e : byte_room_for (take n list) ≡ byte_room_for (take m list) + byte_room_for (drop m (take n list)) =
+    ap byte_room_for (sym (take-append-drop m (take n list))) ∙ room_of-append (take m (take n list)) (drop m (take n list)) ∙ ap (λ v. byte_room_for v + byte_room_for (drop m (take n list))) (take-take m n list below) in
     omega arith
 
 -- A longer run.
-pub room_of-longer : (list : List Atom) (from m n : ℕ) → m ≤ n → room_for (slice_range list from m) ≤ room_for (slice_range list from n)
+pub room_of-longer : (list : List Atom) (from m n : ℕ) → m ≤ n → byte_room_for (slice_range list from m) ≤ byte_room_for (slice_range list from n)
 room_of-longer list from m n below = room_of-front (m - from) (n - from) (drop from list) (omega arith)

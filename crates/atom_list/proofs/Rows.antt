@@ -9,7 +9,7 @@ use Rattle.context_model.specs.Atoms.{Atom}
 use Rattle.context_model.specs.declared.Form.TheVariants.{One}
 use Rattle.context_model.specs.Framing.{frame, frames}
 use Rattle.context_model.proofs.FramingLaws.{frames-append}
-use Rattle.atom_list.specs.Builder.{room_for}
+use Rattle.atom_list.specs.Builder.{byte_room_for}
 use Rattle.atom_list.specs.Starts.{first_atom, atom_framed_at, atoms_at, AreStarts, BeginsFrame, starts_from, IsPieceOf, IsFrameRow}
 use Rattle.atom_list.proofs.Frames.{first_atom-framed}
 use Rattle.atom_list.proofs.Flat.{length-starts_from, starts_at, starts_from-append, take_split}
@@ -97,8 +97,8 @@ run_parts list from at to order within =
     sym (take-append-drop (at - from) (take (to - from) back)) ∙ ap (λ v. v ++ drop (at - from) (take (to - from) back)) (take-take (at - from) (to - from) back (omega arith))
     ∙ ap (λ v. slice_range list from at ++ v) (sym (between_is back (at - from) (to - from)) ∙ ap (take (to - from - (at - from))) (drop-drop (at - from) from list ∙ ap (λ n. drop n list) there) ∙ ap (λ n. take n (drop at list)) many)
 
-pub room_of-parts : (list : List Atom) (from at to : ℕ) → from ≤ at → at ≤ to → room_for (slice_range list from to) ≡ room_for (slice_range list from at) + room_for (slice_range list at to)
-room_of-parts list from at to order within = ap room_for (run_parts list from at to order within) ∙ room_of-append (slice_range list from at) (slice_range list at to)
+pub room_of-parts : (list : List Atom) (from at to : ℕ) → from ≤ at → at ≤ to → byte_room_for (slice_range list from to) ≡ byte_room_for (slice_range list from at) + byte_room_for (slice_range list at to)
+room_of-parts list from at to order within = ap byte_room_for (run_parts list from at to order within) ∙ room_of-append (slice_range list from at) (slice_range list at to)
 
 -- A run of one atom.
 pub run_of_one : (list : List Atom) (at : ℕ) (x : Atom) → slice_get list at ≡ Some x → slice_range list at (at + 1) ≡ x ∷ []
@@ -107,11 +107,11 @@ run_of_one list at x there =
     let none : at - at ≡ 0 = omega arith in
     between_more list at at [] (omega arith) within ∙ ap (λ n. take n (drop at list) ++ get_or list at [] ∷ []) none ∙ ap (λ v. v ∷ []) (get_or_from_slice_get list at x [] there)
 
-pub room_of-one : (list : List Atom) (at : ℕ) (x : Atom) → slice_get list at ≡ Some x → room_for (slice_range list at (at + 1)) ≡ length x + 3
-room_of-one list at x there = ap room_for (run_of_one list at x there) ∙ (omega arith)
+pub room_of-one : (list : List Atom) (at : ℕ) (x : Atom) → slice_get list at ≡ Some x → byte_room_for (slice_range list at (at + 1)) ≡ length x + 3
+room_of-one list at x there = ap byte_room_for (run_of_one list at x there) ∙ (omega arith)
 
 -- The room of frames that follow one another, by their bytes.
-pub room_of-piece : (list : List Atom) (bytes : List ℕ) (at : ℕ) (starts : List ℕ) → IsPieceOf bytes at starts list → (length bytes ≤ room_for list) × (room_for list ≤ length bytes + 2 * length starts)
+pub room_of-piece : (list : List Atom) (bytes : List ℕ) (at : ℕ) (starts : List ℕ) → IsPieceOf bytes at starts list → (length bytes ≤ byte_room_for list) × (byte_room_for list ≤ length bytes + 2 * length starts)
 room_of-piece list bytes at starts piece =
     let size = room_of-size list in
     let long : length bytes ≡ length (frames One list) = ap length piece.framed in

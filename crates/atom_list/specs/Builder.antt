@@ -13,13 +13,13 @@ pub record Built : Type 0 where
   pub atom_room : ℕ
 
 -- The room for bytes that atoms are given: each its own bytes and three of its length.
-abbrev pub room_for : List Atom → ℕ
-room_for [] = 0
-room_for (atom ∷ list) = length atom + 3 + room_for list
+abbrev pub byte_room_for : List Atom → ℕ
+byte_room_for [] = 0
+byte_room_for (atom ∷ list) = length atom + 3 + byte_room_for list
 
 -- The room for bytes that the atoms from one place to another are given.
 abbrev pub run_room : List Atom → ℕ → ℕ → ℕ
-run_room list from to = room_for (slice_range list from to)
+run_room list from to = byte_room_for (slice_range list from to)
 
 -- Whatever list these frames are, it was added.
 abbrev pub AddsPiece : List ℕ → ℕ → List ℕ → List Atom → List Atom → Type 0

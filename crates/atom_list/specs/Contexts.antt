@@ -5,8 +5,8 @@ use Rattle.atom_list.specs.declared.contexts.ShapeFault.{ShapeFault}
 use Rattle.atom_list.specs.declared.contexts.ShapeFault.TheVariants.{BadPrefix, BadIndex, LevelJump, OutOfOrder}
 
 -- What a fault says.
-abbrev pub shape_code_of : ShapeFault → ByteCode
-shape_code_of BadPrefix = plain.ByteCode.BadPrefix
-shape_code_of BadIndex = plain.ByteCode.BadIndex
-shape_code_of LevelJump = plain.ByteCode.LevelJump
-shape_code_of OutOfOrder = plain.ByteCode.OutOfOrder
+abbrev pub shape_fault_code_of : ShapeFault → ByteCode
+shape_fault_code_of BadPrefix = plain.ByteCode.BadPrefix
+shape_fault_code_of BadIndex = plain.ByteCode.BadIndex
+shape_fault_code_of LevelJump = plain.ByteCode.LevelJump
+shape_fault_code_of OutOfOrder = plain.ByteCode.OutOfOrder

@@ -3,7 +3,7 @@
 ghost use Rattle.std.specs.Prelude.{◌≡◌, ℕ, List, ◌+◌, ◌<◌, ◌≤◌, [], ◌∷◌, ◌++◌, length, drop, slice_range, IfOk, OnOk};
 ghost use Rattle.context_model.specs.declared.Form.TheVariants.{One};
 ghost use Rattle.context_model.specs.Framing.{frames};
-ghost use Rattle.atom_list.specs.Builder.{room_for, run_room, AddsPiece};
+ghost use Rattle.atom_list.specs.Builder.{byte_room_for, run_room, AddsPiece};
 ghost use Rattle.atom_list.specs.Starts.{IsPieceOf};
 
 use crate::lengths::{put_bytes, put_length};
@@ -146,10 +146,10 @@ impl Builder {
     /// Adds the atoms of a list from a place on. It takes no memory.
     pub fn push_rest(&mut self, list: &AtomList, from: usize)
         requires from { from ≤ length list.now }
-        requires byte_room { room_for (drop from list.now) ≤ self.old.byte_room }
+        requires byte_room { byte_room_for (drop from list.now) ≤ self.old.byte_room }
         requires atom_room { length list.now ≤ from + self.old.atom_room }
         ensures atoms { self.new.atoms ≡ self.old.atoms ++ drop from list.now }
-        ensures byte_room { self.old.byte_room ≤ self.new.byte_room + room_for (drop from list.now) }
+        ensures byte_room { self.old.byte_room ≤ self.new.byte_room + byte_room_for (drop from list.now) }
         ensures atom_room { self.new.atom_room + length list.now ≡ self.old.atom_room + from }
     {
         self.push_run(list, from, list.len());

@@ -6,7 +6,7 @@ ghost use Rattle.context_model.specs.Orders.{Rises};
 ghost use Rattle.context_model.specs.WellFormed.{IsWellFormed};
 ghost use Rattle.context_model.specs.WithoutData.{AreDataPlaces, without};
 ghost use Rattle.context_model.specs.ShapeFault.{IsFirstShapeFault};
-ghost use Rattle.atom_list.specs.Contexts.{shape_code_of};
+ghost use Rattle.atom_list.specs.Contexts.{shape_fault_code_of};
 
 use crate::lists::AtomList;
 use crate::open_headers::OpenHeaders;
@@ -68,7 +68,7 @@ impl Context {
     pub fn check(list: AtomList) -> Result<Context, (ShapeFault, usize, AtomList)>
         ensures ok { IfOk result (λ context. context ≡ list) }
         ensures well_formed { IfOk result IsWellFormed }
-        ensures fault { IfErr result (λ no. IsFirstShapeFault list no.1 (shape_code_of no.0)) }
+        ensures fault { IfErr result (λ no. IsFirstShapeFault list no.1 (shape_fault_code_of no.0)) }
         ensures back { IfErr result (λ refused. refused.2 ≡ list) }
     {
         let mut open = OpenHeaders::new();

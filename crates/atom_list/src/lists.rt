@@ -8,7 +8,7 @@ ghost use Rattle.context_model.specs.declared.Form.TheVariants.{Two};
 ghost use Rattle.context_model.specs.Framing.{frames, has_long};
 ghost use Rattle.context_model.specs.Orders.{Rises};
 ghost use Rattle.context_model.specs.WithoutData.{without};
-ghost use Rattle.atom_list.specs.Builder.{room_for};
+ghost use Rattle.atom_list.specs.Builder.{byte_room_for};
 
 use crate::builder::Builder;
 use crate::starts::{atom_at, keep_others};

@@ -3,7 +3,7 @@
 ghost use Rattle.std.specs.Prelude.{◌≡◌, ◌+◌, ◌<◌, ◌≤◌, ◌∷◌, ℕ, List, Some, length, IfErr, OnOk, OnErr, IsTrue, ◌↔◌};
 ghost use Rattle.std.specs.declared.cmp.Ordering.TheVariants.{Less};
 ghost use Rattle.context_model.specs.Orders.{atom_cmp};
-ghost use Rattle.atom_list.specs.Contexts.{shape_code_of};
+ghost use Rattle.atom_list.specs.Contexts.{shape_fault_code_of};
 ghost use Rattle.atom_list.specs.OpenPlaces.{IsOpenAt, IsHeaderOf, IsWrongAt, MayStand, RisesTo, atom_at};
 
 use crate::contexts::ShapeFault;
@@ -55,7 +55,7 @@ impl OpenHeaders {
         requires open { IsOpenAt list.now at self.old.headers self.old.datum }
         ensures ok { OnOk result (MayStand list.now at) }
         ensures open { OnOk result (IsOpenAt list.now (at + 1) self.new.headers self.new.datum) }
-        ensures err { IfErr result (λ fault. IsWrongAt (shape_code_of fault) list.now at) }
+        ensures err { IfErr result (λ fault. IsWrongAt (shape_fault_code_of fault) list.now at) }
     {
         let atom = list.get(at).unwrap();
         match kind_of(atom) {
@@ -78,7 +78,7 @@ impl OpenHeaders {
         requires datum { (payload : List ℕ) × (atom_at list.now at ≡ 0 ∷ payload) }
         ensures ok { OnOk result (MayStand list.now at) }
         ensures open { OnOk result (IsOpenAt list.now (at + 1) self.new.headers self.new.datum) }
-        ensures err { IfErr result (λ fault. IsWrongAt (shape_code_of fault) list.now at) }
+        ensures err { IfErr result (λ fault. IsWrongAt (shape_fault_code_of fault) list.now at) }
     {
         if !rises_behind(list, self.datum, atom) {
             return Err(ShapeFault::OutOfOrder);
@@ -101,7 +101,7 @@ impl OpenHeaders {
         requires header { IsHeaderOf (atom_at list.now at) level }
         ensures ok { OnOk result (MayStand list.now at) }
         ensures open { OnOk result (IsOpenAt list.now (at + 1) self.new.headers self.new.datum) }
-        ensures err { IfErr result (λ fault. IsWrongAt (shape_code_of fault) list.now at) }
+        ensures err { IfErr result (λ fault. IsWrongAt (shape_fault_code_of fault) list.now at) }
     {
         let count = self.headers.len();
         if count < level {

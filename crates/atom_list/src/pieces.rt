@@ -3,7 +3,7 @@
 ghost use Rattle.std.specs.Prelude.{◌≡◌, ◌+◌, ◌*◌, ◌<◌, ◌≤◌, [], length, take, IfSome};
 ghost use Rattle.context_model.specs.declared.Form.TheVariants.{One};
 ghost use Rattle.context_model.specs.Framing.{frames};
-ghost use Rattle.atom_list.specs.Builder.{room_for, run_room};
+ghost use Rattle.atom_list.specs.Builder.{byte_room_for, run_room};
 ghost use Rattle.atom_list.specs.Starts.{IsPieceFrom};
 
 use crate::lists::AtomList;
@@ -120,8 +120,8 @@ impl AtomList {
     /// Room for the bytes of the list in a builder, at most two bytes an atom more than they take. `None` where no such
     /// number fits.
     pub fn room(&self) -> Option<usize>
-        ensures enough { IfSome result (λ room. room_for self.now ≤ room) }
-        ensures bound { IfSome result (λ room. room ≤ room_for self.now + 2 * length self.now) }
+        ensures enough { IfSome result (λ room. byte_room_for self.now ≤ room) }
+        ensures bound { IfSome result (λ room. room ≤ byte_room_for self.now + 2 * length self.now) }
     {
         let mut room: usize = 0;
         let mut at = 0;

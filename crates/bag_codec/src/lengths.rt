@@ -2,7 +2,7 @@
 
 ghost use Rattle.std.specs.Prelude.{◌≡◌, ◌↔◌, ◌<◌, length, map, All, IsTrue};
 ghost use Rattle.outside.specs.declared.TheConstants.{ATOM_MAX as ATOM_LIMIT};
-ghost use Rattle.bag_model.specs.Scalars.{ArePlainsOf, IsPlainOf, IsScalarOf, ended, field_spelling, spelling_form_of, packed_spelling, plain_spelling, spelling};
+ghost use Rattle.bag_model.specs.Scalars.{ArePlainsOf, IsPlainOf, IsScalarOf, terminated, field_spelling, spelling_form_of, packed_spelling, plain_spelling, spelling};
 ghost use Rattle.bag_model.specs.Scalars as model;
 ghost use Rattle.scalar_types.specs.KindViews.{IsPlainWord, kind_of, word_of};
 ghost use Rattle.scalar_types.specs.Scalars.{IsPlain, plain_of, value_of};
@@ -14,7 +14,7 @@ use scalar_types::{Scalar, ScalarKind};
 
 /// The room that is left behind bytes of a struct's field: each zero byte takes two, and so does the end.
 fn behind_ended(room: usize, bytes: &[u8]) -> Option<usize>
-    ensures { Leaves room (length (ended bytes.now)) result }
+    ensures { Leaves room (length (terminated bytes.now)) result }
 {
     let mut left = room.checked_sub(2)?;
     for byte in bytes {

@@ -12,7 +12,7 @@ use Rattle.std.specs.List.{flat_map}
 use Rattle.context_model.specs.Varints.{big_endian, unsigned_varint, signed_varint}
 use Rattle.context_model.proofs.Digits.{keeps, digits-order, then-assoc}
 use Rattle.context_model.proofs.VarintLaws.{unsigned_varint-order, signed_varint-order}
-use Rattle.bag_model.specs.Scalars.{IsUnsigned, IsSigned, truth_bytes, fixed_bytes, sign_flipped, signed_fixed_bytes, escape, ended}
+use Rattle.bag_model.specs.Scalars.{IsUnsigned, IsSigned, truth_bytes, fixed_bytes, sign_flipped, signed_fixed_bytes, escape, terminated}
 use Rattle.bag_model.proofs.Codes.{KeepsOrder, bytes_exact}
 
 pub bool_exact : IsAntisymmetric bool_cmp
@@ -128,11 +128,11 @@ tailed-order (suc x ∷ a) (zero ∷ b) s t = rw (above_zero x) refl
 tailed-order (suc x ∷ a) (suc y ∷ b) s t =
     ap (λ o. ordering_then (nat_cmp (suc x) (suc y)) o) (tailed-order a b s t) ∙ sym (then-assoc (nat_cmp (suc x) (suc y)) (slice_cmp nat_cmp a b) (slice_cmp nat_cmp s t))
 
-ended-tailed : (bs s : List ℕ) → ended bs ++ s ≡ tailed bs s
+ended-tailed : (bs s : List ℕ) → terminated bs ++ s ≡ tailed bs s
 unfolding tailed
 ended-tailed bs s = append_assoc (flat_map escape bs) (0 ∷ 1 ∷ []) s
 
-pub ended_code : KeepsOrder (λ _. Unit {0}) ended (slice_cmp nat_cmp)
+pub ended_code : KeepsOrder (λ _. Unit {0}) terminated (slice_cmp nat_cmp)
 ended_code = record {
   order = λ v w s t _ _. ap₂ (slice_cmp nat_cmp) (ended-tailed v s) (ended-tailed w t) ∙ tailed-order v w s t;
   exact = bytes_exact;

@@ -3,7 +3,7 @@ use Rattle.std.proofs.Common.{◌≡◌, ◌⊎◌, inl, inr, ℕ, zero, suc, �
 use Rattle.std.specs.Str.{is_utf8}
 use Rattle.std.proofs.lemmas.Str.{IsUtf8-from_is_utf8, is_utf8-from_IsUtf8}
 use Rattle.context_model.specs.Varints.{unsigned_varint, signed_varint}
-use Rattle.bag_model.specs.Scalars.{Word, SpellingForm, TruthByte, UnsignedVarint, SignedVarint, FixedBytes, SignedFixedBytes, TextBytes, RawBytes, spelling_form_of, ScalarKind, Plain, Truth, Signed, Unsigned, Text, Octets, ScalarValue, IsUnsigned, IsSigned, IsOfForm, ArePlainsOf, IsScalarOf, fixed_bytes, signed_fixed_bytes, ended, plain_spelling, field_spelling, packed_spelling, spelling}
+use Rattle.bag_model.specs.Scalars.{Word, SpellingForm, TruthByte, UnsignedVarint, SignedVarint, FixedBytes, SignedFixedBytes, TextBytes, RawBytes, spelling_form_of, ScalarKind, Plain, Truth, Signed, Unsigned, Text, Octets, ScalarValue, IsUnsigned, IsSigned, IsOfForm, ArePlainsOf, IsScalarOf, fixed_bytes, signed_fixed_bytes, terminated, plain_spelling, field_spelling, packed_spelling, spelling}
 use Rattle.bag_model.specs.Typed.{IsSpelling, IsCount}
 use Rattle.bag_model.proofs.Codes.{code_apart, code_rest}
 use Rattle.bag_model.proofs.NumberCodes.{ended_code}
@@ -106,31 +106,31 @@ signed_front wide code bytes = by (some_below (λ n. Begins (code (pos n)) bytes
 abbrev Anything : List ℕ → Type 0
 Anything bs = Unit {0}
 
-not_empty : (bs rest : List ℕ) → [] ≡ ended bs ++ rest → ⊥
+not_empty : (bs rest : List ℕ) → [] ≡ terminated bs ++ rest → ⊥
 not_empty [] rest e = cc
 not_empty (zero ∷ bs) rest e = cc
 not_empty (suc c ∷ bs) rest e = cc
 
-not_zero : (bs rest : List ℕ) → 0 ∷ [] ≡ ended bs ++ rest → ⊥
+not_zero : (bs rest : List ℕ) → 0 ∷ [] ≡ terminated bs ++ rest → ⊥
 not_zero [] rest e = cc
 not_zero (zero ∷ bs) rest e = cc
 not_zero (suc c ∷ bs) rest e = cc
 
-behind_byte : (c : ℕ) (more bs rest : List ℕ) → suc c ∷ more ≡ ended bs ++ rest → Fronted Anything ended more
+behind_byte : (c : ℕ) (more bs rest : List ℕ) → suc c ∷ more ≡ terminated bs ++ rest → Fronted Anything terminated more
 behind_byte c more [] rest e = absurd (cc e)
 behind_byte c more (zero ∷ bs) rest e = absurd (cc e)
-behind_byte c more (suc d ∷ bs) rest e = let tails : more ≡ ended bs ++ rest = cc in (bs, tt, (rest, tails))
+behind_byte c more (suc d ∷ bs) rest e = let tails : more ≡ terminated bs ++ rest = cc in (bs, tt, (rest, tails))
 
-behind_zero : (b : ℕ) (more bs rest : List ℕ) → 0 ∷ b ∷ more ≡ ended bs ++ rest → (b ≡ 1) ⊎ ((b ≡ 255) × Fronted Anything ended more)
+behind_zero : (b : ℕ) (more bs rest : List ℕ) → 0 ∷ b ∷ more ≡ terminated bs ++ rest → (b ≡ 1) ⊎ ((b ≡ 255) × Fronted Anything terminated more)
 behind_zero b more [] rest e = let one : b ≡ 1 = cc in inl one
-behind_zero b more (zero ∷ bs) rest e = let all : b ≡ 255 = cc in let tails : more ≡ ended bs ++ rest = cc in inr (all, (bs, tt, (rest, tails)))
+behind_zero b more (zero ∷ bs) rest e = let all : b ≡ 255 = cc in let tails : more ≡ terminated bs ++ rest = cc in inr (all, (bs, tt, (rest, tails)))
 behind_zero b more (suc d ∷ bs) rest e = absurd (cc e)
 
-ended_front : (bytes : List ℕ) → Decided (Fronted Anything ended bytes)
+ended_front : (bytes : List ℕ) → Decided (Fronted Anything terminated bytes)
 ended_front [] = inr (λ s. not_empty s.0 s.2.0 s.2.1)
 ended_front (suc c ∷ more) = by (ended_front more)
   where
-    by : Decided (Fronted Anything ended more) → Decided (Fronted Anything ended (suc c ∷ more))
+    by : Decided (Fronted Anything terminated more) → Decided (Fronted Anything terminated (suc c ∷ more))
     by (inl s) = inl (suc c ∷ s.0, tt, (s.2.0, ap (λ l. suc c ∷ l) s.2.1))
     by (inr none) = inr (λ s. none (behind_byte c more s.0 s.2.0 s.2.1))
 ended_front (zero ∷ []) = inr (λ s. not_zero s.0 s.2.0 s.2.1)
@@ -139,7 +139,7 @@ ended_front (zero ∷ b ∷ more) = by (eqb b 1) refl (eqb b 255) refl (ended_fr
     apart : (n : ℕ) → eqb b n ≡ false → b ≡ n → ⊥
     apart n e same = let clash : true ≡ false = sym (eq-eqb b n same) ∙ e in cc
 
-    by : (t : Bool) → eqb b 1 ≡ t → (u : Bool) → eqb b 255 ≡ u → Decided (Fronted Anything ended more) → Decided (Fronted Anything ended (0 ∷ b ∷ more))
+    by : (t : Bool) → eqb b 1 ≡ t → (u : Bool) → eqb b 255 ≡ u → Decided (Fronted Anything terminated more) → Decided (Fronted Anything terminated (0 ∷ b ∷ more))
     by true e u f rest = inl ([], tt, (more, λ i. 0 ∷ eqb-true b 1 e i ∷ more))
     by false e true f (inl s) = inl (0 ∷ s.0, tt, (s.2.0, λ i. 0 ∷ eqb-true b 255 f i ∷ s.2.1 i))
     by false e true f (inr none) = inr (λ s. elim (behind_zero b more s.0 s.2.0 s.2.1) [ inl one ↦ apart 1 e one | inr t ↦ none t.1 ])
@@ -208,24 +208,24 @@ field_front (SignedFixedBytes wide) bytes = by (signed_front wide (signed_fixed_
     by (inr none) = inr (λ s. none (value s.0 s.1 s.2))
 field_front TextBytes bytes = by (ended_front bytes)
   where
-    value : (v : Plain) → IsOfForm TextBytes v → Begins (field_spelling TextBytes v) bytes → (bs : List ℕ) × IsUtf8 bs × Begins (ended bs) bytes
+    value : (v : Plain) → IsOfForm TextBytes v → Begins (field_spelling TextBytes v) bytes → (bs : List ℕ) × IsUtf8 bs × Begins (terminated bs) bytes
     value (Text bs) h b = (bs, h, b)
     value v h b = absurd h
 
-    text : (s : Fronted Anything ended bytes) → Decided (IsUtf8 s.0) → Decided (Fronted (IsOfForm TextBytes) (field_spelling TextBytes) bytes)
+    text : (s : Fronted Anything terminated bytes) → Decided (IsUtf8 s.0) → Decided (Fronted (IsOfForm TextBytes) (field_spelling TextBytes) bytes)
     text s (inl u) = inl (Text s.0, u, s.2)
     text s (inr none) = inr (λ t. let v = value t.0 t.1 t.2 in none (subst IsUtf8 (code_apart ended_code v.0 s.0 v.2.0 s.2.0 tt tt (sym v.2.1 ∙ s.2.1)) v.1))
 
-    by : Decided (Fronted Anything ended bytes) → Decided (Fronted (IsOfForm TextBytes) (field_spelling TextBytes) bytes)
+    by : Decided (Fronted Anything terminated bytes) → Decided (Fronted (IsOfForm TextBytes) (field_spelling TextBytes) bytes)
     by (inl s) = text s (utf8_or_not s.0)
     by (inr none) = inr (λ s. let v = value s.0 s.1 s.2 in none (v.0, tt, v.2))
 field_front RawBytes bytes = by (ended_front bytes)
   where
-    value : (v : Plain) → IsOfForm RawBytes v → Begins (field_spelling RawBytes v) bytes → Fronted Anything ended bytes
+    value : (v : Plain) → IsOfForm RawBytes v → Begins (field_spelling RawBytes v) bytes → Fronted Anything terminated bytes
     value (Octets bs) h b = (bs, tt, b)
     value v h b = absurd h
 
-    by : Decided (Fronted Anything ended bytes) → Decided (Fronted (IsOfForm RawBytes) (field_spelling RawBytes) bytes)
+    by : Decided (Fronted Anything terminated bytes) → Decided (Fronted (IsOfForm RawBytes) (field_spelling RawBytes) bytes)
     by (inl s) = inl (Octets s.0, tt, s.2)
     by (inr none) = inr (λ s. none (value s.0 s.1 s.2))
 

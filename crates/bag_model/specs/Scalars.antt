@@ -37,6 +37,7 @@ pub data SpellingForm : Type 0 where
   UnsignedVarint SignedVarint FixedBytes SignedFixedBytes : Bool → SpellingForm
   TextBytes RawBytes : SpellingForm
 
+-- The form of the values of a word.
 abbrev pub spelling_form_of : Word → SpellingForm
 spelling_form_of Boolean = TruthByte
 spelling_form_of Int32 = SignedVarint false
@@ -171,18 +172,18 @@ escape zero = 0 ∷ 255 ∷ []
 escape (suc b) = suc b ∷ []
 
 -- Each zero byte is followed by 255, and 0 and 1 stand at the end.
-abbrev pub ended : List ℕ → List ℕ
-ended bs = flat_map escape bs ++ 0 ∷ 1 ∷ []
+abbrev pub terminated : List ℕ → List ℕ
+terminated bs = flat_map escape bs ++ 0 ∷ 1 ∷ []
 
 -- The forms whose bytes don't tell by themselves where they end.
-abbrev pub is_open_form : SpellingForm → Bool
-is_open_form TextBytes = true
-is_open_form RawBytes = true
-is_open_form _ = false
+abbrev pub needs_end : SpellingForm → Bool
+needs_end TextBytes = true
+needs_end RawBytes = true
+needs_end _ = false
 
 -- A value as a field of a struct.
 abbrev pub field_spelling : SpellingForm → Plain → List ℕ
-field_spelling form v = if is_open_form form then ended (plain_spelling form v) else plain_spelling form v
+field_spelling form v = if needs_end form then terminated (plain_spelling form v) else plain_spelling form v
 
 -- The fields of a struct, one after another.
 abbrev pub packed_spelling : List Word → List Plain → List ℕ

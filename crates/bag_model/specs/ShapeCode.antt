@@ -102,10 +102,10 @@ right gnil = gnil
 right (gnum n) = gnil
 right (gcons a b) = b
 
-abbrev pub number_in : Gv → ℕ
-number_in gnil = 0
-number_in (gnum n) = n
-number_in (gcons a b) = 0
+abbrev pub stored_number : Gv → ℕ
+stored_number gnil = 0
+stored_number (gnum n) = n
+stored_number (gcons a b) = 0
 
 abbrev IsCons : Gv → Type 0
 IsCons gnil = ⊥
@@ -154,7 +154,7 @@ mutual
   pub nodes_inj : (x y : Nodes) → nodes_gv x ≡ nodes_gv y → x ≡ y
   nodes_inj no_node no_node p = refl
   nodes_inj (node a m s xs) (node b n t ys) p = λ i.
-      node (name_code.inj a b (ap (λ g. left (left g)) p) i) (ap (λ g. number_in (right (left g))) p i) (shape_inj s t (ap (λ g. left (right g)) p) i) (nodes_inj xs ys (ap (λ g. right (right g)) p) i)
+      node (name_code.inj a b (ap (λ g. left (left g)) p) i) (ap (λ g. stored_number (right (left g))) p i) (shape_inj s t (ap (λ g. left (right g)) p) i) (nodes_inj xs ys (ap (λ g. right (right g)) p) i)
   nodes_inj no_node (node b n t ys) p = absurd (subst IsCons (sym p) tt)
   nodes_inj (node a m s xs) no_node p = absurd (subst IsCons p tt)
 

@@ -5,7 +5,7 @@ use Rattle.std.specs.Coded.{Coded, code_by, coded⊎, coded×, coded_ℕ, coded_
 use Rattle.std.proofs.Common.{refl, inl, inr, ap}
 use Rattle.bag_model.specs.Scalars.{Plain, Truth, Signed, Unsigned, Text, Octets, ScalarValue}
 use Rattle.bag_model.specs.Values.{Value, Entries, Values, Taint, Scalar, Set, Counter, Map, Bag, no_entry, entry, no_value, value}
-use Rattle.bag_model.specs.ShapeCode.{pick_code, kind_code, name_code, left, right, number_in}
+use Rattle.bag_model.specs.ShapeCode.{pick_code, kind_code, name_code, left, right, stored_number}
 use base.Stored.{Gv, gnil, gnum, gcons}
 
 abbrev pub plain_parts : Plain → Bool ⊎ (ℤ ⊎ (ℕ ⊎ (List ℕ ⊎ List ℕ)))
@@ -81,19 +81,19 @@ abbrev mutual
 mutual
   pub value_inj : (x y : Value) → value_gv x ≡ value_gv y → x ≡ y
   value_inj (Taint a) (Taint b) p = ap Taint (coded_bool.inj a b (ap right p))
-  value_inj (Taint a) y p = absurd (cc (ap (λ g. number_in (left g)) p))
+  value_inj (Taint a) y p = absurd (cc (ap (λ g. stored_number (left g)) p))
   value_inj (Scalar s a) (Scalar t b) p = λ i.
       Scalar (pick_code.inj s t (ap (λ g. left (right g)) p) i) (option_code.inj a b (ap (λ g. right (right g)) p) i)
-  value_inj (Scalar s a) y p = absurd (cc (ap (λ g. number_in (left g)) p))
+  value_inj (Scalar s a) y p = absurd (cc (ap (λ g. stored_number (left g)) p))
   value_inj (Set k a) (Set l b) p = λ i.
       Set (kind_code.inj k l (ap (λ g. left (right g)) p) i) (scalars_code.inj a b (ap (λ g. right (right g)) p) i)
-  value_inj (Set k a) y p = absurd (cc (ap (λ g. number_in (left g)) p))
+  value_inj (Set k a) y p = absurd (cc (ap (λ g. stored_number (left g)) p))
   value_inj (Counter a) (Counter b) p = ap Counter (counts_code.inj a b (ap right p))
-  value_inj (Counter a) y p = absurd (cc (ap (λ g. number_in (left g)) p))
+  value_inj (Counter a) y p = absurd (cc (ap (λ g. stored_number (left g)) p))
   value_inj (Map a) (Map b) p = ap Map (entries_inj a b (ap right p))
-  value_inj (Map a) y p = absurd (cc (ap (λ g. number_in (left g)) p))
+  value_inj (Map a) y p = absurd (cc (ap (λ g. stored_number (left g)) p))
   value_inj (Bag a) (Bag b) p = ap Bag (values_inj a b (ap right p))
-  value_inj (Bag a) y p = absurd (cc (ap (λ g. number_in (left g)) p))
+  value_inj (Bag a) y p = absurd (cc (ap (λ g. stored_number (left g)) p))
 
   pub entries_inj : (x y : Entries) → entries_gv x ≡ entries_gv y → x ≡ y
   entries_inj no_entry no_entry p = refl

@@ -85,18 +85,18 @@ abbrev mutual
 
 -- How many values there are: a value and all those inside it.
 abbrev mutual
-  pub size_of : Value → ℕ
-  size_of (Taint on) = 1
-  size_of (Scalar pick v) = 1
-  size_of (Set kind vs) = 1
-  size_of (Counter counts) = 1
-  size_of (Map es) = 1 + size_of_entries es
-  size_of (Bag vs) = 1 + size_of_values vs
+  pub value_count : Value → ℕ
+  value_count (Taint on) = 1
+  value_count (Scalar pick v) = 1
+  value_count (Set kind vs) = 1
+  value_count (Counter counts) = 1
+  value_count (Map es) = 1 + value_count_of_entries es
+  value_count (Bag vs) = 1 + value_count_of_values vs
 
-  pub size_of_entries : Entries → ℕ
-  size_of_entries no_entry = 0
-  size_of_entries (entry key v es) = size_of v + size_of_entries es
+  pub value_count_of_entries : Entries → ℕ
+  value_count_of_entries no_entry = 0
+  value_count_of_entries (entry key v es) = value_count v + value_count_of_entries es
 
-  pub size_of_values : Values → ℕ
-  size_of_values no_value = 0
-  size_of_values (value v vs) = size_of v + size_of_values vs
+  pub value_count_of_values : Values → ℕ
+  value_count_of_values no_value = 0
+  value_count_of_values (value v vs) = value_count v + value_count_of_values vs

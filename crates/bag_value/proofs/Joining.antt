@@ -8,7 +8,7 @@ use Rattle.context_model.proofs.MergeLaws.{with-right_empty}
 use Rattle.context_model.proofs.MergeSteps.{drop-place}
 use Rattle.bag_model.specs.Scalars.{ScalarValue, scalar_cmp}
 use Rattle.bag_model.specs.Values as model
-use Rattle.bag_model.specs.Values.{pairs, values_list, size_of, size_of_entries, size_of_values}
+use Rattle.bag_model.specs.Values.{pairs, values_list, value_count, value_count_of_entries, value_count_of_values}
 use Rattle.bag_model.specs.Joins.{join, join_entries, join_values, Alike, AlikeEntries, AreAlike, Proper, AreProper}
 use Rattle.bag_model.proofs.JoinLaws.{AlikeEntries-at, Proper-joined}
 use Rattle.bag_model.proofs.PairLaws.{pairs-injective, pairs-join}
@@ -65,9 +65,9 @@ pub entries_proper : (a b d : model.Entries) → Proper (model.Value.Map a) → 
 entries_proper a b d p q alike made = subst (λ (x : model.Entries). Proper (model.Value.Map x)) (sym made) (Proper-joined (model.Value.Map a) (model.Value.Map b) p q alike)
 
 -- An entry is no greater than the list.
-pub entry_falls : (es : List Entry) (i : ℕ) (e : Entry) → i < length es → e ≡ get_or es i e → size_of (plain e.value) ≤ size_of_entries (plain_entries es)
+pub entry_falls : (es : List Entry) (i : ℕ) (e : Entry) → i < length es → e ≡ get_or es i e → value_count (plain e.value) ≤ value_count_of_entries (plain_entries es)
 entry_falls [] i e h is = absurd (omega (arith, h))
-entry_falls (d ∷ es) zero e h is = omega (arith, ap (λ u. size_of (plain u.value)) is)
+entry_falls (d ∷ es) zero e h is = omega (arith, ap (λ u. value_count (plain u.value)) is)
 entry_falls (d ∷ es) (suc i) e h is = omega (arith, entry_falls es i e (omega (arith, h)) is)
 
 -- ---- values of a bag
@@ -134,7 +134,7 @@ pub values_proper : (a b d : model.Values) → AreProper a → AreProper b → A
 values_proper a b d p q alike made = subst AreProper (sym made) (Proper-joined (model.Value.Bag a) (model.Value.Bag b) p q alike)
 
 -- A value of a bag is less than the bag.
-pub value_falls : (vs : List Val) (i : ℕ) (v : Val) → i < length vs → v ≡ get_or vs i v → size_of (plain v) ≤ size_of_values (plain_values vs)
+pub value_falls : (vs : List Val) (i : ℕ) (v : Val) → i < length vs → v ≡ get_or vs i v → value_count (plain v) ≤ value_count_of_values (plain_values vs)
 value_falls [] i v h is = absurd (omega (arith, h))
-value_falls (u ∷ vs) zero v h is = omega (arith, ap (λ x. size_of (plain x)) is)
+value_falls (u ∷ vs) zero v h is = omega (arith, ap (λ x. value_count (plain x)) is)
 value_falls (u ∷ vs) (suc i) v h is = omega (arith, value_falls vs i v (omega (arith, h)) is)

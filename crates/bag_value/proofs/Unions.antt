@@ -7,7 +7,7 @@ use Rattle.bag_model.specs.Values as model
 use Rattle.bag_model.specs.Scalars.{scalar_cmp}
 use Rattle.bag_model.specs.Joins.{join}
 use Rattle.bag_model.proofs.SpellingOrder.{spellings_keep_order}
-use Rattle.scalar_types.specs.KindCodec.{kind_from, kind_back}
+use Rattle.scalar_types.specs.KindCodec.{kind_from, kind_comes_back}
 use Rattle.scalar_types.specs.KindViews.{kind_of}
 use Rattle.scalar_types.specs.Scalars.{value_of}
 use Rattle.scalar_types.specs.declared.kinds.ScalarKind.{ScalarKind}
@@ -19,7 +19,7 @@ use Rattle.bag_value.proofs.Known.{kind_fits, kind_spelling}
 
 -- Two kinds with one plain kind are one.
 pub kinds_one : (a b : ScalarKind) → kind_of a ≡ kind_of b → a ≡ b
-kinds_one a b same = sym (kind_back a) ∙ ap kind_from same ∙ kind_back b
+kinds_one a b same = sym (kind_comes_back a) ∙ ap kind_from same ∙ kind_comes_back b
 
 pub values-union : (s t : Held ScalarKind Scalar) → set_proper kind_fits kind_spelling s → set_proper kind_fits kind_spelling t → kind_of s.codec ≡ kind_of t.codec
     → map value_of (greedy_merge (value_cmp (kind_spelling s.codec)) s.items t.items) ≡ greedy_merge scalar_cmp (map value_of s.items) (map value_of t.items)

@@ -25,7 +25,7 @@ pub struct Vals {
 }
 
 impl Model for Vals {
-    ghost use Rattle.bag_model.specs.Values.{Values, size_of_values};
+    ghost use Rattle.bag_model.specs.Values.{Values, value_count_of_values};
     ghost use Rattle.bag_model.specs.ValueCode.{values_code};
 
     ghost Value = { Values };
@@ -39,7 +39,7 @@ impl Model for Vals {
 
     ghost invariant = { λ list. AreProper (plain_values list.items.items) };
 
-    ghost size = { size_of_values };
+    ghost size = { value_count_of_values };
 
     ghost use Rattle.bag_value.specs.Lists.{values_fall};
     ghost use Rattle.std.proofs.Common.{arith};
@@ -63,7 +63,7 @@ pub struct Entries {
 }
 
 impl Model for Entries {
-    ghost use Rattle.bag_model.specs.Values.{Entries, size_of_entries};
+    ghost use Rattle.bag_model.specs.Values.{Entries, value_count_of_entries};
     ghost use Rattle.bag_model.specs.ValueCode.{entries_code};
 
     ghost Value = { Entries };
@@ -78,7 +78,7 @@ impl Model for Entries {
 
     ghost invariant = { λ list. Proper (model.Value.Map (plain_entries list.items.items)) };
 
-    ghost size = { size_of_entries };
+    ghost size = { value_count_of_entries };
 
     ghost use Rattle.bag_value.specs.Lists.{entries_fall};
     ghost use Rattle.std.proofs.Common.{arith};

@@ -1,13 +1,13 @@
 -- The places of types, and what is left of a list.
 use Rattle.std.proofs.Common.{◌≡◌, ℕ, ◌+◌, ◌<◌, ◌≤◌, List, [], ◌∷◌, drop, length, get_or, map, refl, ap, ◌∙◌, sym}
 use Rattle.std.proofs.lemmas.List.{drop_more, drop_all}
-use Rattle.bdl_check.specs.Types.{type_spot}
+use Rattle.bdl_check.specs.Types.{type_place}
 use Rattle.bdl_parser.specs.declared.trees.Spot.{Spot}
 use Rattle.bdl_parser.specs.declared.trees.TypeForm.{TypeForm, Scalar, Float, Double, Taint, Counter, Set', Greatest', Map', Name}
 use Rattle.bdl_parser.specs.Views.{tree_at}
 
 -- The place of a node's tree is the node's.
-pub spot_at : (spot : Spot) (form : TypeForm) → type_spot (tree_at spot form) ≡ spot
+pub spot_at : (spot : Spot) (form : TypeForm) → type_place (tree_at spot form) ≡ spot
 spot_at spot (Scalar word) = refl
 spot_at spot Float = refl
 spot_at spot Double = refl

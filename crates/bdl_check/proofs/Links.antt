@@ -9,7 +9,7 @@ use Rattle.std.specs.List.{flat_map, filter_map, cons_option, position_or_len}
 use Rattle.std.specs.Option.{IsSome, option_map}
 use Rattle.std.specs.Str.{bytes_eq}
 use Rattle.bdl_check.specs.declared.declarations.Declaration.{Declaration}
-use Rattle.bdl_check.specs.Declarations.{Placed, decl_name_of, number_named}
+use Rattle.bdl_check.specs.Declarations.{Placed, decl_name, number_named}
 use Rattle.bdl_check.specs.DeclarationViews.{placed_of}
 use Rattle.bdl_check.specs.Recursion.{names_in, uses, links}
 use Rattle.bdl_parser.specs.Trees.{BagFieldTree}
@@ -22,7 +22,7 @@ found_below false place number e = absurd (cc)
 
 pub number_below : (ds : List Placed) (text : List ℕ) (number : ℕ) → number_named ds text ≡ Some number → number < length ds
 number_below ds text number e =
-    let place = position_or_len (λ (d : Placed). bytes_eq (decl_name_of d.decl) text) ds in
+    let place = position_or_len (λ (d : Placed). bytes_eq (decl_name d.decl) text) ds in
     let both = found_below (nat_lt place (length ds)) place number e in
     subst (λ (n : ℕ). n < length ds) both.1 (ltb-true place (length ds) both.0)
 

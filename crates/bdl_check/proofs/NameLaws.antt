@@ -5,8 +5,8 @@ use Rattle.std.proofs.lemmas.List.Concat.{flat_map-cons}
 use Rattle.std.specs.Option.{is_some, option_map}
 use Rattle.bdl_load.specs.declared.faults.Fault.{Fault}
 use Rattle.bdl_load.specs.declared.files.LoadedFile.{LoadedFile}
-use Rattle.bdl_check.specs.Checks.{located_faults, name_fault, name_faults}
-use Rattle.bdl_check.specs.Declarations.{Placed, decl_name_of, decl_kind_of, decl_named, kind_named, placed_in, all_placed}
+use Rattle.bdl_check.specs.Checks.{faults_in_file, name_fault, name_faults}
+use Rattle.bdl_check.specs.Declarations.{Placed, decl_name, decl_kind, decl_named, kind_named, placed_in, all_placed}
 use Rattle.bdl_check.specs.Faults.{first}
 use Rattle.bdl_check.proofs.Firsts.{first_none, first_some}
 
@@ -14,7 +14,7 @@ use Rattle.bdl_check.proofs.Firsts.{first_none, first_some}
 pub is_some-kind : (ds : List Placed) (text : List ℕ) → is_some (kind_named ds text) ≡ is_some (decl_named ds text)
 is_some-kind ds text = by (decl_named ds text)
   where
-    by : (d : Option Placed) → is_some (option_map (λ e. decl_kind_of e.decl) d) ≡ is_some d
+    by : (d : Option Placed) → is_some (option_map (λ e. decl_kind e.decl) d) ≡ is_some d
     by None = refl
     by (Some d) = refl
 
@@ -22,7 +22,7 @@ is_some-kind ds text = by (decl_named ds text)
 pub name_faults-append : (earlier xs ys : List Placed) → name_faults earlier (xs ++ ys) ≡ name_faults earlier xs ++ name_faults (earlier ++ xs) ys
 name_faults-append earlier [] ys = ap (λ (gone : List Placed). name_faults gone ys) (sym (append-nil earlier))
 name_faults-append earlier (d ∷ xs) ys =
-    let front : List Fault = located_faults d.file (name_fault (is_some (kind_named earlier (decl_name_of d.decl))) d.decl) in
+    let front : List Fault = faults_in_file d.file (name_fault (is_some (kind_named earlier (decl_name d.decl))) d.decl) in
     ap (λ (rest : List Fault). front ++ rest) (name_faults-append (earlier ++ d ∷ []) xs ys)
     ∙ ap (λ (gone : List Placed). front ++ (name_faults (earlier ++ d ∷ []) xs ++ name_faults gone ys)) (append_assoc earlier (d ∷ []) xs)
     ∙ sym (append_assoc front (name_faults (earlier ++ d ∷ []) xs) (name_faults (earlier ++ d ∷ xs) ys))

@@ -15,7 +15,7 @@ use Rattle.std.specs.Ordering.{nat_cmp}
 use Rattle.std.specs.Prelude.{Result, Ok, Err, OnOk}
 use Rattle.std.specs.Result.{is_err}
 use Rattle.std.specs.Str.{bytes_eq}
-use Rattle.bdl_check.specs.Declarations.{Placed, decl_name_of, decl_named, number_named}
+use Rattle.bdl_check.specs.Declarations.{Placed, decl_name, decl_named, number_named}
 use Rattle.bdl_check.specs.DeclarationViews.{NumbersDeclarations}
 use Rattle.bdl_check.proofs.Links.{number_below}
 use Rattle.bdl_check.proofs.PassedTypes.{named_at, not_named}
@@ -39,29 +39,29 @@ position_before_last p xs x fails =
     grind (arith, nat_tests)
 
 -- A declaration of a new name goes to the end.
-number_more : (ds : List Placed) (d : Placed) (text : List ℕ) → number_named ds (decl_name_of d.decl) ≡ None
-    → number_named (ds ++ d ∷ []) text ≡ update bytes_eq (number_named ds) (decl_name_of d.decl) (Some (length ds)) text
-number_more ds d text new = by (bytes_eq (decl_name_of d.decl) text) refl
+number_more : (ds : List Placed) (d : Placed) (text : List ℕ) → number_named ds (decl_name d.decl) ≡ None
+    → number_named (ds ++ d ∷ []) text ≡ update bytes_eq (number_named ds) (decl_name d.decl) (Some (length ds)) text
+number_more ds d text new = by (bytes_eq (decl_name d.decl) text) refl
   where
-    by : (same : Bool) → bytes_eq (decl_name_of d.decl) text ≡ same
-        → number_named (ds ++ d ∷ []) text ≡ update bytes_eq (number_named ds) (decl_name_of d.decl) (Some (length ds)) text
+    by : (same : Bool) → bytes_eq (decl_name d.decl) text ≡ same
+        → number_named (ds ++ d ∷ []) text ≡ update bytes_eq (number_named ds) (decl_name d.decl) (Some (length ds)) text
     by true e =
-        let none : number_named ds text ≡ None = subst (λ text. number_named ds text ≡ None) (same_text (decl_name_of d.decl) text (sym e)) new in
-        position_of_last (λ d. bytes_eq (decl_name_of d.decl) text) ds d none e
-        ∙ sym (cond-true (bytes_eq (decl_name_of d.decl) text) (Some (length ds)) (number_named ds text) e)
+        let none : number_named ds text ≡ None = subst (λ text. number_named ds text ≡ None) (same_text (decl_name d.decl) text (sym e)) new in
+        position_of_last (λ d. bytes_eq (decl_name d.decl) text) ds d none e
+        ∙ sym (cond-true (bytes_eq (decl_name d.decl) text) (Some (length ds)) (number_named ds text) e)
     by false e =
-        position_before_last (λ d. bytes_eq (decl_name_of d.decl) text) ds d e
-        ∙ sym (cond-false (bytes_eq (decl_name_of d.decl) text) (Some (length ds)) (number_named ds text) e)
+        position_before_last (λ d. bytes_eq (decl_name d.decl) text) ds d e
+        ∙ sym (cond-false (bytes_eq (decl_name d.decl) text) (Some (length ds)) (number_named ds text) e)
 
 -- The number of one more declaration goes into the map.
 pub numbers_more : (ds : List Placed) (d : Placed) (name : List ℕ) (number : ℕ) (numbers grown : Numbers) → NumbersDeclarations ds numbers
-    → name ≡ decl_name_of d.decl → number ≡ length ds → number_named ds name ≡ None
+    → name ≡ decl_name d.decl → number ≡ length ds → number_named ds name ≡ None
     → ((other : List ℕ) → get_by (λ key. slice_cmp nat_cmp other key.now) grown ≡ update bytes_eq (λ text. get_by (λ key. slice_cmp nat_cmp text key.now) numbers) name (Some number) other)
     → NumbersDeclarations (ds ++ d ∷ []) grown
 numbers_more ds d name number numbers grown before is count new more other =
     more other ∙ ap (λ (found : Option ℕ). cond (bytes_eq name other) (Some number) found) (before other)
     ∙ ap (λ (text : List ℕ). cond (bytes_eq text other) (Some number) (number_named ds other)) is
-    ∙ ap (λ n. cond (bytes_eq (decl_name_of d.decl) other) (Some n) (number_named ds other)) count
+    ∙ ap (λ n. cond (bytes_eq (decl_name d.decl) other) (Some n) (number_named ds other)) count
     ∙ sym (number_more ds d other (subst (λ (text : List ℕ). number_named ds text ≡ None) is new))
 
 -- A name with a number is that of a declaration.

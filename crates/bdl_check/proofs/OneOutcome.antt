@@ -4,7 +4,7 @@ use Rattle.std.specs.List.{slice_get}
 use Rattle.std.proofs.lemmas.Bool.{cases_lt}
 use Rattle.bag_model.specs.Shapes.{Nodes}
 use Rattle.bdl_check.specs.Checks.{declared_faults}
-use Rattle.bdl_check.specs.Declarations.{Placed, decl_place_of, all_placed}
+use Rattle.bdl_check.specs.Declarations.{Placed, decl_place, all_placed}
 use Rattle.bdl_check.specs.Compiler.{IsTableIn, IsFaultIn, IsTableOf, IsFirstFaultOf}
 use Rattle.bdl_check.specs.Faults.{first}
 use Rattle.bdl_check.specs.Recursion.{links, IsRecursive}
@@ -37,7 +37,7 @@ recursive_one ds f g p q =
     let number = cyclic_one (links ds) p.number q.number p.first q.first in
     let some : Some p.bag ≡ Some q.bag = sym p.is ∙ ap (slice_get ds) number ∙ q.is in
     let bag : p.bag ≡ q.bag = cc some in
-    p.fault_is ∙ ap (λ (d : Placed). fault_in d.file (found (decl_place_of d.decl) Recursive)) bag ∙ sym q.fault_is
+    p.fault_is ∙ ap (λ (d : Placed). fault_in d.file (found (decl_place d.decl) Recursive)) bag ∙ sym q.fault_is
 
 -- Declarations without a fault have no first one.
 no_first : {A : Type 0} (xs : List A) (x : A) → xs ≡ [] → first xs ≡ Some x → ⊥

@@ -12,13 +12,13 @@ use Rattle.bdl_check.specs.declared.declarations.DeclKind.{DeclKind}
 use Rattle.bdl_check.specs.declared.declarations.DeclKind.TheVariants.{Bag as IsBag, Struct as IsStruct}
 use Rattle.bdl_check.specs.declared.types.Role.{Role}
 use Rattle.bdl_check.specs.declared.types.Role.TheVariants.{BagField, StructField, Element, Key, MapValue}
-use Rattle.bdl_check.specs.Checks.{located_faults, name_fault, name_faults, declaration_faults, placed_faults}
-use Rattle.bdl_check.specs.Declarations.{Placed, decl_name_of, decl_place_of, decl_named, kind_named}
+use Rattle.bdl_check.specs.Checks.{faults_in_file, name_fault, name_faults, declaration_faults, placed_faults}
+use Rattle.bdl_check.specs.Declarations.{Placed, decl_name, decl_place, decl_named, kind_named}
 use Rattle.bdl_check.proofs.NameLaws.{is_some-kind}
 use Rattle.bdl_check.specs.Faults.{first, when}
 use Rattle.bdl_load.specs.Faults.{found, fault_in}
 use Rattle.bdl_check.specs.Fields.{is_number_among, is_name_among, numbers_of, bag_field_names, struct_names_of, bag_field_faults, bag_faults, struct_field_faults, struct_faults, decl_faults}
-use Rattle.bdl_check.specs.Passes.{are_distinct, is_open_role, passes_name, passes_leaf, passes_type, passes_decl, pass}
+use Rattle.bdl_check.specs.Passes.{are_distinct, takes_any_type, passes_name, passes_leaf, passes_type, passes_decl, pass}
 use Rattle.bdl_check.specs.Types.{Kinds, node_faults_at, node_faults, type_faults}
 use Rattle.bdl_parser.specs.declared.trees.Decl.{Decl}
 use Rattle.bdl_parser.specs.declared.trees.Decl.TheVariants.{Bag, Struct}
@@ -82,7 +82,7 @@ leaf_passes kinds Key (name text) spot = name_passes spot Key (kinds text)
 leaf_passes kinds MapValue (name text) spot = name_passes spot MapValue (kinds text)
 
 held_passes : (kinds : Kinds) (role : Role) (holding : Holding) (element : TypeTree) (spot : Spot)
-    → nothing (node_faults kinds role (held holding element spot)) ≡ is_open_role role
+    → nothing (node_faults kinds role (held holding element spot)) ≡ takes_any_type role
 held_passes kinds BagField holding element spot = refl
 held_passes kinds StructField holding element spot = refl
 held_passes kinds Element holding element spot = refl
@@ -90,7 +90,7 @@ held_passes kinds Key holding element spot = refl
 held_passes kinds MapValue holding element spot = refl
 
 map_passes : (kinds : Kinds) (role : Role) (key value : TypeTree) (spot : Spot)
-    → nothing (node_faults kinds role (map_of key value spot)) ≡ is_open_role role
+    → nothing (node_faults kinds role (map_of key value spot)) ≡ takes_any_type role
 map_passes kinds BagField key value spot = refl
 map_passes kinds StructField key value spot = refl
 map_passes kinds Element key value spot = refl
@@ -106,7 +106,7 @@ type_passes kinds role (held holding element spot) =
 type_passes kinds role (map_of key value spot) =
     nothing_append (node_faults kinds role (map_of key value spot)) (type_faults kinds Key key ++ type_faults kinds MapValue value)
     ∙ (λ i. map_passes kinds role key value spot i && nothing_append (type_faults kinds Key key) (type_faults kinds MapValue value) i)
-    ∙ (λ i. is_open_role role && (type_passes kinds Key key i && type_passes kinds MapValue value i))
+    ∙ (λ i. takes_any_type role && (type_passes kinds Key key i && type_passes kinds MapValue value i))
 
 -- None is like one of the earlier ones.
 abbrev is_fresh : {A : Type 0} → (A → A → Bool) → List A → List A → Bool
@@ -235,8 +235,8 @@ decl_passes kinds (Struct called spot (field ∷ fields)) =
 decls_pass : (kinds : Kinds) (ds : List Placed) → nothing (declaration_faults kinds ds) ≡ list_all (λ d. passes_decl kinds d.decl) ds
 decls_pass kinds [] = refl
 decls_pass kinds (d ∷ ds) =
-    ap nothing (flat_map-cons (λ (d : Placed). located_faults d.file (decl_faults kinds d.decl)) d ds)
-    ∙ nothing_append (located_faults d.file (decl_faults kinds d.decl)) (declaration_faults kinds ds)
+    ap nothing (flat_map-cons (λ (d : Placed). faults_in_file d.file (decl_faults kinds d.decl)) d ds)
+    ∙ nothing_append (faults_in_file d.file (decl_faults kinds d.decl)) (declaration_faults kinds ds)
     ∙ (λ i. nothing_map (fault_in d.file) (decl_faults kinds d.decl) i && decls_pass kinds ds i)
     ∙ (λ i. decl_passes kinds d.decl i && list_all (λ e. passes_decl kinds e.decl) ds)
 
@@ -244,30 +244,30 @@ either_way : (b : Bool) (d : Placed) (rest : Option Placed) → is_some (cond b 
 either_way true d rest = refl
 either_way false d rest = refl
 
-named_among : (ds : List Placed) (text : List ℕ) → is_some (decl_named ds text) ≡ is_name_among text (map (λ d. decl_name_of d.decl) ds)
+named_among : (ds : List Placed) (text : List ℕ) → is_some (decl_named ds text) ≡ is_name_among text (map (λ d. decl_name d.decl) ds)
 named_among [] text = refl
-named_among (d ∷ ds) text = either_way (bytes_eq (decl_name_of d.decl) text) d (decl_named ds text)
-    ∙ (λ i. bytes_eq (decl_name_of d.decl) text || named_among ds text i)
+named_among (d ∷ ds) text = either_way (bytes_eq (decl_name d.decl) text) d (decl_named ds text)
+    ∙ (λ i. bytes_eq (decl_name d.decl) text || named_among ds text i)
 
 -- A name was declared exactly where it is the name of a declaration.
-declared_is : (ds : List Placed) (text : List ℕ) → is_some (kind_named ds text) ≡ is_name_among text (map (λ d. decl_name_of d.decl) ds)
+declared_is : (ds : List Placed) (text : List ℕ) → is_some (kind_named ds text) ≡ is_name_among text (map (λ d. decl_name d.decl) ds)
 declared_is ds text = is_some-kind ds text ∙ named_among ds text
 
-names_pass : (earlier ds : List Placed) → nothing (name_faults earlier ds) ≡ is_fresh bytes_eq (map (λ d. decl_name_of d.decl) earlier)
-    (map (λ d. decl_name_of d.decl) ds)
+names_pass : (earlier ds : List Placed) → nothing (name_faults earlier ds) ≡ is_fresh bytes_eq (map (λ d. decl_name d.decl) earlier)
+    (map (λ d. decl_name d.decl) ds)
 names_pass earlier [] = refl
 names_pass earlier (d ∷ ds) =
-    nothing_append (located_faults d.file (name_fault (is_some (kind_named earlier (decl_name_of d.decl))) d.decl)) (name_faults (earlier ++ d ∷ []) ds)
-    ∙ (λ i. nothing_map (fault_in d.file) (name_fault (is_some (kind_named earlier (decl_name_of d.decl))) d.decl) i && names_pass (earlier ++ d ∷ []) ds
+    nothing_append (faults_in_file d.file (name_fault (is_some (kind_named earlier (decl_name d.decl))) d.decl)) (name_faults (earlier ++ d ∷ []) ds)
+    ∙ (λ i. nothing_map (fault_in d.file) (name_fault (is_some (kind_named earlier (decl_name d.decl))) d.decl) i && names_pass (earlier ++ d ∷ []) ds
     i)
-    ∙ (λ i. nothing_when (is_some (kind_named earlier (decl_name_of d.decl))) (found (decl_place_of d.decl) DuplicateName) i
-    && is_fresh bytes_eq (map-append (λ (e : Placed). decl_name_of e.decl) earlier (d ∷ []) i) (map (λ e. decl_name_of e.decl) ds))
-    ∙ (λ i. not (declared_is earlier (decl_name_of d.decl) i) && is_fresh bytes_eq (map (λ e. decl_name_of e.decl) earlier ++ decl_name_of d.decl ∷ [])
-    (map (λ e. decl_name_of e.decl) ds))
+    ∙ (λ i. nothing_when (is_some (kind_named earlier (decl_name d.decl))) (found (decl_place d.decl) DuplicateName) i
+    && is_fresh bytes_eq (map-append (λ (e : Placed). decl_name e.decl) earlier (d ∷ []) i) (map (λ e. decl_name e.decl) ds))
+    ∙ (λ i. not (declared_is earlier (decl_name d.decl) i) && is_fresh bytes_eq (map (λ e. decl_name e.decl) earlier ++ decl_name d.decl ∷ [])
+    (map (λ e. decl_name e.decl) ds))
 
 -- Declarations have no fault exactly where they pass.
 pub faultless_pass : (ds : List Placed) → is_none (first (placed_faults ds)) ≡ pass ds
 faultless_pass ds =
     nothing_append (name_faults [] ds) (declaration_faults (kind_named ds) ds)
     ∙ (λ i. names_pass [] ds i && decls_pass (kind_named ds) ds i)
-    ∙ (λ i. fresh_is bytes_eq [] (map (λ d. decl_name_of d.decl) ds) i && list_all (λ d. passes_decl (kind_named ds) d.decl) ds)
+    ∙ (λ i. fresh_is bytes_eq [] (map (λ d. decl_name d.decl) ds) i && list_all (λ d. passes_decl (kind_named ds) d.decl) ds)

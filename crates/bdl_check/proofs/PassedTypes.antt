@@ -14,7 +14,7 @@ use Rattle.bdl_parser.specs.Trees.{TypeTree}
 use Rattle.bdl_check.specs.declared.declarations.DeclKind.{DeclKind}
 use Rattle.bdl_check.specs.declared.types.Role.{Role}
 use Rattle.bdl_check.specs.declared.types.Role.TheVariants.{BagField, Element, Key, MapValue}
-use Rattle.bdl_check.specs.Declarations.{Placed, decl_name_of, decl_kind_of, decl_named, number_named, kind_named}
+use Rattle.bdl_check.specs.Declarations.{Placed, decl_name, decl_kind, decl_named, number_named, kind_named}
 use Rattle.bdl_check.specs.Layouts.{struct_words, kind_of_decl, kind_in}
 use Rattle.bdl_check.specs.Passes.{may_name, passes_name, passes_type}
 use Rattle.bdl_check.specs.Types.{Kinds}
@@ -40,11 +40,11 @@ position_of p xs x e =
 
 -- The declaration of a name has its number.
 pub named_at : (ds : List Placed) (text : List ℕ) (n : ℕ) → number_named ds text ≡ Some n → decl_named ds text ≡ slice_get ds n
-named_at ds text n e = found_at (λ (d : Placed). bytes_eq (decl_name_of d.decl) text) ds n e
+named_at ds text n e = found_at (λ (d : Placed). bytes_eq (decl_name d.decl) text) ds n e
 
 pub number_of : (ds : List Placed) (text : List ℕ) (d : Placed) → decl_named ds text ≡ Some d
     → (n : ℕ) × (number_named ds text ≡ Some n) × (slice_get ds n ≡ Some d)
-number_of ds text d e = position_of (λ (d : Placed). bytes_eq (decl_name_of d.decl) text) ds d e
+number_of ds text d e = position_of (λ (d : Placed). bytes_eq (decl_name d.decl) text) ds d e
 
 unfound : {X : Type 0} (p : X → Bool) (xs : List X) (o : Option X) → position p xs ≡ None → find p xs ≡ o → find p xs ≡ None
 unfound p xs None none e = e
@@ -52,7 +52,7 @@ unfound p xs (Some x) none e = absurd (let n = position_of p xs x e in let same 
 
 -- A name without a number is that of no declaration.
 pub not_named : (ds : List Placed) (text : List ℕ) → number_named ds text ≡ None → decl_named ds text ≡ None
-not_named ds text none = unfound (λ (d : Placed). bytes_eq (decl_name_of d.decl) text) ds (decl_named ds text) none refl
+not_named ds text none = unfound (λ (d : Placed). bytes_eq (decl_name d.decl) text) ds (decl_named ds text) none refl
 
 -- A name that passes is that of a declaration which may stand there.
 declared_in : {X : Type 0} (role : Role) (f : X → DeclKind) (o : Option X) → passes_name role (option_map f o) ≡ true
@@ -61,12 +61,12 @@ declared_in role f None e = absurd (cc e)
 declared_in role f (Some x) e = (x, refl, e)
 
 pub declared : (ds : List Placed) (role : Role) (text : List ℕ) → passes_name role (kind_named ds text) ≡ true
-    → (d : Placed) × (decl_named ds text ≡ Some d) × (may_name role (decl_kind_of d.decl) ≡ true)
-declared ds role text e = declared_in role (λ (d : Placed). decl_kind_of d.decl) (decl_named ds text) e
+    → (d : Placed) × (decl_named ds text ≡ Some d) × (may_name role (decl_kind d.decl) ≡ true)
+declared ds role text e = declared_in role (λ (d : Placed). decl_kind d.decl) (decl_named ds text) e
 
 -- ---- elements, keys and values
 
-struct_kind : (decl : Decl) → may_name Element (decl_kind_of decl) ≡ true → (kind : scalars.ScalarKind) × (kind_of_decl decl ≡ Some kind)
+struct_kind : (decl : Decl) → may_name Element (decl_kind decl) ≡ true → (kind : scalars.ScalarKind) × (kind_of_decl decl ≡ Some kind)
 struct_kind (Bag own spot list) e = absurd (cc e)
 struct_kind (Struct own spot list) e = (scalars.ScalarKind.Packed (struct_words list), refl)
 

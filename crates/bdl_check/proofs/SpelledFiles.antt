@@ -17,7 +17,7 @@ use Rattle.bdl_parser.specs.declared.trees.Decl.TheVariants.{Bag, Struct}
 use Rattle.bdl_parser.specs.declared.trees.Import.{Import}
 use Rattle.bdl_parser.specs.declared.trees.Module.{Module}
 use Rattle.bdl_parser.specs.declared.trees.Spot.{Spot}
-use Rattle.bdl_parser.specs.Grammar.{key, this_mark, name_in, number_said, a_name, a_number, a_text, a_leaf, a_holding, held_of, map_of, a_type, a_bag_field, a_struct_field, bag_fields, struct_fields, a_bag, a_struct, an_import, the_decls, a_module}
+use Rattle.bdl_parser.specs.Grammar.{this_word, this_sign, name_in, number_in, a_name, a_number, a_text, a_leaf, a_holding, held_of, map_of, a_type, a_bag_field, a_struct_field, bag_fields, struct_fields, a_bag, a_struct, an_import, the_decls, a_module}
 use Rattle.bdl_parser.specs.Lexemes.{What, Lexeme, word, number, quoted, sign, what_of, lexemes_of}
 use Rattle.bdl_parser.specs.Decls.{IsSpelledField, IsSpelledDecl, AreSpelledDecls}
 use Rattle.bdl_parser.specs.Trees.{TypeTree}
@@ -68,7 +68,7 @@ name_spelled (quoted text) spot said e = absurd (cc e)
 name_spelled (sign byte) spot said e = absurd (cc e)
 
 -- What is read as a number has 16 bits.
-number_small : (what : What) (spot : Spot) (said : ℕ × Spot) → IsSmall what → option_map (λ (n : ℕ). (n, spot)) (number_said what) ≡ Some said → said.0 < 2 ^ 16
+number_small : (what : What) (spot : Spot) (said : ℕ × Spot) → IsSmall what → option_map (λ (n : ℕ). (n, spot)) (number_in what) ≡ Some said → said.0 < 2 ^ 16
 number_small (word text) spot said small e = absurd (cc e)
 number_small (number value) spot said small e =
     let same : (value, spot) ≡ said = cc e in
@@ -151,12 +151,12 @@ keeps_number = keeps_token a_number (λ p. p.0 < 2 ^ 16) (λ t p small means. nu
 
 keeps_held : (inner : Form Lexeme TypeTree) → Keeps inner Any → Keeps (held_of inner) Any
 keeps_held inner k =
-    keeps_made (λ p. trees.held p.0.0 p.1.1.0 p.0.1) Any (λ p so. tt) (keeps_two (keeps_any a_holding) (keeps_two (keeps_any (this_mark 60)) (keeps_two k (keeps_any (this_mark 62)))))
+    keeps_made (λ p. trees.held p.0.0 p.1.1.0 p.0.1) Any (λ p so. tt) (keeps_two (keeps_any a_holding) (keeps_two (keeps_any (this_sign 60)) (keeps_two k (keeps_any (this_sign 62)))))
 
 keeps_map : (inner : Form Lexeme TypeTree) → Keeps inner Any → Keeps (map_of inner) Any
 keeps_map inner k =
     keeps_made (λ p. trees.map p.1.1.0 p.1.1.1.1.0 p.0) Any (λ p so. tt)
-    (keeps_two (keeps_any (key (codes "map"))) (keeps_two (keeps_any (this_mark 60)) (keeps_two k (keeps_two (keeps_any (this_mark 44)) (keeps_two k (keeps_any (this_mark 62)))))))
+    (keeps_two (keeps_any (this_word (codes "map"))) (keeps_two (keeps_any (this_sign 60)) (keeps_two k (keeps_two (keeps_any (this_sign 44)) (keeps_two k (keeps_any (this_sign 62)))))))
 
 keeps_type : (n : ℕ) → Keeps (a_type n) Any
 unfolding a_type
@@ -167,31 +167,31 @@ keeps_bag_field : (n : ℕ) → Keeps (a_bag_field n) IsSpelledField
 keeps_bag_field n =
     keeps_made (λ p. record { kind = p.0; name = p.1.0.0; name_at = p.1.0.1; number = p.1.1.1.0.0; number_at = p.1.1.1.0.1 }) IsSpelledField
     (λ p so. (so.1.0, so.1.1.1.0))
-    (keeps_two (keeps_type n) (keeps_two keeps_name (keeps_two (keeps_any (this_mark 61)) (keeps_two keeps_number (keeps_any (this_mark 59))))))
+    (keeps_two (keeps_type n) (keeps_two keeps_name (keeps_two (keeps_any (this_sign 61)) (keeps_two keeps_number (keeps_any (this_sign 59))))))
 
 keeps_struct_field : (n : ℕ) → Keeps (a_struct_field n) Any
 keeps_struct_field n =
-    keeps_made (λ p. record { kind = p.0; name = p.1.0.0; name_at = p.1.0.1 }) Any (λ p so. tt) (keeps_two (keeps_type n) (keeps_two keeps_name (keeps_any (this_mark 59))))
+    keeps_made (λ p. record { kind = p.0; name = p.1.0.0; name_at = p.1.0.1 }) Any (λ p so. tt) (keeps_two (keeps_type n) (keeps_two keeps_name (keeps_any (this_sign 59))))
 
 keeps_bag_fields : (n : ℕ) → Keeps (bag_fields n) (AllByRecursion IsSpelledField)
-keeps_bag_fields n = keeps_made (λ p. p.0) (AllByRecursion IsSpelledField) (λ p so. so.0) (keeps_many (keeps_bag_field n) (keeps_any (this_mark 125)))
+keeps_bag_fields n = keeps_made (λ p. p.0) (AllByRecursion IsSpelledField) (λ p so. so.0) (keeps_many (keeps_bag_field n) (keeps_any (this_sign 125)))
 
 keeps_struct_fields : (n : ℕ) → Keeps (struct_fields n) Any
-keeps_struct_fields n = keeps_made (λ p. p.0) Any (λ p so. tt) (keeps_many (keeps_struct_field n) (keeps_any (this_mark 125)))
+keeps_struct_fields n = keeps_made (λ p. p.0) Any (λ p so. tt) (keeps_many (keeps_struct_field n) (keeps_any (this_sign 125)))
 
 keeps_bag : (n : ℕ) → Keeps (a_bag n) IsSpelledDecl
 keeps_bag n =
     keeps_made (λ p. Bag p.1.0.0 p.1.0.1 p.1.1.1) IsSpelledDecl (λ p so. so.1.1.1)
-    (keeps_two (keeps_any (key (codes "bag"))) (keeps_two keeps_name (keeps_two (keeps_any (this_mark 123)) (keeps_bag_fields n))))
+    (keeps_two (keeps_any (this_word (codes "bag"))) (keeps_two keeps_name (keeps_two (keeps_any (this_sign 123)) (keeps_bag_fields n))))
 
 keeps_struct : (n : ℕ) → Keeps (a_struct n) IsSpelledDecl
 keeps_struct n =
     keeps_made (λ p. Struct p.1.0.0 p.1.0.1 p.1.1.1) IsSpelledDecl (λ p so. tt)
-    (keeps_two (keeps_any (key (codes "struct"))) (keeps_two keeps_name (keeps_two (keeps_any (this_mark 123)) (keeps_struct_fields n))))
+    (keeps_two (keeps_any (this_word (codes "struct"))) (keeps_two keeps_name (keeps_two (keeps_any (this_sign 123)) (keeps_struct_fields n))))
 
 keeps_import : Keeps an_import Any
 keeps_import =
-    keeps_made (λ p. record { file = p.1.0.0; at = p.1.0.1 }) Any (λ p so. tt) (keeps_two (keeps_any (key (codes "import"))) (keeps_two (keeps_any a_text) (keeps_any (this_mark 59))))
+    keeps_made (λ p. record { file = p.1.0.0; at = p.1.0.1 }) Any (λ p so. tt) (keeps_two (keeps_any (this_word (codes "import"))) (keeps_two (keeps_any a_text) (keeps_any (this_sign 59))))
 
 keeps_decls : (n : ℕ) → Keeps (the_decls n) AreSpelledDecls
 keeps_decls n = keeps_made (λ p. p.0) AreSpelledDecls (λ p so. so.0) (keeps_many (keeps_either (keeps_bag n) (keeps_struct n)) keeps_ended)

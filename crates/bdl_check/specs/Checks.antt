@@ -5,7 +5,7 @@ use Rattle.std.specs.Option.{is_some}
 use Rattle.bdl_load.specs.declared.faults.DefCode.TheVariants.{DuplicateName}
 use Rattle.bdl_load.specs.declared.faults.Finding.{Finding}
 use Rattle.bdl_load.specs.declared.files.LoadedFile.{LoadedFile}
-use Rattle.bdl_check.specs.Declarations.{Placed, decl_name_of, decl_place_of, all_placed, kind_named}
+use Rattle.bdl_check.specs.Declarations.{Placed, decl_name, decl_place, all_placed, kind_named}
 use Rattle.bdl_check.specs.Faults.{when}
 use Rattle.bdl_load.specs.declared.faults.Fault.{Fault}
 use Rattle.bdl_load.specs.Faults.{found, fault_in}
@@ -14,23 +14,23 @@ use Rattle.bdl_check.specs.Types.{Kinds}
 use Rattle.bdl_parser.specs.declared.trees.Decl.{Decl}
 
 -- These faults in this file.
-abbrev pub located_faults : List ℕ → List Finding → List Fault
-located_faults file findings = map (fault_in file) findings
+abbrev pub faults_in_file : List ℕ → List Finding → List Fault
+faults_in_file file findings = map (fault_in file) findings
 
 -- The fault of a declaration whose name an earlier one has.
 abbrev pub name_fault : Bool → Decl → List Finding
-name_fault is_taken decl = when is_taken (found (decl_place_of decl) DuplicateName)
+name_fault is_taken decl = when is_taken (found (decl_place decl) DuplicateName)
 
 -- The faults of the declarations' names behind the earlier declarations.
 abbrev pub name_faults : List Placed → List Placed → List Fault
 name_faults earlier [] = []
 name_faults earlier (d ∷ ds) =
-    located_faults d.file (name_fault (is_some (kind_named earlier (decl_name_of d.decl))) d.decl)
+    faults_in_file d.file (name_fault (is_some (kind_named earlier (decl_name d.decl))) d.decl)
     ++ name_faults (earlier ++ d ∷ []) ds
 
 -- The faults of each declaration.
 abbrev pub declaration_faults : Kinds → List Placed → List Fault
-declaration_faults kinds ds = flat_map (λ d. located_faults d.file (decl_faults kinds d.decl)) ds
+declaration_faults kinds ds = flat_map (λ d. faults_in_file d.file (decl_faults kinds d.decl)) ds
 
 -- First the names of all declarations, and then what each says.
 abbrev pub placed_faults : List Placed → List Fault

@@ -12,19 +12,19 @@ use Rattle.bdl_parser.specs.declared.trees.Decl.TheVariants.{Bag, Struct}
 use Rattle.bdl_parser.specs.declared.trees.Spot.{Spot}
 
 -- A declaration's name.
-abbrev pub decl_name_of : Decl → List ℕ
-decl_name_of (Bag name spot fields) = name
-decl_name_of (Struct name spot fields) = name
+abbrev pub decl_name : Decl → List ℕ
+decl_name (Bag name spot fields) = name
+decl_name (Struct name spot fields) = name
 
 -- The place of its name.
-abbrev pub decl_place_of : Decl → Spot
-decl_place_of (Bag name spot fields) = spot
-decl_place_of (Struct name spot fields) = spot
+abbrev pub decl_place : Decl → Spot
+decl_place (Bag name spot fields) = spot
+decl_place (Struct name spot fields) = spot
 
 -- What it declares.
-abbrev pub decl_kind_of : Decl → DeclKind
-decl_kind_of (Bag name spot fields) = IsBag
-decl_kind_of (Struct name spot fields) = IsStruct
+abbrev pub decl_kind : Decl → DeclKind
+decl_kind (Bag name spot fields) = IsBag
+decl_kind (Struct name spot fields) = IsStruct
 
 -- A declaration, and the name of its file.
 pub record Placed : Type 0 where
@@ -45,15 +45,15 @@ all_placed files = flat_map placed_in files
 
 -- The first declaration of this name.
 abbrev pub decl_named : List Placed → List ℕ → Option Placed
-decl_named ds text = find (λ d. bytes_eq (decl_name_of d.decl) text) ds
+decl_named ds text = find (λ d. bytes_eq (decl_name d.decl) text) ds
 
 -- Its number, from 0 on.
 abbrev pub number_named : List Placed → List ℕ → Option ℕ
-number_named ds text = position (λ d. bytes_eq (decl_name_of d.decl) text) ds
+number_named ds text = position (λ d. bytes_eq (decl_name d.decl) text) ds
 
 -- What it declares.
 abbrev pub kind_named : List Placed → List ℕ → Option DeclKind
-kind_named ds text = option_map (λ d. decl_kind_of d.decl) (decl_named ds text)
+kind_named ds text = option_map (λ d. decl_kind d.decl) (decl_named ds text)
 
 -- The names and the numbers of all fields are spelled as those of a table.
 abbrev pub AreSpelled : List Placed → Type 0

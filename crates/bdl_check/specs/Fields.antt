@@ -24,6 +24,7 @@ is_name_among text names = list_any (λ other. bytes_eq other text) names
 abbrev pub numbers_of : List BagFieldTree → List ℕ
 numbers_of fields = map (λ field. field.number) fields
 
+-- The names of fields, in their order.
 abbrev pub bag_field_names : List BagFieldTree → List (List ℕ)
 bag_field_names fields = map (λ field. field.name) fields
 

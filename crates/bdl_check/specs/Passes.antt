@@ -6,7 +6,7 @@ use Rattle.bdl_check.specs.declared.declarations.DeclKind.{DeclKind}
 use Rattle.bdl_check.specs.declared.declarations.DeclKind.TheVariants.{Bag as IsBag, Struct as IsStruct}
 use Rattle.bdl_check.specs.declared.types.Role.{Role}
 use Rattle.bdl_check.specs.declared.types.Role.TheVariants.{BagField, StructField, Element, Key, MapValue}
-use Rattle.bdl_check.specs.Declarations.{Placed, decl_name_of, kind_named}
+use Rattle.bdl_check.specs.Declarations.{Placed, decl_name, kind_named}
 use Rattle.bdl_check.specs.Fields.{numbers_of, bag_field_names, struct_names_of}
 use Rattle.bdl_check.specs.Types.{Kinds}
 use Rattle.bdl_parser.specs.declared.trees.Decl.{Decl}
@@ -19,12 +19,12 @@ are_distinct alike [] = true
 are_distinct alike (x ∷ xs) = not (list_any (alike x) xs) && are_distinct alike xs
 
 -- Any type may be the whole type of a bag's field and the value of a map.
-abbrev pub is_open_role : Role → Bool
-is_open_role BagField = true
-is_open_role StructField = false
-is_open_role Element = false
-is_open_role Key = false
-is_open_role MapValue = true
+abbrev pub takes_any_type : Role → Bool
+takes_any_type BagField = true
+takes_any_type StructField = false
+takes_any_type Element = false
+takes_any_type Key = false
+takes_any_type MapValue = true
 
 -- A struct's name may stand for the elements of a set and of a greatest too.
 abbrev pub may_name : Role → DeclKind → Bool
@@ -45,16 +45,16 @@ abbrev pub passes_leaf : Kinds → Role → Leaf → Bool
 passes_leaf kinds role (scalar word) = true
 passes_leaf kinds role float = false
 passes_leaf kinds role double = false
-passes_leaf kinds role taint = is_open_role role
-passes_leaf kinds role counter = is_open_role role
+passes_leaf kinds role taint = takes_any_type role
+passes_leaf kinds role counter = takes_any_type role
 passes_leaf kinds role (name text) = passes_name role (kinds text)
 
 -- A type passes where each of its nodes may stand where it stands.
 abbrev pub passes_type : Kinds → Role → TypeTree → Bool
 passes_type kinds role (leaf l spot) = passes_leaf kinds role l
-passes_type kinds role (held holding element spot) = is_open_role role && passes_type kinds Element element
+passes_type kinds role (held holding element spot) = takes_any_type role && passes_type kinds Element element
 passes_type kinds role (map_of key value spot) =
-    is_open_role role && (passes_type kinds Key key && passes_type kinds MapValue value)
+    takes_any_type role && (passes_type kinds Key key && passes_type kinds MapValue value)
 
 -- A bag's fields have types that pass, distinct numbers and distinct names; a struct has fields,
 -- with types that pass
@@ -71,5 +71,5 @@ passes_decl kinds (Struct called spot (field ∷ fields)) =
 -- The names of all declarations are distinct, and each declaration passes.
 abbrev pub pass : List Placed → Bool
 pass ds =
-    are_distinct bytes_eq (map (λ d. decl_name_of d.decl) ds)
+    are_distinct bytes_eq (map (λ d. decl_name d.decl) ds)
     && list_all (λ d. passes_decl (kind_named ds) d.decl) ds

@@ -1,7 +1,7 @@
 -- Which declarations a declaration names, and the first bag that stands inside itself.
 use Rattle.std.specs.Prelude.{◌≡◌, ℕ, List, [], ◌∷◌, ◌++◌, Some, map, slice_get}
 use Rattle.std.specs.List.{flat_map, filter_map}
-use Rattle.bdl_check.specs.Declarations.{Placed, decl_place_of, number_named}
+use Rattle.bdl_check.specs.Declarations.{Placed, decl_place, number_named}
 use Rattle.bdl_load.specs.declared.faults.DefCode.TheVariants.{Recursive}
 use Rattle.bdl_load.specs.declared.faults.Fault.{Fault}
 use Rattle.bdl_load.specs.Faults.{found, fault_in}
@@ -37,4 +37,4 @@ pub record IsRecursive (ds : List Placed) (fault : Fault) : Type 0 where
   pub bag : Placed
   pub first : IsFirstCyclic (links ds) number
   pub is : slice_get ds number ≡ Some bag
-  pub fault_is : fault ≡ fault_in bag.file (found (decl_place_of bag.decl) Recursive)
+  pub fault_is : fault ≡ fault_in bag.file (found (decl_place bag.decl) Recursive)

@@ -17,10 +17,10 @@ abbrev pub Kinds : Type 0
 Kinds = List ℕ → Option DeclKind
 
 -- The place of a type's first token.
-abbrev pub type_spot : TypeTree → Spot
-type_spot (leaf l spot) = spot
-type_spot (held holding element spot) = spot
-type_spot (map key value spot) = spot
+abbrev pub type_place : TypeTree → Spot
+type_place (leaf l spot) = spot
+type_place (held holding element spot) = spot
+type_place (map key value spot) = spot
 
 -- A scalar word.
 abbrev pub is_scalar : TypeTree → Bool
@@ -69,7 +69,7 @@ node_faults_at spot kinds role type =
 
 -- The same at its own place.
 abbrev pub node_faults : Kinds → Role → TypeTree → List Finding
-node_faults kinds role type = node_faults_at (type_spot type) kinds role type
+node_faults kinds role type = node_faults_at (type_place type) kinds role type
 
 -- The faults of a type: those of its nodes from left to right, a node before the nodes inside it.
 abbrev pub type_faults : Kinds → Role → TypeTree → List Finding

@@ -2,7 +2,7 @@
 
 ghost use Rattle.std.specs.Prelude.{◌≡◌, ◌++◌, [], ◌∷◌, length, map, not, slice_get, IfOk, OnOk, Ok, true, false};
 ghost use Rattle.std.specs.Option.{is_some, option_map};
-ghost use Rattle.bdl_check.specs.Declarations.{decl_named, number_named, kind_named, placed, decl_name_of, decl_place_of, decl_kind_of};
+ghost use Rattle.bdl_check.specs.Declarations.{decl_named, number_named, kind_named, placed, decl_name, decl_place, decl_kind};
 ghost use Rattle.bdl_check.specs.DeclarationViews.{placed_of};
 
 use bdl_parser::{Decl, Spot};
@@ -105,7 +105,7 @@ impl<'a> Declarations<'a> {
 
     /// Adds a declaration at the end, and answers whether its name is new. Where it isn't, nothing is added.
     pub(crate) fn declare(&mut self, file: &'a Text, decl: &'a Decl) -> Result<bool, Memory>
-        ensures new { IfOk result (λ new. new ≡ not (is_some (decl_named self.old (decl_name_of decl.now)))) }
+        ensures new { IfOk result (λ new. new ≡ not (is_some (decl_named self.old (decl_name decl.now)))) }
         ensures added { result ≡ Ok true → self.new ≡ self.old ++ placed file.now decl.now ∷ [] }
         ensures kept { result ≡ Ok false → self.new ≡ self.old }
     {
@@ -125,7 +125,7 @@ impl<'a> Declarations<'a> {
 
 /// A declaration's name.
 pub(crate) fn decl_name(decl: &Decl) -> &str
-    ensures { result.now ≡ decl_name_of decl.now }
+    ensures { result.now ≡ decl_name decl.now }
 {
     match decl {
         Decl::Bag { name, .. } | Decl::Struct { name, .. } => name.as_str(),
@@ -134,7 +134,7 @@ pub(crate) fn decl_name(decl: &Decl) -> &str
 
 /// The place of a declaration's name.
 pub(crate) fn decl_place(decl: &Decl) -> Spot
-    ensures { result ≡ decl_place_of decl.now }
+    ensures { result ≡ decl_place decl.now }
 {
     match decl {
         Decl::Bag { at, .. } | Decl::Struct { at, .. } => *at,
@@ -143,7 +143,7 @@ pub(crate) fn decl_place(decl: &Decl) -> Spot
 
 /// What a declaration declares.
 pub(crate) fn decl_kind(decl: &Decl) -> DeclKind
-    ensures { result ≡ decl_kind_of decl.now }
+    ensures { result ≡ decl_kind decl.now }
 {
     match decl {
         Decl::Bag { .. } => DeclKind::Bag,

@@ -4,7 +4,7 @@ ghost use Rattle.std.specs.Prelude.{◌≡◌, ◌++◌, IfOk, IfErr, OnOk};
 ghost use Rattle.std.specs.List.{filter_map};
 ghost use Rattle.bdl_load.specs.Faults.{found, fault_in};
 ghost use Rattle.bdl_load.specs.declared.faults.DefCode.TheVariants.{Recursive};
-ghost use Rattle.bdl_check.specs.Declarations.{number_named, decl_place_of};
+ghost use Rattle.bdl_check.specs.Declarations.{number_named, decl_place};
 ghost use Rattle.bdl_check.specs.DeclarationViews.{placed_of};
 ghost use Rattle.bdl_check.specs.Faults.{RefusesFor};
 ghost use Rattle.bdl_check.specs.Recursion.{names_in, uses, links, IsRecursive};
@@ -77,7 +77,7 @@ fn all_links(alloc: Global, declarations: &Declarations) -> Result<Vec<Vec<usize
 /// The fault of a declaration that stands inside itself.
 fn recursive(declaration: &Declaration) -> Result<Fault, Memory>
     ensures { IfOk result (λ fault. fault ≡ fault_in declaration.now.file.now
-        (found (decl_place_of declaration.now.decl.now) Recursive)) }
+        (found (decl_place declaration.now.decl.now) Recursive)) }
 {
     let found = Finding {
         at: decl_place(declaration.decl),

@@ -10,7 +10,7 @@ use Rattle.bdl_lexer.specs.declared.TokenClass.{TokenClass}
 use Rattle.bdl_lexer.specs.Faults.{IsFault, IsNotUtf8, IsFaultBehind, FirstLexicalFault}
 use Rattle.bdl_lexer.specs.Scan.{IsPiece}
 use Rattle.bdl_lexer.specs.Places.{first_place, place_behind}
-use Rattle.bdl_lexer.specs.Tokens.{SourcePiece, BeginsWithPieces, tokens_from, source_text_of, AreTokensOf}
+use Rattle.bdl_lexer.specs.Tokens.{SourcePiece, BeginsWithPieces, tokens_from, text_of_pieces, AreTokensOf}
 use Rattle.bdl_lexer.proofs.OnePiece.{piece_same, piece_some, fault_some, piece_or_fault, code_same}
 
 -- no piece is whole here
@@ -74,7 +74,7 @@ invalid_same source line column other there p q =
 behind_same : (source : List ℕ) (line column other there : ℕ) (code unlike : LexCode) → IsFaultBehind source line column code → IsFaultBehind source other there unlike → IsOneFault line column other there code unlike
 behind_same source line column other there code unlike p q =
     let same = one_cut p.pieces q.pieces source p.rest q.rest p.begins q.begins (none_at_fault code p.rest p.fault) (none_at_fault unlike q.rest q.fault) in
-    let places = ap (λ ps. place_behind first_place (source_text_of ps)) same.0 in
+    let places = ap (λ ps. place_behind first_place (text_of_pieces ps)) same.0 in
     record {
       line_is = p.line_is ∙ ap (λ w. w.line) places ∙ sym q.line_is;
       column_is = p.column_is ∙ ap (λ w. w.column) places ∙ sym q.column_is;

@@ -11,7 +11,7 @@ use Rattle.bdl_lexer.specs.declared.TheConstants.{MAX_NUMBER}
 use Rattle.bdl_lexer.specs.declared.TokenClass.TheVariants.{Word, Number, Text, Sign}
 use Rattle.bdl_lexer.specs.Bytes.{is_letter, is_word_byte, is_text_byte, is_line_byte, is_sign}
 use Rattle.bdl_lexer.specs.Faults.{IsOpenString, IsLargeNumber}
-use Rattle.bdl_lexer.specs.Scan.{number_value_of, IsNumberToken, EndsLine, HasNoClose}
+use Rattle.bdl_lexer.specs.Scan.{decimal_value, IsNumberToken, EndsLine, HasNoClose}
 use Rattle.bdl_lexer.specs.Lexer.{StandsFirst, ClosesAt}
 use Rattle.bdl_lexer.proofs.Runs.{StopsAt, IsRun, run_of}
 use Rattle.bdl_lexer.proofs.Longest.{letter_in_word, word_longest, number_longest, text_longest, sign_longest}
@@ -49,7 +49,7 @@ digits_pass s n len = (run_of is_ascii_digit s n len).each
 record IsDigits (s : List ℕ) (n : ℕ) : Type 0 where
   some : 0 < n
   within : n ≤ length s
-  number : IsNumberToken (number_value_of (take n s)) (take n s)
+  number : IsNumberToken (decimal_value (take n s)) (take n s)
   stops : StopsAt is_ascii_digit (drop n s)
 
 digits_of : (s : List ℕ) (n : ℕ) → 0 < length s → is_ascii_digit (get_or s 0 0) ≡ true → n ≡ length (take_while is_ascii_digit s) → IsDigits s n
@@ -60,7 +60,7 @@ digits_of (first ∷ more) n some e len =
     let full = length-take-le n (first ∷ more) run.within in
     record { some = positive; within = run.within; number = record { nonempty = omega arith; each = run.each; value_is = refl }; stops = run.stops }
 
-pub number_stands : (s : List ℕ) (n value : ℕ) → 0 < length s → is_ascii_digit (get_or s 0 0) ≡ true → n ≡ length (take_while is_ascii_digit s) → value ≡ number_value_of (take n s) → value ≤ MAX_NUMBER → StandsFirst (Some (Number value)) n s
+pub number_stands : (s : List ℕ) (n value : ℕ) → 0 < length s → is_ascii_digit (get_or s 0 0) ≡ true → n ≡ length (take_while is_ascii_digit s) → value ≡ decimal_value (take n s) → value ≤ MAX_NUMBER → StandsFirst (Some (Number value)) n s
 number_stands s n value some e len is small =
     let digits = digits_of s n some e len in
     record {
@@ -72,15 +72,15 @@ number_stands s n value some e len is small =
       };
     }
 
-pub number_large : (s : List ℕ) (n : ℕ) → 0 < length s → is_ascii_digit (get_or s 0 0) ≡ true → n ≡ length (take_while is_ascii_digit s) → MAX_NUMBER < number_value_of (take n s) → IsLargeNumber s
+pub number_large : (s : List ℕ) (n : ℕ) → 0 < length s → is_ascii_digit (get_or s 0 0) ≡ true → n ≡ length (take_while is_ascii_digit s) → MAX_NUMBER < decimal_value (take n s) → IsLargeNumber s
 number_large s n some e len large =
     let digits = digits_of s n some e len in
     record {
-      value = number_value_of (take n s);
+      value = decimal_value (take n s);
       digits = take n s;
       after = drop n s;
       is = sym (take-append-drop n s);
-      longest = number_longest (number_value_of (take n s)) (take n s) (drop n s) digits.number digits.stops;
+      longest = number_longest (decimal_value (take n s)) (take n s) (drop n s) digits.number digits.stops;
       large = large;
     }
 
@@ -89,15 +89,15 @@ grows a [] = omega arith
 grows a (x ∷ xs) = let more = grows (10 * a + (x - 48)) xs in omega arith
 
 -- what the first digits spell is no more than what all of them spell
-pub front_no_more : (xs : List ℕ) (i : ℕ) → number_value_of (take i xs) ≤ number_value_of xs
+pub front_no_more : (xs : List ℕ) (i : ℕ) → decimal_value (take i xs) ≤ decimal_value xs
 front_no_more xs i =
     let f : ℕ → ℕ → ℕ = λ value digit. 10 * value + (digit - 48) in
-    let whole : fold f 0 (take i xs ++ drop i xs) ≡ number_value_of xs = ap (fold f 0) (take-append-drop i xs) in
-    let parts : fold f 0 (take i xs ++ drop i xs) ≡ fold f (number_value_of (take i xs)) (drop i xs) = fold-append f 0 (take i xs) (drop i xs) in
-    let more = grows (number_value_of (take i xs)) (drop i xs) in
+    let whole : fold f 0 (take i xs ++ drop i xs) ≡ decimal_value xs = ap (fold f 0) (take-append-drop i xs) in
+    let parts : fold f 0 (take i xs ++ drop i xs) ≡ fold f (decimal_value (take i xs)) (drop i xs) = fold-append f 0 (take i xs) (drop i xs) in
+    let more = grows (decimal_value (take i xs)) (drop i xs) in
     omega arith
 
-pub one_more_digit : (xs : List ℕ) (i value : ℕ) → i < length xs → value ≡ number_value_of (take i xs) → MAX_NUMBER < 10 * value + (get_or xs i 0 - 48) → MAX_NUMBER < number_value_of xs
+pub one_more_digit : (xs : List ℕ) (i value : ℕ) → i < length xs → value ≡ decimal_value (take i xs) → MAX_NUMBER < 10 * value + (get_or xs i 0 - 48) → MAX_NUMBER < decimal_value xs
 one_more_digit xs i value short is large =
     let next = fold_more (λ value digit. 10 * value + (digit - 48)) 0 xs i 0 short in
     let most = front_no_more xs (i + 1) in

@@ -10,7 +10,7 @@ use Rattle.bdl_lexer.specs.declared.TokenClass.{TokenClass}
 use Rattle.bdl_lexer.specs.Scan.{IsPiece}
 use Rattle.bdl_lexer.specs.Places.{first_place, next_place, place_behind}
 use Rattle.bdl_lexer.specs.Lexer.{StandsFirst, IsTaken}
-use Rattle.bdl_lexer.specs.Tokens.{SourcePiece, BeginsWithPieces, token_of, token_at, tokens_from, source_text_of, AreTokensOf}
+use Rattle.bdl_lexer.specs.Tokens.{SourcePiece, BeginsWithPieces, token_of, token_at, tokens_from, text_of_pieces, AreTokensOf}
 
 -- a piece at the front, and the bytes behind it
 pub taken : (class : Option TokenClass) (len : ℕ) (bytes after : List ℕ) (place next : Place) (answer : Option Token) → StandsFirst class len bytes → after ≡ drop len bytes → next ≡ place_behind place (take len bytes) → answer ≡ option_map (token_of place len) class → IsTaken bytes place after next answer
@@ -30,26 +30,26 @@ begins_more [] source before after piece begins is whole = (after, begins ∙ is
 begins_more (p ∷ pieces) source before after piece begins is whole =
     (begins.0, begins.1, begins.2, begins_more pieces begins.0 before after piece begins.3 is whole)
 
-tokens_more : (pieces : List SourcePiece) (place : Place) (piece : SourcePiece) → tokens_from place (pieces ++ piece ∷ []) ≡ tokens_from place pieces ++ option_to_list (token_at (place_behind place (source_text_of pieces)) piece)
+tokens_more : (pieces : List SourcePiece) (place : Place) (piece : SourcePiece) → tokens_from place (pieces ++ piece ∷ []) ≡ tokens_from place pieces ++ option_to_list (token_at (place_behind place (text_of_pieces pieces)) piece)
 tokens_more [] place piece = append-nil (option_to_list (token_at place piece))
 tokens_more (p ∷ pieces) place piece =
     let here = option_to_list (token_at place p) in
     let behind = place_behind place p.text in
     ap (λ ts. here ++ ts) (tokens_more pieces behind piece)
-    ∙ sym (append_assoc here (tokens_from behind pieces) (option_to_list (token_at (place_behind behind (source_text_of pieces)) piece)))
-    ∙ ap (λ q. (here ++ tokens_from behind pieces) ++ option_to_list (token_at q piece)) (sym (fold-append next_place place p.text (source_text_of pieces)))
+    ∙ sym (append_assoc here (tokens_from behind pieces) (option_to_list (token_at (place_behind behind (text_of_pieces pieces)) piece)))
+    ∙ ap (λ q. (here ++ tokens_from behind pieces) ++ option_to_list (token_at q piece)) (sym (fold-append next_place place p.text (text_of_pieces pieces)))
 
 -- so far: these tokens, with this rest and place
 pub record LexedTo (source : List ℕ) (tokens : List Token) (rest : List ℕ) (place : Place) : Type 0 where
   pub pieces : List SourcePiece
   pub begins : BeginsWithPieces pieces source rest
   pub are : tokens ≡ tokens_from first_place pieces
-  pub place_is : place ≡ place_behind first_place (source_text_of pieces)
+  pub place_is : place ≡ place_behind first_place (text_of_pieces pieces)
 
 pub lexed_more : (source : List ℕ) (tokens : List Token) (rest after : List ℕ) (place next : Place) (answer : Option Token) → LexedTo source tokens rest place → IsTaken rest place after next answer → LexedTo source (tokens ++ option_to_list answer) after next
 lexed_more source tokens rest after place next answer so_far step =
     let pieces = so_far.pieces in
-    let texts : source_text_of (pieces ++ step.piece ∷ []) ≡ source_text_of pieces ++ step.piece.text = sym (flat_map_more (λ (p : SourcePiece). p.text) [] pieces step.piece) in
+    let texts : text_of_pieces (pieces ++ step.piece ∷ []) ≡ text_of_pieces pieces ++ step.piece.text = sym (flat_map_more (λ (p : SourcePiece). p.text) [] pieces step.piece) in
     record {
       pieces = pieces ++ step.piece ∷ [];
       begins = begins_more pieces source rest after step.piece so_far.begins step.is step.whole;
@@ -60,7 +60,7 @@ lexed_more source tokens rest after place next answer so_far step =
       place_is =
           step.next_is
           ∙ ap (λ p. place_behind p step.piece.text) so_far.place_is
-          ∙ sym (fold-append next_place first_place (source_text_of pieces) step.piece.text)
+          ∙ sym (fold-append next_place first_place (text_of_pieces pieces) step.piece.text)
           ∙ ap (place_behind first_place) (sym texts);
     }
 

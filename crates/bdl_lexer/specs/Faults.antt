@@ -12,7 +12,7 @@ use Rattle.bdl_lexer.specs.declared.TokenClass.TheVariants.{Number}
 use Rattle.bdl_lexer.specs.Bytes.{quote, star, slash, is_blank, is_letter, is_text_byte, is_sign}
 use Rattle.bdl_lexer.specs.Scan.{IsLongest, EndsLine, HasNoClose}
 use Rattle.bdl_lexer.specs.Places.{first_place, place_behind}
-use Rattle.bdl_lexer.specs.Tokens.{SourcePiece, BeginsWithPieces, source_text_of}
+use Rattle.bdl_lexer.specs.Tokens.{SourcePiece, BeginsWithPieces, text_of_pieces}
 
 -- Behind a slash, a slash or a star begins a comment.
 abbrev pub begins_comment : List ℕ → Bool
@@ -76,8 +76,8 @@ pub record IsFaultBehind (source : List ℕ) (line column : ℕ) (code : LexCode
   pub rest : List ℕ
   pub begins : BeginsWithPieces pieces source rest
   pub fault : IsFault code rest
-  pub line_is : line ≡ (place_behind first_place (source_text_of pieces)).line
-  pub column_is : column ≡ (place_behind first_place (source_text_of pieces)).column
+  pub line_is : line ≡ (place_behind first_place (text_of_pieces pieces)).line
+  pub column_is : column ≡ (place_behind first_place (text_of_pieces pieces)).column
 
 -- The first lexical fault of a source, with its line, column and code.
 abbrev pub FirstLexicalFault : List ℕ → ℕ → ℕ → LexCode → Type 0
@@ -85,6 +85,6 @@ FirstLexicalFault source line column NotUtf8 = IsNotUtf8 source line column
 FirstLexicalFault source line column code = IsFaultBehind source line column code
 
 -- What a refusal says: the first fault, or that there is no memory.
-abbrev pub IsLexRefusalOf : List ℕ → LexFault → Type 0
-IsLexRefusalOf source (At line column code) = FirstLexicalFault source line column code
-IsLexRefusalOf source Memory = Unit {0}
+abbrev pub IsLexicalRefusalOf : List ℕ → LexFault → Type 0
+IsLexicalRefusalOf source (At line column code) = FirstLexicalFault source line column code
+IsLexicalRefusalOf source Memory = Unit {0}

@@ -8,8 +8,8 @@ use Rattle.bdl_lexer.specs.declared.TokenClass.TheVariants.{Word, Number, Text, 
 use Rattle.bdl_lexer.specs.Bytes.{line_feed, quote, star, slash, is_blank, is_letter, is_word_byte, is_text_byte, is_line_byte, is_sign}
 
 -- The number that these decimal digits spell.
-abbrev pub number_value_of : List ℕ → ℕ
-number_value_of digits = fold (λ value digit. 10 * value + (digit - 48)) 0 digits
+abbrev pub decimal_value : List ℕ → ℕ
+decimal_value digits = fold (λ value digit. 10 * value + (digit - 48)) 0 digits
 
 -- A Word is a letter, and then letters and digits.
 pub record IsWord (text : List ℕ) : Type 0 where
@@ -23,7 +23,7 @@ pub record IsWord (text : List ℕ) : Type 0 where
 pub record IsNumberToken (value : ℕ) (text : List ℕ) : Type 0 where
   pub nonempty : 0 < length text
   pub each : AllPass is_ascii_digit text
-  pub value_is : value ≡ number_value_of text
+  pub value_is : value ≡ decimal_value text
 
 -- A Text is a quote, bytes that a Text may hold, and a quote.
 pub record IsText (text : List ℕ) : Type 0 where

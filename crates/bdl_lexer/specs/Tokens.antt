@@ -35,8 +35,8 @@ tokens_from place (piece ∷ pieces) =
     option_to_list (token_at place piece) ++ tokens_from (place_behind place piece.text) pieces
 
 -- The bytes of these pieces.
-abbrev pub source_text_of : List SourcePiece → List ℕ
-source_text_of pieces = flat_map (λ piece. piece.text) pieces
+abbrev pub text_of_pieces : List SourcePiece → List ℕ
+text_of_pieces pieces = flat_map (λ piece. piece.text) pieces
 
 -- The tokens of a source: it is UTF-8, pieces make it up, and these are the tokens among them.
 pub record AreTokensOf (source : List ℕ) (tokens : List Token) : Type 0 where

@@ -8,7 +8,7 @@
 ghost use Rattle.std.specs.Prelude.{◌≤◌, length, All, IfOk, IfErr};
 ghost use Rattle.bdl_lexer.specs.Spans.{LiesIn, AreInOrder};
 ghost use Rattle.bdl_lexer.specs.Tokens.{AreTokensOf};
-ghost use Rattle.bdl_lexer.specs.Faults.{IsLexRefusalOf};
+ghost use Rattle.bdl_lexer.specs.Faults.{IsLexicalRefusalOf};
 
 pub mod laws;
 mod lexer;
@@ -95,7 +95,7 @@ pub fn lex(alloc: Global, source: &[u8]) -> Result<Vec<Token>, LexFault>
     ensures tokens { IfOk result (λ tokens. AreTokensOf source.now tokens.items) }
     ensures lie { IfOk result (λ tokens. All (LiesIn source.now) tokens.items) }
     ensures order { IfOk result (λ tokens. AreInOrder 0 tokens.items) }
-    ensures fault { IfErr result (IsLexRefusalOf source.now) }
+    ensures fault { IfErr result (IsLexicalRefusalOf source.now) }
 {
     let mut lexer = Lexer::new(source);
     if let Err(error) = str::from_utf8(source) {

@@ -4,7 +4,7 @@ ghost use Rattle.std.specs.Prelude.{◌≡◌, ℕ, ◌<◌, true, length, slice
 ghost use Rattle.std.specs.Char.{is_ascii_digit};
 ghost use Rattle.std.specs.List.{AllPass, take_while};
 ghost use Rattle.bdl_lexer.specs.Bytes.{is_blank, is_letter, is_word_byte, is_text_byte, is_line_byte, is_sign};
-ghost use Rattle.bdl_lexer.specs.Scan.{number_value_of, HasNoClose};
+ghost use Rattle.bdl_lexer.specs.Scan.{decimal_value, HasNoClose};
 ghost use Rattle.bdl_lexer.specs.Faults.{IsFault};
 ghost use Rattle.bdl_lexer.specs.Lexer.{StandsFirst, ClosesAt};
 
@@ -77,7 +77,7 @@ fn line_len(bytes: &[u8]) -> usize
 /// The number that decimal digits spell, if it is in range.
 fn number_of(digits: &[u8]) -> Option<u16>
     requires { AllPass is_ascii_digit digits.now }
-    ensures { MatchOption result (MAX_NUMBER < number_value_of digits.now) (λ value. value ≡ number_value_of digits.now) }
+    ensures { MatchOption result (MAX_NUMBER < decimal_value digits.now) (λ value. value ≡ decimal_value digits.now) }
 {
     let mut value: u32 = 0;
     for digit in digits {

@@ -2,9 +2,9 @@
 
 ghost use Rattle.std.specs.Prelude.{◌≡◌, ◌≤◌, IfOk, IfErr, IsErrOf, length};
 ghost use Rattle.std.specs.List.{slice_get};
-ghost use Rattle.bdl_lexer.specs.Faults.{IsLexRefusalOf};
+ghost use Rattle.bdl_lexer.specs.Faults.{IsLexicalRefusalOf};
 ghost use Rattle.bdl_lexer.specs.Tokens.{AreTokensOf};
-ghost use Rattle.bdl_parser.specs.FirstFault.{IsParseFaultOf};
+ghost use Rattle.bdl_parser.specs.FirstFault.{IsParseRefusalOf};
 ghost use Rattle.bdl_parser.specs.Lexemes.{lexemes_of};
 ghost use Rattle.bdl_load.specs.Faults.{Blames};
 ghost use Rattle.bdl_load.specs.Source.{of_lexer, of_parser, spot_at, SaysModule, IsFaultOfSource};
@@ -52,7 +52,7 @@ fn spot_of(source: &[u8], tokens: &[Token], number: usize) -> Spot
 /// The refusal for a lexical fault of the file of this name.
 fn lexical(alloc: Global, name: &str, source: &[u8], fault: LexFault) -> DefFault
     requires fits { length source.now ≤ MAX_SOURCE }
-    requires fault { IsLexRefusalOf source.now fault }
+    requires fault { IsLexicalRefusalOf source.now fault }
     ensures says { Blames (IsFaultOfSource name.now source.now) result }
     ensures inside { result ≡ DefFault.Failed → ⊥ }
 {
@@ -74,7 +74,7 @@ fn syntactic(
 ) -> DefFault
     requires fits { length source.now ≤ MAX_SOURCE }
     requires are { AreTokensOf source.now tokens.now }
-    requires fault { IsParseFaultOf (lexemes_of source.now tokens.now) fault }
+    requires fault { IsParseRefusalOf (lexemes_of source.now tokens.now) fault }
     ensures says { Blames (IsFaultOfSource name.now source.now) result }
     ensures inside { result ≡ DefFault.Failed → ⊥ }
 {

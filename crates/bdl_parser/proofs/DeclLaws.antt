@@ -9,7 +9,7 @@ use Rattle.bdl_parser.specs.declared.trees.Decl.{Decl}
 use Rattle.bdl_parser.specs.declared.trees.Import.{Import}
 use Rattle.bdl_parser.specs.declared.trees.Module.{Module}
 use Rattle.bdl_parser.specs.declared.trees.Spot.{Spot}
-use Rattle.bdl_parser.specs.Grammar.{key, this_mark, a_type, a_bag, a_struct, a_decl, an_import, the_decls, a_module}
+use Rattle.bdl_parser.specs.Grammar.{this_word, this_sign, a_type, a_bag, a_struct, a_decl, an_import, the_decls, a_module}
 use Rattle.bdl_parser.specs.Lexemes.{Lexeme}
 use Rattle.bdl_parser.specs.Refusals.{meets, IsFormRefused, is_type_first}
 use Rattle.grammar_model.specs.Forms.{Form, IsOne, token, made, Repeats, many, at_end}
@@ -31,50 +31,50 @@ read_shorter f first law ts a rest r =
 types_grow : (room : ℕ) → Grows (a_type room) (a_type (room + 1))
 types_grow room = let e : suc room ≡ room + 1 = omega arith in subst (λ m. Grows (a_type room) (a_type m)) e (grows_type room)
 
-no_brace : (ts : List Lexeme) → meets (this_mark 125) ts ≡ false → AreNotHere (one (this_mark 125)) ts
-no_brace ts e n = not_here (token (this_mark 125)) (λ t. is_some (this_mark 125 t)) (law_token (this_mark 125)) ts e
+no_brace : (ts : List Lexeme) → meets (this_sign 125) ts ≡ false → AreNotHere (one (this_sign 125)) ts
+no_brace ts e n = not_here (token (this_sign 125)) (λ t. is_some (this_sign 125 t)) (law_token (this_sign 125)) ts e
 
-brace_ender : (n : ℕ) → IsEnder (token (this_mark 125)) (λ t. is_some (this_mark 125 t))
-brace_ender n = ender_of (token (this_mark 125)) (λ t. is_some (this_mark 125 t)) (law_token (this_mark 125))
+brace_ender : (n : ℕ) → IsEnder (token (this_sign 125)) (λ t. is_some (this_sign 125 t))
+brace_ender n = ender_of (token (this_sign 125)) (λ t. is_some (this_sign 125 t)) (law_token (this_sign 125))
 
 module _ {A : Type 0} (F : Family A) (lawful : AreLawful F is_type_first) (grows : (n m : ℕ) → Grows (a_type n) (a_type m) → Grows (F n) (F m)) where
-  pub fields_item : (room : ℕ) (items : List A) (e : FormFault) (ts mid bad : List Lexeme) → TakenItems F room ts items mid → meets (this_mark 125) mid ≡ false → IsFormRefused F room e mid bad → IsFormRefused (λ n. made (λ (p : List A × Spot). p.0) (many (F n) (token (this_mark 125)))) room e ts bad
+  pub fields_item : (room : ℕ) (items : List A) (e : FormFault) (ts mid bad : List Lexeme) → TakenItems F room ts items mid → meets (this_sign 125) mid ≡ false → IsFormRefused F room e mid bad → IsFormRefused (λ n. made (λ (p : List A × Spot). p.0) (many (F n) (token (this_sign 125)))) room e ts bad
   fields_item room items e ts mid bad so_far open_ r =
-      refused_made (λ (p : List A × Spot). p.0) (repeat_until F (one (this_mark 125))) room e ts bad
-      (item_refused F (one (this_mark 125)) room is_type_first (λ t. is_some (this_mark 125 t)) lawful brace_ender (type_or_mark 125) (grows room (room + 1) (types_grow room)) items e ts mid bad so_far (no_brace mid open_) r)
+      refused_made (λ (p : List A × Spot). p.0) (repeat_until F (one (this_sign 125))) room e ts bad
+      (item_refused F (one (this_sign 125)) room is_type_first (λ t. is_some (this_sign 125 t)) lawful brace_ender (type_or_mark 125) (grows room (room + 1) (types_grow room)) items e ts mid bad so_far (no_brace mid open_) r)
 
-  pub fields_taken : (room : ℕ) (items : List A) (ts mid rest : List Lexeme) (spot : Spot) → TakenItems F room ts items mid → IsOne (this_mark 125) mid spot rest → Taken (λ n. made (λ (p : List A × Spot). p.0) (many (F n) (token (this_mark 125)))) room ts items rest
+  pub fields_taken : (room : ℕ) (items : List A) (ts mid rest : List Lexeme) (spot : Spot) → TakenItems F room ts items mid → IsOne (this_sign 125) mid spot rest → Taken (λ n. made (λ (p : List A × Spot). p.0) (many (F n) (token (this_sign 125)))) room ts items rest
   fields_taken room items ts mid rest spot so_far end =
-      taken_made (λ (p : List A × Spot). p.0) (repeat_until F (one (this_mark 125))) room ts (items, spot) rest
-      (taken_many F (one (this_mark 125)) room items ts mid spot rest so_far (taken_token (this_mark 125) room mid spot rest end))
+      taken_made (λ (p : List A × Spot). p.0) (repeat_until F (one (this_sign 125))) room ts (items, spot) rest
+      (taken_many F (one (this_sign 125)) room items ts mid spot rest so_far (taken_token (this_sign 125) room mid spot rest end))
 
 -- a bag or a struct
 
 abbrev bag_test : Lexeme → Bool
-bag_test t = is_some (key (codes "bag") t)
+bag_test t = is_some (this_word (codes "bag") t)
 
 abbrev struct_test : Lexeme → Bool
-struct_test t = is_some (key (codes "struct") t)
+struct_test t = is_some (this_word (codes "struct") t)
 
-no_struct : (ts : List Lexeme) → meets (key (codes "bag")) ts ≡ true → AreNotHere a_struct ts
+no_struct : (ts : List Lexeme) → meets (this_word (codes "bag")) ts ≡ true → AreNotHere a_struct ts
 no_struct ts e n =
     not_here_apart (a_struct n) bag_test struct_test (ender_of (a_struct n) struct_test (lawful_struct n)) bag_apart ts e
 
-no_bag : (ts : List Lexeme) → meets (key (codes "struct")) ts ≡ true → AreNotHere a_bag ts
+no_bag : (ts : List Lexeme) → meets (this_word (codes "struct")) ts ≡ true → AreNotHere a_bag ts
 no_bag ts e n =
     not_here_apart (a_bag n) struct_test bag_test (ender_of (a_bag n) bag_test (lawful_bag n)) (λ t p q. bag_apart t q p) ts e
 
-pub decl_bag : (room : ℕ) (e : FormFault) (ts bad : List Lexeme) → meets (key (codes "bag")) ts ≡ true → IsFormRefused a_bag room e ts bad → IsFormRefused a_decl room e ts bad
+pub decl_bag : (room : ℕ) (e : FormFault) (ts bad : List Lexeme) → meets (this_word (codes "bag")) ts ≡ true → IsFormRefused a_bag room e ts bad → IsFormRefused a_decl room e ts bad
 decl_bag room e ts bad here r = refused_left a_bag a_struct room e ts bad (no_struct ts here) r
 
-pub decl_struct : (room : ℕ) (e : FormFault) (ts bad : List Lexeme) → meets (key (codes "struct")) ts ≡ true → IsFormRefused a_struct room e ts bad → IsFormRefused a_decl room e ts bad
+pub decl_struct : (room : ℕ) (e : FormFault) (ts bad : List Lexeme) → meets (this_word (codes "struct")) ts ≡ true → IsFormRefused a_struct room e ts bad → IsFormRefused a_decl room e ts bad
 decl_struct room e ts bad here r = refused_right a_bag a_struct room e ts bad (no_bag ts here) r
 
-none_of_two : (ts : List Lexeme) → meets (key (codes "bag")) ts ≡ false → meets (key (codes "struct")) ts ≡ false → first_passes is_decl_first ts ≡ false
+none_of_two : (ts : List Lexeme) → meets (this_word (codes "bag")) ts ≡ false → meets (this_word (codes "struct")) ts ≡ false → first_passes is_decl_first ts ≡ false
 none_of_two [] p q = refl
 none_of_two (t ∷ ts) p q = λ i. p i || q i
 
-pub no_decl : (room : ℕ) (ts : List Lexeme) → meets (key (codes "bag")) ts ≡ false → meets (key (codes "struct")) ts ≡ false → IsFormRefused a_decl room (Wrong Expected) ts ts
+pub no_decl : (room : ℕ) (ts : List Lexeme) → meets (this_word (codes "bag")) ts ≡ false → meets (this_word (codes "struct")) ts ≡ false → IsFormRefused a_decl room (Wrong Expected) ts ts
 no_decl room ts p q = λ n le. stops_here (a_decl n) is_decl_first (lawful_decl n) ts (none_of_two ts p q)
 
 -- declarations to the end
@@ -103,15 +103,15 @@ decls_taken room items ts (t ∷ mid) so_far none = absurd (omega arith)
 -- imports
 
 abbrev import_test : Lexeme → Bool
-import_test t = is_some (key (codes "import") t)
+import_test t = is_some (this_word (codes "import") t)
 
 abbrev the_import : Family Import
 the_import n = an_import
 
-no_decls : (ts : List Lexeme) → meets (key (codes "import")) ts ≡ true → AreNotHere the_decls ts
+no_decls : (ts : List Lexeme) → meets (this_word (codes "import")) ts ≡ true → AreNotHere the_decls ts
 no_decls ts e n = not_here_apart (the_decls n) import_test is_decl_or_never (ender_decls n) import_apart ts e
 
-no_import : (ts : List Lexeme) → meets (key (codes "import")) ts ≡ false → AreNotHere the_import ts
+no_import : (ts : List Lexeme) → meets (this_word (codes "import")) ts ≡ false → AreNotHere the_import ts
 no_import ts e n = not_here an_import import_test lawful_import ts e
 
 -- an import is refused whatever the room
@@ -120,7 +120,7 @@ any_room room (Wrong Expected) ts bad r = λ n le. r n (omega arith)
 any_room room (Wrong TypeNesting) ts bad r = r
 any_room room Memory ts bad r = tt
 
-pub imports_item : (room : ℕ) (items : List Import) (e : FormFault) (ts mid bad : List Lexeme) → Repeats an_import ts items mid → meets (key (codes "import")) mid ≡ true → IsFormRefused the_import 0 e mid bad → IsFormRefused (λ n. many an_import (the_decls n)) room e ts bad
+pub imports_item : (room : ℕ) (items : List Import) (e : FormFault) (ts mid bad : List Lexeme) → Repeats an_import ts items mid → meets (this_word (codes "import")) mid ≡ true → IsFormRefused the_import 0 e mid bad → IsFormRefused (λ n. many an_import (the_decls n)) room e ts bad
 imports_item room items e ts mid bad so_far here r =
     item_refused the_import the_decls room import_test is_decl_or_never (λ n. lawful_import) ender_decls import_apart (grows_same an_import) items e ts mid bad (λ n le. so_far) (no_decls mid here) (any_room room e mid bad r)
 
@@ -139,7 +139,7 @@ module_make p = record { imports = p.0; decls = p.1 }
 pub module_imports : (e : FormFault) (ts bad : List Lexeme) → IsFormRefused (λ n. many an_import (the_decls n)) MAX_NESTING e ts bad → IsFormRefused a_module MAX_NESTING e ts bad
 module_imports e ts bad r = refused_made module_make (repeat_until the_import the_decls) MAX_NESTING e ts bad r
 
-pub module_decls : (items : List Import) (e : FormFault) (ts mid bad : List Lexeme) → Repeats an_import ts items mid → meets (key (codes "import")) mid ≡ false → IsFormRefused the_decls MAX_NESTING e mid bad → IsFormRefused a_module MAX_NESTING e ts bad
+pub module_decls : (items : List Import) (e : FormFault) (ts mid bad : List Lexeme) → Repeats an_import ts items mid → meets (this_word (codes "import")) mid ≡ false → IsFormRefused the_decls MAX_NESTING e mid bad → IsFormRefused a_module MAX_NESTING e ts bad
 module_decls items e ts mid bad so_far none r =
     refused_made module_make (repeat_until the_import the_decls) MAX_NESTING e ts bad
     (last_refused the_import the_decls MAX_NESTING import_test is_decl_or_never (λ n. lawful_import) ender_decls import_apart (grows_same an_import) items e ts mid bad (λ n le. so_far) (no_import mid none) r)

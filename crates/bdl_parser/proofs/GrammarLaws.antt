@@ -8,7 +8,7 @@ use Rattle.bdl_parser.specs.declared.trees.Decl.{Decl}
 use Rattle.bdl_parser.specs.declared.trees.Holding.{Holding}
 use Rattle.bdl_parser.specs.declared.trees.Holding.TheVariants.{AsSet, AsGreatest}
 use Rattle.bdl_parser.specs.declared.trees.Spot.{Spot}
-use Rattle.bdl_parser.specs.Grammar.{is_this_word, is_mark, key, this_mark, a_name, a_number, a_text, a_leaf, leaf_in, holding_in, a_holding, held_of, map_of, a_type, a_bag_field, a_struct_field, bag_fields, struct_fields, a_bag, a_struct, a_decl, an_import, the_decls, a_module}
+use Rattle.bdl_parser.specs.Grammar.{is_this_word, is_this_sign, this_word, this_sign, a_name, a_number, a_text, a_leaf, leaf_in, holding_in, a_holding, held_of, map_of, a_type, a_bag_field, a_struct_field, bag_fields, struct_fields, a_bag, a_struct, a_decl, an_import, the_decls, a_module}
 use Rattle.bdl_parser.specs.Lexemes.{What, Lexeme, word, number, quoted, sign}
 use Rattle.bdl_parser.specs.Refusals.{is_type_first}
 use Rattle.bdl_parser.specs.Trees.{Leaf, TypeTree}
@@ -32,7 +32,7 @@ some_is : {A : Type 0} (b : Bool) (a : A) → is_some (cond b (Some a) None) ≡
 some_is true a = refl
 some_is false a = refl
 
-key_is_word : (text : List ℕ) (t : Lexeme) → is_some (key text t) ≡ true → is_this_word text t.what ≡ true
+key_is_word : (text : List ℕ) (t : Lexeme) → is_some (this_word text t) ≡ true → is_this_word text t.what ≡ true
 key_is_word text t e = sym (some_is (is_this_word text t.what) t.spot) ∙ e
 
 same_word : (text : List ℕ) (what : What) → is_this_word text what ≡ true → what ≡ word text
@@ -42,17 +42,17 @@ same_word text (quoted found) e = absurd (let w : false ≡ true = e in cc)
 same_word text (sign byte) e = absurd (let w : false ≡ true = e in cc)
 
 -- a token that is a key says its word
-pub key_says : (text : List ℕ) (t : Lexeme) → is_some (key text t) ≡ true → t.what ≡ word text
+pub key_says : (text : List ℕ) (t : Lexeme) → is_some (this_word text t) ≡ true → t.what ≡ word text
 key_says text t e = same_word text t.what (key_is_word text t e)
 
-word_of_mark : (byte : ℕ) (what : What) (text : List ℕ) → what ≡ word text → is_mark byte what ≡ true → ⊥
-word_of_mark byte what text is e = let w : false ≡ true = ap (is_mark byte) (sym is) ∙ e in cc
+word_of_mark : (byte : ℕ) (what : What) (text : List ℕ) → what ≡ word text → is_this_sign byte what ≡ true → ⊥
+word_of_mark byte what text is e = let w : false ≡ true = ap (is_this_sign byte) (sym is) ∙ e in cc
 
-mark_not_word : (byte : ℕ) (t : Lexeme) (text : List ℕ) → t.what ≡ word text → is_some (this_mark byte t) ≡ true → ⊥
-mark_not_word byte t text is e = word_of_mark byte t.what text is (sym (some_is (is_mark byte t.what) t.spot) ∙ e)
+mark_not_word : (byte : ℕ) (t : Lexeme) (text : List ℕ) → t.what ≡ word text → is_some (this_sign byte t) ≡ true → ⊥
+mark_not_word byte t text is e = word_of_mark byte t.what text is (sym (some_is (is_this_sign byte t.what) t.spot) ∙ e)
 
 -- two keys are one word
-keys_apart : (a b : List ℕ) → bytes_eq a b ≡ false → Apart (λ t. is_some (key a t)) (λ t. is_some (key b t))
+keys_apart : (a b : List ℕ) → bytes_eq a b ≡ false → Apart (λ t. is_some (this_word a t)) (λ t. is_some (this_word b t))
 keys_apart a b differ t p q =
     let w : false ≡ true = sym differ ∙ ap (is_this_word b) (sym (key_says a t p)) ∙ key_is_word b t q in cc
 
@@ -69,7 +69,7 @@ leaf_none t text none is e =
     mapped None = refl
     mapped (Some x) = refl
 
-leaf_keys : (t : Lexeme) (text : List ℕ) → is_some (leaf_of text) ≡ false → is_some (a_leaf t) ≡ true → is_some (key text t) ≡ true → ⊥
+leaf_keys : (t : Lexeme) (text : List ℕ) → is_some (leaf_of text) ≡ false → is_some (a_leaf t) ≡ true → is_some (this_word text t) ≡ true → ⊥
 leaf_keys t text none p q = leaf_none t text none (key_says text t q) p
 
 set_no_leaf : is_some (leaf_of (codes "set")) ≡ false
@@ -112,37 +112,37 @@ leaf_held : (t : Lexeme) → is_some (a_leaf t) ≡ true → (t.what ≡ word (c
 leaf_held t p (inl is) = leaf_none t (codes "set") set_no_leaf is p
 leaf_held t p (inr is) = leaf_none t (codes "greatest") greatest_no_leaf is p
 
-by_either : (t : Lexeme) → is_some (a_leaf t) ≡ true → (is_some (a_holding t) ≡ true) ⊎ (is_some (key (codes "map") t) ≡ true) → ⊥
+by_either : (t : Lexeme) → is_some (a_leaf t) ≡ true → (is_some (a_holding t) ≡ true) ⊎ (is_some (this_word (codes "map") t) ≡ true) → ⊥
 by_either t p (inl q) = leaf_held t p (holding_says t q)
 by_either t p (inr q) = leaf_keys t (codes "map") map_no_leaf p q
 
-pub leaf_apart : Apart (λ t. is_some (a_leaf t)) (λ t. is_some (a_holding t) || is_some (key (codes "map") t))
-leaf_apart t p q = by_either t p (or_three (is_some (a_holding t)) (is_some (key (codes "map") t)) q)
+pub leaf_apart : Apart (λ t. is_some (a_leaf t)) (λ t. is_some (a_holding t) || is_some (this_word (codes "map") t))
+leaf_apart t p q = by_either t p (or_three (is_some (a_holding t)) (is_some (this_word (codes "map") t)) q)
 
-held_is_map : (t : Lexeme) → is_some (key (codes "map") t) ≡ true → (t.what ≡ word (codes "set")) ⊎ (t.what ≡ word (codes "greatest")) → ⊥
+held_is_map : (t : Lexeme) → is_some (this_word (codes "map") t) ≡ true → (t.what ≡ word (codes "set")) ⊎ (t.what ≡ word (codes "greatest")) → ⊥
 held_is_map t q (inl is) =
     let w : false ≡ true = ap (is_this_word (codes "map")) (sym is) ∙ key_is_word (codes "map") t q in cc
 held_is_map t q (inr is) =
     let w : false ≡ true = ap (is_this_word (codes "map")) (sym is) ∙ key_is_word (codes "map") t q in cc
 
-pub held_apart : Apart (λ t. is_some (a_holding t)) (λ t. is_some (key (codes "map") t))
+pub held_apart : Apart (λ t. is_some (a_holding t)) (λ t. is_some (this_word (codes "map") t))
 held_apart t p q = held_is_map t q (holding_says t p)
 
 pub lawful_held : (inner : Form Lexeme TypeTree) → IsLawful inner is_type_first → IsLawful (held_of inner) (λ t. is_some (a_holding t))
 lawful_held inner law =
-    law_made (λ p. Rattle.bdl_parser.specs.Trees.held p.0.0 p.1.1.0 p.0.1) (law_two (law_token a_holding) (law_two (law_token (this_mark 60)) (law_two law (law_token (this_mark 62)))))
+    law_made (λ p. Rattle.bdl_parser.specs.Trees.held p.0.0 p.1.1.0 p.0.1) (law_two (law_token a_holding) (law_two (law_token (this_sign 60)) (law_two law (law_token (this_sign 62)))))
 
-pub lawful_map : (inner : Form Lexeme TypeTree) → IsLawful inner is_type_first → IsLawful (map_of inner) (λ t. is_some (key (codes "map") t))
+pub lawful_map : (inner : Form Lexeme TypeTree) → IsLawful inner is_type_first → IsLawful (map_of inner) (λ t. is_some (this_word (codes "map") t))
 lawful_map inner law =
-    law_made (λ p. Rattle.bdl_parser.specs.Trees.map p.1.1.0 p.1.1.1.1.0 p.0) (law_two (law_token (key (codes "map"))) (law_two (law_token (this_mark 60)) (law_two law (law_two (law_token (this_mark 44)) (law_two law (law_token (this_mark 62)))))))
+    law_made (λ p. Rattle.bdl_parser.specs.Trees.map p.1.1.0 p.1.1.1.1.0 p.0) (law_two (law_token (this_word (codes "map"))) (law_two (law_token (this_sign 60)) (law_two law (law_two (law_token (this_sign 44)) (law_two law (law_token (this_sign 62)))))))
 
 pub lawful_type : (n : ℕ) → IsLawful (a_type n) is_type_first
 unfolding a_type
 lawful_type zero = lawful_nothing is_type_first
 lawful_type (suc n) =
-    lawful_either (token a_leaf) (either (held_of (a_type n)) (map_of (a_type n))) (λ t. is_some (a_leaf t)) (λ t. is_some (a_holding t) || is_some (key (codes "map") t))
+    lawful_either (token a_leaf) (either (held_of (a_type n)) (map_of (a_type n))) (λ t. is_some (a_leaf t)) (λ t. is_some (a_holding t) || is_some (this_word (codes "map") t))
     (law_token a_leaf)
-    (lawful_either (held_of (a_type n)) (map_of (a_type n)) (λ t. is_some (a_holding t)) (λ t. is_some (key (codes "map") t)) (lawful_held (a_type n) (lawful_type n)) (lawful_map (a_type n) (lawful_type n)) held_apart)
+    (lawful_either (held_of (a_type n)) (map_of (a_type n)) (λ t. is_some (a_holding t)) (λ t. is_some (this_word (codes "map") t)) (lawful_held (a_type n) (lawful_type n)) (lawful_map (a_type n) (lawful_type n)) held_apart)
     leaf_apart
 
 -- a type begins with a word
@@ -156,62 +156,62 @@ held_word : (t : Lexeme) → (t.what ≡ word (codes "set")) ⊎ (t.what ≡ wor
 held_word t (inl is) = (codes "set", is)
 held_word t (inr is) = (codes "greatest", is)
 
-keyed : (t : Lexeme) → (is_some (a_holding t) ≡ true) ⊎ (is_some (key (codes "map") t) ≡ true) → (text : List ℕ) × (t.what ≡ word text)
+keyed : (t : Lexeme) → (is_some (a_holding t) ≡ true) ⊎ (is_some (this_word (codes "map") t) ≡ true) → (text : List ℕ) × (t.what ≡ word text)
 keyed t (inl e) = held_word t (holding_says t e)
 keyed t (inr e) = (codes "map", key_says (codes "map") t e)
 
-leaf_or_key : (t : Lexeme) → (is_some (a_leaf t) ≡ true) ⊎ ((is_some (a_holding t) || is_some (key (codes "map") t)) ≡ true) → (text : List ℕ) × (t.what ≡ word text)
+leaf_or_key : (t : Lexeme) → (is_some (a_leaf t) ≡ true) ⊎ ((is_some (a_holding t) || is_some (this_word (codes "map") t)) ≡ true) → (text : List ℕ) × (t.what ≡ word text)
 leaf_or_key t (inl e) = leaf_word t.what t.spot e
-leaf_or_key t (inr e) = keyed t (or_three (is_some (a_holding t)) (is_some (key (codes "map") t)) e)
+leaf_or_key t (inr e) = keyed t (or_three (is_some (a_holding t)) (is_some (this_word (codes "map") t)) e)
 
 pub type_word : (t : Lexeme) → is_type_first t ≡ true → (text : List ℕ) × (t.what ≡ word text)
 type_word t e =
-    leaf_or_key t (or_three (is_some (a_leaf t)) (is_some (a_holding t) || is_some (key (codes "map") t)) e)
+    leaf_or_key t (or_three (is_some (a_leaf t)) (is_some (a_holding t) || is_some (this_word (codes "map") t)) e)
 
-pub type_or_mark : (byte : ℕ) → Apart is_type_first (λ t. is_some (this_mark byte t))
+pub type_or_mark : (byte : ℕ) → Apart is_type_first (λ t. is_some (this_sign byte t))
 type_or_mark byte t p q = let it = type_word t p in mark_not_word byte t it.0 it.1 q
 
 pub lawful_bag_field : (n : ℕ) → IsLawful (a_bag_field n) is_type_first
 lawful_bag_field n =
     law_made (λ p. record { kind = p.0; name = p.1.0.0; name_at = p.1.0.1; number = p.1.1.1.0.0; number_at = p.1.1.1.0.1 })
-    (law_two (lawful_type n) (law_two (law_token a_name) (law_two (law_token (this_mark 61)) (law_two (law_token a_number) (law_token (this_mark 59))))))
+    (law_two (lawful_type n) (law_two (law_token a_name) (law_two (law_token (this_sign 61)) (law_two (law_token a_number) (law_token (this_sign 59))))))
 
 pub lawful_struct_field : (n : ℕ) → IsLawful (a_struct_field n) is_type_first
 lawful_struct_field n =
-    law_made (λ p. record { kind = p.0; name = p.1.0.0; name_at = p.1.0.1 }) (law_two (lawful_type n) (law_two (law_token a_name) (law_token (this_mark 59))))
+    law_made (λ p. record { kind = p.0; name = p.1.0.0; name_at = p.1.0.1 }) (law_two (lawful_type n) (law_two (law_token a_name) (law_token (this_sign 59))))
 
 abbrev pub first_or_brace : Lexeme → Bool
-first_or_brace t = is_type_first t || is_some (this_mark 125 t)
+first_or_brace t = is_type_first t || is_some (this_sign 125 t)
 
 pub lawful_bag_fields : (n : ℕ) → IsLawful (bag_fields n) first_or_brace
 lawful_bag_fields n =
-    law_made (λ p. p.0) (lawful_many (a_bag_field n) (token (this_mark 125)) is_type_first (λ t. is_some (this_mark 125 t)) (lawful_bag_field n) (law_token (this_mark 125)) (type_or_mark 125))
+    law_made (λ p. p.0) (lawful_many (a_bag_field n) (token (this_sign 125)) is_type_first (λ t. is_some (this_sign 125 t)) (lawful_bag_field n) (law_token (this_sign 125)) (type_or_mark 125))
 
 pub lawful_struct_fields : (n : ℕ) → IsLawful (struct_fields n) first_or_brace
 lawful_struct_fields n =
-    law_made (λ p. p.0) (lawful_many (a_struct_field n) (token (this_mark 125)) is_type_first (λ t. is_some (this_mark 125 t)) (lawful_struct_field n) (law_token (this_mark 125)) (type_or_mark 125))
+    law_made (λ p. p.0) (lawful_many (a_struct_field n) (token (this_sign 125)) is_type_first (λ t. is_some (this_sign 125 t)) (lawful_struct_field n) (law_token (this_sign 125)) (type_or_mark 125))
 
-pub lawful_bag : (n : ℕ) → IsLawful (a_bag n) (λ t. is_some (key (codes "bag") t))
+pub lawful_bag : (n : ℕ) → IsLawful (a_bag n) (λ t. is_some (this_word (codes "bag") t))
 lawful_bag n =
-    law_made (λ p. Rattle.bdl_parser.specs.declared.trees.Decl.TheVariants.Bag p.1.0.0 p.1.0.1 p.1.1.1) (law_two (law_token (key (codes "bag"))) (law_two (law_token a_name) (law_two (law_token (this_mark 123)) (lawful_bag_fields n))))
+    law_made (λ p. Rattle.bdl_parser.specs.declared.trees.Decl.TheVariants.Bag p.1.0.0 p.1.0.1 p.1.1.1) (law_two (law_token (this_word (codes "bag"))) (law_two (law_token a_name) (law_two (law_token (this_sign 123)) (lawful_bag_fields n))))
 
-pub lawful_struct : (n : ℕ) → IsLawful (a_struct n) (λ t. is_some (key (codes "struct") t))
+pub lawful_struct : (n : ℕ) → IsLawful (a_struct n) (λ t. is_some (this_word (codes "struct") t))
 lawful_struct n =
-    law_made (λ p. Rattle.bdl_parser.specs.declared.trees.Decl.TheVariants.Struct p.1.0.0 p.1.0.1 p.1.1.1) (law_two (law_token (key (codes "struct"))) (law_two (law_token a_name) (law_two (law_token (this_mark 123)) (lawful_struct_fields n))))
+    law_made (λ p. Rattle.bdl_parser.specs.declared.trees.Decl.TheVariants.Struct p.1.0.0 p.1.0.1 p.1.1.1) (law_two (law_token (this_word (codes "struct"))) (law_two (law_token a_name) (law_two (law_token (this_sign 123)) (lawful_struct_fields n))))
 
-pub bag_apart : Apart (λ t. is_some (key (codes "bag") t)) (λ t. is_some (key (codes "struct") t))
+pub bag_apart : Apart (λ t. is_some (this_word (codes "bag") t)) (λ t. is_some (this_word (codes "struct") t))
 bag_apart = keys_apart (codes "bag") (codes "struct") refl
 
 abbrev pub is_decl_first : Lexeme → Bool
-is_decl_first t = is_some (key (codes "bag") t) || is_some (key (codes "struct") t)
+is_decl_first t = is_some (this_word (codes "bag") t) || is_some (this_word (codes "struct") t)
 
 pub lawful_decl : (n : ℕ) → IsLawful (a_decl n) is_decl_first
 lawful_decl n =
-    lawful_either (a_bag n) (a_struct n) (λ t. is_some (key (codes "bag") t)) (λ t. is_some (key (codes "struct") t)) (lawful_bag n) (lawful_struct n) bag_apart
+    lawful_either (a_bag n) (a_struct n) (λ t. is_some (this_word (codes "bag") t)) (λ t. is_some (this_word (codes "struct") t)) (lawful_bag n) (lawful_struct n) bag_apart
 
-pub lawful_import : IsLawful an_import (λ t. is_some (key (codes "import") t))
+pub lawful_import : IsLawful an_import (λ t. is_some (this_word (codes "import") t))
 lawful_import =
-    law_made (λ p. record { file = p.1.0.0; at = p.1.0.1 }) (law_two (law_token (key (codes "import"))) (law_two (law_token a_text) (law_token (this_mark 59))))
+    law_made (λ p. record { file = p.1.0.0; at = p.1.0.1 }) (law_two (law_token (this_word (codes "import"))) (law_two (law_token a_text) (law_token (this_sign 59))))
 
 abbrev pub never : Lexeme → Bool
 never t = false
@@ -235,20 +235,20 @@ is_decl_or_never t = is_decl_first t || never t
 pub ender_decls : (n : ℕ) → IsEnder (the_decls n) is_decl_or_never
 ender_decls n = ender_made (λ p. p.0) (ender_many (a_decl n) at_end is_decl_first never (lawful_decl n) ender_ended decl_apart)
 
-by_decl : (t : Lexeme) → is_some (key (codes "import") t) ≡ true → (is_some (key (codes "bag") t) ≡ true) ⊎ (is_some (key (codes "struct") t) ≡ true) → ⊥
+by_decl : (t : Lexeme) → is_some (this_word (codes "import") t) ≡ true → (is_some (this_word (codes "bag") t) ≡ true) ⊎ (is_some (this_word (codes "struct") t) ≡ true) → ⊥
 by_decl t p (inl q) = keys_apart (codes "import") (codes "bag") refl t p q
 by_decl t p (inr q) = keys_apart (codes "import") (codes "struct") refl t p q
 
-import_or_decl : (t : Lexeme) → is_some (key (codes "import") t) ≡ true → (is_decl_first t ≡ true) ⊎ (never t ≡ true) → ⊥
-import_or_decl t p (inl q) = by_decl t p (or_three (is_some (key (codes "bag") t)) (is_some (key (codes "struct") t)) q)
+import_or_decl : (t : Lexeme) → is_some (this_word (codes "import") t) ≡ true → (is_decl_first t ≡ true) ⊎ (never t ≡ true) → ⊥
+import_or_decl t p (inl q) = by_decl t p (or_three (is_some (this_word (codes "bag") t)) (is_some (this_word (codes "struct") t)) q)
 import_or_decl t p (inr q) = let w : false ≡ true = q in cc
 
-pub import_apart : Apart (λ t. is_some (key (codes "import") t)) is_decl_or_never
+pub import_apart : Apart (λ t. is_some (this_word (codes "import") t)) is_decl_or_never
 import_apart t p q = import_or_decl t p (or_three (is_decl_first t) (never t) q)
 
-pub ender_module : (n : ℕ) → IsEnder (a_module n) (λ t. is_some (key (codes "import") t) || is_decl_or_never t)
+pub ender_module : (n : ℕ) → IsEnder (a_module n) (λ t. is_some (this_word (codes "import") t) || is_decl_or_never t)
 ender_module n =
-    ender_made (λ p. record { imports = p.0; decls = p.1 }) (ender_many an_import (the_decls n) (λ t. is_some (key (codes "import") t)) is_decl_or_never lawful_import (ender_decls n) import_apart)
+    ender_made (λ p. record { imports = p.0; decls = p.1 }) (ender_many an_import (the_decls n) (λ t. is_some (this_word (codes "import") t)) is_decl_or_never lawful_import (ender_decls n) import_apart)
 
 -- more room reads and begins more
 
@@ -263,11 +263,11 @@ g_made make {f = f} {wide = wide} gf = grows_made make f wide gf
 
 grows_held : (f wide : Form Lexeme TypeTree) → Grows f wide → Grows (held_of f) (held_of wide)
 grows_held f wide g =
-    g_made (λ p. Rattle.bdl_parser.specs.Trees.held p.0.0 p.1.1.0 p.0.1) (g_two (g_same a_holding) (g_two (g_same (this_mark 60)) (g_two g (g_same (this_mark 62)))))
+    g_made (λ p. Rattle.bdl_parser.specs.Trees.held p.0.0 p.1.1.0 p.0.1) (g_two (g_same a_holding) (g_two (g_same (this_sign 60)) (g_two g (g_same (this_sign 62)))))
 
 grows_map : (f wide : Form Lexeme TypeTree) → Grows f wide → Grows (map_of f) (map_of wide)
 grows_map f wide g =
-    g_made (λ p. Rattle.bdl_parser.specs.Trees.map p.1.1.0 p.1.1.1.1.0 p.0) (g_two (g_same (key (codes "map"))) (g_two (g_same (this_mark 60)) (g_two g (g_two (g_same (this_mark 44)) (g_two g (g_same (this_mark 62)))))))
+    g_made (λ p. Rattle.bdl_parser.specs.Trees.map p.1.1.0 p.1.1.1.1.0 p.0) (g_two (g_same (this_word (codes "map"))) (g_two (g_same (this_sign 60)) (g_two g (g_two (g_same (this_sign 44)) (g_two g (g_same (this_sign 62)))))))
 
 grows_nothing : (wide : Form Lexeme TypeTree) → wide.begins [] → Grows nothing wide
 grows_nothing wide empty = record { read = λ ts a rest r. absurd r; begun = λ ts b. subst wide.begins (sym b) empty }
@@ -283,21 +283,21 @@ grows_type (suc n) =
 pub grows_bag_field : (n m : ℕ) → Grows (a_type n) (a_type m) → Grows (a_bag_field n) (a_bag_field m)
 grows_bag_field n m g =
     g_made (λ p. record { kind = p.0; name = p.1.0.0; name_at = p.1.0.1; number = p.1.1.1.0.0; number_at = p.1.1.1.0.1 })
-    (g_two g (g_two (g_same a_name) (g_two (g_same (this_mark 61)) (g_two (g_same a_number) (g_same (this_mark 59))))))
+    (g_two g (g_two (g_same a_name) (g_two (g_same (this_sign 61)) (g_two (g_same a_number) (g_same (this_sign 59))))))
 
 pub grows_struct_field : (n m : ℕ) → Grows (a_type n) (a_type m) → Grows (a_struct_field n) (a_struct_field m)
 grows_struct_field n m g =
-    g_made (λ p. record { kind = p.0; name = p.1.0.0; name_at = p.1.0.1 }) (g_two g (g_two (g_same a_name) (g_same (this_mark 59))))
+    g_made (λ p. record { kind = p.0; name = p.1.0.0; name_at = p.1.0.1 }) (g_two g (g_two (g_same a_name) (g_same (this_sign 59))))
 
 grows_bag : (n m : ℕ) → Grows (a_type n) (a_type m) → Grows (a_bag n) (a_bag m)
 grows_bag n m g =
     g_made (λ p. Rattle.bdl_parser.specs.declared.trees.Decl.TheVariants.Bag p.1.0.0 p.1.0.1 p.1.1.1)
-    (g_two (g_same (key (codes "bag"))) (g_two (g_same a_name) (g_two (g_same (this_mark 123)) (g_made (λ p. p.0) (grows_many (a_bag_field n) (a_bag_field m) (token (this_mark 125)) (token (this_mark 125)) (grows_bag_field n m g) (g_same (this_mark 125)))))))
+    (g_two (g_same (this_word (codes "bag"))) (g_two (g_same a_name) (g_two (g_same (this_sign 123)) (g_made (λ p. p.0) (grows_many (a_bag_field n) (a_bag_field m) (token (this_sign 125)) (token (this_sign 125)) (grows_bag_field n m g) (g_same (this_sign 125)))))))
 
 grows_struct : (n m : ℕ) → Grows (a_type n) (a_type m) → Grows (a_struct n) (a_struct m)
 grows_struct n m g =
     g_made (λ p. Rattle.bdl_parser.specs.declared.trees.Decl.TheVariants.Struct p.1.0.0 p.1.0.1 p.1.1.1)
-    (g_two (g_same (key (codes "struct"))) (g_two (g_same a_name) (g_two (g_same (this_mark 123)) (g_made (λ p. p.0) (grows_many (a_struct_field n) (a_struct_field m) (token (this_mark 125)) (token (this_mark 125)) (grows_struct_field n m g) (g_same (this_mark 125)))))))
+    (g_two (g_same (this_word (codes "struct"))) (g_two (g_same a_name) (g_two (g_same (this_sign 123)) (g_made (λ p. p.0) (grows_many (a_struct_field n) (a_struct_field m) (token (this_sign 125)) (token (this_sign 125)) (grows_struct_field n m g) (g_same (this_sign 125)))))))
 
 pub grows_decl : (n m : ℕ) → Grows (a_type n) (a_type m) → Grows (a_decl n) (a_decl m)
 grows_decl n m g = grows_either (a_bag n) (a_struct n) (a_bag m) (a_struct m) (grows_bag n m g) (grows_struct n m g)

@@ -8,7 +8,7 @@ use Rattle.bdl_parser.specs.declared.ParseCode.{ParseCode}
 use Rattle.bdl_parser.specs.declared.ParseCode.TheVariants.{Expected, TypeNesting}
 use Rattle.bdl_parser.specs.declared.trees.Module.{Module}
 use Rattle.bdl_parser.specs.FirstFault.{IsModuleOf, NestsAt, FaultAt}
-use Rattle.bdl_parser.specs.Grammar.{key, this_mark, a_name, a_number, a_text, a_leaf, a_holding, held_of, map_of, a_type, a_bag_field, a_struct_field, a_bag, a_struct, a_decl, an_import, the_decls, a_module}
+use Rattle.bdl_parser.specs.Grammar.{this_word, this_sign, a_name, a_number, a_text, a_leaf, a_holding, held_of, map_of, a_type, a_bag_field, a_struct_field, a_bag, a_struct, a_decl, an_import, the_decls, a_module}
 use Rattle.bdl_parser.specs.Lexemes.{Lexeme}
 use Rattle.bdl_parser.specs.Refusals.{is_type_first}
 use Rattle.bdl_parser.specs.Trees.{TypeTree}
@@ -31,11 +31,11 @@ f_made make {f = f} ff = fronted_made make f ff
 
 fronted_held : (inner : Form Lexeme TypeTree) → IsLawful inner is_type_first → IsFronted inner → IsFronted (held_of inner)
 fronted_held inner law ff =
-    f_made (λ p. Rattle.bdl_parser.specs.Trees.held p.0.0 p.1.1.0 p.0.1) (f_key a_holding (f_key (this_mark 60) (f_two law ff (f_token (this_mark 62)))))
+    f_made (λ p. Rattle.bdl_parser.specs.Trees.held p.0.0 p.1.1.0 p.0.1) (f_key a_holding (f_key (this_sign 60) (f_two law ff (f_token (this_sign 62)))))
 
 fronted_map : (inner : Form Lexeme TypeTree) → IsLawful inner is_type_first → IsFronted inner → IsFronted (map_of inner)
 fronted_map inner law ff =
-    f_made (λ p. Rattle.bdl_parser.specs.Trees.map p.1.1.0 p.1.1.1.1.0 p.0) (f_key (key (codes "map")) (f_key (this_mark 60) (f_two law ff (f_key (this_mark 44) (f_two law ff (f_token (this_mark 62)))))))
+    f_made (λ p. Rattle.bdl_parser.specs.Trees.map p.1.1.0 p.1.1.1.1.0 p.0) (f_key (this_word (codes "map")) (f_key (this_sign 60) (f_two law ff (f_key (this_sign 44) (f_two law ff (f_token (this_sign 62)))))))
 
 fronted_type : (n : ℕ) → IsFronted (a_type n)
 unfolding a_type
@@ -47,27 +47,27 @@ fronted_type (suc n) =
 fronted_bag_field : (n : ℕ) → IsFronted (a_bag_field n)
 fronted_bag_field n =
     f_made (λ p. record { kind = p.0; name = p.1.0.0; name_at = p.1.0.1; number = p.1.1.1.0.0; number_at = p.1.1.1.0.1 })
-    (f_two (lawful_type n) (fronted_type n) (f_key a_name (f_key (this_mark 61) (f_key a_number (f_token (this_mark 59))))))
+    (f_two (lawful_type n) (fronted_type n) (f_key a_name (f_key (this_sign 61) (f_key a_number (f_token (this_sign 59))))))
 
 fronted_struct_field : (n : ℕ) → IsFronted (a_struct_field n)
 fronted_struct_field n =
-    f_made (λ p. record { kind = p.0; name = p.1.0.0; name_at = p.1.0.1 }) (f_two (lawful_type n) (fronted_type n) (f_key a_name (f_token (this_mark 59))))
+    f_made (λ p. record { kind = p.0; name = p.1.0.0; name_at = p.1.0.1 }) (f_two (lawful_type n) (fronted_type n) (f_key a_name (f_token (this_sign 59))))
 
 fronted_bag : (n : ℕ) → IsFronted (a_bag n)
 fronted_bag n =
     f_made (λ p. Rattle.bdl_parser.specs.declared.trees.Decl.TheVariants.Bag p.1.0.0 p.1.0.1 p.1.1.1)
-    (f_key (key (codes "bag")) (f_key a_name (f_key (this_mark 123) (f_made (λ p. p.0) (fronted_many (a_bag_field n) (token (this_mark 125)) is_type_first (lawful_bag_field n) (fronted_bag_field n) (f_token (this_mark 125)))))))
+    (f_key (this_word (codes "bag")) (f_key a_name (f_key (this_sign 123) (f_made (λ p. p.0) (fronted_many (a_bag_field n) (token (this_sign 125)) is_type_first (lawful_bag_field n) (fronted_bag_field n) (f_token (this_sign 125)))))))
 
 fronted_struct : (n : ℕ) → IsFronted (a_struct n)
 fronted_struct n =
     f_made (λ p. Rattle.bdl_parser.specs.declared.trees.Decl.TheVariants.Struct p.1.0.0 p.1.0.1 p.1.1.1)
-    (f_key (key (codes "struct")) (f_key a_name (f_key (this_mark 123) (f_made (λ p. p.0) (fronted_many (a_struct_field n) (token (this_mark 125)) is_type_first (lawful_struct_field n) (fronted_struct_field n) (f_token (this_mark 125)))))))
+    (f_key (this_word (codes "struct")) (f_key a_name (f_key (this_sign 123) (f_made (λ p. p.0) (fronted_many (a_struct_field n) (token (this_sign 125)) is_type_first (lawful_struct_field n) (fronted_struct_field n) (f_token (this_sign 125)))))))
 
 fronted_module : (n : ℕ) → IsFronted (a_module n)
 fronted_module n =
     f_made (λ p. record { imports = p.0; decls = p.1 })
-    (fronted_many an_import (the_decls n) (λ t. is_some (key (codes "import") t)) lawful_import
-    (f_made (λ p. record { file = p.1.0.0; at = p.1.0.1 }) (f_key (key (codes "import")) (f_key a_text (f_token (this_mark 59)))))
+    (fronted_many an_import (the_decls n) (λ t. is_some (this_word (codes "import") t)) lawful_import
+    (f_made (λ p. record { file = p.1.0.0; at = p.1.0.1 }) (f_key (this_word (codes "import")) (f_key a_text (f_token (this_sign 59)))))
     (f_made (λ p. p.0) (fronted_many (a_decl n) at_end is_decl_first (lawful_decl n) (fronted_either (a_bag n) (a_struct n) (fronted_bag n) (fronted_struct n)) fronted_ended)))
 
 -- a module is too deep nowhere

@@ -4,7 +4,7 @@ use Rattle.std.specs.Option.{is_some, option_map}
 use Rattle.bdl_parser.specs.declared.parser.FormFault.{FormFault}
 use Rattle.bdl_parser.specs.declared.ParseCode.TheVariants.{Expected, TypeNesting}
 use Rattle.bdl_parser.specs.declared.parser.FormFault.TheVariants.{Wrong, Memory}
-use Rattle.bdl_parser.specs.Grammar.{key, a_leaf, a_holding, held_of, map_of, a_type}
+use Rattle.bdl_parser.specs.Grammar.{this_word, a_leaf, a_holding, held_of, map_of, a_type}
 use Rattle.bdl_parser.specs.declared.trees.Spot.{Spot}
 use Rattle.bdl_parser.specs.declared.trees.TypeForm.{TypeForm}
 use Rattle.bdl_parser.specs.Lexemes.{Lexeme, word}
@@ -23,7 +23,7 @@ abbrev held_test : Lexeme → Bool
 held_test t = is_some (a_holding t)
 
 abbrev map_test : Lexeme → Bool
-map_test t = is_some (key (codes "map") t)
+map_test t = is_some (this_word (codes "map") t)
 
 abbrev leaf_test : Lexeme → Bool
 leaf_test t = is_some (a_leaf t)
@@ -43,11 +43,11 @@ unfolding a_type
 map_taken_type room inner ts t rest e it zero le = absurd (omega arith)
 map_taken_type room inner ts t rest e it (suc n) le = inr (inr (it n (omega arith)))
 
-none_of_three : (ts : List Lexeme) → meets a_leaf ts ≡ false → meets a_holding ts ≡ false → meets (key (codes "map")) ts ≡ false → first_passes is_type_first ts ≡ false
+none_of_three : (ts : List Lexeme) → meets a_leaf ts ≡ false → meets a_holding ts ≡ false → meets (this_word (codes "map")) ts ≡ false → first_passes is_type_first ts ≡ false
 none_of_three [] p q r = refl
 none_of_three (t ∷ ts) p q r = λ i. p i || (q i || r i)
 
-pub leaf_refused : (room : ℕ) (e : FormFault) (ts bad : List Lexeme) → meets a_holding ts ≡ false → meets (key (codes "map")) ts ≡ false → IsTokenRefused a_leaf e ts bad → IsFormRefused a_type room e ts bad
+pub leaf_refused : (room : ℕ) (e : FormFault) (ts bad : List Lexeme) → meets a_holding ts ≡ false → meets (this_word (codes "map")) ts ≡ false → IsTokenRefused a_leaf e ts bad → IsFormRefused a_type room e ts bad
 leaf_refused room (Wrong Expected) ts bad q r it = λ n le.
     subst (Stops (a_type n) ts) it.0 (stops_here (a_type n) is_type_first (lawful_type n) ts (none_of_three ts it.1 q r))
 leaf_refused room (Wrong TypeNesting) ts bad q r it = absurd it
@@ -120,7 +120,7 @@ held_refused_type room inner (Wrong Expected) ts bad is first r = held_stops roo
 held_refused_type room inner (Wrong TypeNesting) ts bad is first r = room_is room inner ts bad is (held_goes inner ts bad first r)
 held_refused_type room inner Memory ts bad is first r = tt
 
-pub map_refused_type : (room inner : ℕ) (e : FormFault) (ts bad : List Lexeme) → room ≡ inner + 1 → meets (key (codes "map")) ts ≡ true → IsFormRefused (λ n. map_of (a_type n)) inner e ts bad → IsFormRefused a_type room e ts bad
+pub map_refused_type : (room inner : ℕ) (e : FormFault) (ts bad : List Lexeme) → room ≡ inner + 1 → meets (this_word (codes "map")) ts ≡ true → IsFormRefused (λ n. map_of (a_type n)) inner e ts bad → IsFormRefused a_type room e ts bad
 map_refused_type room inner (Wrong Expected) ts bad is first r = map_stops room inner ts bad is first r
 map_refused_type room inner (Wrong TypeNesting) ts bad is first r = room_is room inner ts bad is (map_goes inner ts bad first r)
 map_refused_type room inner Memory ts bad is first r = tt

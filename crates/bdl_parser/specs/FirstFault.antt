@@ -38,6 +38,6 @@ FaultAt ts k Expected = ExpectedAt ts k
 FaultAt ts k TypeNesting = NestsAt ts k
 
 -- What a refusal says: the first fault, or that there is no memory.
-abbrev pub IsParseFaultOf : List Lexeme → ParseFault → Type 0
-IsParseFaultOf ts (At k code) = FaultAt ts k code
-IsParseFaultOf ts Memory = Unit {0}
+abbrev pub IsParseRefusalOf : List Lexeme → ParseFault → Type 0
+IsParseRefusalOf ts (At k code) = FaultAt ts k code
+IsParseRefusalOf ts Memory = Unit {0}

@@ -19,17 +19,17 @@ is_this_word text (word found) = bytes_eq found text
 is_this_word text _ = false
 
 -- Whether it is this sign.
-abbrev pub is_mark : ℕ → What → Bool
-is_mark byte (sign found) = found == byte
-is_mark byte _ = false
+abbrev pub is_this_sign : ℕ → What → Bool
+is_this_sign byte (sign found) = found == byte
+is_this_sign byte _ = false
 
 -- This word.
-abbrev pub key : List ℕ → Lexeme → Option Spot
-key text lexeme = if is_this_word text lexeme.what then Some lexeme.spot else None
+abbrev pub this_word : List ℕ → Lexeme → Option Spot
+this_word text lexeme = if is_this_word text lexeme.what then Some lexeme.spot else None
 
 -- This sign.
-abbrev pub this_mark : ℕ → Lexeme → Option Spot
-this_mark byte lexeme = if is_mark byte lexeme.what then Some lexeme.spot else None
+abbrev pub this_sign : ℕ → Lexeme → Option Spot
+this_sign byte lexeme = if is_this_sign byte lexeme.what then Some lexeme.spot else None
 
 -- The name that a word is.
 abbrev pub name_in : What → Option (List ℕ)
@@ -40,13 +40,14 @@ name_in _ = None
 abbrev pub a_name : Lexeme → Option (List ℕ × Spot)
 a_name lexeme = option_map (λ text. (text, lexeme.spot)) (name_in lexeme.what)
 
-abbrev pub number_said : What → Option ℕ
-number_said (number value) = Some value
-number_said _ = None
+-- The number that a token is.
+abbrev pub number_in : What → Option ℕ
+number_in (number value) = Some value
+number_in _ = None
 
 -- A number, with its place.
 abbrev pub a_number : Lexeme → Option (ℕ × Spot)
-a_number lexeme = option_map (λ value. (value, lexeme.spot)) (number_said lexeme.what)
+a_number lexeme = option_map (λ value. (value, lexeme.spot)) (number_in lexeme.what)
 
 abbrev pub quoted_in : What → Option (List ℕ)
 quoted_in (quoted text) = Some text
@@ -75,12 +76,12 @@ a_holding lexeme = option_map (λ found. (found, lexeme.spot)) (holding_in lexem
 -- ( "set" | "greatest" ) "<" type ">".
 abbrev pub held_of : Form Lexeme TypeTree → Form Lexeme TypeTree
 held_of inner =
-    made (λ p. held p.0.0 p.1.1.0 p.0.1) (two (token a_holding) (two (token (this_mark 60)) (two inner (token (this_mark 62)))))
+    made (λ p. held p.0.0 p.1.1.0 p.0.1) (two (token a_holding) (two (token (this_sign 60)) (two inner (token (this_sign 62)))))
 
 -- "map" "<" type "," type ">".
 abbrev pub map_of : Form Lexeme TypeTree → Form Lexeme TypeTree
 map_of inner =
-    made (λ p. map p.1.1.0 p.1.1.1.1.0 p.0) (two (token (key (codes "map"))) (two (token (this_mark 60)) (two inner (two (token (this_mark 44)) (two inner (token (this_mark 62)))))))
+    made (λ p. map p.1.1.0 p.1.1.1.1.0 p.0) (two (token (this_word (codes "map"))) (two (token (this_sign 60)) (two inner (two (token (this_sign 44)) (two inner (token (this_sign 62)))))))
 
 -- A type in which at most so many types stand inside one another, itself among them.
 unfoldable pub a_type : ℕ → Form Lexeme TypeTree
@@ -91,30 +92,30 @@ a_type (suc n) = either (token a_leaf) (either (held_of (a_type n)) (map_of (a_t
 abbrev pub a_bag_field : ℕ → Form Lexeme BagFieldTree
 a_bag_field n =
     made (λ p. record { kind = p.0; name = p.1.0.0; name_at = p.1.0.1; number = p.1.1.1.0.0; number_at = p.1.1.1.0.1 })
-    (two (a_type n) (two (token a_name) (two (token (this_mark 61)) (two (token a_number) (token (this_mark 59))))))
+    (two (a_type n) (two (token a_name) (two (token (this_sign 61)) (two (token a_number) (token (this_sign 59))))))
 
 -- Type NAME ";".
 abbrev pub a_struct_field : ℕ → Form Lexeme StructFieldTree
 a_struct_field n =
-    made (λ p. record { kind = p.0; name = p.1.0.0; name_at = p.1.0.1 }) (two (a_type n) (two (token a_name) (token (this_mark 59))))
+    made (λ p. record { kind = p.0; name = p.1.0.0; name_at = p.1.0.1 }) (two (a_type n) (two (token a_name) (token (this_sign 59))))
 
 -- { type NAME "=" Number ";" } "}".
 abbrev pub bag_fields : ℕ → Form Lexeme (List BagFieldTree)
-bag_fields n = made (λ p. p.0) (many (a_bag_field n) (token (this_mark 125)))
+bag_fields n = made (λ p. p.0) (many (a_bag_field n) (token (this_sign 125)))
 
 -- { type NAME ";" } "}".
 abbrev pub struct_fields : ℕ → Form Lexeme (List StructFieldTree)
-struct_fields n = made (λ p. p.0) (many (a_struct_field n) (token (this_mark 125)))
+struct_fields n = made (λ p. p.0) (many (a_struct_field n) (token (this_sign 125)))
 
 -- "bag" NAME "{" fields.
 abbrev pub a_bag : ℕ → Form Lexeme Decl
 a_bag n =
-    made (λ p. Bag p.1.0.0 p.1.0.1 p.1.1.1) (two (token (key (codes "bag"))) (two (token a_name) (two (token (this_mark 123)) (bag_fields n))))
+    made (λ p. Bag p.1.0.0 p.1.0.1 p.1.1.1) (two (token (this_word (codes "bag"))) (two (token a_name) (two (token (this_sign 123)) (bag_fields n))))
 
 -- "struct" NAME "{" fields.
 abbrev pub a_struct : ℕ → Form Lexeme Decl
 a_struct n =
-    made (λ p. Struct p.1.0.0 p.1.0.1 p.1.1.1) (two (token (key (codes "struct"))) (two (token a_name) (two (token (this_mark 123)) (struct_fields n))))
+    made (λ p. Struct p.1.0.0 p.1.0.1 p.1.1.1) (two (token (this_word (codes "struct"))) (two (token a_name) (two (token (this_sign 123)) (struct_fields n))))
 
 -- Bag | struct.
 abbrev pub a_decl : ℕ → Form Lexeme Decl
@@ -123,7 +124,7 @@ a_decl n = either (a_bag n) (a_struct n)
 -- "import" Text ";".
 abbrev pub an_import : Form Lexeme Import
 an_import =
-    made (λ p. record { file = p.1.0.0; at = p.1.0.1 }) (two (token (key (codes "import"))) (two (token a_text) (token (this_mark 59))))
+    made (λ p. record { file = p.1.0.0; at = p.1.0.1 }) (two (token (this_word (codes "import"))) (two (token a_text) (token (this_sign 59))))
 
 -- { bag | struct }, to the end.
 abbrev pub the_decls : ℕ → Form Lexeme (List Decl)

@@ -26,12 +26,12 @@ what_of Text text = quoted (between_quotes text)
 what_of (Sign byte) text = sign byte
 
 -- The place of a token.
-abbrev pub token_spot : Token → Spot
-token_spot token = record { line = token.line; column = token.column }
+abbrev pub token_place : Token → Spot
+token_place token = record { line = token.line; column = token.column }
 
 -- What a token of this source says, and where.
 abbrev pub lexeme_of : List ℕ → Token → Lexeme
-lexeme_of source token = record { what = what_of token.class (token_text source token); spot = token_spot token }
+lexeme_of source token = record { what = what_of token.class (token_text source token); spot = token_place token }
 
 -- The same of each token.
 abbrev pub lexemes_of : List ℕ → List Token → List Lexeme

@@ -9,7 +9,7 @@ use Rattle.bdl_parser.specs.declared.parser.FormFault.TheVariants.{Wrong, Memory
 use Rattle.bdl_parser.specs.declared.parser.Meaning.{Meaning}
 use Rattle.bdl_parser.specs.declared.parser.Meaning.TheVariants.{Word, Number, Quoted, Sign}
 use Rattle.bdl_parser.specs.declared.trees.Spot.{Spot}
-use Rattle.bdl_parser.specs.Grammar.{a_leaf, a_holding, key}
+use Rattle.bdl_parser.specs.Grammar.{a_leaf, a_holding, this_word}
 use Rattle.bdl_parser.specs.Lexemes.{What, Lexeme, word, number, quoted, sign}
 use Rattle.grammar_model.specs.Forms.{Form}
 use Rattle.grammar_model.specs.Stops.{first_passes, StopsFrom, GoesOn}
@@ -20,7 +20,7 @@ meets meant ts = first_passes (λ t. is_some (meant t)) ts
 
 -- A type begins with this token: a type of one word, a word that holds elements, or "map".
 abbrev pub is_type_first : Lexeme → Bool
-is_type_first t = is_some (a_leaf t) || (is_some (a_holding t) || is_some (key (codes "map") t))
+is_type_first t = is_some (a_leaf t) || (is_some (a_holding t) || is_some (this_word (codes "map") t))
 
 -- Nothing was read, and the first token doesn't say it.
 abbrev pub IsTokenRefused : {A : Type 0} → (Lexeme → Option A) → FormFault → List Lexeme → List Lexeme → Type 0

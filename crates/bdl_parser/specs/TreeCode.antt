@@ -14,44 +14,47 @@ abbrev pub spot_code : Coded Spot
 spot_code =
     code_by (ℕ × ℕ) (coded× coded_ℕ coded_ℕ) (λ spot. (spot.line, spot.column)) (λ p. record { line = p.0; column = p.1 }) (λ _. refl)
 
-abbrev pub scalar_number : ScalarWord → ℕ
-scalar_number Bool = 0
-scalar_number Int32 = 1
-scalar_number Int64 = 2
-scalar_number Sint32 = 3
-scalar_number Sint64 = 4
-scalar_number Uint32 = 5
-scalar_number Uint64 = 6
-scalar_number Fixed32 = 7
-scalar_number Fixed64 = 8
-scalar_number Sfixed32 = 9
-scalar_number Sfixed64 = 10
-scalar_number Str = 11
-scalar_number Bytes = 12
+-- The number that stands for a word of a scalar.
+abbrev pub scalar_word_number : ScalarWord → ℕ
+scalar_word_number Bool = 0
+scalar_word_number Int32 = 1
+scalar_word_number Int64 = 2
+scalar_word_number Sint32 = 3
+scalar_word_number Sint64 = 4
+scalar_word_number Uint32 = 5
+scalar_word_number Uint64 = 6
+scalar_word_number Fixed32 = 7
+scalar_word_number Fixed64 = 8
+scalar_word_number Sfixed32 = 9
+scalar_word_number Sfixed64 = 10
+scalar_word_number Str = 11
+scalar_word_number Bytes = 12
 
+-- The word that a number stands for.
 abbrev pub scalar_word_back : ℕ → ScalarWord
 scalar_word_back n =
     if n == 0 then Bool else (if n == 1 then Int32 else (if n == 2 then Int64 else (if n == 3 then Sint32 else (if n == 4 then Sint64
     else (if n == 5 then Uint32 else (if n == 6 then Uint64 else (if n == 7 then Fixed32 else (if n == 8 then Fixed64
     else (if n == 9 then Sfixed32 else (if n == 10 then Sfixed64 else (if n == 11 then Str else Bytes)))))))))))
 
-pub scalar_undone : (word : ScalarWord) → scalar_word_back (scalar_number word) ≡ word
-scalar_undone Bool = refl
-scalar_undone Int32 = refl
-scalar_undone Int64 = refl
-scalar_undone Sint32 = refl
-scalar_undone Sint64 = refl
-scalar_undone Uint32 = refl
-scalar_undone Uint64 = refl
-scalar_undone Fixed32 = refl
-scalar_undone Fixed64 = refl
-scalar_undone Sfixed32 = refl
-scalar_undone Sfixed64 = refl
-scalar_undone Str = refl
-scalar_undone Bytes = refl
+pub scalar_word_undone : (word : ScalarWord) → scalar_word_back (scalar_word_number word) ≡ word
+scalar_word_undone Bool = refl
+scalar_word_undone Int32 = refl
+scalar_word_undone Int64 = refl
+scalar_word_undone Sint32 = refl
+scalar_word_undone Sint64 = refl
+scalar_word_undone Uint32 = refl
+scalar_word_undone Uint64 = refl
+scalar_word_undone Fixed32 = refl
+scalar_word_undone Fixed64 = refl
+scalar_word_undone Sfixed32 = refl
+scalar_word_undone Sfixed64 = refl
+scalar_word_undone Str = refl
+scalar_word_undone Bytes = refl
 
+-- Words of scalars as numbers.
 abbrev pub scalar_word_code : Coded ScalarWord
-scalar_word_code = code_by ℕ coded_ℕ scalar_number scalar_word_back scalar_undone
+scalar_word_code = code_by ℕ coded_ℕ scalar_word_number scalar_word_back scalar_word_undone
 
 -- A word of one value, a name, or one of four others.
 abbrev pub LeafParts : Type 0

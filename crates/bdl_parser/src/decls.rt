@@ -2,7 +2,7 @@
 
 ghost use Rattle.std.specs.Prelude.{◌≡◌, false, [], codes, IfOk, IfErr, OnOk};
 ghost use Rattle.std.specs.List.{AllByRecursion};
-ghost use Rattle.bdl_parser.specs.Grammar.{key, a_bag_field, a_struct_field, bag_fields, struct_fields, a_bag, a_struct, a_decl, an_import, the_decls, a_module};
+ghost use Rattle.bdl_parser.specs.Grammar.{this_word, a_bag_field, a_struct_field, bag_fields, struct_fields, a_bag, a_struct, a_decl, an_import, the_decls, a_module};
 ghost use Rattle.bdl_parser.specs.Refusals.{meets, IsFormRefused};
 ghost use Rattle.bdl_parser.specs.Decls.{IsSpelledField, IsSpelledDecl, AreSpelledDecls};
 ghost use Rattle.bdl_parser.specs.Views.{bag_field_of, struct_field_of};
@@ -126,7 +126,7 @@ impl<'a> Parser<'a> {
 
     fn imports(&mut self, alloc: Global) -> Result<Imports, FormFault>
         ensures ok { IfOk result (λ imports. Repeats an_import self.old imports self.new) }
-        ensures end { OnOk result (meets (key (codes "import")) self.new ≡ false) }
+        ensures end { OnOk result (meets (this_word (codes "import")) self.new ≡ false) }
         ensures err { IfErr result (λ fault. IsFormRefused (λ n. many an_import (the_decls n)) MAX_NESTING fault self.old self.new) }
     {
         let mut imports = Imports::new(alloc);

@@ -7,7 +7,7 @@
 
 ghost use Rattle.std.specs.Prelude.{All, IfOk, IfErr};
 ghost use Rattle.bdl_lexer.specs.Spans.{LiesIn};
-ghost use Rattle.bdl_parser.specs.FirstFault.{IsModuleOf, IsParseFaultOf};
+ghost use Rattle.bdl_parser.specs.FirstFault.{IsModuleOf, IsParseRefusalOf};
 ghost use Rattle.bdl_parser.specs.Lexemes.{lexemes_of};
 ghost use Rattle.bdl_parser.specs.Decls.{AreSpelledDecls};
 
@@ -54,7 +54,7 @@ pub fn parse(alloc: Global, source: &[u8], tokens: &[Token]) -> Result<Module, P
     requires { All (LiesIn source.now) tokens.now }
     ensures module { IfOk result (IsModuleOf (lexemes_of source.now tokens.now)) }
     ensures spelled { IfOk result (λ module_. AreSpelledDecls module_.decls) }
-    ensures fault { IfErr result (IsParseFaultOf (lexemes_of source.now tokens.now)) }
+    ensures fault { IfErr result (IsParseRefusalOf (lexemes_of source.now tokens.now)) }
 {
     let mut parser = Parser::new(source, tokens);
     match parser.module(alloc) {

@@ -2,7 +2,7 @@
 
 ghost use Rattle.std.specs.Prelude.{◌≡◌, ◌<◌, true, [], length, drop, MatchOption, IfSome, IfOk, IfErr};
 ghost use Rattle.bag_model.specs.Words.{is_name};
-ghost use Rattle.bdl_parser.specs.Grammar.{key, this_mark, a_name, a_number, a_text};
+ghost use Rattle.bdl_parser.specs.Grammar.{this_word, this_sign, a_name, a_number, a_text};
 ghost use Rattle.bdl_parser.specs.Refusals.{meets, IsTokenRefused, meant_by, IsWellSpelled, HasFirst};
 ghost use Rattle.grammar_model.specs.Forms.{IsOne};
 
@@ -114,7 +114,7 @@ impl<'a> Parser<'a> {
 
     /// Whether this word is next.
     pub fn is_at_key(&self, word: &str) -> bool
-        ensures { result ≡ meets (key word.now) self.now }
+        ensures { result ≡ meets (this_word word.now) self.now }
     {
         match self.peek() {
             Some((Meaning::Word(found), _)) => is(found, word),
@@ -124,7 +124,7 @@ impl<'a> Parser<'a> {
 
     /// Whether this sign is next.
     pub fn is_at_sign(&self, byte: u8) -> bool
-        ensures { result ≡ meets (this_mark byte) self.now }
+        ensures { result ≡ meets (this_sign byte) self.now }
     {
         match self.peek() {
             Some((Meaning::Sign(found), _)) => found == byte,
@@ -134,8 +134,8 @@ impl<'a> Parser<'a> {
 
     /// Reads this word.
     pub fn key(&mut self, word: &str) -> Result<Spot, FormFault>
-        ensures ok { IfOk result (λ spot. IsOne (key word.now) self.old spot self.new) }
-        ensures err { IfErr result (λ fault. IsTokenRefused (key word.now) fault self.old self.new) }
+        ensures ok { IfOk result (λ spot. IsOne (this_word word.now) self.old spot self.new) }
+        ensures err { IfErr result (λ fault. IsTokenRefused (this_word word.now) fault self.old self.new) }
     {
         match self.peek() {
             Some((Meaning::Word(found), spot)) if is(found, word) => {
@@ -148,8 +148,8 @@ impl<'a> Parser<'a> {
 
     /// Reads this sign.
     pub fn sign(&mut self, byte: u8) -> Result<Spot, FormFault>
-        ensures ok { IfOk result (λ spot. IsOne (this_mark byte) self.old spot self.new) }
-        ensures err { IfErr result (λ fault. IsTokenRefused (this_mark byte) fault self.old self.new) }
+        ensures ok { IfOk result (λ spot. IsOne (this_sign byte) self.old spot self.new) }
+        ensures err { IfErr result (λ fault. IsTokenRefused (this_sign byte) fault self.old self.new) }
     {
         match self.peek() {
             Some((Meaning::Sign(found), spot)) if found == byte => {

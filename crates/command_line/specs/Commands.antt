@@ -121,6 +121,7 @@ abbrev pub product_of : CodeProduct → Product
 product_of SlotLine = slot_line
 product_of WholeText = whole_text
 
+-- How a report is printed.
 abbrev pub report_form_of : CodeForm → ReportForm
 report_form_of Text = as_lines
 report_form_of Json = as_json

@@ -2,7 +2,7 @@
 
 ghost use Rattle.std.specs.Prelude.{◌<◌, length, All, IfOk};
 ghost use Rattle.context_model.specs.Merged.{IsMerged};
-ghost use Rattle.fan_in.specs.Pools.{lists_named};
+ghost use Rattle.fan_in.specs.Pools.{lists_at_places};
 
 use atom_list::Context;
 use lex_merge::laws::{merges_few, merges_in_groups};
@@ -14,7 +14,7 @@ use std::alloc::Global;
 /// of halves, down to two contexts, which are merged where they stand.
 pub fn merge_alone(alloc: Global, pool: &[Context], places: &[usize]) -> Result<Context, Memory>
     requires { All (λ place. place < length pool.now) places.now }
-    ensures { IfOk result (IsMerged (lists_named pool.now places.now)) }
+    ensures { IfOk result (IsMerged (lists_at_places pool.now places.now)) }
 {
     // The proof learns here what few contexts come to, and that the merge of two merges is the merge of all.
     merges_few();

@@ -3,7 +3,7 @@
 ghost use Rattle.std.specs.Prelude.{◌<◌, length, All, IfOk};
 ghost use Rattle.std.specs.Thread.{IsSync};
 ghost use Rattle.context_model.specs.Merged.{IsMerged};
-ghost use Rattle.fan_in.specs.Pools.{lists_named};
+ghost use Rattle.fan_in.specs.Pools.{lists_at_places};
 
 use crate::alone::merge_alone;
 use atom_list::Context;
@@ -28,7 +28,7 @@ fn merge_halved<R: Threads + Sync>(
     places: &[usize],
 ) -> Result<Context, Memory>
     requires { All (λ place. place < length pool.now) places.now }
-    ensures { IfOk result (IsMerged (lists_named pool.now places.now)) }
+    ensures { IfOk result (IsMerged (lists_at_places pool.now places.now)) }
 {
     if forks == 0 || places.len() < FORKED_MIN {
         return merge_alone(alloc, pool, places);
@@ -41,11 +41,11 @@ fn merge_halved<R: Threads + Sync>(
         rt,
         || -> Result<Context, Memory>
             requires { IsSync R.row × All (λ place. place < length pool.now) left.now }
-            ensures { IfOk result (IsMerged (lists_named pool.entry.now left.entry.now)) }
+            ensures { IfOk result (IsMerged (lists_at_places pool.entry.now left.entry.now)) }
         { merge_halved(rt, alloc, forks, pool, left) },
         || -> Result<Context, Memory>
             requires { IsSync R.row × All (λ place. place < length pool.now) right.now }
-            ensures { IfOk result (IsMerged (lists_named pool.entry.now right.entry.now)) }
+            ensures { IfOk result (IsMerged (lists_at_places pool.entry.now right.entry.now)) }
         { merge_halved(rt, alloc, forks, pool, right) },
     );
     merge(alloc, &first?, &second?)
@@ -61,7 +61,7 @@ fn merge_half<R: Threads + Sync, G: Gate>(
     places: &[usize],
 ) -> Result<Context, Memory>
     requires { All (λ place. place < length pool.now) places.now }
-    ensures { IfOk result (IsMerged (lists_named pool.now places.now)) }
+    ensures { IfOk result (IsMerged (lists_at_places pool.now places.now)) }
 {
     gate.enter(half);
     merge_halved(rt, alloc, FORKS, pool, places)
@@ -76,7 +76,7 @@ fn merge_in_turn<R: Threads + Sync, G: Gate>(
     places: &[usize],
 ) -> Result<Context, Memory>
     requires { All (λ place. place < length pool.now) places.now }
-    ensures { IfOk result (IsMerged (lists_named pool.now places.now)) }
+    ensures { IfOk result (IsMerged (lists_at_places pool.now places.now)) }
 {
     merges_in_groups();
     let (left, right) = places.split_at(places.len() / 2);
@@ -94,7 +94,7 @@ fn merge_beside<R: Threads + Sync, G: Gate>(
     places: &[usize],
 ) -> Result<Context, Memory>
     requires { All (λ place. place < length pool.now) places.now }
-    ensures { IfOk result (IsMerged (lists_named pool.now places.now)) }
+    ensures { IfOk result (IsMerged (lists_at_places pool.now places.now)) }
 {
     merges_in_groups();
     let (left, right) = places.split_at(places.len() / 2);
@@ -102,11 +102,11 @@ fn merge_beside<R: Threads + Sync, G: Gate>(
         rt,
         || -> Result<Context, Memory>
             requires { All (λ place. place < length pool.now) left.now }
-            ensures { IfOk result (IsMerged (lists_named pool.entry.now left.entry.now)) }
+            ensures { IfOk result (IsMerged (lists_at_places pool.entry.now left.entry.now)) }
         { merge_half(rt, alloc, gate, 0, pool, left) },
         || -> Result<Context, Memory>
             requires { All (λ place. place < length pool.now) right.now }
-            ensures { IfOk result (IsMerged (lists_named pool.entry.now right.entry.now)) }
+            ensures { IfOk result (IsMerged (lists_at_places pool.entry.now right.entry.now)) }
         { merge_half(rt, alloc, gate, 1, pool, right) },
     );
     merge(alloc, &first?, &second?)
@@ -125,7 +125,7 @@ pub fn merge_all<R: Threads + Sync, G: Gate>(
     places: &[usize],
 ) -> Result<Context, Memory>
     requires { All (λ place. place < length pool.now) places.now }
-    ensures { IfOk result (IsMerged (lists_named pool.now places.now)) }
+    ensures { IfOk result (IsMerged (lists_at_places pool.now places.now)) }
 {
     match places.len() {
         0 | 1 => merge_alone(alloc, pool, places),

@@ -16,12 +16,12 @@ use Rattle.field_table.specs.declared.shapes.Slot.{Slot}
 use Rattle.field_table.specs.declared.shapes.Slots.{Slots}
 use Rattle.field_table.specs.declared.shapes.Shape.TheViews.{out-Slots}
 use Rattle.field_table.specs.Tables.{KeptField, IsPlaceOf, IsReady, capped, name}
-use Rattle.field_table.specs.Plain.{kept_bag, shape_of, nodes_of, slot_name_of, IsIndexed, IsOrdered}
+use Rattle.field_table.specs.Plain.{kept_bag, shape_of, nodes_of, field_name, IsIndexed, IsOrdered}
 use Rattle.field_table.proofs.Opened.{names_of-items}
 use Rattle.field_table.proofs.Held.{field_open, item_at, item_field}
 
 -- No field has a name that isn't found.
-pub other_name : (s : Slots) (own : List ℕ) → IsPlaceOf (map slot_name_of (out-Slots s).items.items) own None → (place : ℕ) (f : model.Field) → slice_get (model.fields (nodes_of s)) place ≡ Some f → f.name ≢ own
+pub other_name : (s : Slots) (own : List ℕ) → IsPlaceOf (map field_name (out-Slots s).items.items) own None → (place : ℕ) (f : model.Field) → slice_get (model.fields (nodes_of s)) place ≡ Some f → f.name ≢ own
 other_name s own none place f at same =
     none place (ap (λ l. slice_get l place) (sym (names_of-items s)) ∙ (slice_get-map name (model.fields (nodes_of s)) place ∙ (ap (option_map name) at ∙ ap Some same)))
 
@@ -31,14 +31,14 @@ pub record IsNamed (s : Slots) (own : List ℕ) (place : ℕ) (x : Slot) : Type 
   pub field : slice_get (model.fields (nodes_of s)) place ≡ Some (record { name = x.name; number = x.number; shape = shape_of x.shape })
   pub named : x.name ≡ own
 
-pub place_within : (s : Slots) (own : List ℕ) (place : ℕ) → slice_get (map slot_name_of (out-Slots s).items.items) place ≡ Some own → place < length (out-Slots s).items.items
-place_within s own place found = omega (arith, slice_get_within (map slot_name_of (out-Slots s).items.items) place own found, length-map (out-Slots s).items.items slot_name_of)
+pub place_within : (s : Slots) (own : List ℕ) (place : ℕ) → slice_get (map field_name (out-Slots s).items.items) place ≡ Some own → place < length (out-Slots s).items.items
+place_within s own place found = omega (arith, slice_get_within (map field_name (out-Slots s).items.items) place own found, length-map (out-Slots s).items.items field_name)
 
-pub named_at : (s : Slots) (own : List ℕ) (place : ℕ) (x : Slot) → slice_get (map slot_name_of (out-Slots s).items.items) place ≡ Some own → x ≡ get_or (out-Slots s).items.items place x → IsNamed s own place x
+pub named_at : (s : Slots) (own : List ℕ) (place : ℕ) (x : Slot) → slice_get (map field_name (out-Slots s).items.items) place ≡ Some own → x ≡ get_or (out-Slots s).items.items place x → IsNamed s own place x
 named_at s own place x found is =
     let at : slice_get (out-Slots s).items.items place ≡ Some x = item_at s place x (place_within s own place found) is in
-    let same : Some (slot_name_of x) ≡ Some own = sym (slice_get-map slot_name_of (out-Slots s).items.items place ∙ ap (option_map slot_name_of) at) ∙ found in
-    let named : slot_name_of x ≡ own = cc same in
+    let same : Some (field_name x) ≡ Some own = sym (slice_get-map field_name (out-Slots s).items.items place ∙ ap (option_map field_name) at) ∙ found in
+    let named : field_name x ≡ own = cc same in
     record { at = at; field = item_field s place x at; named = sym (ap (λ (k : KeptField). k.name) (field_open x)) ∙ named }
 
 pub found_bound : (nodes : model.Nodes) (path : List ℕ) (before : ℕ) (shape : model.Shape) → FindsField nodes path (Some (before, shape)) → before ≤ length (slots_of nodes)

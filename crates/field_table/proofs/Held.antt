@@ -20,7 +20,7 @@ use Rattle.field_table.specs.declared.shapes.Slots.{Slots}
 use Rattle.field_table.specs.declared.shapes.Shape.TheFolds.{fold-roll-Shape, fold_out-Slot, fold_out-Shape, map-Shape}
 use Rattle.field_table.specs.declared.shapes.Shape.TheOpen.{Shape-F}
 use Rattle.field_table.specs.declared.shapes.Shape.TheViews.{out-Slots, out-Shape, roll-Shape, roll-out-Shape}
-use Rattle.field_table.specs.Tables.{Kept, KeptField, KeptBag, Bag, plain, plain_bag, ends_of, start_at, Holds, IsReady, IsKept}
+use Rattle.field_table.specs.Tables.{Kept, KeptField, KeptBag, Bag, plain_shape, plain_bag, ends_of, start_at, Holds, IsReady, IsKept}
 use Rattle.field_table.specs.Plain.{shape_step, slot_step, slots_step, kept_shape, kept_field, kept_bag, field_of, shape_of, nodes_of}
 use Rattle.field_table.proofs.Ends.{before_is, length-ends}
 use Rattle.field_table.proofs.Opened.{get_field, length_fields, has_indexes, open_ends}
@@ -33,7 +33,7 @@ field_open x = fold_out-Slot Kept KeptField KeptBag shape_step slot_step slots_s
 
 -- A field of the code as a plain one.
 pub field_is : (x : Slot) → field_of x ≡ record { name = x.name; number = x.number; shape = shape_of x.shape }
-field_is x = ap (λ (k : KeptField). record { name = k.name; number = k.number; shape = plain k.shape }) (field_open x)
+field_is x = ap (λ (k : KeptField). record { name = k.name; number = k.number; shape = plain_shape k.shape }) (field_open x)
 
 -- The item at a place is the field there.
 pub item_field : (s : Slots) (place : ℕ) (x : Slot) → slice_get (out-Slots s).items.items place ≡ Some x
@@ -64,7 +64,7 @@ start_next (g ∷ gs) (suc i) f at = omega (arith, start_next gs i f at)
 pub bag_ready : (s : Slots) (place : ℕ) (x : Slot) (inner : KeptBag) → IsReady (kept_bag s) → slice_get (out-Slots s).items.items place ≡ Some x → kept_shape x.shape ≡ Bag inner → IsReady inner
 bag_ready s place x inner ready at is =
     let field = item_field s place x at in
-    let plain_is : shape_of x.shape ≡ model.Shape.Bag (plain_bag inner) = ap plain is in
+    let plain_is : shape_of x.shape ≡ model.Shape.Bag (plain_bag inner) = ap plain_shape is in
     let inside = subst IsKept (ap (λ (k : KeptField). k.shape) (field_open x) ∙ is) ((has_indexes s ready.indexed).inside place x at) in
     let count = count_bound (model.fields (nodes_of s)) place (record { name = x.name; number = x.number; shape = shape_of x.shape }) field in
     let bound : length (slots_of (plain_bag inner)) ≤ length (slots_list (model.fields (nodes_of s))) = subst (λ (shape : model.Shape). slot_count shape ≤ length (slots_list (model.fields (nodes_of s)))) plain_is count in
@@ -135,8 +135,8 @@ no_bag shape h nodes is = by (out-Shape shape) refl
     seen : kept_shape shape ≡ shape_step (map-Shape Shape Slot Slots Kept KeptField KeptBag kept_shape kept_field kept_bag (out-Shape shape))
     seen = fold_out-Shape Kept KeptField KeptBag shape_step slot_step slots_step shape
 
-    plainly : (o : Shape-F Shape Slot Slots) → out-Shape shape ≡ o → plain (shape_step (map-Shape Shape Slot Slots Kept KeptField KeptBag kept_shape kept_field kept_bag o)) ≡ model.Shape.Bag nodes
-    plainly o e = subst (λ (p : Shape-F Shape Slot Slots). plain (shape_step (map-Shape Shape Slot Slots Kept KeptField KeptBag kept_shape kept_field kept_bag p)) ≡ model.Shape.Bag nodes) e (ap plain (sym seen) ∙ is)
+    plainly : (o : Shape-F Shape Slot Slots) → out-Shape shape ≡ o → plain_shape (shape_step (map-Shape Shape Slot Slots Kept KeptField KeptBag kept_shape kept_field kept_bag o)) ≡ model.Shape.Bag nodes
+    plainly o e = subst (λ (p : Shape-F Shape Slot Slots). plain_shape (shape_step (map-Shape Shape Slot Slots Kept KeptField KeptBag kept_shape kept_field kept_bag p)) ≡ model.Shape.Bag nodes) e (ap plain_shape (sym seen) ∙ is)
 
     by : (o : Shape-F Shape Slot Slots) → out-Shape shape ≡ o → ⊥
     by (Shape-F.Bag inner) e = h inner (sym (roll-out-Shape shape) ∙ (ap roll-Shape e ∙ variants.rolls-Bag inner))
@@ -145,7 +145,7 @@ no_bag shape h nodes is = by (out-Shape shape) refl
     by (Shape-F.Scalar kind) e = let bad : model.Shape.Scalar pick.Least (kind_of kind) ≡ model.Shape.Bag nodes = plainly (Shape-F.Scalar kind) e in cc bad
     by (Shape-F.Greatest kind) e = let bad : model.Shape.Scalar pick.Greatest (kind_of kind) ≡ model.Shape.Bag nodes = plainly (Shape-F.Greatest kind) e in cc bad
     by (Shape-F.Set kind) e = let bad : model.Shape.Set (kind_of kind) ≡ model.Shape.Bag nodes = plainly (Shape-F.Set kind) e in cc bad
-    by (Shape-F.Map key value) e = let bad : model.Shape.Map (kind_of key) (plain (kept_shape value.value)) ≡ model.Shape.Bag nodes = plainly (Shape-F.Map key value) e in cc bad
+    by (Shape-F.Map key value) e = let bad : model.Shape.Map (kind_of key) (plain_shape (kept_shape value.value)) ≡ model.Shape.Bag nodes = plainly (Shape-F.Map key value) e in cc bad
 
 -- There are fewer fields inside a field than in the bag that it stands in.
 pub fewer : (nodes : model.Nodes) (i : ℕ) (f : model.Field) → slice_get (model.fields nodes) i ≡ Some f → nodes_under f.shape < node_count nodes
@@ -157,7 +157,7 @@ fewer (model.Nodes.node name number shape nodes) (suc i) f at = omega (arith, fe
 
 pub inner_fewer : (s : Slots) (place : ℕ) (x : Slot) (inner : Slots) → slice_get (out-Slots s).items.items place ≡ Some x → x.shape ≡ variants.Bag inner → node_count (nodes_of inner) < node_count (nodes_of s)
 inner_fewer s place x inner at is =
-    let plain_is : shape_of x.shape ≡ model.Shape.Bag (nodes_of inner) = ap shape_of is ∙ ap plain (shape_bag inner) in
+    let plain_is : shape_of x.shape ≡ model.Shape.Bag (nodes_of inner) = ap shape_of is ∙ ap plain_shape (shape_bag inner) in
     subst (λ (shape : model.Shape). nodes_under shape < node_count (nodes_of s)) plain_is (fewer (nodes_of s) place (record { name = x.name; number = x.number; shape = shape_of x.shape }) (item_field s place x at))
 
 pub levels_there : (nodes : model.Nodes) (i : ℕ) (f : model.Field) → slice_get (model.fields nodes) i ≡ Some f → 1 + levels_under f.shape ≤ levels nodes
@@ -182,7 +182,7 @@ pub held_inside : (s : Slots) (slot place before : ℕ) (x : Slot) (inner : Slot
     → before ≡ starts (model.fields (nodes_of s)) place → x.shape ≡ variants.Bag inner → IsHeldInside s slot before x inner
 held_inside s slot place before x inner ready holds at here is =
     let h = held s slot place x holds at in
-    let plain_is : shape_of x.shape ≡ model.Shape.Bag (nodes_of inner) = ap shape_of is ∙ ap plain (shape_bag inner) in
+    let plain_is : shape_of x.shape ≡ model.Shape.Bag (nodes_of inner) = ap shape_of is ∙ ap plain_shape (shape_bag inner) in
     let field : model.Field = record { name = x.name; number = x.number; shape = shape_of x.shape } in
     record {
       fewer_nodes = inner_fewer s place x inner h.at is;

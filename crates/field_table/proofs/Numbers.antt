@@ -12,7 +12,7 @@ use Rattle.bag_model.proofs.PathLaws.{all_there}
 use Rattle.field_table.specs.declared.shapes.Slot.{Slot}
 use Rattle.field_table.specs.declared.shapes.Slots.{Slots}
 use Rattle.field_table.specs.declared.shapes.Shape.TheViews.{out-Slots}
-use Rattle.field_table.specs.Plain.{nodes_of, shape_of, field_of, slot_number_of}
+use Rattle.field_table.specs.Plain.{nodes_of, shape_of, field_of, field_number}
 use Rattle.field_table.proofs.Opened.{length_fields, get_field}
 use Rattle.field_table.proofs.Held.{item_field}
 
@@ -32,19 +32,19 @@ seen x = record { name = x.name; number = x.number; shape = shape_of x.shape }
 seen_at : (s : Slots) (i : ℕ) (d : Slot) → i < length (out-Slots s).items.items → slice_get (model.fields (nodes_of s)) i ≡ Some (seen (get_or (out-Slots s).items.items i d))
 seen_at s i d within = item_field s i (get_or (out-Slots s).items.items i d) (slice_get-get_or (out-Slots s).items.items i d within)
 
-pub items_rise : (s : Slots) → AreFields (nodes_of s) → IsNonDecreasingBy slot_number_of (out-Slots s).items.items
+pub items_rise : (s : Slots) → AreFields (nodes_of s) → IsNonDecreasingBy field_number (out-Slots s).items.items
 items_rise s are i j d upto within = by (cases_lt i j)
   where
     at : ℕ → Slot
     at k = get_or (out-Slots s).items.items k d
 
-    by : (i < j) ⊎ (j ≤ i) → slot_number_of (get_or (out-Slots s).items.items i d) ≤ slot_number_of (get_or (out-Slots s).items.items j d)
+    by : (i < j) ⊎ (j ≤ i) → field_number (get_or (out-Slots s).items.items i d) ≤ field_number (get_or (out-Slots s).items.items j d)
     by (inl less) = omega (arith, numbers_rise (nodes_of s) i j (seen (at i)) (seen (at j)) are less (seen_at s i d (omega (arith, less, within))) (seen_at s j d within))
-    by (inr more) = let same : i ≡ j = omega (arith, upto, more) in omega (arith, ap (λ k. slot_number_of (get_or (out-Slots s).items.items k d)) same)
+    by (inr more) = let same : i ≡ j = omega (arith, upto, more) in omega (arith, ap (λ k. field_number (get_or (out-Slots s).items.items k d)) same)
 
 -- A field with the number stands at the point between the lesser numbers and the others, if anywhere.
 at_point : (s : Slots) (number place i : ℕ) (f : model.Field) → AreFields (nodes_of s)
-    → IsPartitionPoint (λ item. slot_number_of item < number) (λ item. number ≤ slot_number_of item) (out-Slots s).items.items place
+    → IsPartitionPoint (λ item. field_number item < number) (λ item. number ≤ field_number item) (out-Slots s).items.items place
     → slice_get (model.fields (nodes_of s)) i ≡ Some f → f.number ≡ number → i ≡ place
 at_point s number place i f are point at is = there (slice_get (out-Slots s).items.items i) refl
   where
@@ -73,9 +73,9 @@ at_point s number place i f are point at is = there (slice_get (out-Slots s).ite
 
 -- The same by what a search among the items says.
 pub only_there : (s : Slots) (items : List Slot) (number place i : ℕ) (f : model.Field) → items ≡ (out-Slots s).items.items → AreFields (nodes_of s)
-    → (IsNonDecreasingBy slot_number_of items → IsPartitionPoint (λ item. slot_number_of item < number) (λ item. number ≤ slot_number_of item) items place)
+    → (IsNonDecreasingBy field_number items → IsPartitionPoint (λ item. field_number item < number) (λ item. number ≤ field_number item) items place)
     → slice_get (model.fields (nodes_of s)) i ≡ Some f → f.number ≡ number → i ≡ place
 only_there s items number place i f same are point =
     at_point s number place i f are
-    (subst (λ (l : List Slot). IsPartitionPoint (λ item. slot_number_of item < number) (λ item. number ≤ slot_number_of item) l place) same
-    (point (subst (IsNonDecreasingBy slot_number_of) (sym same) (items_rise s are))))
+    (subst (λ (l : List Slot). IsPartitionPoint (λ item. field_number item < number) (λ item. number ≤ field_number item) l place) same
+    (point (subst (IsNonDecreasingBy field_number) (sym same) (items_rise s are))))

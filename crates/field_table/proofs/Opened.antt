@@ -13,15 +13,15 @@ use Rattle.field_table.specs.declared.shapes.Slots.{Slots}
 use Rattle.field_table.specs.declared.shapes.Shape.TheFolds.{fold_out-Slots}
 use Rattle.field_table.specs.declared.shapes.Shape.TheViews.{out-Slots, roll-Slots, out-roll-Slots}
 use Rattle.field_table.specs.declared.shapes.Shape.TheOpen.{Slots-F}
-use Rattle.field_table.specs.Tables.{Kept, KeptField, KeptBag, kept, kept_nodes, ends_of, plain, plain_bag, plain_nodes, capped, start_at, name, ends_after, HasPlaces, IsNameOrder, IsInOrder, IsKept, IsKeptBag, AreKept}
+use Rattle.field_table.specs.Tables.{Kept, KeptField, KeptBag, kept, kept_nodes, ends_of, plain_shape, plain_bag, plain_nodes, capped, start_at, name, ends_after, HasPlaces, IsNameOrder, IsInOrder, IsKept, IsKeptBag, AreKept}
 use Rattle.field_table.proofs.Ends.{length-ends, last_end}
-use Rattle.field_table.specs.Plain.{shape_step, slot_step, slots_step, kept_field, kept_bag, field_of, nodes_of, slot_name_of, IsIndexed, IsOrdered}
+use Rattle.field_table.specs.Plain.{shape_step, slot_step, slots_step, kept_field, kept_bag, field_of, nodes_of, field_name, IsIndexed, IsOrdered}
 
 pub open_bag : (s : Slots) → kept_bag s ≡ kept (kept_nodes (map kept_field (out-Slots s).items.items)) (out-Slots s).ends.items (out-Slots s).by_name.items
 open_bag s = fold_out-Slots Kept KeptField KeptBag shape_step slot_step slots_step s
 
 abbrev pub plain_field : KeptField → model.Field
-plain_field field = record { name = field.name; number = field.number; shape = plain field.shape }
+plain_field field = record { name = field.name; number = field.number; shape = plain_shape field.shape }
 
 pub plain_fields : (ks : List KeptField) → model.fields (plain_nodes (kept_nodes ks)) ≡ map plain_field ks
 plain_fields [] = refl
@@ -44,12 +44,12 @@ get_field s i = ap (λ l. slice_get l i) (fields_of-items s) ∙ slice_get-map f
 pub open_ends : (s : Slots) → ends_of (kept_bag s) ≡ (out-Slots s).ends.items
 open_ends s = ap ends_of (open_bag s)
 
-names_mapped : (items : List Slot) → map name (map field_of items) ≡ map slot_name_of items
+names_mapped : (items : List Slot) → map name (map field_of items) ≡ map field_name items
 names_mapped [] = refl
-names_mapped (x ∷ xs) = ap (λ l. slot_name_of x ∷ l) (names_mapped xs)
+names_mapped (x ∷ xs) = ap (λ l. field_name x ∷ l) (names_mapped xs)
 
 -- The names of the items.
-pub names_of-items : (s : Slots) → map name (model.fields (nodes_of s)) ≡ map slot_name_of (out-Slots s).items.items
+pub names_of-items : (s : Slots) → map name (model.fields (nodes_of s)) ≡ map field_name (out-Slots s).items.items
 names_of-items s = ap (map name) (fields_of-items s) ∙ names_mapped (out-Slots s).items.items
 
 -- The indexes in the shape of the field are right and in order.
@@ -64,20 +64,20 @@ are_kept (x ∷ xs) (suc i) slot h at = are_kept xs i slot h.1 at
 -- What it says that the indexes are right.
 pub record HasIndexes (s : Slots) : Type 0 where
   pub ends : (out-Slots s).ends.items ≡ ends_after 0 (model.fields (nodes_of s))
-  pub places : HasPlaces (map slot_name_of (out-Slots s).items.items) (out-Slots s).by_name.items
+  pub places : HasPlaces (map field_name (out-Slots s).items.items) (out-Slots s).by_name.items
   pub inside : (i : ℕ) (slot : Slot) → slice_get (out-Slots s).items.items i ≡ Some slot → IsKeptField slot
 
 plain_again : (s : Slots) → model.fields (plain_nodes (kept_nodes (map kept_field (out-Slots s).items.items))) ≡ model.fields (nodes_of s)
 plain_again s = ap (λ b. model.fields (plain_bag b)) (sym (open_bag s))
 
-names_again : (s : Slots) → map name (model.fields (plain_nodes (kept_nodes (map kept_field (out-Slots s).items.items)))) ≡ map slot_name_of (out-Slots s).items.items
+names_again : (s : Slots) → map name (model.fields (plain_nodes (kept_nodes (map kept_field (out-Slots s).items.items)))) ≡ map field_name (out-Slots s).items.items
 names_again s = ap (map name) (plain_again s) ∙ names_of-items s
 
 -- What it says that the index by name is in order.
-pub is_ordered : (s : Slots) → IsOrdered s → IsNameOrder (map slot_name_of (out-Slots s).items.items) (out-Slots s).by_name.items
+pub is_ordered : (s : Slots) → IsOrdered s → IsNameOrder (map field_name (out-Slots s).items.items) (out-Slots s).by_name.items
 is_ordered s h = subst (λ (names : List (List ℕ)). IsNameOrder names (out-Slots s).by_name.items) (names_again s) (subst IsInOrder (open_bag s) h)
 
-pub are_ordered : (s : Slots) → IsNameOrder (map slot_name_of (out-Slots s).items.items) (out-Slots s).by_name.items → IsOrdered s
+pub are_ordered : (s : Slots) → IsNameOrder (map field_name (out-Slots s).items.items) (out-Slots s).by_name.items → IsOrdered s
 are_ordered s h = subst IsInOrder (sym (open_bag s)) (subst (λ (names : List (List ℕ)). IsNameOrder names (out-Slots s).by_name.items) (sym (names_again s)) h)
 
 pub has_indexes : (s : Slots) → IsIndexed s → HasIndexes s

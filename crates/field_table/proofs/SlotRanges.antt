@@ -11,7 +11,7 @@ use Rattle.std.proofs.lemmas.List.{append-nil}
 use Rattle.std.proofs.lemmas.List.Elements.{All-head, All-tail, All-push}
 use Rattle.context_model.specs.Orders.{IsIn, Rises}
 use Rattle.bag_model.proofs.Finite.{in_append_first, in_append_second, in_append}
-use Rattle.field_table.specs.Ranges.{slots_between, slots_in, AreSlotRanges}
+use Rattle.field_table.specs.Ranges.{slots_between, slots_in_ranges, AreSlotRanges}
 
 -- ---- the slots of one range
 
@@ -73,43 +73,43 @@ rises_range (x ∷ z ∷ zs) first n rises below = (rises.0, rises_range (z ∷ 
 
 -- ---- the slots of ranges, one after the other
 
-pub slots_push : (ranges : List (ℕ × ℕ)) (first end : ℕ) → slots_in (ranges ++ (first, end) ∷ []) ≡ slots_in ranges ++ slots_between first end
+pub slots_push : (ranges : List (ℕ × ℕ)) (first end : ℕ) → slots_in_ranges (ranges ++ (first, end) ∷ []) ≡ slots_in_ranges ranges ++ slots_between first end
 slots_push [] first end = append-nil (slots_between first end)
-slots_push (range ∷ ranges) first end = ap (λ slots. slots_between range.0 range.1 ++ slots) (slots_push ranges first end) ∙ sym (append_assoc (slots_between range.0 range.1) (slots_in ranges) (slots_between first end))
+slots_push (range ∷ ranges) first end = ap (λ slots. slots_between range.0 range.1 ++ slots) (slots_push ranges first end) ∙ sym (append_assoc (slots_between range.0 range.1) (slots_in_ranges ranges) (slots_between first end))
 
 -- A range more.
-pub ranges_push : (ranges : List (ℕ × ℕ)) (first end : ℕ) → AreSlotRanges ranges → first < end → All (λ held. held < first) (slots_in ranges) → AreSlotRanges (ranges ++ (first, end) ∷ [])
+pub ranges_push : (ranges : List (ℕ × ℕ)) (first end : ℕ) → AreSlotRanges ranges → first < end → All (λ held. held < first) (slots_in_ranges ranges) → AreSlotRanges (ranges ++ (first, end) ∷ [])
 ranges_push ranges first end are some below = record {
-  rises = subst (Rises nat_cmp) (sym (slots_push ranges first end)) (rises_range (slots_in ranges) first (end - first) are.rises below);
+  rises = subst (Rises nat_cmp) (sym (slots_push ranges first end)) (rises_range (slots_in_ranges ranges) first (end - first) are.rises below);
   filled = All-push (λ range. range.0 < range.1) ranges (first, end) are.filled some;
 }
 
 -- There is no slot exactly where there is no range.
-pub no_slots : (ranges : List (ℕ × ℕ)) (count : ℕ) → AreSlotRanges ranges → count ≡ length ranges → (eqb count 0 ≡ true) ↔ (slots_in ranges ≡ [])
+pub no_slots : (ranges : List (ℕ × ℕ)) (count : ℕ) → AreSlotRanges ranges → count ≡ length ranges → (eqb count 0 ≡ true) ↔ (slots_in_ranges ranges ≡ [])
 no_slots [] count are is = (λ yes. refl, λ none. eq-eqb count 0 is)
 no_slots (range ∷ ranges) count are is = (
   λ yes. absurd (let none : count ≡ 0 = eqb-true count 0 yes in omega arith),
-  λ none. absurd (subst (IsIn range.0) none (in_append_first range.0 (slots_between range.0 range.1) (slots_in ranges)
+  λ none. absurd (subst (IsIn range.0) none (in_append_first range.0 (slots_between range.0 range.1) (slots_in_ranges ranges)
       ((in_between range.0 range.1 range.0).1 (omega arith, All-head (λ range. range.0 < range.1) range ranges are.filled)))),
 )
 
 -- ---- the range that a slot is in
 
-pub in_ranges : (ranges : List (ℕ × ℕ)) (i : ℕ) (d : ℕ × ℕ) (slot : ℕ) → i < length ranges → (get_or ranges i d).0 ≤ slot → slot < (get_or ranges i d).1 → IsIn slot (slots_in ranges)
+pub in_ranges : (ranges : List (ℕ × ℕ)) (i : ℕ) (d : ℕ × ℕ) (slot : ℕ) → i < length ranges → (get_or ranges i d).0 ≤ slot → slot < (get_or ranges i d).1 → IsIn slot (slots_in_ranges ranges)
 in_ranges [] i d slot within low high = absurd (omega arith)
-in_ranges (range ∷ ranges) zero d slot within low high = in_append_first slot (slots_between range.0 range.1) (slots_in ranges) ((in_between range.0 range.1 slot).1 (low, high))
-in_ranges (range ∷ ranges) (suc i) d slot within low high = in_append_second slot (slots_between range.0 range.1) (slots_in ranges) (in_ranges ranges i d slot (omega arith) low high)
+in_ranges (range ∷ ranges) zero d slot within low high = in_append_first slot (slots_between range.0 range.1) (slots_in_ranges ranges) ((in_between range.0 range.1 slot).1 (low, high))
+in_ranges (range ∷ ranges) (suc i) d slot within low high = in_append_second slot (slots_between range.0 range.1) (slots_in_ranges ranges) (in_ranges ranges i d slot (omega arith) low high)
 
 -- A slot is in one of the ranges.
-stands_in : (ranges : List (ℕ × ℕ)) (slot : ℕ) → IsIn slot (slots_in ranges) → (i : ℕ) × (i < length ranges) × ((d : ℕ × ℕ) → ((get_or ranges i d).0 ≤ slot) × (slot < (get_or ranges i d).1))
+stands_in : (ranges : List (ℕ × ℕ)) (slot : ℕ) → IsIn slot (slots_in_ranges ranges) → (i : ℕ) × (i < length ranges) × ((d : ℕ × ℕ) → ((get_or ranges i d).0 ≤ slot) × (slot < (get_or ranges i d).1))
 stands_in [] slot none = absurd none
-stands_in (range ∷ ranges) slot i = elim (in_append slot (slots_between range.0 range.1) (slots_in ranges) i) [
+stands_in (range ∷ ranges) slot i = elim (in_append slot (slots_between range.0 range.1) (slots_in_ranges ranges) i) [
   | inl here ↦ (0, omega arith, λ d. (in_between range.0 range.1 slot).0 here)
   | inr later ↦ (let r = stands_in ranges slot later in (suc r.0, omega (arith, r.1), r.2))
 ]
 
 -- Each range ends before a later one begins.
-apart : (ranges : List (ℕ × ℕ)) (i j : ℕ) (d : ℕ × ℕ) → Rises nat_cmp (slots_in ranges) → All (λ range. range.0 < range.1) ranges → i < j → j < length ranges → (get_or ranges i d).1 ≤ (get_or ranges j d).0
+apart : (ranges : List (ℕ × ℕ)) (i j : ℕ) (d : ℕ × ℕ) → Rises nat_cmp (slots_in_ranges ranges) → All (λ range. range.0 < range.1) ranges → i < j → j < length ranges → (get_or ranges i d).1 ≤ (get_or ranges j d).0
 apart [] i j d rises filled less within = absurd (omega arith)
 apart (range ∷ ranges) i zero d rises filled less within = absurd (omega arith)
 apart (range ∷ ranges) zero (suc j) d rises filled less within =
@@ -117,9 +117,9 @@ apart (range ∷ ranges) zero (suc j) d rises filled less within =
     let later : (get_or ranges j d).0 < (get_or ranges j d).1 = All-tail (λ range. range.0 < range.1) range ranges filled j d (omega arith) in
     let last = (in_between range.0 range.1 (range.1 - 1)).1 (omega arith, omega arith) in
     let first = in_ranges ranges j d (get_or ranges j d).0 (omega arith) (omega arith) later in
-    omega (arith, front_less (slots_between range.0 range.1) (slots_in ranges) (range.1 - 1) (get_or ranges j d).0 rises last first)
+    omega (arith, front_less (slots_between range.0 range.1) (slots_in_ranges ranges) (range.1 - 1) (get_or ranges j d).0 rises last first)
 apart (range ∷ ranges) (suc i) (suc j) d rises filled less within =
-    apart ranges i j d (behind_rises (slots_between range.0 range.1) (slots_in ranges) rises) (All-tail (λ range. range.0 < range.1) range ranges filled) (omega arith) (omega arith)
+    apart ranges i j d (behind_rises (slots_between range.0 range.1) (slots_in_ranges ranges) rises) (All-tail (λ range. range.0 < range.1) range ranges filled) (omega arith) (omega arith)
 
 -- The ends of ranges rise.
 pub ends_rise : (ranges : List (ℕ × ℕ)) → AreSlotRanges ranges → IsNonDecreasingBy (λ range. range.1) ranges
@@ -130,7 +130,7 @@ ends_rise ranges are i j d upto within = elim (cases_lt i j) [
 
 -- A slot stands in the first range that ends behind it, if anywhere.
 pub at_point : (ranges : List (ℕ × ℕ)) (slot place : ℕ) (d : ℕ × ℕ) → AreSlotRanges ranges → IsPartitionPoint (λ range. leb range.1 slot ≡ true) (λ range. leb range.1 slot ≡ false) ranges place
-    → IsIn slot (slots_in ranges) → (place < length ranges) × ((get_or ranges place d).0 ≤ slot)
+    → IsIn slot (slots_in_ranges ranges) → (place < length ranges) × ((get_or ranges place d).0 ≤ slot)
 at_point ranges slot place d are point at =
     let r = stands_in ranges slot at in by r (cases_lt r.0 place)
   where
@@ -146,5 +146,5 @@ at_point ranges slot place d are point at =
 
 -- A slot that the first range behind it begins before is in it.
 pub in_point : (ranges : List (ℕ × ℕ)) (slot place : ℕ) (d : ℕ × ℕ) → IsPartitionPoint (λ range. leb range.1 slot ≡ true) (λ range. leb range.1 slot ≡ false) ranges place
-    → place < length ranges → (get_or ranges place d).0 ≤ slot → IsIn slot (slots_in ranges)
+    → place < length ranges → (get_or ranges place d).0 ≤ slot → IsIn slot (slots_in_ranges ranges)
 in_point ranges slot place d point within low = in_ranges ranges place d slot within low (leb-false (get_or ranges place d).1 slot (point.1 place d (omega arith) within))

@@ -8,7 +8,7 @@ use Rattle.field_table.specs.declared.shapes.Slot.{Slot}
 use Rattle.field_table.specs.declared.shapes.Slots.{Slots}
 use Rattle.field_table.specs.declared.shapes.Shape.TheFolds.{fold-Shape, fold-Slot, fold-Slots}
 use Rattle.field_table.specs.declared.shapes.Shape.TheOpen.{Shape-F, Slot-F, Slots-F}
-use Rattle.field_table.specs.Tables.{Kept, KeptField, KeptBag, kept, kept_nodes, plain, plain_bag, IsKeptBag, IsInOrder, IsLoose, Taint, Scalar, Set, Counter, Map, Bag}
+use Rattle.field_table.specs.Tables.{Kept, KeptField, KeptBag, kept, kept_nodes, plain_shape, plain_bag, IsKeptBag, IsInOrder, IsLoose, Taint, Scalar, Set, Counter, Map, Bag}
 
 abbrev pub shape_step : Shape-F Kept KeptField KeptBag → Kept
 shape_step Shape-F.Taint = Taint
@@ -37,11 +37,11 @@ kept_bag = fold-Slots Kept KeptField KeptBag shape_step slot_step slots_step
 
 -- The plain shape.
 abbrev pub shape_of : Shape → model.Shape
-shape_of shape = plain (kept_shape shape)
+shape_of shape = plain_shape (kept_shape shape)
 
 -- The plain field.
 abbrev pub field_of : Slot → model.Field
-field_of slot = record { name = (kept_field slot).name; number = (kept_field slot).number; shape = plain (kept_field slot).shape }
+field_of slot = record { name = (kept_field slot).name; number = (kept_field slot).number; shape = plain_shape (kept_field slot).shape }
 
 -- The plain fields.
 abbrev pub nodes_of : Slots → model.Nodes
@@ -64,9 +64,9 @@ abbrev pub IsIndexedField : Slot → Type 0
 IsIndexedField slot = IsLoose (kept_field slot).shape
 
 -- The name of a field.
-abbrev pub slot_name_of : Slot → List ℕ
-slot_name_of slot = (kept_field slot).name
+abbrev pub field_name : Slot → List ℕ
+field_name slot = (kept_field slot).name
 
 -- The number of a field.
-abbrev pub slot_number_of : Slot → ℕ
-slot_number_of slot = slot.number
+abbrev pub field_number : Slot → ℕ
+field_number slot = slot.number

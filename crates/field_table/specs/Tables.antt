@@ -43,20 +43,20 @@ kept_nodes (field ∷ list) = node field.name field.number field.shape (kept_nod
 
 -- Without the indexes.
 abbrev mutual
-  pub plain : Kept → model.Shape
-  plain Taint = model.Shape.Taint
-  plain (Scalar pick kind) = model.Shape.Scalar pick kind
-  plain (Set kind) = model.Shape.Set kind
-  plain Counter = model.Shape.Counter
-  plain (Map key value) = model.Shape.Map key (plain value)
-  plain (Bag bag) = model.Shape.Bag (plain_bag bag)
+  pub plain_shape : Kept → model.Shape
+  plain_shape Taint = model.Shape.Taint
+  plain_shape (Scalar pick kind) = model.Shape.Scalar pick kind
+  plain_shape (Set kind) = model.Shape.Set kind
+  plain_shape Counter = model.Shape.Counter
+  plain_shape (Map key value) = model.Shape.Map key (plain_shape value)
+  plain_shape (Bag bag) = model.Shape.Bag (plain_bag bag)
 
   pub plain_bag : KeptBag → model.Nodes
   plain_bag (kept nodes ends by_name) = plain_nodes nodes
 
   pub plain_nodes : KeptNodes → model.Nodes
   plain_nodes no_node = model.Nodes.no_node
-  plain_nodes (node name number shape nodes) = model.Nodes.node name number (plain shape) (plain_nodes nodes)
+  plain_nodes (node name number shape nodes) = model.Nodes.node name number (plain_shape shape) (plain_nodes nodes)
 
 -- The greatest number that is kept; counts stop there.
 abbrev pub capped : ℕ → ℕ

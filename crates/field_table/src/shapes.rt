@@ -13,7 +13,7 @@ ghost use Rattle.bag_model.specs.Words.{HasNoDot};
 ghost use Rattle.field_table.specs.Shapes.{IsOnly, IsSplit};
 ghost use Rattle.bag_model.specs.Tables.{levels, AreFields};
 ghost use Rattle.field_table.specs.Tables.{capped, Bag, KeptBag, FindsNumber, HasPlaces, IsKept, IsNameOrder, IsPlaceOf, IsRank, IsReady, Holds};
-ghost use Rattle.field_table.specs.Plain.{shape_of, kept_shape, slot_name_of, slot_number_of, field_of, nodes_of, kept_bag, IsIndexed, IsIndexedShape, IsIndexedField, IsOrdered};
+ghost use Rattle.field_table.specs.Plain.{shape_of, kept_shape, field_name, field_number, field_of, nodes_of, kept_bag, IsIndexed, IsIndexedShape, IsIndexedField, IsOrdered};
 
 use crate::slot_paths::SlotPath;
 use bag_model::MAX_LEVELS;
@@ -322,14 +322,14 @@ fn add_field(
 
 /// Puts the places in the order of the names there.
 fn sort_places(items: &[Slot], by_name: &mut [usize])
-    ensures { HasPlaces (map slot_name_of items.now) by_name.old → IsNameOrder (map slot_name_of items.now) by_name.new }
+    ensures { HasPlaces (map field_name items.now) by_name.old → IsNameOrder (map field_name items.now) by_name.new }
 {
     by_name.sort_unstable_by(|one, other| name_at(items, *one).cmp(name_at(items, *other)));
 }
 
 /// The name of the field at this place. It is empty where there is no such field.
 fn name_at(items: &[Slot], place: usize) -> &[u8]
-    ensures { result.now ≡ get_or (map slot_name_of items.now) place [] }
+    ensures { result.now ≡ get_or (map field_name items.now) place [] }
 {
     if place < items.len() {
         items[place].name.as_str().as_bytes()
@@ -341,7 +341,7 @@ fn name_at(items: &[Slot], place: usize) -> &[u8]
 /// How many of the places, in the order of the names there, have a lesser name.
 fn rank_of(items: &[Slot], by_name: &[usize], name: &[u8]) -> usize
     ensures bound { result ≤ length by_name.now }
-    ensures rank { IsNameOrder (map slot_name_of items.now) by_name.now → IsRank (map slot_name_of items.now) by_name.now name.now result }
+    ensures rank { IsNameOrder (map field_name items.now) by_name.now → IsRank (map field_name items.now) by_name.now name.now result }
 {
     by_name.partition_point(|place| name_at(items, *place).cmp(name).is_lt())
 }
@@ -349,15 +349,15 @@ fn rank_of(items: &[Slot], by_name: &[usize], name: &[u8]) -> usize
 /// How many of the fields have a lesser number.
 fn lesser_numbers(items: &[Slot], number: u64) -> usize
     ensures bound { result ≤ length items.now }
-    ensures point { IsNonDecreasingBy slot_number_of items.now → IsPartitionPoint (λ item. slot_number_of item < number) (λ item. number ≤ slot_number_of item) items.now result }
+    ensures point { IsNonDecreasingBy field_number items.now → IsPartitionPoint (λ item. field_number item < number) (λ item. number ≤ field_number item) items.now result }
 {
     items.partition_point(|item| u64::from(item.number) < number)
 }
 
 /// The place of the field with this name.
 fn place_of(items: &[Slot], by_name: &[usize], name: &[u8]) -> Option<usize>
-    requires { IsNameOrder (map slot_name_of items.now) by_name.now }
-    ensures { IsPlaceOf (map slot_name_of items.now) name.now result }
+    requires { IsNameOrder (map field_name items.now) by_name.now }
+    ensures { IsPlaceOf (map field_name items.now) name.now result }
 {
     let rank = rank_of(items, by_name, name);
     if rank == by_name.len() {

@@ -27,11 +27,11 @@ pub struct SlotSet {
 
 impl Model for SlotSet {
     ghost use Rattle.std.specs.Prelude.{ℕ, List};
-    ghost use Rattle.field_table.specs.Ranges.{slots_in, AreSlotRanges};
+    ghost use Rattle.field_table.specs.Ranges.{slots_in_ranges, AreSlotRanges};
 
     ghost Value = { List ℕ };
 
-    ghost view = { λ set. slots_in set.ranges.items };
+    ghost view = { λ set. slots_in_ranges set.ranges.items };
 
     ghost invariant = { λ set. AreSlotRanges set.ranges.items };
 }

@@ -6,7 +6,7 @@ use Rattle.context_model.specs.ContextFault.{IsContextOf}
 use Rattle.context_model.specs.Framing.{bytes_of}
 use Rattle.context_model.specs.Merged.{IsMerged}
 use Rattle.context_model.specs.Trimmed.{trimmed}
-use Rattle.wire_bytes.specs.Reading.{IsContextFaultOf}
+use Rattle.wire_bytes.specs.Reading.{IsContextRefusalOf}
 use Rattle.wire_bytes.specs.declared.contexts.ContextFault.{ContextFault}
 
 -- Both are the bytes of contexts, and what is sent are those of their merge, trimmed to the budget, in the form that is asked for.
@@ -22,5 +22,5 @@ pub record Forwards (form : Form) (first second : List ℕ) (budget : ℕ) (sent
 -- The refusal is the fault of the first bytes, or that of the second where the first are those of a context.
 abbrev pub RefusesFirst : List ℕ → List ℕ → ContextFault → Type 0
 RefusesFirst first second fault =
-    IsContextFaultOf first fault
-    ⊎ ((list : List Atom) × IsContextOf list first × IsContextFaultOf second fault)
+    IsContextRefusalOf first fault
+    ⊎ ((list : List Atom) × IsContextOf list first × IsContextRefusalOf second fault)

@@ -15,12 +15,12 @@ abbrev pub service_names : Graph → List (List ℕ)
 service_names graph = map (λ service. service.name) graph.services
 
 -- The place of a name among some names, the first where it stands there twice.
-abbrev pub name_place : List (List ℕ) → List ℕ → Option ℕ
-name_place names name = position (bytes_eq name) names
+abbrev pub place_of_name : List (List ℕ) → List ℕ → Option ℕ
+place_of_name names name = position (bytes_eq name) names
 
 -- The number of the service with this name.
 abbrev pub service_named : Graph → List ℕ → Option ℕ
-service_named graph name = name_place (service_names graph) name
+service_named graph name = place_of_name (service_names graph) name
 
 -- The map has the number of each service by its name, and no other name.
 abbrev pub NumbersServices : Graph → BTreeMap (Bor (List ℕ)) ℕ → Type 0

@@ -12,7 +12,7 @@ use Rattle.context_model.specs.GreedyMerge.{greedy_merge}
 use Rattle.context_model.proofs.OrderLaws.{atoms_total, atoms_anti}
 use Rattle.context_model.proofs.GreedyLaws.{greedy-comm}
 use Rattle.context_model.proofs.Rising.{greedy-right_empty, greedy-less, greedy-equal}
-use Rattle.atom_list.specs.Builder.{Built, room_for}
+use Rattle.atom_list.specs.Builder.{Built, byte_room_for}
 use Rattle.lex_merge.specs.Runs.{merge_from, IsMergeRun, ComesLater, HasMergeRoom, MergeGoesOn}
 
 -- ---- runs
@@ -108,13 +108,13 @@ later_back a i b j later in_a in_b = atoms_total.antisymm (atom_at b j) (atom_at
 
 -- ---- rooms
 
-room_of-append : (xs ys : List Atom) → room_for (xs ++ ys) ≡ room_for xs + room_for ys
+room_of-append : (xs ys : List Atom) → byte_room_for (xs ++ ys) ≡ byte_room_for xs + byte_room_for ys
 room_of-append [] ys = omega arith
 room_of-append (x ∷ xs) ys = omega (arith, room_of-append xs ys)
 
 -- What is left takes the room of a run and of what is left behind it.
-pub room_split : (a : List Atom) (i k : ℕ) → i ≤ k → room_for (drop i a) ≡ room_for (slice_range a i k) + room_for (drop k a)
-room_split a i k order = ap room_for (drop_split a i k order) ∙ room_of-append (slice_range a i k) (drop k a)
+pub room_split : (a : List Atom) (i k : ℕ) → i ≤ k → byte_room_for (drop i a) ≡ byte_room_for (slice_range a i k) + byte_room_for (drop k a)
+room_split a i k order = ap byte_room_for (drop_split a i k order) ∙ room_of-append (slice_range a i k) (drop k a)
 
 -- ---- building
 
@@ -122,12 +122,12 @@ room_split a i k order = ap room_for (drop_split a i k order) ∙ room_of-append
 pub room_back : (a : List Atom) (i : ℕ) (b : List Atom) (j : ℕ) (built : Built) → HasMergeRoom a i b j built → HasMergeRoom b j a i built
 room_back a i b j built room = record { upto_a = room.upto_b; upto_b = room.upto_a; bytes = omega (arith, room.bytes); atoms = omega (arith, room.atoms) }
 
-pub room_first : (a : List Atom) (i : ℕ) (b : List Atom) (j : ℕ) (built : Built) (k l : ℕ) → HasMergeRoom a i b j built → IsMergeRun a i b j k l → room_for (slice_range a i k) ≤ built.byte_room
+pub room_first : (a : List Atom) (i : ℕ) (b : List Atom) (j : ℕ) (built : Built) (k l : ℕ) → HasMergeRoom a i b j built → IsMergeRun a i b j k l → byte_room_for (slice_range a i k) ≤ built.byte_room
 room_first a i b j built k l room run = let s = room_split a i k run.from_a in omega (arith, room.bytes)
 
 -- A run is put out.
 pub goes_on : (a : List Atom) (i : ℕ) (b : List Atom) (j : ℕ) (old new : Built) (k l : ℕ) → HasMergeRoom a i b j old → IsMergeRun a i b j k l → new.atoms ≡ old.atoms ++ slice_range a i k
-    → old.byte_room ≤ new.byte_room + room_for (slice_range a i k) → new.atom_room + k ≡ old.atom_room + i → MergeGoesOn a i b j old k l new
+    → old.byte_room ≤ new.byte_room + byte_room_for (slice_range a i k) → new.atom_room + k ≡ old.atom_room + i → MergeGoesOn a i b j old k l new
 goes_on a i b j old new k l room run atoms bytes count =
     let first = room_split a i k run.from_a in
     let second = room_split b j l run.from_b in

@@ -5,7 +5,7 @@ use Rattle.context_model.specs.Atoms.{Atom}
 use Rattle.context_model.specs.Orders.{atom_cmp}
 use Rattle.context_model.specs.Paths.{atom_at}
 use Rattle.context_model.specs.GreedyMerge.{greedy_merge}
-use Rattle.atom_list.specs.Builder.{Built, room_for}
+use Rattle.atom_list.specs.Builder.{Built, byte_room_for}
 
 -- The merge of what two lists have from these places on.
 abbrev pub merge_from : List Atom → ℕ → List Atom → ℕ → List Atom
@@ -29,7 +29,7 @@ ComesLater a i b j = i < length a → j < length b → atom_cmp (atom_at a i) (a
 pub record HasMergeRoom (a : List Atom) (i : ℕ) (b : List Atom) (j : ℕ) (built : Built) : Type 0 where
   pub upto_a : i ≤ length a
   pub upto_b : j ≤ length b
-  pub bytes : room_for (drop i a) + room_for (drop j b) ≤ built.byte_room
+  pub bytes : byte_room_for (drop i a) + byte_room_for (drop j b) ≤ built.byte_room
   pub atoms : length a + length b ≤ built.atom_room + (i + j)
 
 -- What was built and then the merge of what is left is what it was before, and there is still room for what is left.

@@ -9,7 +9,7 @@ use Rattle.recorded_graph.specs.Graphs.{with_step}
 use Rattle.graph_lines.specs.Statements.{NamedAct}
 use Rattle.graph_lines.specs.Forms.{IsPath}
 use Rattle.graph_text.specs.Additions.{AddStep}
-use Rattle.graph_text.specs.Names.{name_place, service_named}
+use Rattle.graph_text.specs.Names.{place_of_name, service_named}
 use Rattle.load_maker.specs.Loads.{hit, lane_of}
 use Rattle.load_maker.proofs.CleanLines.{clean_word, clean_number}
 use Rattle.load_maker.proofs.LoadSlots.{least_slot, hits_slot, seen_slot, least_is, hits_is, seen_is}
@@ -26,10 +26,10 @@ pub record IsBehind (graph : Graph) (round lanes : ℕ) : Type 0 where
 
 -- Both services are found by their names.
 pub a_named : (graph : Graph) (n : ℕ) → IsStage graph n → service_named graph (codes "a") ≡ Some 0
-a_named graph n stage = ap (λ (services : List graphs.Service). name_place (map (λ service. service.name) services) (codes "a")) stage.services
+a_named graph n stage = ap (λ (services : List graphs.Service). place_of_name (map (λ service. service.name) services) (codes "a")) stage.services
 
 pub b_named : (graph : Graph) (n : ℕ) → IsStage graph n → service_named graph (codes "b") ≡ Some 1
-b_named graph n stage = ap (λ (services : List graphs.Service). name_place (map (λ service. service.name) services) (codes "b")) stage.services
+b_named graph n stage = ap (λ (services : List graphs.Service). place_of_name (map (λ service. service.name) services) (codes "b")) stage.services
 
 -- A step that may follow is the last of the graph with it.
 pub new_stands : (graph : Graph) (n : ℕ) (act : NamedAct) (service : ℕ) (next : MayFollow graph n act service) → IsStage graph n

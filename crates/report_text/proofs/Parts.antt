@@ -3,7 +3,7 @@ use Rattle.std.proofs.Common.{◌≡◌, ℕ, zero, suc, ◌≤◌, min, List, �
 use Rattle.std.specs.List.{slice_get}
 use Rattle.bag_model.specs.Scalars.{ScalarValue}
 use Rattle.bag_model.specs.Shapes.{Shape, Nodes, Field, fields, no_node, node}
-use Rattle.bag_model.specs.Values.{Value, Entries, Values, no_entry, entry, no_value, value, pairs, values_list, size_of, size_of_entries, size_of_values}
+use Rattle.bag_model.specs.Values.{Value, Entries, Values, no_entry, entry, no_value, value, pairs, values_list, value_count, value_count_of_entries, value_count_of_values}
 use Rattle.text_model.specs.ScalarTexts.{scalar_text}
 use Rattle.text_model.specs.ValueTexts.{value_text, entry_texts, field_texts}
 
@@ -37,12 +37,12 @@ length-field_texts (node name number shape nodes) no_value = omega arith
 length-field_texts (node name number shape nodes) (value w ws) = omega (arith, length-field_texts nodes ws)
 
 -- A value is smaller than what it stands in.
-pub entry_size : (es : Entries) (at : ℕ) (pair : ScalarValue × Value) → slice_get (pairs es) at ≡ Some pair → size_of pair.1 ≤ size_of_entries es
+pub entry_size : (es : Entries) (at : ℕ) (pair : ScalarValue × Value) → slice_get (pairs es) at ≡ Some pair → value_count pair.1 ≤ value_count_of_entries es
 entry_size no_entry at pair is = absurd (cc is)
-entry_size (entry key v es) zero pair is = let same : (key, v) ≡ pair = cc is in omega (arith, ap (λ (p : ScalarValue × Value). size_of p.1) same)
+entry_size (entry key v es) zero pair is = let same : (key, v) ≡ pair = cc is in omega (arith, ap (λ (p : ScalarValue × Value). value_count p.1) same)
 entry_size (entry key v es) (suc at) pair is = omega (arith, entry_size es at pair is)
 
-pub value_size : (vs : Values) (at : ℕ) (v : Value) → slice_get (values_list vs) at ≡ Some v → size_of v ≤ size_of_values vs
+pub value_size : (vs : Values) (at : ℕ) (v : Value) → slice_get (values_list vs) at ≡ Some v → value_count v ≤ value_count_of_values vs
 value_size no_value at v is = absurd (cc is)
-value_size (value w ws) zero v is = let same : w ≡ v = cc is in omega (arith, ap size_of same)
+value_size (value w ws) zero v is = let same : w ≡ v = cc is in omega (arith, ap value_count same)
 value_size (value w ws) (suc at) v is = omega (arith, value_size ws at v is)

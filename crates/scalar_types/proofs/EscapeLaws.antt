@@ -5,18 +5,18 @@ use Rattle.std.proofs.lemmas.Str.{IsUtf8-append, IsUtf8-from_ascii, IsUtf8-drop,
 use Rattle.std.proofs.lemmas.List.{length-append, append_assoc}
 use Rattle.std.proofs.Math.Seq.{drop-append-add, take-append_seam, get_or-append_seam}
 use Rattle.std.specs.Str.{IsAscii, IsUtf8}
-use Rattle.bag_model.specs.Scalars.{ended}
+use Rattle.bag_model.specs.Scalars.{terminated}
 use Rattle.scalar_types.specs.Codec.{AlwaysFits}
 use Rattle.scalar_types.specs.Fronts.{Begins, BeginsWithSome}
 use Rattle.scalar_types.specs.Escapes.{IsNonzero, IsEscapedRun, FitsOpen}
 
 -- what a field with something behind it is, up to its first zero byte
-pub ended-last : (run t : List ℕ) → All IsNonzero run → ended run ++ t ≡ run ++ 0 ∷ 1 ∷ t
+pub ended-last : (run t : List ℕ) → All IsNonzero run → terminated run ++ t ≡ run ++ 0 ∷ 1 ∷ t
 ended-last [] t h = refl
 ended-last (zero ∷ run) t h = absurd (All-head IsNonzero zero run h refl)
 ended-last (suc b ∷ run) t h = ap (λ l. suc b ∷ l) (ended-last run t (All-tail IsNonzero (suc b) run h))
 
-pub ended-more : (run v t : List ℕ) → All IsNonzero run → ended (run ++ 0 ∷ v) ++ t ≡ run ++ 0 ∷ 255 ∷ (ended v ++ t)
+pub ended-more : (run v t : List ℕ) → All IsNonzero run → terminated (run ++ 0 ∷ v) ++ t ≡ run ++ 0 ∷ 255 ∷ (terminated v ++ t)
 ended-more [] v t h = refl
 ended-more (zero ∷ run) v t h = absurd (All-head IsNonzero zero run h refl)
 ended-more (suc b ∷ run) v t h = ap (λ l. suc b ∷ l) (ended-more run v t (All-tail IsNonzero (suc b) run h))
@@ -27,11 +27,11 @@ pub record HasZero (bytes : List ℕ) : Type 0 where
   pub within : place < length bytes
   pub is_zero : get_or bytes place 0 ≡ 0
 
-pub ended_has_zero : (v t : List ℕ) → HasZero (ended v ++ t)
+pub ended_has_zero : (v t : List ℕ) → HasZero (terminated v ++ t)
 ended_has_zero [] t = record { place = 0; within = omega arith; is_zero = refl }
 ended_has_zero (zero ∷ v) t = record { place = 0; within = omega arith; is_zero = refl }
 ended_has_zero (suc b ∷ v) t =
-    let below : HasZero (ended v ++ t) = ended_has_zero v t in
+    let below : HasZero (terminated v ++ t) = ended_has_zero v t in
     record { place = suc below.place; within = omega arith; is_zero = below.is_zero }
 
 -- a field that begins with bytes other than zero and then a zero ends there, or has it as a byte of its own
@@ -42,9 +42,9 @@ pub record EndsThere (run tail v t : List ℕ) : Type 0 where
 pub record GoesOn (run tail v t : List ℕ) : Type 0 where
   pub more : List ℕ
   pub parts : v ≡ run ++ 0 ∷ more
-  pub next : tail ≡ 255 ∷ (ended more ++ t)
+  pub next : tail ≡ 255 ∷ (terminated more ++ t)
 
-pub zero_cases : (run tail v t : List ℕ) → All IsNonzero run → ended v ++ t ≡ run ++ 0 ∷ tail → EndsThere run tail v t ⊎ GoesOn run tail v t
+pub zero_cases : (run tail v t : List ℕ) → All IsNonzero run → terminated v ++ t ≡ run ++ 0 ∷ tail → EndsThere run tail v t ⊎ GoesOn run tail v t
 zero_cases [] tail [] t h e = inl record { whole = refl; end = cc }
 zero_cases [] tail (zero ∷ v) t h e = inr record { more = v; parts = refl; next = cc }
 zero_cases [] tail (suc b ∷ v) t h e = cc
@@ -52,7 +52,7 @@ zero_cases (r ∷ run) tail [] t h e = absurd (All-head IsNonzero r run h (cc))
 zero_cases (r ∷ run) tail (zero ∷ v) t h e = absurd (All-head IsNonzero r run h (cc))
 zero_cases (r ∷ run) tail (suc b ∷ v) t h e =
     let first : suc b ≡ r = cc in
-    let others : ended v ++ t ≡ run ++ 0 ∷ tail = cc in
+    let others : terminated v ++ t ≡ run ++ 0 ∷ tail = cc in
     elim (zero_cases run tail v t (All-tail IsNonzero r run h) others) [
       | inl d ↦ inl record { whole = λ i. first i ∷ d.whole i; end = d.end }
       | inr d ↦ inr record { more = d.more; parts = λ i. first i ∷ d.parts i; next = d.next }
@@ -60,29 +60,29 @@ zero_cases (r ∷ run) tail (suc b ∷ v) t h e =
 
 -- ---- bytes that no field begins
 
-pub no_zero : (bytes : List ℕ) → All IsNonzero bytes → BeginsWithSome AlwaysFits ended bytes → ⊥
+pub no_zero : (bytes : List ℕ) → All IsNonzero bytes → BeginsWithSome AlwaysFits terminated bytes → ⊥
 no_zero bytes all b =
     let found : HasZero bytes = subst HasZero b.1.1.same (ended_has_zero b.0 b.1.0) in
     All-get_or IsNonzero bytes found.place 0 found.within all found.is_zero
 
 pub neither_byte : (bytes run tail : List ℕ) → All IsNonzero run → bytes ≡ run ++ 0 ∷ tail
-    → ((t : List ℕ) → tail ≡ 1 ∷ t → ⊥) → ((t : List ℕ) → tail ≡ 255 ∷ t → ⊥) → BeginsWithSome AlwaysFits ended bytes → ⊥
+    → ((t : List ℕ) → tail ≡ 1 ∷ t → ⊥) → ((t : List ℕ) → tail ≡ 255 ∷ t → ⊥) → BeginsWithSome AlwaysFits terminated bytes → ⊥
 neither_byte bytes run tail all e no_end no_more b = elim (zero_cases run tail b.0 b.1.0 all (b.1.1.same ∙ e)) [
   | inl d ↦ no_end b.1.0 d.end
-  | inr d ↦ no_more (ended d.more ++ b.1.0) d.next
+  | inr d ↦ no_more (terminated d.more ++ b.1.0) d.next
 ]
 
 -- ---- a field through a piece
 
-pub last_begins : (bytes run rest : List ℕ) → IsEscapedRun bytes run true rest → ended run ++ rest ≡ bytes
+pub last_begins : (bytes run rest : List ℕ) → IsEscapedRun bytes run true rest → terminated run ++ rest ≡ bytes
 last_begins bytes run rest p = ended-last run rest p.nonzero ∙ sym p.same
 
-pub more_begins : (bytes run rest v t : List ℕ) → IsEscapedRun bytes run false rest → ended v ++ t ≡ rest → ended (run ++ 0 ∷ v) ++ t ≡ bytes
+pub more_begins : (bytes run rest v t : List ℕ) → IsEscapedRun bytes run false rest → terminated v ++ t ≡ rest → terminated (run ++ 0 ∷ v) ++ t ≡ bytes
 more_begins bytes run rest v t p e = ended-more run v t p.nonzero ∙ ap (λ l. run ++ 0 ∷ 255 ∷ l) e ∙ sym p.same
 
 -- where a field goes on, what follows begins with the field of its other bytes
-pub more_follows : (bytes run rest v t : List ℕ) → IsEscapedRun bytes run false rest → ended v ++ t ≡ bytes
-    → (w : List ℕ) × (v ≡ run ++ 0 ∷ w) × (ended w ++ t ≡ rest)
+pub more_follows : (bytes run rest v t : List ℕ) → IsEscapedRun bytes run false rest → terminated v ++ t ≡ bytes
+    → (w : List ℕ) × (v ≡ run ++ 0 ∷ w) × (terminated w ++ t ≡ rest)
 more_follows bytes run rest v t p e = elim (zero_cases run (255 ∷ rest) v t p.nonzero (e ∙ p.same)) [
   | inl d ↦ absurd (other d.end)
   | inr d ↦ (d.more, d.parts, sym (tails d.next))
@@ -95,7 +95,7 @@ more_follows bytes run rest v t p e = elim (zero_cases run (255 ∷ rest) v t p.
     tails same = cc
 
 -- where a field ends, its bytes are those before the zero
-pub last_follows : (bytes run rest v t : List ℕ) → IsEscapedRun bytes run true rest → ended v ++ t ≡ bytes → v ≡ run
+pub last_follows : (bytes run rest v t : List ℕ) → IsEscapedRun bytes run true rest → terminated v ++ t ≡ bytes → v ≡ run
 last_follows bytes run rest v t p e = elim (zero_cases run (1 ∷ rest) v t p.nonzero (e ∙ p.same)) [
   | inl d ↦ d.whole
   | inr d ↦ absurd (other d.next)
@@ -143,31 +143,31 @@ FitsOpen-before false run v p = tt
 
 -- the bytes of a field so far are followed by those of the rest
 abbrev pub IsFollowed : List ℕ → List ℕ → List ℕ → Type 0
-IsFollowed bytes field rest = (v t : List ℕ) → ended v ++ t ≡ rest → ended (field ++ v) ++ t ≡ bytes
+IsFollowed bytes field rest = (v t : List ℕ) → terminated v ++ t ≡ rest → terminated (field ++ v) ++ t ≡ bytes
 
 pub followed_more : (bytes field rest run after : List ℕ) → IsFollowed bytes field rest → IsEscapedRun rest run false after
     → IsFollowed bytes ((field ++ run) ++ 0 ∷ []) after
 followed_more bytes field rest run after back p v t e =
-    ap (λ l. ended l ++ t) (append_assoc (field ++ run) (0 ∷ []) v ∙ append_assoc field run (0 ∷ v)) ∙ back (run ++ 0 ∷ v) t (more_begins rest run after v t p e)
+    ap (λ l. terminated l ++ t) (append_assoc (field ++ run) (0 ∷ []) v ∙ append_assoc field run (0 ∷ v)) ∙ back (run ++ 0 ∷ v) t (more_begins rest run after v t p e)
 
 -- some field begins the rest too
-pub follows_more : (rest run after : List ℕ) → IsEscapedRun rest run false after → BeginsWithSome AlwaysFits ended rest → BeginsWithSome AlwaysFits ended after
+pub follows_more : (rest run after : List ℕ) → IsEscapedRun rest run false after → BeginsWithSome AlwaysFits terminated rest → BeginsWithSome AlwaysFits terminated after
 follows_more rest run after p b =
     let next = more_follows rest run after b.0 b.1.0 p b.1.1.same in
     (next.0, (b.1.0, record { fit = tt; same = next.2 }))
 
 pub open_more : (is_text : Bool) (rest run after : List ℕ) → IsEscapedRun rest run false after → FitsOpen is_text run
-    → (v t : List ℕ) → Begins (FitsOpen is_text) ended after v t → Begins (FitsOpen is_text) ended rest (run ++ 0 ∷ v) t
+    → (v t : List ℕ) → Begins (FitsOpen is_text) terminated after v t → Begins (FitsOpen is_text) terminated rest (run ++ 0 ∷ v) t
 open_more is_text rest run after p q v t b = record { fit = FitsOpen-append is_text run v q b.fit; same = more_begins rest run after v t p b.same }
 
 pub open_follows : (is_text : Bool) (rest run after : List ℕ) → IsEscapedRun rest run false after
-    → BeginsWithSome (FitsOpen is_text) ended rest → BeginsWithSome (FitsOpen is_text) ended after
+    → BeginsWithSome (FitsOpen is_text) terminated rest → BeginsWithSome (FitsOpen is_text) terminated after
 open_follows is_text rest run after p b =
     let next = more_follows rest run after b.0 b.1.0 p b.1.1.same in
     (next.0, (b.1.0, record { fit = FitsOpen-behind is_text run next.0 (subst (FitsOpen is_text) next.1 b.1.1.fit); same = next.2 }))
 
 -- a field that begins with a piece has a valid piece
-pub open_piece : (is_text last : Bool) (rest run after : List ℕ) → IsEscapedRun rest run last after → BeginsWithSome (FitsOpen is_text) ended rest → FitsOpen is_text run
+pub open_piece : (is_text last : Bool) (rest run after : List ℕ) → IsEscapedRun rest run last after → BeginsWithSome (FitsOpen is_text) terminated rest → FitsOpen is_text run
 open_piece is_text true rest run after p b = subst (FitsOpen is_text) (last_follows rest run after b.0 b.1.0 p b.1.1.same) b.1.1.fit
 open_piece is_text false rest run after p b =
     let next = more_follows rest run after b.0 b.1.0 p b.1.1.same in

@@ -2,7 +2,7 @@
 use Rattle.std.proofs.Common.{◌≡◌, ◌↔◌, ℕ, Bool, true, false, List, Option, Some, None, IfSome, Bor, sym, ◌∙◌}
 use Rattle.std.specs.Prelude.{IsUtf8}
 use Rattle.context_model.specs.Varints.{unsigned_varint, signed_varint}
-use Rattle.bag_model.specs.Scalars.{Plain, Truth, Signed, Unsigned, Text, Octets, TruthByte, UnsignedVarint, SignedVarint, FixedBytes, SignedFixedBytes, TextBytes, RawBytes, IsUnsigned, IsSigned, IsOfForm, truth_bytes, fixed_bytes, signed_fixed_bytes, ended, plain_spelling, field_spelling}
+use Rattle.bag_model.specs.Scalars.{Plain, Truth, Signed, Unsigned, Text, Octets, TruthByte, UnsignedVarint, SignedVarint, FixedBytes, SignedFixedBytes, TextBytes, RawBytes, IsUnsigned, IsSigned, IsOfForm, truth_bytes, fixed_bytes, signed_fixed_bytes, terminated, plain_spelling, field_spelling}
 use Rattle.bag_model.proofs.Codes.{code_apart}
 use Rattle.bag_model.proofs.NumberCodes.{ended_code}
 use Rattle.scalar_types.specs.Codec.{Spells, IsSpelled, AlwaysFits}
@@ -62,24 +62,24 @@ raw_spelled bytes = (λ s. (Octets s.0, record { fit = s.1.fit; same = s.1.same 
 
 -- ---- as the first field of some bytes
 
-text_field : (bytes : List ℕ) (v : Plain) (rest : List ℕ) → Begins (IsOfForm TextBytes) (field_spelling TextBytes) bytes v rest → BeginsWithSome (FitsOpen true) ended bytes
+text_field : (bytes : List ℕ) (v : Plain) (rest : List ℕ) → Begins (IsOfForm TextBytes) (field_spelling TextBytes) bytes v rest → BeginsWithSome (FitsOpen true) terminated bytes
 text_field bytes (Text v) rest b = (v, (rest, record { fit = b.fit; same = b.same }))
 text_field bytes v rest b = absurd b.fit
 
 -- bytes that begin with a field which is no text begin with no text
-pub no_text_begins : (bytes v rest : List ℕ) → Begins AlwaysFits ended bytes v rest → (IsSpelled {V = List ℕ} IsUtf8 (λ w. w) v → ⊥)
+pub no_text_begins : (bytes v rest : List ℕ) → Begins AlwaysFits terminated bytes v rest → (IsSpelled {V = List ℕ} IsUtf8 (λ w. w) v → ⊥)
     → BeginsWithSome (IsOfForm TextBytes) (field_spelling TextBytes) bytes → ⊥
 no_text_begins bytes v rest b none some =
-    let text : BeginsWithSome (FitsOpen true) ended bytes = text_field bytes some.0 some.1.0 some.1.1 in
+    let text : BeginsWithSome (FitsOpen true) terminated bytes = text_field bytes some.0 some.1.0 some.1.1 in
     let one : text.0 ≡ v = code_apart ended_code text.0 v text.1.0 rest tt tt (text.1.1.same ∙ sym b.same) in
     none (text.0, record { fit = text.1.1.fit; same = one })
 
-pub text_skipped : (bytes : List ℕ) (r : Option (Bor (List ℕ))) → IfSome r (λ rest. (v : List ℕ) × Begins (FitsOpen true) ended bytes v rest.now)
+pub text_skipped : (bytes : List ℕ) (r : Option (Bor (List ℕ))) → IfSome r (λ rest. (v : List ℕ) × Begins (FitsOpen true) terminated bytes v rest.now)
     → IfSome r (λ rest. (v : Plain) × Begins (IsOfForm TextBytes) (field_spelling TextBytes) bytes v rest.now)
 text_skipped bytes None h = tt
 text_skipped bytes (Some rest) h = (Text h.0, record { fit = h.1.fit; same = h.1.same })
 
-pub raw_skipped : (bytes : List ℕ) (r : Option (Bor (List ℕ))) → IfSome r (λ rest. (v : List ℕ) × Begins (FitsOpen false) ended bytes v rest.now)
+pub raw_skipped : (bytes : List ℕ) (r : Option (Bor (List ℕ))) → IfSome r (λ rest. (v : List ℕ) × Begins (FitsOpen false) terminated bytes v rest.now)
     → IfSome r (λ rest. (v : Plain) × Begins (IsOfForm RawBytes) (field_spelling RawBytes) bytes v rest.now)
 raw_skipped bytes None h = tt
 raw_skipped bytes (Some rest) h = (Octets h.0, record { fit = h.1.fit; same = h.1.same })

@@ -4,11 +4,11 @@ use Rattle.std.proofs.lemmas.List.Elements.{All-head, All-tail}
 use Rattle.scalar_types.specs.declared.kinds.ScalarKind.{ScalarKind}
 use Rattle.scalar_types.specs.declared.kinds.ScalarKind.TheVariants.{Packed}
 use Rattle.scalar_types.specs.KindViews.{IsPlainWord, word_of}
-use Rattle.scalar_types.specs.KindCodec.{kind_of_word, kind_back}
+use Rattle.scalar_types.specs.KindCodec.{kind_of_word, kind_comes_back}
 
 word_back : (kind : ScalarKind) → IsPlainWord kind → kind_of_word (word_of kind) ≡ kind
 word_back (Packed words) h = absurd h
-word_back kind h = kind_back kind
+word_back kind h = kind_comes_back kind
 
 -- The kinds of a list back from their words.
 words_back : (kinds : List ScalarKind) → All IsPlainWord kinds → map kind_of_word (map word_of kinds) ≡ kinds

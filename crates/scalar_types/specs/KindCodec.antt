@@ -33,21 +33,21 @@ abbrev pub kind_from : model.ScalarKind → ScalarKind
 kind_from (model.ScalarKind.One word) = kind_of_word word
 kind_from (model.ScalarKind.Packed words) = kinds.Packed words
 
-pub kind_back : (kind : ScalarKind) → kind_from (kind_of kind) ≡ kind
-kind_back kinds.Bool = refl
-kind_back kinds.Int32 = refl
-kind_back kinds.Int64 = refl
-kind_back kinds.Sint32 = refl
-kind_back kinds.Sint64 = refl
-kind_back kinds.Uint32 = refl
-kind_back kinds.Uint64 = refl
-kind_back kinds.Fixed32 = refl
-kind_back kinds.Fixed64 = refl
-kind_back kinds.Sfixed32 = refl
-kind_back kinds.Sfixed64 = refl
-kind_back kinds.Str = refl
-kind_back kinds.Bytes = refl
-kind_back (kinds.Packed words) = refl
+pub kind_comes_back : (kind : ScalarKind) → kind_from (kind_of kind) ≡ kind
+kind_comes_back kinds.Bool = refl
+kind_comes_back kinds.Int32 = refl
+kind_comes_back kinds.Int64 = refl
+kind_comes_back kinds.Sint32 = refl
+kind_comes_back kinds.Sint64 = refl
+kind_comes_back kinds.Uint32 = refl
+kind_comes_back kinds.Uint64 = refl
+kind_comes_back kinds.Fixed32 = refl
+kind_comes_back kinds.Fixed64 = refl
+kind_comes_back kinds.Sfixed32 = refl
+kind_comes_back kinds.Sfixed64 = refl
+kind_comes_back kinds.Str = refl
+kind_comes_back kinds.Bytes = refl
+kind_comes_back (kinds.Packed words) = refl
 
 pub plain_kind_back : (kind : model.ScalarKind) → kind_of (kind_from kind) ≡ kind
 plain_kind_back (model.ScalarKind.One model.Word.Boolean) = refl
@@ -74,13 +74,13 @@ scalar_of (model.ScalarValue.One (model.Plain.Text bytes)) = Str bytes
 scalar_of (model.ScalarValue.One (model.Plain.Octets bytes)) = Bytes bytes
 scalar_of (model.ScalarValue.Packed values) = Packed values
 
-pub scalar_back : (v : Scalar) → scalar_of (value_of v) ≡ v
-scalar_back (BoolScalar b) = refl
-scalar_back (Signed z) = refl
-scalar_back (Unsigned n) = refl
-scalar_back (Str bytes) = refl
-scalar_back (Bytes bytes) = refl
-scalar_back (Packed values) = refl
+pub scalar_comes_back : (v : Scalar) → scalar_of (value_of v) ≡ v
+scalar_comes_back (BoolScalar b) = refl
+scalar_comes_back (Signed z) = refl
+scalar_comes_back (Unsigned n) = refl
+scalar_comes_back (Str bytes) = refl
+scalar_comes_back (Bytes bytes) = refl
+scalar_comes_back (Packed values) = refl
 
 pub value_back : (x : model.ScalarValue) → value_of (scalar_of x) ≡ x
 value_back (model.ScalarValue.One (model.Plain.Truth b)) = refl
@@ -91,4 +91,4 @@ value_back (model.ScalarValue.One (model.Plain.Octets bytes)) = refl
 value_back (model.ScalarValue.Packed values) = refl
 
 pub kind_one : (kind : ScalarKind) → OneValue (λ v. IsScalarOf (kind_of kind) (value_of v)) (λ v. spelling (kind_of kind) (value_of v))
-kind_one kind v w p q e = sym (scalar_back v) ∙ ap scalar_of (spelling-one (kind_of kind) (value_of v) (value_of w) p q e) ∙ scalar_back w
+kind_one kind v w p q e = sym (scalar_comes_back v) ∙ ap scalar_of (spelling-one (kind_of kind) (value_of v) (value_of w) p q e) ∙ scalar_comes_back w

@@ -4,11 +4,11 @@ use Rattle.scalar_types.specs.declared.word_codecs.WordCodec.{WordCodec}
 use Rattle.scalar_types.specs.declared.word_codecs.WordCodec.TheVariants.{Flag, LexU, LexI, Fixed, SignedFixed, Utf8, Raw}
 
 -- The form of the values.
-abbrev pub codec_form : WordCodec → SpellingForm
-codec_form (Flag codec) = TruthByte
-codec_form (LexU codec) = UnsignedVarint codec.wide
-codec_form (LexI codec) = SignedVarint codec.wide
-codec_form (Fixed codec) = FixedBytes codec.wide
-codec_form (SignedFixed codec) = SignedFixedBytes codec.wide
-codec_form (Utf8 codec) = TextBytes
-codec_form (Raw codec) = RawBytes
+abbrev pub codec_spelling_form : WordCodec → SpellingForm
+codec_spelling_form (Flag codec) = TruthByte
+codec_spelling_form (LexU codec) = UnsignedVarint codec.wide
+codec_spelling_form (LexI codec) = SignedVarint codec.wide
+codec_spelling_form (Fixed codec) = FixedBytes codec.wide
+codec_spelling_form (SignedFixed codec) = SignedFixedBytes codec.wide
+codec_spelling_form (Utf8 codec) = TextBytes
+codec_spelling_form (Raw codec) = RawBytes

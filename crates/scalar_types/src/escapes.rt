@@ -2,7 +2,7 @@
 //! the end, so that a field tells where it ends and the order of the fields is that of their bytes.
 
 ghost use Rattle.std.specs.Prelude.{◌≡◌, ℕ, List, ◌++◌, IfOk, OnOk, IfSome, IsNone, IsTrue, ◌↔◌, ◌∷◌, All};
-ghost use Rattle.bag_model.specs.Scalars.{ended};
+ghost use Rattle.bag_model.specs.Scalars.{terminated};
 ghost use Rattle.scalar_types.specs.Codec.{AlwaysFits};
 ghost use Rattle.scalar_types.specs.Fronts.{Begins, BeginsWithSome};
 ghost use Rattle.scalar_types.specs.Escapes.{IsNonzero, IsEscapedRun, FitsOpen};
@@ -37,7 +37,7 @@ fn split_at_zero<'a>(bytes: &'a [u8]) -> Option<(&'a [u8], &'a [u8])>
 /// The first part of the field that begins these bytes.
 fn first_piece<'a>(bytes: &'a [u8]) -> Option<Piece<'a>>
     ensures found { IfSome result (λ piece. IsEscapedRun bytes.now piece.run.now piece.last piece.rest.now) }
-    ensures none { IsNone result → ¬ BeginsWithSome AlwaysFits ended bytes.now }
+    ensures none { IsNone result → ¬ BeginsWithSome AlwaysFits terminated bytes.now }
 {
     let (run, tail) = split_at_zero(bytes)?;
     let (second, rest) = tail.split_first()?;
@@ -58,7 +58,7 @@ fn first_piece<'a>(bytes: &'a [u8]) -> Option<Piece<'a>>
 
 /// Appends the bytes as a field.
 pub fn put_ended(bytes: &[u8], into: &mut Vec<u8>) -> Result<(), Memory>
-    ensures { OnOk result (into.new.items ≡ into.old.items ++ ended bytes.now) }
+    ensures { OnOk result (into.new.items ≡ into.old.items ++ terminated bytes.now) }
 {
     for byte in bytes {
         into.push(*byte)?;
@@ -72,8 +72,8 @@ pub fn put_ended(bytes: &[u8], into: &mut Vec<u8>) -> Result<(), Memory>
 
 /// The bytes whose field begins these, and what follows it.
 pub fn take_ended<'a>(alloc: Global, bytes: &'a [u8]) -> Result<(Vec<u8>, &'a [u8]), TakeFault>
-    ensures taken { IfOk result (λ read. Begins AlwaysFits ended bytes.now read.0.items read.1.now) }
-    ensures refused { result ≡ Err TakeFault.NotSpelled → ¬ BeginsWithSome AlwaysFits ended bytes.now }
+    ensures taken { IfOk result (λ read. Begins AlwaysFits terminated bytes.now read.0.items read.1.now) }
+    ensures refused { result ≡ Err TakeFault.NotSpelled → ¬ BeginsWithSome AlwaysFits terminated bytes.now }
 {
     let mut field = Vec::new(alloc);
     let mut rest = bytes;
@@ -97,8 +97,8 @@ fn fits_open(is_text: bool, bytes: &[u8]) -> bool
 
 /// What follows the field that begins these bytes, where it is one of a text, or of any bytes.
 pub fn skip_ended<'a>(is_text: bool, bytes: &'a [u8]) -> Option<&'a [u8]>
-    ensures found { IfSome result (λ rest. (value : List ℕ) × Begins (FitsOpen is_text) ended bytes.now value rest.now) }
-    ensures none { IsNone result → ¬ BeginsWithSome (FitsOpen is_text) ended bytes.now }
+    ensures found { IfSome result (λ rest. (value : List ℕ) × Begins (FitsOpen is_text) terminated bytes.now value rest.now) }
+    ensures none { IsNone result → ¬ BeginsWithSome (FitsOpen is_text) terminated bytes.now }
 {
     let mut rest = bytes;
     while let Some(piece) = first_piece(rest) {

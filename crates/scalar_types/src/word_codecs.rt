@@ -1,12 +1,12 @@
 //! The codecs of the words: alone, and as fields of a struct.
 
 ghost use Rattle.std.specs.Prelude.{◌≡◌, ℕ, List, ◌++◌, IfOk, OnOk, OnErr, IfSome, IsNone, IsTrue, ◌↔◌, false};
-ghost use Rattle.bag_model.specs.Scalars.{Plain, spelling_form_of, is_open_form, IsOfForm, plain_spelling, field_spelling};
+ghost use Rattle.bag_model.specs.Scalars.{Plain, spelling_form_of, needs_end, IsOfForm, plain_spelling, field_spelling};
 ghost use Rattle.scalar_types.specs.Codec.{Spells, IsSpelled};
 ghost use Rattle.scalar_types.specs.Fronts.{Begins, BeginsWithSome};
 ghost use Rattle.scalar_types.specs.KindViews.{IsPlainWord, word_of};
 ghost use Rattle.scalar_types.specs.Scalars.{IsPlain, plain_of};
-ghost use Rattle.scalar_types.specs.WordCodecs.{codec_form};
+ghost use Rattle.scalar_types.specs.WordCodecs.{codec_spelling_form};
 
 use crate::codec::{Codec, TakeFault};
 use crate::escapes::{put_ended, skip_ended, take_ended};
@@ -35,7 +35,7 @@ impl ScalarKind {
     /// The codec of a kind that is no struct.
     pub(crate) fn word_codec(&self) -> WordCodec
         requires { IsPlainWord self.now }
-        ensures { codec_form result ≡ spelling_form_of (word_of self.now) }
+        ensures { codec_spelling_form result ≡ spelling_form_of (word_of self.now) }
     {
         match self {
             ScalarKind::Bool => WordCodec::Flag(Flag),
@@ -59,7 +59,7 @@ impl ScalarKind {
 impl WordCodec {
     /// Whether the value has the codec's form and is in its range.
     pub fn fits(&self, value: &Scalar) -> bool
-        ensures { IsTrue result ↔ (IsPlain value.now × IsOfForm (codec_form self.now) (plain_of value.now)) }
+        ensures { IsTrue result ↔ (IsPlain value.now × IsOfForm (codec_spelling_form self.now) (plain_of value.now)) }
     {
         match (self, value) {
             (WordCodec::Flag(codec), Scalar::Bool(truth)) => codec.fits(truth),
@@ -76,8 +76,8 @@ impl WordCodec {
     /// Appends the value's spelling.
     pub fn put(&self, value: &Scalar, into: &mut Vec<u8>) -> Result<(), Memory>
         requires plain { IsPlain value.now }
-        requires fits { IsOfForm (codec_form self.now) (plain_of value.now) }
-        ensures ok { OnOk result (into.new.items ≡ into.old.items ++ plain_spelling (codec_form self.now) (plain_of value.now)) }
+        requires fits { IsOfForm (codec_spelling_form self.now) (plain_of value.now) }
+        ensures ok { OnOk result (into.new.items ≡ into.old.items ++ plain_spelling (codec_spelling_form self.now) (plain_of value.now)) }
         ensures err { OnErr result (into.new.items ≡ into.old.items) }
     {
         match (self, value) {
@@ -94,7 +94,7 @@ impl WordCodec {
 
     /// Whether the bytes are some value's spelling.
     pub fn spelled(&self, bytes: &[u8]) -> bool
-        ensures { IsTrue result ↔ IsSpelled (IsOfForm (codec_form self.now)) (plain_spelling (codec_form self.now)) bytes.now }
+        ensures { IsTrue result ↔ IsSpelled (IsOfForm (codec_spelling_form self.now)) (plain_spelling (codec_spelling_form self.now)) bytes.now }
     {
         match self {
             WordCodec::Flag(codec) => codec.spelled(bytes),
@@ -110,8 +110,8 @@ impl WordCodec {
     /// The value whose spelling is the whole slice.
     pub fn take(&self, alloc: Global, bytes: &[u8]) -> Result<Scalar, TakeFault>
         ensures plain { IfOk result IsPlain }
-        ensures taken { IfOk result (λ value. Spells (IsOfForm (codec_form self.now)) (plain_spelling (codec_form self.now)) bytes.now (plain_of value)) }
-        ensures refused { result ≡ Err TakeFault.NotSpelled → ¬ IsSpelled (IsOfForm (codec_form self.now)) (plain_spelling (codec_form self.now)) bytes.now }
+        ensures taken { IfOk result (λ value. Spells (IsOfForm (codec_spelling_form self.now)) (plain_spelling (codec_spelling_form self.now)) bytes.now (plain_of value)) }
+        ensures refused { result ≡ Err TakeFault.NotSpelled → ¬ IsSpelled (IsOfForm (codec_spelling_form self.now)) (plain_spelling (codec_spelling_form self.now)) bytes.now }
     {
         match self {
             WordCodec::Flag(codec) => Ok(Scalar::Bool(codec.take(alloc, bytes)?)),
@@ -127,8 +127,8 @@ impl WordCodec {
     /// Appends the value as a field of a struct.
     pub fn put_field(&self, value: &Scalar, into: &mut Vec<u8>) -> Result<(), Memory>
         requires plain { IsPlain value.now }
-        requires fits { IsOfForm (codec_form self.now) (plain_of value.now) }
-        ensures { OnOk result (into.new.items ≡ into.old.items ++ field_spelling (codec_form self.now) (plain_of value.now)) }
+        requires fits { IsOfForm (codec_spelling_form self.now) (plain_of value.now) }
+        ensures { OnOk result (into.new.items ≡ into.old.items ++ field_spelling (codec_spelling_form self.now) (plain_of value.now)) }
     {
         match (self, value) {
             (WordCodec::Utf8(_), Scalar::Str(text)) => put_ended(text.as_str().as_bytes(), into),
@@ -144,9 +144,9 @@ impl WordCodec {
         bytes: &'a [u8],
     ) -> Result<(Scalar, &'a [u8]), TakeFault>
         ensures plain { IfOk result (λ read. IsPlain read.0) }
-        ensures taken { IfOk result (λ read. Begins (IsOfForm (codec_form self.now)) (field_spelling (codec_form self.now)) bytes.now (plain_of read.0) read.1.now) }
+        ensures taken { IfOk result (λ read. Begins (IsOfForm (codec_spelling_form self.now)) (field_spelling (codec_spelling_form self.now)) bytes.now (plain_of read.0) read.1.now) }
         ensures refused { result ≡ Err TakeFault.NotSpelled
-            → ¬ BeginsWithSome (IsOfForm (codec_form self.now)) (field_spelling (codec_form self.now)) bytes.now }
+            → ¬ BeginsWithSome (IsOfForm (codec_spelling_form self.now)) (field_spelling (codec_spelling_form self.now)) bytes.now }
     {
         match self {
             WordCodec::Utf8(codec) => {
@@ -163,8 +163,8 @@ impl WordCodec {
 
     /// What follows the field of a value that begins these bytes. It takes no memory.
     pub fn skip_field<'a>(&self, bytes: &'a [u8]) -> Option<&'a [u8]>
-        ensures found { IfSome result (λ rest. (value : Plain) × Begins (IsOfForm (codec_form self.now)) (field_spelling (codec_form self.now)) bytes.now value rest.now) }
-        ensures none { IsNone result → ¬ BeginsWithSome (IsOfForm (codec_form self.now)) (field_spelling (codec_form self.now)) bytes.now }
+        ensures found { IfSome result (λ rest. (value : Plain) × Begins (IsOfForm (codec_spelling_form self.now)) (field_spelling (codec_spelling_form self.now)) bytes.now value rest.now) }
+        ensures none { IsNone result → ¬ BeginsWithSome (IsOfForm (codec_spelling_form self.now)) (field_spelling (codec_spelling_form self.now)) bytes.now }
     {
         match self {
             WordCodec::Utf8(_) => skip_ended(true, bytes),
@@ -178,10 +178,10 @@ impl WordCodec {
 
     /// The truth value or number that begins these bytes, and what follows it.
     fn number_front<'a>(&self, bytes: &'a [u8]) -> Option<(Scalar, &'a [u8])>
-        requires { is_open_form (codec_form self.now) ≡ false }
+        requires { needs_end (codec_spelling_form self.now) ≡ false }
         ensures plain { IfSome result (λ read. IsPlain read.0) }
-        ensures found { IfSome result (λ read. Begins (IsOfForm (codec_form self.now)) (plain_spelling (codec_form self.now)) bytes.now (plain_of read.0) read.1.now) }
-        ensures none { IsNone result → ¬ BeginsWithSome (IsOfForm (codec_form self.now)) (plain_spelling (codec_form self.now)) bytes.now }
+        ensures found { IfSome result (λ read. Begins (IsOfForm (codec_spelling_form self.now)) (plain_spelling (codec_spelling_form self.now)) bytes.now (plain_of read.0) read.1.now) }
+        ensures none { IsNone result → ¬ BeginsWithSome (IsOfForm (codec_spelling_form self.now)) (plain_spelling (codec_spelling_form self.now)) bytes.now }
     {
         match self {
             WordCodec::Flag(codec) => {

@@ -11,7 +11,7 @@ use Rattle.field_table.specs.Plain.{nodes_of}
 use Rattle.text_lines.specs.Readings.{IsFirstOf, NoneOf}
 use Rattle.table_text.specs.declared.builder.Builder.{Builder}
 use Rattle.table_text.specs.declared.faults.TableCode.TheVariants.{Order, DuplicateField, TooDeep, TooManySlots}
-use Rattle.table_text.specs.Builder.{IsSoundBuilder, field_name_of, least_behind, depth_of, rows_so_far, rows_around}
+use Rattle.table_text.specs.Builder.{IsSoundBuilder, head_name, least_behind, depth_of, rows_so_far, rows_around}
 use Rattle.table_text.specs.Rows.{Row}
 use Rattle.table_text.specs.Rules.{siblings, level_at, IsOutOfOrder, RowBreaks, rules_of_bag}
 use Rattle.table_text.proofs.Building.{around_start}
@@ -45,16 +45,16 @@ module _ (before : List Row) (level : ℕ) (fs : List Field) (count : ℕ) (row 
   pub keeps_order : least_behind fs ≤ row.number → RowBreaks before row Order → ⊥
   keeps_order most broken = order_kept row.depth fs row most (subst (λ (l : List Row). IsOutOfOrder l row) is.siblings_are broken)
 
-  pub breaks_name : list_any (bytes_eq row.name) (map field_name_of fs) ≡ true → RowBreaks before row DuplicateField
+  pub breaks_name : list_any (bytes_eq row.name) (map head_name fs) ≡ true → RowBreaks before row DuplicateField
   breaks_name found =
-      subst (λ (l : List Row). IsIn row.name (map row_name l)) (sym is.siblings_are) (named_line row.depth fs row.name (found_in row.name (map field_name_of fs) found))
+      subst (λ (l : List Row). IsIn row.name (map row_name l)) (sym is.siblings_are) (named_line row.depth fs row.name (found_in row.name (map head_name fs) found))
 
-  pub keeps_name : list_any (bytes_eq row.name) (map field_name_of fs) ≡ false → RowBreaks before row DuplicateField → ⊥
+  pub keeps_name : list_any (bytes_eq row.name) (map head_name fs) ≡ false → RowBreaks before row DuplicateField → ⊥
   keeps_name none broken =
       let there = line_named row.depth fs row.name (subst (λ (l : List Row). IsIn row.name (map row_name l)) is.siblings_are broken) in
-      let bad : true ≡ false = sym (in_found row.name (map field_name_of fs) there) ∙ none in cc bad
+      let bad : true ≡ false = sym (in_found row.name (map head_name fs) there) ∙ none in cc bad
 
-  pub new_name : (RowBreaks before row DuplicateField → ⊥) → IsIn row.name (map field_name_of fs) → ⊥
+  pub new_name : (RowBreaks before row DuplicateField → ⊥) → IsIn row.name (map head_name fs) → ⊥
   new_name kept i = kept (subst (λ (l : List Row). IsIn row.name (map row_name l)) (sym is.siblings_are) (named_line row.depth fs row.name i))
 
   pub breaks_levels : MAX_LEVELS ≤ level + levels_under row.shape → RowBreaks before row TooDeep
@@ -72,7 +72,7 @@ module _ (before : List Row) (level : ℕ) (fs : List Field) (count : ℕ) (row 
   -- What a field that breaks no rule is.
   pub record MayStand : Type 0 where
     pub number : least_behind fs ≤ row.number
-    pub name : IsIn row.name (map field_name_of fs) → ⊥
+    pub name : IsIn row.name (map head_name fs) → ⊥
     pub levels : level + levels_under row.shape < MAX_LEVELS
     pub fewer : count < MAX_FIELDS
 
@@ -95,17 +95,17 @@ module _ (before : List Row) (level : ℕ) (fs : List Field) (count : ℕ) (row 
   pub order_first : row.number < least_behind fs → IsFirstOf (RowBreaks before row) rules_of_bag Order
   order_first less = inl (refl, breaks_order less)
 
-  pub name_first : least_behind fs ≤ row.number → list_any (bytes_eq row.name) (map field_name_of fs) ≡ true → IsFirstOf (RowBreaks before row) rules_of_bag DuplicateField
+  pub name_first : least_behind fs ≤ row.number → list_any (bytes_eq row.name) (map head_name fs) ≡ true → IsFirstOf (RowBreaks before row) rules_of_bag DuplicateField
   name_first most found = inr (keeps_order most, inl (refl, breaks_name found))
 
-  pub levels_first : least_behind fs ≤ row.number → list_any (bytes_eq row.name) (map field_name_of fs) ≡ false → MAX_LEVELS ≤ level + levels_under row.shape
+  pub levels_first : least_behind fs ≤ row.number → list_any (bytes_eq row.name) (map head_name fs) ≡ false → MAX_LEVELS ≤ level + levels_under row.shape
       → IsFirstOf (RowBreaks before row) rules_of_bag TooDeep
   levels_first most none deep = inr (keeps_order most, inr (keeps_name none, inl (refl, breaks_levels deep)))
 
-  pub count_first : least_behind fs ≤ row.number → list_any (bytes_eq row.name) (map field_name_of fs) ≡ false → level + levels_under row.shape < MAX_LEVELS → MAX_FIELDS ≤ count
+  pub count_first : least_behind fs ≤ row.number → list_any (bytes_eq row.name) (map head_name fs) ≡ false → level + levels_under row.shape < MAX_LEVELS → MAX_FIELDS ≤ count
       → IsFirstOf (RowBreaks before row) rules_of_bag TooManySlots
   count_first most none few many = inr (keeps_order most, inr (keeps_name none, inr (keeps_levels few, inl (refl, breaks_count many))))
 
-  pub none_broken : least_behind fs ≤ row.number → list_any (bytes_eq row.name) (map field_name_of fs) ≡ false → level + levels_under row.shape < MAX_LEVELS → count < MAX_FIELDS
+  pub none_broken : least_behind fs ≤ row.number → list_any (bytes_eq row.name) (map head_name fs) ≡ false → level + levels_under row.shape < MAX_LEVELS → count < MAX_FIELDS
       → NoneOf (RowBreaks before row) rules_of_bag
   none_broken most none few fewer = (keeps_order most, (keeps_name none, (keeps_levels few, (keeps_count fewer, tt))))

@@ -9,7 +9,7 @@ use Rattle.bag_model.specs.Tables.{IsShape, AreFields, is_name, levels, levels_u
 use Rattle.field_table.specs.Plain.{nodes_of, IsIndexed}
 use Rattle.table_text.specs.declared.builder.OpenBag.{OpenBag}
 use Rattle.table_text.specs.declared.builder.OpenField.{OpenField}
-use Rattle.table_text.specs.Builder.{IsBag, IsOpenField, AreOpen, field_name_of, least_behind, level_inside, open_row, rows_around, IsFieldBehind}
+use Rattle.table_text.specs.Builder.{IsBag, IsOpenField, AreOpen, head_name, least_behind, level_inside, open_row, rows_around, IsFieldBehind}
 use Rattle.table_text.specs.Names.{HaveNames}
 use Rattle.table_text.specs.Rows.{Row}
 use Rattle.table_text.specs.TableRows.{rows_of}
@@ -27,7 +27,7 @@ no_fields bag level empty indexed names least own few = record {
   indexed = indexed;
   sound = subst AreFields (sym empty) tt;
   shallow = omega (arith, few, ap levels empty);
-  names = λ text. ap (list_any (bytes_eq text)) (names ∙ ap (λ nodes. map field_name_of (fields nodes)) (sym empty));
+  names = λ text. ap (list_any (bytes_eq text)) (names ∙ ap (λ nodes. map head_name (fields nodes)) (sym empty));
   least = least ∙ ap (λ nodes. least_behind (fields nodes)) (sym empty);
 }
 
@@ -44,8 +44,8 @@ noted bag next level head is same names least own =
       sound = subst AreFields (sym kept) is.sound;
       shallow = omega (arith, is.shallow, ap levels kept);
       names = λ text.
-          names text ∙ ap (λ b. bytes_eq text head.name || b) (is.names text) ∙ sym (any_last text (map field_name_of heads) head.name)
-          ∙ ap (list_any (bytes_eq text)) (sym (map-append field_name_of heads (head ∷ [])) ∙ ap (map field_name_of) heads_same);
+          names text ∙ ap (λ b. bytes_eq text head.name || b) (is.names text) ∙ sym (any_last text (map head_name heads) head.name)
+          ∙ ap (list_any (bytes_eq text)) (sym (map-append head_name heads (head ∷ [])) ∙ ap (map head_name) heads_same);
       least = least ∙ sym (least_more heads head) ∙ ap least_behind heads_same;
     }
 
@@ -66,8 +66,8 @@ whole bag next level head field is name number more indexed names least own name
       names = λ text.
           ap (list_any (bytes_eq text)) names ∙ is.names text
           ∙ ap (list_any (bytes_eq text))
-          (map-append field_name_of heads (head ∷ []) ∙ ap (λ (n : List ℕ). map field_name_of heads ++ n ∷ []) name ∙ sym (map-append field_name_of heads (field ∷ []))
-          ∙ ap (map field_name_of) (sym more));
+          (map-append head_name heads (head ∷ []) ∙ ap (λ (n : List ℕ). map head_name heads ++ n ∷ []) name ∙ sym (map-append head_name heads (field ∷ []))
+          ∙ ap (map head_name) (sym more));
       least = least ∙ is.least ∙ least_more heads head ∙ ap (λ n. n + 1) number ∙ sym (least_more heads field) ∙ ap least_behind (sym more);
     }
 

@@ -10,7 +10,7 @@ use Rattle.bag_model.specs.Shapes.{Shape, Nodes, Field, fields, Taint, Scalar, S
 use Rattle.bag_model.specs.Tables.{IsShape, AreFields, IsTable, is_name, levels, levels_under, node_count, nodes_under}
 use Rattle.text_lines.specs.Lines.{numbered}
 use Rattle.text_lines.specs.Readings.{AllSay}
-use Rattle.table_text.specs.Builder.{IsFieldBehind, field_name_of, least_behind}
+use Rattle.table_text.specs.Builder.{IsFieldBehind, head_name, least_behind}
 use Rattle.table_text.specs.Rows.{Row, SaysRow}
 use Rattle.table_text.specs.Rules.{deepest, ends_in_bag, IsGoodRow, field_lines}
 use Rattle.text_lines.specs.FedLines.{fed_lines}
@@ -90,7 +90,7 @@ least_low [] name number all = omega arith
 least_low (f ∷ []) name number all = omega (arith, all.0.0)
 least_low (f ∷ g ∷ more) name number all = least_low (g ∷ more) name number all.1
 
-name_new : (fs : List Field) (name : List ℕ) (number : ℕ) → AllByRecursion (IsFieldBehind name number) fs → IsIn name (map field_name_of fs) → ⊥
+name_new : (fs : List Field) (name : List ℕ) (number : ℕ) → AllByRecursion (IsFieldBehind name number) fs → IsIn name (map head_name fs) → ⊥
 name_new [] name number all i = i
 name_new (f ∷ fs) name number all (inl e) = all.0.1 (sym e)
 name_new (f ∷ fs) name number all (inr i) = name_new fs name number all.1 i
@@ -153,7 +153,7 @@ one_good base depth level front first point deep named numbered shaped behind fe
       (
         λ (broken : deepest (reverse earlier) < depth). omega (arith, deep, broken),
         none_broken (reverse earlier) level (fields front) (length earlier) (row_at depth first) here (least_low (fields front) first.name first.number behind)
-            (not_found first.name (map field_name_of (fields front)) (name_new (fields front) first.name first.number behind)) (omega (arith, told_levels first.shape, few)) room,
+            (not_found first.name (map head_name (fields front)) (name_new (fields front) first.name first.number behind)) (omega (arith, told_levels first.shape, few)) room,
       ),
     )
 

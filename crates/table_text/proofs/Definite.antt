@@ -4,18 +4,18 @@ use Rattle.text_lines.specs.Readings.{IsDefinite, IsFirstBad, IsFirstOf, NoneOf}
 use Rattle.text_lines.proofs.ReadingLaws.{first_of_one, first_of_none, first_bad_one}
 use Rattle.table_text.specs.declared.faults.TableCode.{TableCode}
 use Rattle.table_text.specs.Rows.{Row}
-use Rattle.table_text.specs.Rules.{RowBreaks, table_rules, IsGoodRow, IsBadRow, field_lines}
+use Rattle.table_text.specs.Rules.{RowBreaks, table_rules, IsGoodRow, IsBadRowLine, field_lines}
 use Rattle.table_text.specs.Reading.{head_line, lines_behind, IsHeadFault, IsTableFault}
 use Rattle.table_text.proofs.OneShape.{one_row}
 
-one_bad : (before : List Row) (text : List ℕ) (c d : TableCode) → IsBadRow before text c → IsBadRow before text d → c ≡ d
+one_bad : (before : List Row) (text : List ℕ) (c d : TableCode) → IsBadRowLine before text c → IsBadRowLine before text d → c ≡ d
 one_bad before text c d (inl p) (inl q) = p.1 ∙ sym q.1
 one_bad before text c d (inl p) (inr (row, says, first)) = absurd (p.0 row says)
 one_bad before text c d (inr (row, says, first)) (inl q) = absurd (q.0 row says)
 one_bad before text c d (inr (row, says, first)) (inr (other, also, next)) =
     first_of_one (RowBreaks before row) table_rules c d first (subst (λ r. IsFirstOf (RowBreaks before r) table_rules d) (one_row text other row also says) next)
 
-good_not_bad_line : (before : List Row) (text : List ℕ) (row : Row) (c : TableCode) → IsGoodRow before text row → IsBadRow before text c → ⊥
+good_not_bad_line : (before : List Row) (text : List ℕ) (row : Row) (c : TableCode) → IsGoodRow before text row → IsBadRowLine before text c → ⊥
 good_not_bad_line before text row c good (inl p) = p.0 row good.0
 good_not_bad_line before text row c good (inr (other, also, first)) =
     first_of_none (RowBreaks before other) table_rules c (subst (λ r. NoneOf (RowBreaks before r) table_rules) (one_row text row other good.0 also) good.1) first

@@ -11,7 +11,7 @@ use Rattle.table_text.specs.declared.builder.Builder.{Builder}
 use Rattle.table_text.specs.declared.builder.OpenBag.{OpenBag}
 use Rattle.table_text.specs.declared.builder.OpenField.{OpenField}
 use Rattle.table_text.specs.declared.rows.Row.{Row as CodeRow}
-use Rattle.table_text.specs.Builder.{IsSoundRow, IsBag, AreOpen, IsSoundBuilder, IsFresh, field_name_of, least_behind, head_of, level_inside, open_row, rows_around, rows_so_far, depth_of, IsFieldBehind}
+use Rattle.table_text.specs.Builder.{IsSoundRow, IsBag, AreOpen, IsSoundBuilder, IsFresh, head_name, least_behind, head_of, level_inside, open_row, rows_around, rows_so_far, depth_of, IsFieldBehind}
 use Rattle.table_text.specs.Names.{HaveNames}
 use Rattle.table_text.specs.Rows.{Row, IsToldShape}
 use Rattle.table_text.specs.Rules.{deepest, ends_in_bag, RowBreaks, rules_of_bag}
@@ -119,7 +119,7 @@ pub record IsNext (builder : Builder) (row : CodeRow) : Type 0 where
   pub row_is : IsSoundRow row
   pub depth : row.depth ≡ depth_of builder
   pub number : least_behind (fields (nodes_of builder.bag.fields)) ≤ row.number
-  pub name : IsIn row.name.now (map field_name_of (fields (nodes_of builder.bag.fields))) → ⊥
+  pub name : IsIn row.name.now (map head_name (fields (nodes_of builder.bag.fields))) → ⊥
   pub levels_fit : builder.bag.level + levels_under (shape_of row.shape) < MAX_LEVELS
   pub fewer : builder.rows < MAX_FIELDS
 

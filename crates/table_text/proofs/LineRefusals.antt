@@ -14,13 +14,13 @@ use Rattle.table_text.specs.Rows.{Row, SaysRow}
 use Rattle.table_text.specs.Rules.{deepest, IsGoodRow, field_lines}
 use Rattle.text_lines.specs.FedLines.{fed_lines}
 use Rattle.table_text.specs.Reading.{lines_behind, IsRefusalBehind}
-use Rattle.table_text.specs.Views.{plain_row_of, HasNoRow, IsRefusedRow}
+use Rattle.table_text.specs.Views.{plain_row_of, HasNoRow, IsRefusedRowLine}
 
 pub sound_row : (text : List ℕ) (row : CodeRow) → SaysRow text (plain_row_of row) → IsIndexedShape row.shape → IsSoundRow row
 sound_row text row says indexed = record { named = says.named; numbered = says.numbered; told = says.told; flat = says.flat; indexed = indexed }
 
 -- A line that isn't read is refused: a depth of more than 64 bits is one too great.
-pub unread_refused : (before : List Row) (text : List ℕ) → deepest before < 2 ^ 64 → (refusal : Refusal) → HasNoRow text refusal → IsRefusedRow before text refusal
+pub unread_refused : (before : List Row) (text : List ℕ) → deepest before < 2 ^ 64 → (refusal : Refusal) → HasNoRow text refusal → IsRefusedRowLine before text refusal
 unread_refused before text small (refusals.Code Form) none = inl (none, refl)
 unread_refused before text small (refusals.Code Depth) (row, says, great) = inr (row, says, inl (refl, omega (arith, small, great)))
 unread_refused before text small (refusals.Code Head) none = absurd none
@@ -47,7 +47,7 @@ said_more text number rest line behind rows next said cut (row, good, grown) = r
 }
 
 pub said_bad : (text : List ℕ) (number : ℕ) (rest line behind : List ℕ) (rows : List Row) → HasSaid text number rest rows → fed_lines rest ≡ line ∷ fed_lines behind
-    → (refusal : Refusal) → IsRefusedRow (reverse rows) line refusal → IsRefusalBehind text (table_fault_at number refusal)
+    → (refusal : Refusal) → IsRefusedRowLine (reverse rows) line refusal → IsRefusalBehind text (table_fault_at number refusal)
 said_bad text number rest line behind rows said cut (refusals.Code code) bad =
     next_bad field_lines (lines_behind text) said.before (number, line) (numbered (number + 1) (fed_lines behind)) (numbered number (fed_lines rest)) rows code said.split
     (ap (numbered number) cut) said.all bad

@@ -7,7 +7,7 @@ use Rattle.std.proofs.lemmas.Slice.Eq.{bytes_eq-Decides}
 use Rattle.context_model.specs.Orders.{IsIn}
 use Rattle.bag_model.specs.Shapes.{Nodes, Field, fields, no_node, node}
 use Rattle.bag_model.specs.Tables.{AreFields}
-use Rattle.table_text.specs.Builder.{field_name_of, least_behind, IsFieldBehind}
+use Rattle.table_text.specs.Builder.{head_name, least_behind, IsFieldBehind}
 use Rattle.table_text.specs.Rows.{Row}
 use Rattle.table_text.specs.Rules.{IsOutOfOrder}
 use Rattle.table_text.proofs.Siblings.{row_at}
@@ -76,12 +76,12 @@ names_cons : (depth : ℕ) (f : Field) (fs : List Field) → map row_name (lines
 names_cons depth f fs = ap (map row_name) (back_cons depth f fs) ∙ map-append row_name (lines_back depth fs) (row_at depth f ∷ [])
 
 -- A name of one of the fields is that of a line.
-pub named_line : (depth : ℕ) (fs : List Field) (name : List ℕ) → IsIn name (map field_name_of fs) → IsIn name (map row_name (lines_back depth fs))
+pub named_line : (depth : ℕ) (fs : List Field) (name : List ℕ) → IsIn name (map head_name fs) → IsIn name (map row_name (lines_back depth fs))
 named_line depth [] name i = i
 named_line depth (f ∷ fs) name (inl e) = subst (IsIn name) (sym (names_cons depth f fs)) (in_back name (map row_name (lines_back depth fs)) (f.name ∷ []) (inl e))
 named_line depth (f ∷ fs) name (inr i) = subst (IsIn name) (sym (names_cons depth f fs)) (in_front name (map row_name (lines_back depth fs)) (f.name ∷ []) (named_line depth fs name i))
 
-pub line_named : (depth : ℕ) (fs : List Field) (name : List ℕ) → IsIn name (map row_name (lines_back depth fs)) → IsIn name (map field_name_of fs)
+pub line_named : (depth : ℕ) (fs : List Field) (name : List ℕ) → IsIn name (map row_name (lines_back depth fs)) → IsIn name (map head_name fs)
 line_named depth [] name i = i
 line_named depth (f ∷ fs) name i = elim (in_append name (map row_name (lines_back depth fs)) (f.name ∷ []) (subst (IsIn name) (names_cons depth f fs) i)) [
   | inl h ↦ inr (line_named depth fs name h)
@@ -115,7 +115,7 @@ numbers_rise name number shape (node n m s nodes) sound =
     omega (arith, first, numbers_rise n m s nodes sound.4)
 
 -- A number that no field behind it reaches, and a name that none has.
-pub may_stand : (nodes : Nodes) (name : List ℕ) (number : ℕ) → AreFields nodes → least_behind (fields nodes) ≤ number → (IsIn name (map field_name_of (fields nodes)) → ⊥)
+pub may_stand : (nodes : Nodes) (name : List ℕ) (number : ℕ) → AreFields nodes → least_behind (fields nodes) ≤ number → (IsIn name (map head_name (fields nodes)) → ⊥)
     → AllByRecursion (IsFieldBehind name number) (fields nodes)
 may_stand no_node name number sound most new = tt
 may_stand (node n m s nodes) name number sound most new = (

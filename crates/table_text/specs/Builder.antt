@@ -24,8 +24,8 @@ pub record IsSoundRow (row : CodeRow) : Type 0 where
   pub indexed : IsIndexedShape row.shape
 
 -- The name of a field.
-abbrev pub field_name_of : Field → List ℕ
-field_name_of field = field.name
+abbrev pub head_name : Field → List ℕ
+head_name field = field.name
 
 -- The least number that a field behind these may have.
 abbrev pub least_behind : List Field → ℕ
@@ -43,7 +43,7 @@ pub record IsBag (bag : OpenBag) (level : ℕ) (heads : List Field) : Type 0 whe
   pub indexed : IsIndexed bag.fields
   pub sound : AreFields (nodes_of bag.fields)
   pub shallow : level + levels (nodes_of bag.fields) ≤ MAX_LEVELS
-  pub names : HaveNames bag.names (map field_name_of heads)
+  pub names : HaveNames bag.names (map head_name heads)
   pub least : bag.least ≡ least_behind heads
 
 -- The field of a line, of which its bag is yet to be read.

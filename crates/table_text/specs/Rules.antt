@@ -65,8 +65,8 @@ abbrev pub IsGoodRow : List Row → List ℕ → Row → Type 0
 IsGoodRow before text row = SaysRow text row × NoneOf (RowBreaks before row) table_rules
 
 -- The line hasn't the form, or this is the first rule that it breaks.
-abbrev pub IsBadRow : List Row → List ℕ → TableCode → Type 0
-IsBadRow before text code =
+abbrev pub IsBadRowLine : List Row → List ℕ → TableCode → Type 0
+IsBadRowLine before text code =
     (((row : Row) → SaysRow text row → ⊥) × (code ≡ Form))
     ⊎ ((row : Row) × SaysRow text row × IsFirstOf (RowBreaks before row) table_rules code)
 
@@ -74,5 +74,5 @@ IsBadRow before text code =
 abbrev pub field_lines : Reading Row TableCode
 field_lines = record {
   says = λ earlier text row. IsGoodRow (reverse earlier) text row;
-  faults = λ earlier text code. IsBadRow (reverse earlier) text code;
+  faults = λ earlier text code. IsBadRowLine (reverse earlier) text code;
 }

@@ -6,7 +6,7 @@ use Rattle.table_text.specs.declared.faults.TableCode.TheVariants.{Form, Depth}
 use Rattle.table_text.specs.declared.faults.Refusal.{Refusal}
 use Rattle.table_text.specs.declared.faults.Refusal.TheVariants.{Code, Memory}
 use Rattle.table_text.specs.Rows.{Row, SaysRow}
-use Rattle.table_text.specs.Rules.{RowBreaks, table_rules, IsBadRow}
+use Rattle.table_text.specs.Rules.{RowBreaks, table_rules, IsBadRowLine}
 use Rattle.text_lines.specs.Readings.{IsFirstOf}
 
 -- What the line says.
@@ -21,9 +21,9 @@ HasNoRow text (Code other) = ⊥
 HasNoRow text Memory = Unit {0}
 
 -- The line is refused behind these lines: it is bad, or memory is wanting for it.
-abbrev pub IsRefusedRow : List Row → List ℕ → Refusal → Type 0
-IsRefusedRow before text (Code code) = IsBadRow before text code
-IsRefusedRow before text Memory = Unit {0}
+abbrev pub IsRefusedRowLine : List Row → List ℕ → Refusal → Type 0
+IsRefusedRowLine before text (Code code) = IsBadRowLine before text code
+IsRefusedRowLine before text Memory = Unit {0}
 
 -- A line that has the form is refused behind these lines: it breaks this rule first, or memory is wanting for it.
 abbrev pub IsAddRefused : List Row → Row → Refusal → Type 0

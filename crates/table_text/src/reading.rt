@@ -7,7 +7,7 @@ ghost use Rattle.table_text.specs.Rules.{IsGoodRow, field_lines};
 ghost use Rattle.table_text.specs.Builder.{IsSoundBuilder, IsFresh, rows_so_far};
 ghost use Rattle.table_text.specs.Reading.{head_line, lines_behind, IsHeadFault, IsTableRefusalOf, IsRefusalBehind};
 ghost use Rattle.table_text.specs.TableTexts.{table_text};
-ghost use Rattle.table_text.specs.Views.{IsRefusedRow};
+ghost use Rattle.table_text.specs.Views.{IsRefusedRowLine};
 
 use crate::builder::Builder;
 use crate::faults::{Refusal, TableCode, TableFault};
@@ -37,7 +37,7 @@ impl<'a> Builder<'a> {
             × (rows_so_far next ≡ rows_so_far self.entry ++ row ∷ [])) }
         ensures sound { IfOk result IsSoundBuilder }
         ensures fresh { IfOk result IsFresh }
-        ensures err { IfErr result (IsRefusedRow (reverse (rows_so_far self.entry)) line.now) }
+        ensures err { IfErr result (IsRefusedRowLine (reverse (rows_so_far self.entry)) line.now) }
     {
         let row = read_row(alloc, line)?;
         self.add(alloc, row)

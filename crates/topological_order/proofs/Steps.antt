@@ -7,7 +7,7 @@ use Rattle.std.proofs.lemmas.Option.{slice_get_within, slice_get-get_or, get_or_
 use Rattle.std.proofs.lemmas.Bool.{cases_lt, cases_eq, cases_Bool}
 use Rattle.topological_order.specs.Graphs.{row_of, HasEdge, LeadsTo, by_edge}
 use Rattle.topological_order.specs.declared.walk.Mark.TheVariants.{New, Open, Done}
-use Rattle.topological_order.specs.Walk.{Trail, mark_of, is_new, opened, met, counted, after_leaving, IsGraphWalk, IsTop, IsAtEdge, IsAtEnd, Follows}
+use Rattle.topological_order.specs.Walk.{Trail, mark_of, is_new, opened, met, counted, finished, IsGraphWalk, IsTop, IsAtEdge, IsAtEnd, Follows}
 use Rattle.topological_order.proofs.Lists.{top_split, at_place, place_of, none_past}
 use Rattle.topological_order.proofs.Edges.{has_edge, edge_at, to_within, reach_on, reach_same}
 use Rattle.topological_order.proofs.Marks.{mark_kinds, new_mark, mark_set, mark_other, mark_cases, marked_within, new_count_open, new_count_done, edges_less}
@@ -125,7 +125,7 @@ led s node next a e =
     ]
 
 -- The last node on the path, whose edges were all followed, is done.
-pub left_walk : (s : Trail) (node : ℕ) → IsAtEnd s node → IsGraphWalk (after_leaving s node)
+pub left_walk : (s : Trail) (node : ℕ) → IsAtEnd s node → IsGraphWalk (finished s node)
 left_walk s node a =
     let w = a.walk in
     let end = length s.path - 1 in
@@ -256,7 +256,7 @@ met_follows s node to a =
     ]
 
 -- The last node on the path is left.
-pub left_follows : (s : Trail) (node : ℕ) → IsAtEnd s node → Follows s (after_leaving s node)
+pub left_follows : (s : Trail) (node : ℕ) → IsAtEnd s node → Follows s (finished s node)
 left_follows s node a =
     let h = is_here s node a.walk a.top in
     let end = length s.path - 1 in

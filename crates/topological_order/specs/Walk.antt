@@ -85,8 +85,8 @@ abbrev pub counted : Trail → ℕ → Trail
 counted s node = record s { followed = slice_set s.followed node (slice_index s.followed node + 1) }
 
 -- The last node on the path is done.
-abbrev pub after_leaving : Trail → ℕ → Trail
-after_leaving s node = record s {
+abbrev pub finished : Trail → ℕ → Trail
+finished s node = record s {
   marks = slice_set s.marks node Done;
   path = take (length s.path - 1) s.path;
   order = s.order ++ node ∷ [];

@@ -21,7 +21,7 @@ use Rattle.wire_bytes.specs.declared.reading.WireFault.{WireFault}
 use Rattle.wire_bytes.specs.declared.reading.WireFault.TheVariants.{At, Memory}
 use Rattle.wire_bytes.specs.declared.contexts.ContextFault.{ContextFault}
 use Rattle.wire_bytes.specs.declared.contexts.ContextFault.TheVariants as contexts
-use Rattle.wire_bytes.specs.Reading.{code_of, byte_code_of, IsWireFaultOf, IsContextFaultOf, ReadsAny, ReadsAnyContext, StopsAt, ReadsUpTo}
+use Rattle.wire_bytes.specs.Reading.{code_of, byte_code_of, IsWireRefusalOf, IsContextRefusalOf, ReadsAny, ReadsAnyContext, StopsAt, ReadsUpTo}
 
 -- ---- what was read
 
@@ -131,13 +131,13 @@ context_wire_fault input list fault formed reads =
 -- ---- refusals
 
 -- Bytes that are refused for what is wrong with them aren't those of a list.
-pub only_err : (input : List ℕ) (answer : Result (List Atom) WireFault) → IsErr answer → IfErr answer (IsWireFaultOf input) → ReadsAny input answer
+pub only_err : (input : List ℕ) (answer : Result (List Atom) WireFault) → IsErr answer → IfErr answer (IsWireRefusalOf input) → ReadsAny input answer
 only_err input (Ok list) is fault = absurd (cc is)
 only_err input (Err (At offset code)) is fault = λ form list short e. absurd ((reads_one_way input).either list offset (code_of code) short ((reads_one_way input).any form list short e) fault)
 only_err input (Err Memory) is fault = λ form list short e. refl
 
 -- Or those of a context.
-pub only_context_err : (input : List ℕ) (answer : Result (List Atom) ContextFault) → IsErr answer → IfErr answer (IsContextFaultOf input) → ReadsAnyContext input answer
+pub only_context_err : (input : List ℕ) (answer : Result (List Atom) ContextFault) → IsErr answer → IfErr answer (IsContextRefusalOf input) → ReadsAnyContext input answer
 only_context_err input (Ok list) is fault = absurd (cc is)
 only_context_err input (Err (contexts.At offset code)) is fault = λ list of_list. absurd ((has_one_context input).either list offset (byte_code_of code) of_list fault)
 only_context_err input (Err contexts.Memory) is fault = λ list of_list. refl

@@ -37,15 +37,15 @@ byte_code_of bytes.LevelJump = plain.ByteCode.LevelJump
 byte_code_of bytes.OutOfOrder = plain.ByteCode.OutOfOrder
 
 -- The answer names the first fault; want of memory claims nothing.
-abbrev pub IsWireFaultOf : List ℕ → WireFault → Type 0
-IsWireFaultOf input (At offset code) = IsFirstWireFault input offset (code_of code)
-IsWireFaultOf input Memory = Unit {0}
+abbrev pub IsWireRefusalOf : List ℕ → WireFault → Type 0
+IsWireRefusalOf input (At offset code) = IsFirstWireFault input offset (code_of code)
+IsWireRefusalOf input Memory = Unit {0}
 
 -- The answer names the first fault of a context; want of memory claims nothing.
-abbrev pub IsContextFaultOf : List ℕ → ContextFault → Type 0
-IsContextFaultOf input (contexts.At offset code) =
+abbrev pub IsContextRefusalOf : List ℕ → ContextFault → Type 0
+IsContextRefusalOf input (contexts.At offset code) =
     IsFirstContextFault input offset (byte_code_of code)
-IsContextFaultOf input contexts.Memory = Unit {0}
+IsContextRefusalOf input contexts.Memory = Unit {0}
 
 -- A fault of a context says the same as one of a list.
 abbrev pub SaysFault : WireFault → ContextFault → Type 0

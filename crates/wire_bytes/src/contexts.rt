@@ -2,7 +2,7 @@
 
 ghost use Rattle.std.specs.Prelude.{◌≡◌, List, ℕ, IfOk, IfErr};
 ghost use Rattle.context_model.specs.ContextFault.{IsContextOf, HasOneContext};
-ghost use Rattle.wire_bytes.specs.Reading.{IsContextFaultOf, ReadsAnyContext};
+ghost use Rattle.wire_bytes.specs.Reading.{IsContextRefusalOf, ReadsAnyContext};
 
 use crate::reading::{FrontList, WireCode, WireFault, read_front};
 use crate::writing::frames_before;
@@ -85,10 +85,10 @@ impl From<WireCode> for ByteCode {
 
 impl From<ShapeFault> for ByteCode {
     ghost use Rattle.std.specs.Prelude.{◌≡◌};
-    ghost use Rattle.atom_list.specs.Contexts.{shape_code_of};
+    ghost use Rattle.atom_list.specs.Contexts.{shape_fault_code_of};
     ghost use Rattle.wire_bytes.specs.Reading.{byte_code_of};
 
-    ghost from_gives = { λ shape code. byte_code_of code ≡ shape_code_of shape };
+    ghost from_gives = { λ shape code. byte_code_of code ≡ shape_fault_code_of shape };
 
     fn from(shape: ShapeFault) -> ByteCode {
         match shape {
@@ -131,7 +131,7 @@ impl From<WireFault> for ContextFault {
 /// first fault: what is wrong with the head, at its number, or where the longest front behind it that is the frames of a context ends.
 pub fn read_context_owned(alloc: Global, bytes: Vec<u8>) -> Result<Context, ContextFault>
     ensures found { IfOk result (λ context. IsContextOf context bytes.items) }
-    ensures fault { IfErr result (IsContextFaultOf bytes.items) }
+    ensures fault { IfErr result (IsContextRefusalOf bytes.items) }
     ensures only { ReadsAnyContext bytes.items result }
 {
     let FrontList { form, list, fault } = read_front(alloc, bytes)?;
@@ -156,7 +156,7 @@ pub fn read_context_owned(alloc: Global, bytes: Vec<u8>) -> Result<Context, Cont
 /// The context whose bytes these are, as [`read_context_owned`] reads it from a copy of them.
 pub fn read_context(alloc: Global, bytes: &[u8]) -> Result<Context, ContextFault>
     ensures found { IfOk result (λ context. IsContextOf context bytes.now) }
-    ensures fault { IfErr result (IsContextFaultOf bytes.now) }
+    ensures fault { IfErr result (IsContextRefusalOf bytes.now) }
     ensures only { ReadsAnyContext bytes.now result }
 {
     let bytes = Vec::from_slice(alloc, bytes).map_err(|_| ContextFault::Memory)?;

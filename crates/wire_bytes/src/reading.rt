@@ -6,7 +6,7 @@ ghost use Rattle.context_model.specs.Atoms.{AreAtoms};
 ghost use Rattle.context_model.specs.Framing.{base_128, length_code, most, form_of, AreWithin, IsBytesOf};
 ghost use Rattle.context_model.specs.WireFault.{wire_code, IsUnframed, ReadsOneWay};
 ghost use Rattle.atom_list.specs.Scan.{with_part};
-ghost use Rattle.wire_bytes.specs.Reading.{code_of, IsWireFaultOf, IsHeadFaultOf, ReadsAny, ReadsUpTo, StopsAt};
+ghost use Rattle.wire_bytes.specs.Reading.{code_of, IsWireRefusalOf, IsHeadFaultOf, ReadsAny, ReadsUpTo, StopsAt};
 
 use crate::heads::{check_head, form_of, without_head};
 use crate::lengths::{front_length, front_varint};
@@ -187,7 +187,7 @@ pub(crate) fn read_front(alloc: Global, bytes: Vec<u8>) -> Result<FrontList, Wir
 pub fn read_owned(alloc: Global, bytes: Vec<u8>) -> Result<AtomList, WireFault>
     ensures found { IfOk result (λ list. IsBytesOf list bytes.items) }
     ensures atoms { IfOk result AreAtoms }
-    ensures fault { IfErr result (IsWireFaultOf bytes.items) }
+    ensures fault { IfErr result (IsWireRefusalOf bytes.items) }
     ensures only { ReadsAny bytes.items result }
 {
     let FrontList { form, list, fault } = read_front(alloc, bytes)?;
@@ -204,7 +204,7 @@ pub fn read_owned(alloc: Global, bytes: Vec<u8>) -> Result<AtomList, WireFault>
 pub fn read(alloc: Global, bytes: &[u8]) -> Result<AtomList, WireFault>
     ensures found { IfOk result (λ list. IsBytesOf list bytes.now) }
     ensures atoms { IfOk result AreAtoms }
-    ensures fault { IfErr result (IsWireFaultOf bytes.now) }
+    ensures fault { IfErr result (IsWireRefusalOf bytes.now) }
     ensures only { ReadsAny bytes.now result }
 {
     let bytes = Vec::from_slice(alloc, bytes).map_err(|_| WireFault::Memory)?;

@@ -4,7 +4,7 @@ ghost use Rattle.std.specs.Prelude.{◌≡◌, ◌+◌, ◌^◌, ◌<◌, ◌≤
 ghost use Rattle.context_model.specs.declared.Form.{Form};
 ghost use Rattle.context_model.specs.declared.Form.TheVariants.{One, Two};
 ghost use Rattle.context_model.specs.Framing.{frame, frames, has_long, written_in, bytes_in, bytes_of, size_of, offset_of};
-ghost use Rattle.atom_list.specs.Builder.{room_for};
+ghost use Rattle.atom_list.specs.Builder.{byte_room_for};
 
 use crate::heads::MARK;
 use crate::lengths::length_len;
@@ -106,7 +106,7 @@ fn write_one(alloc: Global, list: &AtomList) -> Result<Vec<u8>, Memory>
 /// Whether an atom is too long for form one, of a list that takes at most this room. None is looked at where all together are no
 /// longer than one may be.
 fn is_long(list: &AtomList, room: usize) -> bool
-    requires { room_for list.now ≤ room }
+    requires { byte_room_for list.now ≤ room }
     ensures { result ≡ has_long list.now }
 {
     LENGTH_MAX < room - 3 * list.len() && list.is_long()

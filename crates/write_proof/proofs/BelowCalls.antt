@@ -14,9 +14,9 @@ use Rattle.context_model.proofs.MergeLaws.{EachPair-at}
 use Rattle.bag_model.specs.Joins.{Alike, join, join_values, IsValueBelow, Proper}
 use Rattle.bag_model.specs.Scalars.{ScalarKind, ScalarValue, IsScalarOf}
 use Rattle.bag_model.specs.Shapes.{Shape, Nodes, no_node, node}
-use Rattle.bag_model.specs.Values.{Value, Entries, Values, Set, Counter, Map, Bag, no_entry, entry, no_value, value, pairs, values_list, size_of, size_of_entries, size_of_values, IsOfShape, AreOfShapes}
+use Rattle.bag_model.specs.Values.{Value, Entries, Values, Set, Counter, Map, Bag, no_entry, entry, no_value, value, pairs, values_list, value_count, value_count_of_entries, value_count_of_values, IsOfShape, AreOfShapes}
 use Rattle.bag_model.proofs.OfShape.{Alike-shape, Proper-shape}
-use Rattle.scalar_types.specs.KindCodec.{scalar_of, scalar_back}
+use Rattle.scalar_types.specs.KindCodec.{scalar_of, scalar_comes_back}
 use Rattle.scalar_types.specs.Scalars.{value_of}
 use Rattle.scalar_types.specs.declared.scalars.Scalar.{Scalar}
 use Rattle.write_proof.specs.Belows.{AreOfOne, AreOfOneBag}
@@ -95,7 +95,7 @@ pub from_values : (v : Scalar) (vs : List Scalar) → IsIn (value_of v) (map val
 from_values v vs i =
     let s = in_place (value_of v) (map value_of vs) i in
     let t = place_map value_of vs s.0 (value_of v) s.1 in
-    let same : t.0 ≡ v = sym (scalar_back t.0) ∙ ap scalar_of t.2 ∙ scalar_back v in
+    let same : t.0 ≡ v = sym (scalar_comes_back t.0) ∙ ap scalar_of t.2 ∙ scalar_comes_back v in
     place_in v vs s.0 (subst (λ x. slice_get vs s.0 ≡ Some x) same t.1)
 
 -- ---- sizes
@@ -110,14 +110,14 @@ value_in (Some p) v = p.1
 pair_value : (k key : ScalarValue) (x v : Value) → Some (pair k x) ≡ Some (pair key v) → x ≡ v
 pair_value k key x v e = ap (λ o. value_in o x) e
 
-pub entry_size : (es : Entries) (i : ℕ) (key : ScalarValue) (v : Value) → slice_get (pairs es) i ≡ Some (key, v) → size_of v ≤ size_of_entries es
+pub entry_size : (es : Entries) (i : ℕ) (key : ScalarValue) (v : Value) → slice_get (pairs es) i ≡ Some (key, v) → value_count v ≤ value_count_of_entries es
 entry_size no_entry i key v e = absurd (cc e)
-entry_size (entry k x es) zero key v e = subst (λ y. size_of y ≤ size_of x + size_of_entries es) (pair_value k key x v e) (omega arith)
+entry_size (entry k x es) zero key v e = subst (λ y. value_count y ≤ value_count x + value_count_of_entries es) (pair_value k key x v e) (omega arith)
 entry_size (entry k x es) (suc i) key v e = let l = entry_size es i key v e in omega arith
 
-pub value_size : (vs : Values) (i : ℕ) (v : Value) → slice_get (values_list vs) i ≡ Some v → size_of v ≤ size_of_values vs
+pub value_size : (vs : Values) (i : ℕ) (v : Value) → slice_get (values_list vs) i ≡ Some v → value_count v ≤ value_count_of_values vs
 value_size no_value i v e = absurd (cc e)
-value_size (value x vs) zero v e = let same : x ≡ v = cc e in subst (λ y. size_of y ≤ size_of x + size_of_values vs) same (omega arith)
+value_size (value x vs) zero v e = let same : x ≡ v = cc e in subst (λ y. value_count y ≤ value_count x + value_count_of_values vs) same (omega arith)
 value_size (value x vs) (suc i) v e = let l = value_size vs i v e in omega arith
 
 -- ---- values of one shape

@@ -14,7 +14,7 @@ use Rattle.bag_model.proofs.BelowLaws.{below-bottom}
 use Rattle.bag_model.proofs.OfShape.{Alike-shape}
 use Rattle.bag_value.specs.declared.vals.Val.{Val}
 use Rattle.bag_value.specs.Vals.{plain, val_of}
-use Rattle.bag_value.specs.ValLaws.{plain_back}
+use Rattle.bag_value.specs.ValLaws.{value_comes_back}
 use Rattle.trace_model.specs.Contributions.{IsLeastAbove}
 use Rattle.trace_model.specs.Graphs.{Graph, IsGraph, IsOfTable, IsRecorded}
 use Rattle.write_proof.specs.Belows.{AreOfOne}
@@ -66,7 +66,7 @@ module _ (table : Nodes) (graph : Graph) (slot : ℕ) (is_table : IsTable table)
       → IsJoinAt table graph slot steps (plain j)
   both_joined steps front back a b j whole is p q = λ at there.
       subst (λ l. IsLeastAbove at.shape (IsOfSteps graph slot at l) (plain j)) whole
-      (subst (IsLeastAbove at.shape (IsOfSteps graph slot at (front ++ back))) (sym (ap plain is ∙ plain_back (join (plain a) (plain b))))
+      (subst (IsLeastAbove at.shape (IsOfSteps graph slot at (front ++ back))) (sym (ap plain is ∙ value_comes_back (join (plain a) (plain b))))
       (join_both table slot at there graph recorded front back (plain a) (plain b) (p at there) (q at there)))
 
   -- ---- more than a join

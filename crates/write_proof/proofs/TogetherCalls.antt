@@ -24,7 +24,7 @@ use Rattle.scalar_types.specs.Scalars.{value_of}
 use Rattle.bag_value.specs.declared.vals.Val.{Val}
 use Rattle.bag_value.specs.declared.vals.Val.TheVariants as code
 use Rattle.bag_value.specs.Vals.{plain, val_of}
-use Rattle.bag_value.specs.ValLaws.{plain_back}
+use Rattle.bag_value.specs.ValLaws.{value_comes_back}
 use Rattle.trace_model.proofs.ContributedLaws.{least_alike}
 use Rattle.write_proof.specs.Belows.{AreOfOne}
 use Rattle.write_proof.specs.Together.{Saying, TaintOn, StaysBeside, HasElement, CountsTo, HasKey, OfKey, OfField, Says, IsSaid, IsSaidBy, IsAtKey, IsOfField, AreOfOneShape, HaveOneJoin, values_of}
@@ -466,7 +466,7 @@ pub joins_last : (old rest front next : List Val) (x y j : Val) → old ≡ rest
 joins_last old rest front next x y j d e is more =
     subst (λ l. HaveOneJoin l (map plain next)) (sym (two_last old rest front x y d e))
     (subst (HaveOneJoin ((map plain front ++ plain x ∷ []) ++ plain y ∷ []))
-    (sym (ap (map plain) more ∙ parts_push front j ∙ ap (λ v. map plain front ++ v ∷ []) (ap plain is ∙ plain_back (join (plain x) (plain y)))))
+    (sym (ap (map plain) more ∙ parts_push front j ∙ ap (λ v. map plain front ++ v ∷ []) (ap plain is ∙ value_comes_back (join (plain x) (plain y)))))
     (last_joined (map plain front) (plain x) (plain y)))
 
 pub adds_part : (old next : List Val) (part : Val) → next ≡ old ++ part ∷ [] → HaveOneJoin (plain part ∷ map plain old) (map plain next)

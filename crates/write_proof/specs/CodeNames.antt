@@ -3,6 +3,7 @@ use Rattle.std.specs.Prelude.{ℕ, List, codes}
 use Rattle.write_proof.specs.declared.verdicts.VerifyCode.{VerifyCode}
 use Rattle.write_proof.specs.declared.verdicts.VerifyCode.TheVariants.{Form, StepRange, NoSuchPath, Order, NotParent, NotWrite, NotListed, Missing, Value, TooMuch}
 
+-- The name of a rule.
 abbrev pub verify_code_name : VerifyCode → List ℕ
 verify_code_name Form = codes "Form"
 verify_code_name StepRange = codes "StepRange"

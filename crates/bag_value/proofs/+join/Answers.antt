@@ -4,7 +4,7 @@ use Rattle.std.specs.declared.cmp.Ordering.TheVariants.{Equal}
 use Rattle.bag_model.specs.Joins.{AlikeEntries, Proper, AreProper}
 use Rattle.bag_model.specs.Scalars.{scalar_cmp}
 use Rattle.bag_model.specs.Values as model
-use Rattle.bag_model.specs.Values.{size_of_entries, size_of_values}
+use Rattle.bag_model.specs.Values.{value_count_of_entries, value_count_of_values}
 use Rattle.scalar_types.specs.Scalars.{value_of}
 use Rattle.bag_value.specs.Vals.{plain_values, plain_entries}
 use Rattle.bag_value.proofs.Joining.{entries_alike, entries_whole, entries_proper, entry_falls, within_second, values_alike, values_step, values_whole, values_proper, value_falls}
@@ -25,7 +25,7 @@ lists::Entries::joined-joined-requires t c =
     let tie : scalar_cmp (value_of e.key) (value_of f.key) ≡ Equal = sym c.in-Equal.ensures in
     let first : c.loop-i.i < length es = omega arith in
     let second : c.loop-i.j < length fs = omega arith in (
-      omega (arith, entry_falls es c.loop-i.i e first c.index-ours-i.is, ap size_of_entries a),
+      omega (arith, entry_falls es c.loop-i.i e first c.index-ours-i.is, ap value_count_of_entries a),
       entries_alike es fs c.loop-i.i c.loop-i.j e f first second c.index-ours-i.is c.index-theirs-j.is c.loop-i.items.items c.loop-i.invariant.so_far alike tie,
     )
 
@@ -68,7 +68,7 @@ lists::Vals::joined-joined-requires t c =
     let at = c.loop-at.at in
     let first : at < length vs = omega arith in
     let a : plain_values vs ≡ c.args.self.now = ap plain_values c.as_slice-ours.ensures.value ∙ c.self.view_is in (
-      omega (arith, value_falls vs at c.index-ours-at.result first c.index-ours-at.is, ap size_of_values a),
+      omega (arith, value_falls vs at c.index-ours-at.result first c.index-ours-at.is, ap value_count_of_values a),
       (values_alike vs ws at c.index-ours-at.result c.index-theirs-at.result first (within_second vs ws at first c.loop-at.invariant.alike) c.index-ours-at.is c.index-theirs-at.is c.loop-at.invariant.alike).0,
     )
 

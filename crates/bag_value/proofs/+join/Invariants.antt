@@ -1,18 +1,18 @@
 use Rattle.std.proofs.Common.{◌≡◌, ◌+◌, ◌-◌, ◌*◌, ◌≤◌, ◌++◌, length, map, drop}
 use Rattle.bag_model.specs.Joins.{AreAlike}
-use Rattle.bag_model.specs.Values.{size_of, size_of_entries, size_of_values}
+use Rattle.bag_model.specs.Values.{value_count, value_count_of_entries, value_count_of_values}
 use Rattle.bag_value.specs.Vals.{plain, plain_values, pair_of}
 use Rattle.bag_value.proofs.Joining.{rest_merged, rest_joined}
 use Rattle.bag_value.proofs.+join.Given as goal
 
 abbrev pub decreases-vals::Val::joined : goal.decreases-vals::Val::joined
-decreases-vals::Val::joined l = 2 * size_of (plain l.self.now)
+decreases-vals::Val::joined l = 2 * value_count (plain l.self.now)
 
 abbrev pub decreases-lists::Entries::joined : goal.decreases-lists::Entries::joined
-decreases-lists::Entries::joined l = 2 * size_of_entries l.self.now + 1
+decreases-lists::Entries::joined l = 2 * value_count_of_entries l.self.now + 1
 
 abbrev pub decreases-lists::Vals::joined : goal.decreases-lists::Vals::joined
-decreases-lists::Vals::joined l = 2 * size_of_values l.self.now + 1
+decreases-lists::Vals::joined l = 2 * value_count_of_values l.self.now + 1
 
 abbrev pub invariant-lists::Entries::joined-loop-i : goal.invariant-lists::Entries::joined-loop-i
 invariant-lists::Entries::joined-loop-i l = record {

@@ -1,6 +1,6 @@
 use Rattle.std.proofs.Common.{subst}
 use Rattle.text_lines.specs.Lines.{line_value}
-use Rattle.wire_bytes.specs.Reading.{IsContextFaultOf}
+use Rattle.wire_bytes.specs.Reading.{IsContextRefusalOf}
 use Rattle.baggage_cli.proofs.HexLengths.{few_bytes}
 use Rattle.baggage_cli.proofs.Misread.{misread_context}
 use Rattle.baggage_cli.proofs.reading.context_bytes.Goals as goal
@@ -10,5 +10,5 @@ returns-in-Ok-clause-few c = few_bytes c.args.line.now.text.now c.in_ok-bytes.by
 
 pub returns-in-Err-clause-err : goal.returns-in-Err-clause-err
 returns-in-Err-clause-err c =
-    let first = subst (λ input. IsContextFaultOf input c.in-Err.fault) c.as_slice.ensures.value c.in-Err.ensures.fault in
+    let first = subst (λ input. IsContextRefusalOf input c.in-Err.fault) c.as_slice.ensures.value c.in-Err.ensures.fault in
     misread_context (line_value c.args.line.now) c.in_ok-bytes.bytes.items c.in-Err.fault c.misread.result c.in_ok-bytes.ensures.ok first c.misread.ensures

@@ -2,7 +2,7 @@ use Rattle.std.proofs.Common.{◌≡◌, ◌↔◌, ℕ, ◌+◌, List, [], ◌�
 use Rattle.std.proofs.lemmas.List.{drop_more, drop_all}
 use Rattle.bag_model.specs.Scalars.{Plain}
 use Rattle.scalar_types.specs.declared.kinds.ScalarKind.{ScalarKind}
-use Rattle.scalar_types.specs.WordCodecs.{codec_form}
+use Rattle.scalar_types.specs.WordCodecs.{codec_spelling_form}
 use Rattle.scalar_types.proofs.PackedSteps.{FieldsSpelled, FirstField, first_field, fields_more, fields_less, no_fields, only_no_fields, is_nothing_left}
 use Rattle.scalar_types.proofs.packed.fields_spelled.Goals as goal
 
@@ -16,7 +16,7 @@ loop-kind-preserved c =
     let after : List ℕ = c.in-Some.after.now in
     let v : Plain = c.in-Some.ensures.found.0 in
     let next : drop index kinds ≡ kind ∷ behind = search (rules, drop_more) in
-    let first : FirstField kind rest v after = first_field kind (codec_form c.word_codec.result) c.word_codec.ensures rest v after c.in-Some.ensures.found.1 in (
+    let first : FirstField kind rest v after = first_field kind (codec_spelling_form c.word_codec.result) c.word_codec.ensures rest v after c.in-Some.ensures.found.1 in (
       λ s. fields_less kind behind rest after v first (subst (λ l. FieldsSpelled l rest) next (c.loop-kind.invariant.0 s)),
       λ s. c.loop-kind.invariant.1 (subst (λ l. FieldsSpelled l rest) (sym next) (v ∷ s.0, fields_more kind behind rest after v s.0 first s.1)),
     )

@@ -5,7 +5,7 @@ use Rattle.scalar_types.specs.declared.kinds.ScalarKind.{ScalarKind}
 use Rattle.scalar_types.specs.declared.scalars.Scalar.{Scalar}
 use Rattle.scalar_types.specs.KindViews.{word_of}
 use Rattle.scalar_types.specs.Scalars.{plain_of}
-use Rattle.scalar_types.specs.WordCodecs.{codec_form}
+use Rattle.scalar_types.specs.WordCodecs.{codec_spelling_form}
 use Rattle.scalar_types.proofs.PackedSteps.{Fit, fields, fits-length, fields_put}
 use Rattle.scalar_types.proofs.packed.put_fields.Goals as goal
 
@@ -22,7 +22,7 @@ loop-at-preserved c =
     let values_left : drop at values ≡ value ∷ drop (at + 1) values = drop-place values at value (omega (arith, long)) c.index-values-at.is in
     record {
       fit = (subst (λ l. Fit l (value ∷ drop (at + 1) values)) kinds_left (subst (Fit (drop at kinds)) values_left c.loop-at.invariant.fit)).1;
-      so_far = fields_put kind (drop (at + 1) kinds) value (drop (at + 1) values) (codec_form c.word_codec.result) c.word_codec.ensures
+      so_far = fields_put kind (drop (at + 1) kinds) value (drop (at + 1) values) (codec_spelling_form c.word_codec.result) c.word_codec.ensures
           c.loop-at.into.items c.put_field.new.into.items (c.args.into.now.items ++ fields kinds (map plain_of values)) c.in_ok-put_field.ensures
           (subst (λ l. c.loop-at.into.items ++ fields l (map plain_of (value ∷ drop (at + 1) values)) ≡ c.args.into.now.items ++ fields kinds (map plain_of values)) kinds_left
           (subst (λ l. c.loop-at.into.items ++ fields (drop at kinds) (map plain_of l) ≡ c.args.into.now.items ++ fields kinds (map plain_of values)) values_left c.loop-at.invariant.so_far));

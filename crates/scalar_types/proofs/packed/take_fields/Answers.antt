@@ -3,7 +3,7 @@ use Rattle.std.proofs.lemmas.List.{drop_more, drop_all, append-nil, append_assoc
 use Rattle.bag_model.specs.Scalars.{Plain}
 use Rattle.scalar_types.specs.declared.kinds.ScalarKind.{ScalarKind}
 use Rattle.scalar_types.specs.Scalars.{plain_of}
-use Rattle.scalar_types.specs.WordCodecs.{codec_form}
+use Rattle.scalar_types.specs.WordCodecs.{codec_spelling_form}
 use Rattle.scalar_types.proofs.PackedSteps.{SpellsFields, FieldsSpelled, FirstField, first_field, fields_more, fields_less, no_fields, is_nothing_left}
 use Rattle.scalar_types.proofs.packed.take_fields.Goals as goal
 
@@ -17,7 +17,7 @@ loop-kind-preserved c =
     let after : List ℕ = c.in_ok-value.after.now in
     let v : Plain = plain_of c.in_ok-value.value in
     let next : drop index kinds ≡ kind ∷ behind = search (rules, drop_more) in
-    let first : FirstField kind rest v after = first_field kind (codec_form c.word_codec.result) c.word_codec.ensures rest v after c.in_ok-value.ensures.taken in
+    let first : FirstField kind rest v after = first_field kind (codec_spelling_form c.word_codec.result) c.word_codec.ensures rest v after c.in_ok-value.ensures.taken in
     let pushed : c.push.new.self ≡ c.loop-kind.values ++ v ∷ [] = search rules in
     record {
       back = λ vs s. subst (λ l. SpellsFields kinds c.args.bytes.now l) (sym (append_assoc c.loop-kind.values (v ∷ []) vs) ∙ ap (λ l. l ++ vs) (sym pushed))

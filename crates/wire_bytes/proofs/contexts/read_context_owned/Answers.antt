@@ -6,7 +6,7 @@ use Rattle.context_model.specs.WellFormed.{IsWellFormed}
 use Rattle.context_model.specs.ContextFault.{IsContextOf, IsFirstContextFault}
 use Rattle.context_model.proofs.Heads.{AreWithin-atoms}
 use Rattle.context_model.proofs.ContextFronts.{has_one_context}
-use Rattle.atom_list.specs.Contexts.{shape_code_of}
+use Rattle.atom_list.specs.Contexts.{shape_fault_code_of}
 use Rattle.wire_bytes.specs.Reading.{byte_code_of, code_of, ReadsUpTo}
 use Rattle.wire_bytes.proofs.Stops.{wire_list, stop_within, shape_fault, context_wire_fault, only_context_err}
 use Rattle.wire_bytes.proofs.contexts.read_context_owned.Goals as goal
@@ -29,7 +29,7 @@ answered bytes offset offset' code code' fault e f = subst (λ n. IsFirstContext
 pub returns-in-Err-clause-fault : goal.returns-in-Err-clause-fault
 returns-in-Err-clause-fault c =
     let form = form_of c.args.bytes.items in
-    let fault = shape_fault c.args.bytes.items c.in_ok-form.field-0.list c.in_ok-form.field-0.fault c.in-Err.place (shape_code_of c.in-Err.shape) c.in_ok-form.ensures.reads c.in-Err.ensures.fault in
+    let fault = shape_fault c.args.bytes.items c.in_ok-form.field-0.list c.in_ok-form.field-0.fault c.in-Err.place (shape_fault_code_of c.in-Err.shape) c.in_ok-form.ensures.reads c.in-Err.ensures.fault in
     let head = c.head_len.ensures ∙ ap head_len c.in_ok-form.ensures.form in
     let before = c.frames_before.ensures.frames form ∙ ap (λ list. length (frames form (take c.in-Err.place list))) c.in-Err.ensures.back in
     answered c.args.bytes.items (c.head_len.result + c.frames_before.result) _ (byte_code_of c.from.result) _ fault (omega arith) c.from.ensures

@@ -4,7 +4,7 @@ use Rattle.context_model.specs.KeyedMerge.{IsAt}
 use Rattle.context_model.proofs.MergeLaws.{IsIn-keys_of, IsAt-unique}
 use Rattle.bag_model.specs.Joins.{IsValueBelow}
 use Rattle.bag_model.specs.Scalars.{scalar_cmp}
-use Rattle.bag_model.specs.Values.{Value, pairs, values_list, size_of}
+use Rattle.bag_model.specs.Values.{Value, pairs, values_list, value_count}
 use Rattle.bag_model.proofs.ScalarOrder.{scalar_total}
 use Rattle.scalar_types.specs.KindViews.{kind_of}
 use Rattle.scalar_types.specs.Scalars.{value_of}
@@ -36,7 +36,7 @@ is_below-returns-in-Counter-Counter t c =
 pub is_below-are_values_below-requires : goal.is_below-are_values_below-requires
 is_below-are_values_below-requires t c =
     let one = rw (c.in-Bag-Bag.is-0, c.in-Bag-Bag.is-1) at c.requires.one in
-    (omega (arith, c.decreases, ap (λ v. size_of (plain v)) c.in-Bag-Bag.is-0), bags_of_one c.in-Bag-Bag.ours c.in-Bag-Bag.theirs one)
+    (omega (arith, c.decreases, ap (λ v. value_count (plain v)) c.in-Bag-Bag.is-0), bags_of_one c.in-Bag-Bag.ours c.in-Bag-Bag.theirs one)
 
 pub is_below-are_counts_below-requires : goal.is_below-are_counts_below-requires
 is_below-are_counts_below-requires t c =

@@ -1,6 +1,6 @@
 use Rattle.std.proofs.Common.{◌∷◌, length, ap, sym, subst, vec_len, arith}
 use Rattle.std.proofs.lemmas.List.{length-map}
-use Rattle.bag_model.specs.Values.{Map, pairs, values_list, size_of}
+use Rattle.bag_model.specs.Values.{Map, pairs, values_list, value_count}
 use Rattle.scalar_types.specs.Scalars.{value_of}
 use Rattle.bag_value.specs.Vals.{plain, pair_of}
 use Rattle.write_proof.specs.Together.{AreOfOneShape, IsSaidBy, values_of}
@@ -14,7 +14,7 @@ is_said_by-returns-in_default t c =
     iff_then c.is_said_alone.ensures (alone_answer c.args.value.now (values_of c.args.others.now) c.requires c.in_default.not-Set c.in_default.not-Counter c.in_default.not-Map c.in_default.not-Bag)
 
 pub is_said_by-are_entries_said-requires : goal.is_said_by-are_entries_said-requires
-is_said_by-are_entries_said-requires t c = (omega (arith, c.decreases, ap (λ v. size_of (plain v)) c.in-Map.is), rw c.in-Map.is at c.requires)
+is_said_by-are_entries_said-requires t c = (omega (arith, c.decreases, ap (λ v. value_count (plain v)) c.in-Map.is), rw c.in-Map.is at c.requires)
 
 pub is_said_by-returns-in-Map : goal.is_said_by-returns-in-Map
 is_said_by-returns-in-Map t c = rw c.in-Map.is c.are_entries_said.ensures

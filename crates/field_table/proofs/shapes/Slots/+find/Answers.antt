@@ -8,8 +8,8 @@ use Rattle.field_table.proofs.PathFinding.{finds_none, finds_only, finds_own, fi
 use Rattle.bag_model.proofs.SlotLaws.{starts-bound, slots_of-list}
 use Rattle.field_table.specs.declared.shapes.Shape.TheViews.{out-Slots}
 use Rattle.field_table.specs.declared.shapes.Slot.{Slot}
-use Rattle.field_table.specs.Tables.{plain, KeptField, IsKept, IsNameOrder, IsPlaceOf}
-use Rattle.field_table.specs.Plain.{nodes_of, slot_name_of, shape_of}
+use Rattle.field_table.specs.Tables.{plain_shape, KeptField, IsKept, IsNameOrder, IsPlaceOf}
+use Rattle.field_table.specs.Plain.{nodes_of, field_name, shape_of}
 use Rattle.field_table.proofs.Opened.{length_fields, has_indexes, is_ordered}
 use Rattle.field_table.proofs.Held.{inner_fewer, inner_ready, no_bag, shape_bag, field_open}
 use Rattle.field_table.proofs.Found.{other_name, named_at, place_within, found_bound, finds_nothing, whole_path, fits_sum}
@@ -18,16 +18,16 @@ use Rattle.field_table.proofs.shapes.Slots.+find.Goals as goal
 pub place_of-requires : goal.place_of-requires
 place_of-requires t c =
     let s = c.args.self.now in
-    subst (λ (items : List Slot). IsNameOrder (map slot_name_of items) c.deref-2.result.now) (sym c.deref.ensures.value)
-    (subst (λ (places : List ℕ). IsNameOrder (map slot_name_of (out-Slots s).items.items) places) (sym c.deref-2.ensures.value) (is_ordered s c.requires.1.1.in_order))
+    subst (λ (items : List Slot). IsNameOrder (map field_name items) c.deref-2.result.now) (sym c.deref.ensures.value)
+    (subst (λ (places : List ℕ). IsNameOrder (map field_name (out-Slots s).items.items) places) (sym c.deref-2.ensures.value) (is_ordered s c.requires.1.1.in_order))
 
 pub returns-in_err-place-clause-found : goal.returns-in_err-place-clause-found
 returns-in_err-place-clause-found t c =
     let s = c.args.self.now in
     let own = c.split_name.result.0.now in
-    let none : IsPlaceOf (map slot_name_of (out-Slots s).items.items) own None =
-    subst (λ (items : List Slot). IsPlaceOf (map slot_name_of items) own None) c.deref.ensures.value
-    (subst (λ (bytes : List ℕ). IsPlaceOf (map slot_name_of c.deref.result.now) bytes None) c.as_bytes.ensures.value c.in_err-place.ensures)
+    let none : IsPlaceOf (map field_name (out-Slots s).items.items) own None =
+    subst (λ (items : List Slot). IsPlaceOf (map field_name items) own None) c.deref.ensures.value
+    (subst (λ (bytes : List ℕ). IsPlaceOf (map field_name c.deref.result.now) bytes None) c.as_bytes.ensures.value c.in_err-place.ensures)
     in
     finds_nothing (λ found. (found.0, shape_of found.1.now)) (nodes_of s) c.args.path.now c.from_residual.result c.from_residual.ensures
     (finds_none (nodes_of s) c.requires.1.1.fields c.args.path.now own _ c.split_name.ensures.name c.split_name.ensures.split (other_name s own none))
@@ -35,16 +35,16 @@ returns-in_err-place-clause-found t c =
 pub slots_before-before-requires : goal.slots_before-before-requires
 slots_before-before-requires t c =
     let s = c.args.self.now in
-    let found : slice_get (map slot_name_of (out-Slots s).items.items) c.in_ok-place.place ≡ Some c.as_bytes.result.now =
-    subst (λ (items : List Slot). slice_get (map slot_name_of items) c.in_ok-place.place ≡ Some c.as_bytes.result.now) c.deref.ensures.value c.in_ok-place.ensures
+    let found : slice_get (map field_name (out-Slots s).items.items) c.in_ok-place.place ≡ Some c.as_bytes.result.now =
+    subst (λ (items : List Slot). slice_get (map field_name items) c.in_ok-place.place ≡ Some c.as_bytes.result.now) c.deref.ensures.value c.in_ok-place.ensures
     in
     record { ready = c.requires.1.1; place = omega (arith, place_within s c.as_bytes.result.now c.in_ok-place.place found, length_fields s) }
 
 pub index-requires : goal.index-requires
 index-requires t c =
     let s = c.args.self.now in
-    let found : slice_get (map slot_name_of (out-Slots s).items.items) c.in_ok-place.place ≡ Some c.as_bytes.result.now =
-    subst (λ (items : List Slot). slice_get (map slot_name_of items) c.in_ok-place.place ≡ Some c.as_bytes.result.now) c.deref.ensures.value c.in_ok-place.ensures
+    let found : slice_get (map field_name (out-Slots s).items.items) c.in_ok-place.place ≡ Some c.as_bytes.result.now =
+    subst (λ (items : List Slot). slice_get (map field_name items) c.in_ok-place.place ≡ Some c.as_bytes.result.now) c.deref.ensures.value c.in_ok-place.ensures
     in
     omega (arith, place_within s c.as_bytes.result.now c.in_ok-place.place found, (out-Slots s).items.ok.0)
 
@@ -54,8 +54,8 @@ returns-in_default-clause-found t c =
     let x = c.index.result.now in
     let place = c.in_ok-place.place in
     let own = c.split_name.result.0.now in
-    let found : slice_get (map slot_name_of (out-Slots s).items.items) place ≡ Some own =
-    subst (λ (items : List Slot). slice_get (map slot_name_of items) place ≡ Some own) c.deref.ensures.value (c.in_ok-place.ensures ∙ ap Some c.as_bytes.ensures.value)
+    let found : slice_get (map field_name (out-Slots s).items.items) place ≡ Some own =
+    subst (λ (items : List Slot). slice_get (map field_name items) place ≡ Some own) c.deref.ensures.value (c.in_ok-place.ensures ∙ ap Some c.as_bytes.ensures.value)
     in
     let named = named_at s own place x found c.index.ensures in
     let start = c.slots_before-before.ensures in
@@ -69,8 +69,8 @@ find-requires t c =
     let x = c.index.result.now in
     let place = c.in_ok-place.place in
     let own = c.split_name.result.0.now in
-    let found : slice_get (map slot_name_of (out-Slots s).items.items) place ≡ Some own =
-    subst (λ (items : List Slot). slice_get (map slot_name_of items) place ≡ Some own) c.deref.ensures.value (c.in_ok-place.ensures ∙ ap Some c.as_bytes.ensures.value)
+    let found : slice_get (map field_name (out-Slots s).items.items) place ≡ Some own =
+    subst (λ (items : List Slot). slice_get (map field_name items) place ≡ Some own) c.deref.ensures.value (c.in_ok-place.ensures ∙ ap Some c.as_bytes.ensures.value)
     in
     let named = named_at s own place x found c.index.ensures in
     (omega (arith, c.requires.1.0, inner_fewer s place x c.in-Bag.inner named.at c.in-Bag.is), inner_ready s place x c.in-Bag.inner c.requires.1.1 named.at c.in-Bag.is)
@@ -81,11 +81,11 @@ returns-in_err-behind-clause-found t c =
     let x = c.index.result.now in
     let place = c.in_ok-place.place in
     let own = c.split_name.result.0.now in
-    let found : slice_get (map slot_name_of (out-Slots s).items.items) place ≡ Some own =
-    subst (λ (items : List Slot). slice_get (map slot_name_of items) place ≡ Some own) c.deref.ensures.value (c.in_ok-place.ensures ∙ ap Some c.as_bytes.ensures.value)
+    let found : slice_get (map field_name (out-Slots s).items.items) place ≡ Some own =
+    subst (λ (items : List Slot). slice_get (map field_name items) place ≡ Some own) c.deref.ensures.value (c.in_ok-place.ensures ∙ ap Some c.as_bytes.ensures.value)
     in
     let named = named_at s own place x found c.index.ensures in
-    let plain_is : shape_of x.shape ≡ model.Shape.Bag (nodes_of c.in-Bag.inner) = ap shape_of c.in-Bag.is ∙ ap plain (shape_bag c.in-Bag.inner) in
+    let plain_is : shape_of x.shape ≡ model.Shape.Bag (nodes_of c.in-Bag.inner) = ap shape_of c.in-Bag.is ∙ ap plain_shape (shape_bag c.in-Bag.inner) in
     finds_nothing (λ found. (found.0, shape_of found.1.now)) (nodes_of s) c.args.path.now c.from_residual-in_err-behind.result c.from_residual-in_err-behind.ensures
     (finds_only (nodes_of s) c.requires.1.1.fields c.args.path.now own (Some c.in-Some.rest.now) c.split_name.ensures.name
     (subst (λ (rest : Option (Bor (List ℕ))). IsSplit c.args.path.now own (option_map (λ r. r.now) rest)) c.in-Some.is c.split_name.ensures.split)
@@ -98,8 +98,8 @@ overflow_add-result t c =
     let x = c.index.result.now in
     let place = c.in_ok-place.place in
     let own = c.split_name.result.0.now in
-    let found : slice_get (map slot_name_of (out-Slots s).items.items) place ≡ Some own =
-    subst (λ (items : List Slot). slice_get (map slot_name_of items) place ≡ Some own) c.deref.ensures.value (c.in_ok-place.ensures ∙ ap Some c.as_bytes.ensures.value)
+    let found : slice_get (map field_name (out-Slots s).items.items) place ≡ Some own =
+    subst (λ (items : List Slot). slice_get (map field_name items) place ≡ Some own) c.deref.ensures.value (c.in_ok-place.ensures ∙ ap Some c.as_bytes.ensures.value)
     in
     let named = named_at s own place x found c.index.ensures in
     let start = c.slots_before-before.ensures in
@@ -114,12 +114,12 @@ returns-in_ok-behind-clause-found t c =
     let x = c.index.result.now in
     let place = c.in_ok-place.place in
     let own = c.split_name.result.0.now in
-    let found : slice_get (map slot_name_of (out-Slots s).items.items) place ≡ Some own =
-    subst (λ (items : List Slot). slice_get (map slot_name_of items) place ≡ Some own) c.deref.ensures.value (c.in_ok-place.ensures ∙ ap Some c.as_bytes.ensures.value)
+    let found : slice_get (map field_name (out-Slots s).items.items) place ≡ Some own =
+    subst (λ (items : List Slot). slice_get (map field_name items) place ≡ Some own) c.deref.ensures.value (c.in_ok-place.ensures ∙ ap Some c.as_bytes.ensures.value)
     in
     let named = named_at s own place x found c.index.ensures in
     let start = c.slots_before-before.ensures in
-    let plain_is : shape_of x.shape ≡ model.Shape.Bag (nodes_of c.in-Bag.inner) = ap shape_of c.in-Bag.is ∙ ap plain (shape_bag c.in-Bag.inner) in
+    let plain_is : shape_of x.shape ≡ model.Shape.Bag (nodes_of c.in-Bag.inner) = ap shape_of c.in-Bag.is ∙ ap plain_shape (shape_bag c.in-Bag.inner) in
     let split : c.args.path.now ≡ own ++ 46 ∷ c.in-Some.rest.now =
     subst (λ (rest : Option (Bor (List ℕ))). IsSplit c.args.path.now own (option_map (λ r. r.now) rest)) c.in-Some.is c.split_name.ensures.split
     in
@@ -133,8 +133,8 @@ returns-in_default-shape-clause-found t c =
     let x = c.index.result.now in
     let place = c.in_ok-place.place in
     let own = c.split_name.result.0.now in
-    let found : slice_get (map slot_name_of (out-Slots s).items.items) place ≡ Some own =
-    subst (λ (items : List Slot). slice_get (map slot_name_of items) place ≡ Some own) c.deref.ensures.value (c.in_ok-place.ensures ∙ ap Some c.as_bytes.ensures.value)
+    let found : slice_get (map field_name (out-Slots s).items.items) place ≡ Some own =
+    subst (λ (items : List Slot). slice_get (map field_name items) place ≡ Some own) c.deref.ensures.value (c.in_ok-place.ensures ∙ ap Some c.as_bytes.ensures.value)
     in
     let named = named_at s own place x found c.index.ensures in
     finds_only (nodes_of s) c.requires.1.1.fields c.args.path.now own (Some c.in-Some.rest.now) c.split_name.ensures.name
@@ -148,8 +148,8 @@ returns-in_default-clause-only t c own_name names before shape reached dots =
     let x = c.index.result.now in
     let place = c.in_ok-place.place in
     let own = c.split_name.result.0.now in
-    let found : slice_get (map slot_name_of (out-Slots s).items.items) place ≡ Some own =
-    subst (λ (items : List Slot). slice_get (map slot_name_of items) place ≡ Some own) c.deref.ensures.value (c.in_ok-place.ensures ∙ ap Some c.as_bytes.ensures.value)
+    let found : slice_get (map field_name (out-Slots s).items.items) place ≡ Some own =
+    subst (λ (items : List Slot). slice_get (map field_name items) place ≡ Some own) c.deref.ensures.value (c.in_ok-place.ensures ∙ ap Some c.as_bytes.ensures.value)
     in
     let named = named_at s own place x found c.index.ensures in
     let whole : c.args.path.now ≡ own = whole_path c.args.path.now own (λ rest. rest.now) c.split_name.result.1 c.in_default.not-Some c.split_name.ensures.split in
@@ -163,11 +163,11 @@ returns-in_ok-behind-clause-only t c own_name names before shape reached dots =
     let x = c.index.result.now in
     let place = c.in_ok-place.place in
     let own = c.split_name.result.0.now in
-    let found : slice_get (map slot_name_of (out-Slots s).items.items) place ≡ Some own =
-    subst (λ (items : List Slot). slice_get (map slot_name_of items) place ≡ Some own) c.deref.ensures.value (c.in_ok-place.ensures ∙ ap Some c.as_bytes.ensures.value)
+    let found : slice_get (map field_name (out-Slots s).items.items) place ≡ Some own =
+    subst (λ (items : List Slot). slice_get (map field_name items) place ≡ Some own) c.deref.ensures.value (c.in_ok-place.ensures ∙ ap Some c.as_bytes.ensures.value)
     in
     let named = named_at s own place x found c.index.ensures in
-    let plain_is : shape_of x.shape ≡ model.Shape.Bag (nodes_of c.in-Bag.inner) = ap shape_of c.in-Bag.is ∙ ap plain (shape_bag c.in-Bag.inner) in
+    let plain_is : shape_of x.shape ≡ model.Shape.Bag (nodes_of c.in-Bag.inner) = ap shape_of c.in-Bag.is ∙ ap plain_shape (shape_bag c.in-Bag.inner) in
     let split : c.args.path.now ≡ own ++ 46 ∷ c.in-Some.rest.now =
     subst (λ (rest : Option (Bor (List ℕ))). IsSplit c.args.path.now own (option_map (λ r. r.now) rest)) c.in-Some.is c.split_name.ensures.split
     in
@@ -181,7 +181,7 @@ returns-in_default-clause-kept t c =
     let x = c.index.result.now in
     let place = c.in_ok-place.place in
     let own = c.split_name.result.0.now in
-    let found : slice_get (map slot_name_of (out-Slots s).items.items) place ≡ Some own =
-    subst (λ (items : List Slot). slice_get (map slot_name_of items) place ≡ Some own) c.deref.ensures.value (c.in_ok-place.ensures ∙ ap Some c.as_bytes.ensures.value)
+    let found : slice_get (map field_name (out-Slots s).items.items) place ≡ Some own =
+    subst (λ (items : List Slot). slice_get (map field_name items) place ≡ Some own) c.deref.ensures.value (c.in_ok-place.ensures ∙ ap Some c.as_bytes.ensures.value)
     in
     subst IsKept (ap (λ (k : KeptField). k.shape) (field_open x)) ((has_indexes s c.requires.1.1.indexed).inside place x (named_at s own place x found c.index.ensures).at)

@@ -4,7 +4,7 @@ use Rattle.bag_model.specs.Slots.{starts, slots_of, slots_in, slot_count, within
 use Rattle.field_table.specs.declared.shapes.Shape.TheViews.{out-Slots}
 use Rattle.std.specs.List.{slice_get}
 use Rattle.std.specs.Option.{option_map}
-use Rattle.field_table.specs.Tables.{plain}
+use Rattle.field_table.specs.Tables.{plain_shape}
 use Rattle.field_table.specs.Plain.{nodes_of, shape_of}
 use Rattle.field_table.proofs.Opened.{length_fields}
 use Rattle.field_table.proofs.Held.{held, held_own, inner_ready, inner_fewer, no_bag, shape_bag, shape_within}
@@ -30,7 +30,7 @@ shape_at-requires t c =
     let inner = c.in-Bag.inner in
     let h = held s c.args.slot place x c.place_holding-place.ensures c.index.ensures in
     let is = c.slots_before.ensures in
-    let plain_is : shape_of x.shape ≡ model.Shape.Bag (nodes_of inner) = ap shape_of c.in-Bag.is ∙ ap plain (shape_bag inner) in
+    let plain_is : shape_of x.shape ≡ model.Shape.Bag (nodes_of inner) = ap shape_of c.in-Bag.is ∙ ap plain_shape (shape_bag inner) in
     let less : c.args.slot - c.slots_before.result < length (slots_of (nodes_of inner)) =
     subst (λ (n : ℕ). c.args.slot - n < length (slots_of (nodes_of inner))) (sym is) (subst (λ (shape : model.Shape). c.args.slot - starts (model.fields (nodes_of s)) place < slot_count shape) plain_is h.inside) in
     (omega (arith, c.decreases, inner_fewer s place x inner h.at c.in-Bag.is), (inner_ready s place x inner c.requires.ready h.at c.in-Bag.is, less))
@@ -43,7 +43,7 @@ returns-in-Bag t c =
     let inner = c.in-Bag.inner in
     let h = held s c.args.slot place x c.place_holding-place.ensures c.index.ensures in
     let is = c.slots_before.ensures in
-    let plain_is : shape_of x.shape ≡ model.Shape.Bag (nodes_of inner) = ap shape_of c.in-Bag.is ∙ ap plain (shape_bag inner) in
+    let plain_is : shape_of x.shape ≡ model.Shape.Bag (nodes_of inner) = ap shape_of c.in-Bag.is ∙ ap plain_shape (shape_bag inner) in
     c.shape_at.ensures ∙ sym (ap (option_map (λ (found : SlotAt). found.shape)) (h.found ∙ ap (option_map (within x.name x.number)) (ap (λ shape. slice_get (slots_in shape) (c.args.slot - starts (model.fields (nodes_of s)) place)) plain_is ∙ ap (slice_get (slots_of (nodes_of inner))) (ap (λ n. c.args.slot - n) (sym is))))
     ∙ shape_within x.name x.number (slice_get (slots_of (nodes_of inner)) (c.args.slot - c.slots_before.result)))
 

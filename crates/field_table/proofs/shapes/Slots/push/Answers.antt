@@ -8,7 +8,7 @@ use Rattle.field_table.specs.declared.shapes.Slots.{Slots}
 use Rattle.field_table.specs.declared.shapes.Shape.TheOpen.{Slots-F}
 use Rattle.field_table.specs.declared.shapes.Shape.TheViews.{out-Slots}
 use Rattle.field_table.specs.Tables.{capped, HasPlaces, IsKept, IsLoose, KeptField}
-use Rattle.field_table.specs.Plain.{field_of, nodes_of, slot_name_of, kept_shape}
+use Rattle.field_table.specs.Plain.{field_of, nodes_of, field_name, kept_shape}
 use Rattle.field_table.proofs.Held.{field_open}
 use Rattle.field_table.proofs.Opened.{has_indexes, fields_of-items, fields_of-rolled, map_push}
 use Rattle.field_table.proofs.Pushed.{either_way, pushed_indexes, same_fields, anew, shape-anew, field-anew, kept-anew}
@@ -34,4 +34,4 @@ returns-clause-indexed c h loose =
     in
     either_way c.add_field.result c.add_field.ensures.items c.add_field.ensures.ends c.add_field.ensures.places c.add_field.ensures.err
     (λ items ends places. pushed_indexes s x r c.saturating_add-end.result h (kept-anew c.args.item c.sort_bag_index.new.self shape_kept) items ends places counted)
-    (λ same. same_fields s r h same.0 same.1 (subst (HasPlaces (map slot_name_of (out-Slots s).items.items)) (sym same.2) (has_indexes s h).places))
+    (λ same. same_fields s r h same.0 same.1 (subst (HasPlaces (map field_name (out-Slots s).items.items)) (sym same.2) (has_indexes s h).places))

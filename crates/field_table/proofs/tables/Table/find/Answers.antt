@@ -3,7 +3,7 @@ use Rattle.bag_model.specs.Shapes as model
 use Rattle.bag_model.specs.Slots.{FindsSlot}
 use Rattle.bag_model.proofs.SlotPaths.{finds_slot, finds_no_slot}
 use Rattle.field_table.proofs.PathFinding.{bag_no_slot}
-use Rattle.field_table.specs.Tables.{plain}
+use Rattle.field_table.specs.Tables.{plain_shape}
 use Rattle.field_table.specs.Plain.{nodes_of, shape_of}
 use Rattle.field_table.proofs.Held.{shape_bag, no_bag}
 use Rattle.field_table.proofs.Found.{ready}
@@ -22,7 +22,7 @@ pub returns-in-Bag : goal.returns-in-Bag
 returns-in-Bag c =
     let nodes = nodes_of c.self.inside.nodes in
     let shape = shape_of c.in_ok-slot.shape.now in
-    let bag : shape ≡ model.Shape.Bag (nodes_of c.in-Bag.field-0) = ap shape_of c.in-Bag.is ∙ ap plain (shape_bag c.in-Bag.field-0) in
+    let bag : shape ≡ model.Shape.Bag (nodes_of c.in-Bag.field-0) = ap shape_of c.in-Bag.is ∙ ap plain_shape (shape_bag c.in-Bag.field-0) in
     subst (λ (n : model.Nodes). FindsSlot n c.args.dotted.now None) c.self.view_is
     (bag_no_slot nodes c.args.dotted.now c.in_ok-slot.slot shape (nodes_of c.in-Bag.field-0) bag c.in_ok-slot.ensures.only)
 

@@ -3,7 +3,7 @@ use Rattle.bag_model.specs.Scalars.{Word, ArePlainsOf, packed_spelling}
 use Rattle.scalar_types.specs.declared.kinds.ScalarKind.{ScalarKind}
 use Rattle.scalar_types.specs.Codec.{IsSpelled}
 use Rattle.scalar_types.specs.KindViews.{IsPlainWord, kind_of}
-use Rattle.scalar_types.specs.WordCodecs.{codec_form}
+use Rattle.scalar_types.specs.WordCodecs.{codec_spelling_form}
 use Rattle.scalar_types.proofs.KindSpelled.{KindSpelled, word_spelled, struct_spelled}
 use Rattle.scalar_types.proofs.kind_codec.ScalarKindCodec.spelled.Goals as goal
 
@@ -20,5 +20,5 @@ pub returns-in_default : goal.returns-in_default
 returns-in_default c =
     let kind : ScalarKind = c.args.self.now in
     let is_word : IsPlainWord kind = search rules in
-    let same = word_spelled kind (codec_form c.word_codec.result) is_word c.word_codec.ensures c.args.bytes.now in
+    let same = word_spelled kind (codec_spelling_form c.word_codec.result) is_word c.word_codec.ensures c.args.bytes.now in
     (λ t. same.0 (c.spelled.ensures.0 t), λ s. c.spelled.ensures.1 (same.1 s))

@@ -1,14 +1,14 @@
 use Rattle.std.proofs.Common.{◌↔◌, ℕ, Bool, List, IsTrue, sym, subst}
 use Rattle.bag_model.specs.Scalars.{IsOfForm, plain_spelling}
 use Rattle.scalar_types.specs.Codec.{IsSpelled}
-use Rattle.scalar_types.specs.WordCodecs.{codec_form}
+use Rattle.scalar_types.specs.WordCodecs.{codec_spelling_form}
 use Rattle.scalar_types.specs.declared.word_codecs.WordCodec.{WordCodec}
 use Rattle.scalar_types.proofs.FormValues.{truth_spelled, unsigned_spelled, signed_spelled, fixed_spelled, signed_fixed_spelled, text_spelled, raw_spelled}
 use Rattle.scalar_types.proofs.word_codecs.WordCodec.spelled.Goals as goal
 
 -- The result says of a codec whether the bytes are spelled in its form.
 Tells : List ℕ → Bool → WordCodec → Type 0
-Tells bytes result codec = IsTrue result ↔ IsSpelled (IsOfForm (codec_form codec)) (plain_spelling (codec_form codec)) bytes
+Tells bytes result codec = IsTrue result ↔ IsSpelled (IsOfForm (codec_spelling_form codec)) (plain_spelling (codec_spelling_form codec)) bytes
 
 pub returns-in-Flag : goal.returns-in-Flag
 unfolding Tells
