@@ -9,54 +9,20 @@ ghost use Rattle.field_table.specs.Plain.{nodes_of, shape_of, IsIndexed, IsIndex
 ghost use Rattle.load_maker.specs.declared.TheConstants.{ROUNDS_MAX};
 ghost use Rattle.load_maker.specs.Loads.{load_table, lane_of, join_of, end_of, round_of, load_text, statement_line, statements_text};
 
-use field_table::{Shape, Slot, Slots, Table};
-use outside::{Memory, Text};
+use field_table::{Shape, Slots, Table};
+use outside::Memory;
 use scalar_types::ScalarKind;
 use std::alloc::Global;
 use std::fmt::Write;
-
-/// Adds a field at the end.
-fn add_field(
-    alloc: Global,
-    slots: &mut Slots,
-    name: &str,
-    number: u16,
-    shape: Shape,
-) -> Result<(), Memory>
-    requires indexed { IsIndexed slots.old }
-    requires shape { IsIndexedShape shape }
-    ensures fields { OnOk result (fields (nodes_of slots.new)
-        ≡ fields (nodes_of slots.old) ++ record { name = name.now; number = number; shape = shape_of shape } ∷ []) }
-    ensures indexed { IsIndexed slots.new }
-{
-    let name = Text::of(alloc, name)?;
-    slots.push(Slot {
-        name,
-        number,
-        shape,
-    })
-}
 
 /// The table of the load.
 fn make_table(alloc: Global) -> Result<Table, Memory>
     ensures { IfOk result (λ table. table ≡ load_table) }
 {
     let mut fields = Slots::new(alloc);
-    add_field(
-        alloc,
-        &mut fields,
-        "least",
-        0,
-        Shape::Scalar(ScalarKind::Fixed32),
-    )?;
-    add_field(alloc, &mut fields, "hits", 1, Shape::Counter)?;
-    add_field(
-        alloc,
-        &mut fields,
-        "seen",
-        2,
-        Shape::Set(ScalarKind::Uint32),
-    )?;
+    fields.add("least", 0, Shape::Scalar(ScalarKind::Fixed32))?;
+    fields.add("hits", 1, Shape::Counter)?;
+    fields.add("seen", 2, Shape::Set(ScalarKind::Uint32))?;
     Ok(Table::of(fields))
 }
 

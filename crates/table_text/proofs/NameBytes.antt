@@ -50,9 +50,12 @@ free_bytes (byte ∷ bytes) is =
 pub name_word : (text : List ℕ) → is_name text ≡ true → is_word text ≡ true
 name_word text is = (and_parts (is_word text) (not (list_any (bytes_eq text) reserved_words)) is).0
 
--- A name is made of characters.
+-- A word is made of characters, and so is a name.
+pub word_utf8 : (text : List ℕ) → is_word text ≡ true → IsUtf8 text
+word_utf8 text is = IsUtf8-from_ascii text (ascii_bytes text (all_of_word text is))
+
 pub name_utf8 : (text : List ℕ) → is_name text ≡ true → IsUtf8 text
-name_utf8 text is = IsUtf8-from_ascii text (ascii_bytes text (all_of_word text (name_word text is)))
+name_utf8 text is = word_utf8 text (name_word text is)
 
 pub name_free : (text : List ℕ) → is_name text ≡ true → IsFree 32 text
 name_free text is = free_bytes text (all_of_word text (name_word text is))

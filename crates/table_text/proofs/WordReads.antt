@@ -1,5 +1,5 @@
 -- Scalar words that are read.
-use Rattle.std.proofs.Common.{◌≡◌, ℕ, Bool, true, false, ◌||◌, if◌then◌else◌, Option, Some, None, List, [], ◌∷◌, map, refl, sym, ap, ◌∙◌}
+use Rattle.std.proofs.Common.{◌≡◌, ℕ, Bool, true, false, ◌||◌, if◌then◌else◌, Option, Some, None, List, [], ◌∷◌, map, IsUtf8, refl, sym, ap, ◌∙◌, subst}
 use Rattle.std.specs.List.{list_any}
 use Rattle.std.specs.Option.{is_some, option_map}
 use Rattle.std.specs.Str.{bytes_eq}
@@ -9,6 +9,7 @@ use Rattle.bag_model.specs.Scalars.{Word, Boolean, Int32, Int64, Sint32, Sint64,
 use Rattle.bag_model.specs.Words.{word_text, scalar_words, reserved_words}
 use Rattle.scalar_types.specs.Words.{word_among, word_named}
 use Rattle.table_text.specs.Words.{keywords}
+use Rattle.table_text.proofs.NameBytes.{word_utf8}
 
 -- Each word is the one with its text.
 pub word_back : (word : Word) → word_named (word_text word) ≡ Some word
@@ -43,6 +44,29 @@ text_among text (other ∷ words) word e =
 pub word_is : (text : List ℕ) (word : Word) → word_named text ≡ Some word → word_text word ≡ text
 unfolding word_named
 word_is text word e = text_among text scalar_words word e
+
+is_text : (word : Word) → IsUtf8 (word_text word)
+is_text Boolean = word_utf8 (word_text Boolean) refl
+is_text Int32 = word_utf8 (word_text Int32) refl
+is_text Int64 = word_utf8 (word_text Int64) refl
+is_text Sint32 = word_utf8 (word_text Sint32) refl
+is_text Sint64 = word_utf8 (word_text Sint64) refl
+is_text Uint32 = word_utf8 (word_text Uint32) refl
+is_text Uint64 = word_utf8 (word_text Uint64) refl
+is_text Fixed32 = word_utf8 (word_text Fixed32) refl
+is_text Fixed64 = word_utf8 (word_text Fixed64) refl
+is_text Sfixed32 = word_utf8 (word_text Sfixed32) refl
+is_text Sfixed64 = word_utf8 (word_text Sfixed64) refl
+is_text Str = word_utf8 (word_text Str) refl
+is_text Bytes = word_utf8 (word_text Bytes) refl
+
+-- No word is found in bytes that are no text.
+pub none_foreign : (text : List ℕ) → (IsUtf8 text → ⊥) → None ≡ word_named text
+none_foreign text foreign = from (word_named text) refl
+  where
+    from : (found : Option Word) → word_named text ≡ found → None ≡ word_named text
+    from None e = sym e
+    from (Some word) e = absurd (foreign (subst IsUtf8 (word_is text word e) (is_text word)))
 
 -- Where none is found the text is no word's.
 pub no_word : (text : List ℕ) → word_named text ≡ None → (word : Word) → text ≡ word_text word → ⊥

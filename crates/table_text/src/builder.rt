@@ -19,8 +19,8 @@ use crate::faults::{Refusal, TableCode};
 use crate::names::FieldNames;
 use crate::rows::Row;
 use bag_model::{MAX_FIELDS, MAX_LEVELS};
-use field_table::{Shape, Slot, Slots, Table};
-use outside::{Memory, Text};
+use field_table::{Shape, Slots, Table};
+use outside::Memory;
 use std::alloc::Global;
 
 /// Whether a shape ends in a bag, whose fields the next lines say.
@@ -104,7 +104,7 @@ impl<'a> OpenBag<'a> {
     }
 
     /// Adds a field that is whole, and whose line was noted.
-    fn push(&mut self, alloc: Global, name: &str, number: u16, shape: Shape) -> Result<(), Memory>
+    fn push(&mut self, name: &str, number: u16, shape: Shape) -> Result<(), Memory>
         ensures fields { OnOk result (fields (nodes_of self.new.fields)
             ≡ fields (nodes_of self.old.fields) ++ record { name = name.now; number = number; shape = shape_of shape } ∷ []) }
         ensures indexed { IsIndexed self.old.fields → IsIndexedShape shape → IsIndexed self.new.fields }
@@ -112,12 +112,7 @@ impl<'a> OpenBag<'a> {
         ensures least { OnOk result (self.new.least ≡ self.old.least) }
         ensures level { OnOk result (self.new.level ≡ self.old.level) }
     {
-        let name = Text::of(alloc, name)?;
-        self.fields.push(Slot {
-            name,
-            number,
-            shape,
-        })
+        self.fields.add(name, number, shape)
     }
 }
 
@@ -155,7 +150,7 @@ impl<'a> Builder<'a> {
     }
 
     /// The same with the innermost bag closed.
-    fn closed(self, alloc: Global) -> Result<Builder<'a>, Memory>
+    fn closed(self) -> Result<Builder<'a>, Memory>
         requires sound { IsSoundBuilder self }
         requires inner { 0 < depth_of self }
         ensures rows { IfOk result (λ closed. rows_so_far closed ≡ rows_so_far self.entry) }
@@ -175,12 +170,12 @@ impl<'a> Builder<'a> {
             ..
         } = row;
         fill(&mut shape, inner.fields);
-        bag.push(alloc, name, number, shape)?;
+        bag.push(name, number, shape)?;
         Ok(Builder { outer, bag, rows })
     }
 
     /// The same with all bags closed whose fields are deeper.
-    fn closed_to(self, alloc: Global, depth: usize) -> Result<Builder<'a>, Memory>
+    fn closed_to(self, depth: usize) -> Result<Builder<'a>, Memory>
         requires sound { IsSoundBuilder self }
         requires depth { depth ≤ depth_of self }
         ensures rows { IfOk result (λ closed. rows_so_far closed ≡ rows_so_far self.entry) }
@@ -189,7 +184,7 @@ impl<'a> Builder<'a> {
     {
         let mut builder = self;
         while builder.outer.len() > depth {
-            builder = builder.closed(alloc)?;
+            builder = builder.closed()?;
         }
         Ok(builder)
     }
@@ -242,7 +237,7 @@ impl<'a> Builder<'a> {
                 rows: rows + 1,
             })
         } else {
-            bag.push(alloc, row.name, row.number, row.shape)?;
+            bag.push(row.name, row.number, row.shape)?;
             Ok(Builder {
                 outer,
                 bag,
@@ -265,18 +260,18 @@ impl<'a> Builder<'a> {
         if row.depth > self.outer.len() as u64 {
             return Err(Refusal::Code(TableCode::Depth));
         }
-        let builder = self.closed_to(alloc, row.depth as usize)?;
+        let builder = self.closed_to(row.depth as usize)?;
         builder.check(&row)?;
         let next = builder.with_row(alloc, row)?;
         Ok(next)
     }
 
     /// The table of the fields that all lines said.
-    pub(crate) fn into_table(self, alloc: Global) -> Result<Table, Memory>
+    pub(crate) fn into_table(self) -> Result<Table, Memory>
         requires sound { IsSoundBuilder self }
         ensures { IfOk result (λ table. rows_of 0 table ≡ rows_so_far self.entry) }
     {
-        let Builder { bag, .. } = self.closed_to(alloc, 0)?;
+        let Builder { bag, .. } = self.closed_to(0)?;
         Ok(Table::of(bag.fields))
     }
 }

@@ -117,7 +117,7 @@ fn put_kind(kind: &ScalarKind, into: &mut Vec<u8>) -> Result<(), Memory>
     match kind {
         ScalarKind::Packed(kinds) => put_struct(kinds, into),
         word => {
-            into.extend_from_slice(word_name(word).as_bytes())?;
+            into.extend_from_slice(word.word().as_bytes())?;
             Ok(())
         }
     }
@@ -133,31 +133,8 @@ fn put_struct(kinds: &KindList, into: &mut Vec<u8>) -> Result<(), Memory>
         if at > 0 {
             into.push(b',')?;
         }
-        into.extend_from_slice(word_name(kind).as_bytes())?;
+        into.extend_from_slice(kind.word().as_bytes())?;
     }
     into.push(b')')?;
     Ok(())
-}
-
-/// The word of a kind that is no struct.
-fn word_name(kind: &ScalarKind) -> &'static str
-    requires { IsPlainWord kind.now }
-    ensures { result.now ≡ word_text (word_of kind.now) }
-{
-    match kind {
-        ScalarKind::Bool => "bool",
-        ScalarKind::Int32 => "int32",
-        ScalarKind::Int64 => "int64",
-        ScalarKind::Sint32 => "sint32",
-        ScalarKind::Sint64 => "sint64",
-        ScalarKind::Uint32 => "uint32",
-        ScalarKind::Uint64 => "uint64",
-        ScalarKind::Fixed32 => "fixed32",
-        ScalarKind::Fixed64 => "fixed64",
-        ScalarKind::Sfixed32 => "sfixed32",
-        ScalarKind::Sfixed64 => "sfixed64",
-        ScalarKind::Str => "string",
-        ScalarKind::Bytes => "bytes",
-        ScalarKind::Packed(_) => unreachable!(),
-    }
 }

@@ -79,6 +79,6 @@ pub fn read_table(alloc: Global, text: &[u8]) -> Result<Table, TableFault>
         });
     };
     let builder = read_lines(alloc, rest)?;
-    let table = builder.into_table(alloc)?;
+    let table = builder.into_table()?;
     Ok(table)
 }

@@ -45,39 +45,13 @@ pub(crate) fn is(text: &[u8], word: &str) -> bool
 }
 
 /// The kind that a scalar word is.
-#[tactic(auto, unfolding(scalar_types::specs::Words::word_named))]
 pub(crate) fn read_word(text: &[u8]) -> Option<ScalarKind>
     ensures word { option_map word_of result ≡ word_named text.now }
     ensures plain { IfSome result IsPlainWord }
 {
-    if is(text, "bool") {
-        Some(ScalarKind::Bool)
-    } else if is(text, "int32") {
-        Some(ScalarKind::Int32)
-    } else if is(text, "int64") {
-        Some(ScalarKind::Int64)
-    } else if is(text, "sint32") {
-        Some(ScalarKind::Sint32)
-    } else if is(text, "sint64") {
-        Some(ScalarKind::Sint64)
-    } else if is(text, "uint32") {
-        Some(ScalarKind::Uint32)
-    } else if is(text, "uint64") {
-        Some(ScalarKind::Uint64)
-    } else if is(text, "fixed32") {
-        Some(ScalarKind::Fixed32)
-    } else if is(text, "fixed64") {
-        Some(ScalarKind::Fixed64)
-    } else if is(text, "sfixed32") {
-        Some(ScalarKind::Sfixed32)
-    } else if is(text, "sfixed64") {
-        Some(ScalarKind::Sfixed64)
-    } else if is(text, "string") {
-        Some(ScalarKind::Str)
-    } else if is(text, "bytes") {
-        Some(ScalarKind::Bytes)
-    } else {
-        None
+    match str::from_utf8(text) {
+        Ok(word) => ScalarKind::of_word(word),
+        Err(_) => None,
     }
 }
 

@@ -9,12 +9,12 @@ pub of-requires-clause-table : goal.of-requires-clause-table
 of-requires-clause-table c =
     subst IsTable
     (sym
-    (three_added _ _ _ _ _ _ _ c.new-fields.ensures.empty c.in_ok-add_field.ensures.fields (scalar_shown Fixed32).0
-    c.in_ok-add_field-2.ensures.fields counter_shown.0 c.in_ok-add_field-3.ensures.fields (set_shown Uint32).0))
+    (three_added _ _ _ _ _ _ _ c.new-fields.ensures.empty c.in_ok-add.ensures.ok (scalar_shown Fixed32).0
+    c.in_ok-add-2.ensures.ok counter_shown.0 c.in_ok-add-3.ensures.ok (set_shown Uint32).0))
     load_is_table
 
 pub returns : goal.returns
 returns c =
     c.of.ensures
-    ∙ three_added _ _ _ _ _ _ _ c.new-fields.ensures.empty c.in_ok-add_field.ensures.fields (scalar_shown Fixed32).0
-    c.in_ok-add_field-2.ensures.fields counter_shown.0 c.in_ok-add_field-3.ensures.fields (set_shown Uint32).0
+    ∙ three_added _ _ _ _ _ _ _ c.new-fields.ensures.empty c.in_ok-add.ensures.ok (scalar_shown Fixed32).0
+    c.in_ok-add-2.ensures.ok counter_shown.0 c.in_ok-add-3.ensures.ok (set_shown Uint32).0

@@ -18,5 +18,5 @@ loop-at-preserved c =
     ] in
     next_text (c.args.into.now.items ++ codes "(") before c.if-at-gt0.into.items c.extend_from_slice.new.self.items
     (map word_text words) at (word_text (word_of kind)) c.loop-at.invariant comma
-    (c.in_ok-extend_from_slice.ensures.items ∙ ap (λ (l : List ℕ). c.if-at-gt0.into.items ++ l) (c.as_bytes.ensures.value ∙ c.word_name.ensures))
+    (c.in_ok-extend_from_slice.ensures.items ∙ ap (λ (l : List ℕ). c.if-at-gt0.into.items ++ l) (c.as_bytes.ensures.value ∙ c.word.ensures))
     (mapped word_text words at (word_of kind) (seen word_of c.as_slice-kind-items.result.now kind words at c.as_slice-kind-items.ensures.words (c.loop-at-test.true) c.kind-item.is))
