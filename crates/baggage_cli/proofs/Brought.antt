@@ -13,7 +13,7 @@ use Rattle.baggage_cli.specs.declared.refusals.Notice.TheVariants.{LibraryFailed
 use Rattle.baggage_cli.specs.declared.refusals.Refusal.{Refusal}
 use Rattle.baggage_cli.specs.declared.refusals.Refusal.TheVariants.{Plain}
 use Rattle.baggage_cli.specs.Outcomes.{Outcome, outcome_of}
-use Rattle.baggage_cli.specs.Scene.{Change, NeverFell, HasFailed}
+use Rattle.baggage_cli.specs.Scene.{Change, NeverFell, IsSteady, HasFailed}
 use Rattle.baggage_cli.specs.Tables.{FileGives, Brings}
 
 -- All of a file was fetched, or it is longer than a file may be that is taken, and so is what was fetched.
@@ -64,10 +64,10 @@ wanting_brought (Err refusal) is = ap Err is
 
 module _ (file : List ℕ) (library : Change Holding) (requests : Change (List (List ℕ))) (same : library.after ≡ library.before) (counts : NeverFell library) (asks : Asks (file ∷ []) requests.before requests.after) where
   -- The file was taken, or why it isn't, or memory is wanting.
-  pub brings_found : (found : Option (List ℕ)) (outcome : Outcome) → Fetches library.before file found → (outcome ≡ Err (Plain Memory)) ⊎ FileGives file found outcome
+  pub brings_found : (found : Option (List ℕ)) (outcome : Outcome) → IsSteady library → Fetches library.before file found → (outcome ≡ Err (Plain Memory)) ⊎ FileGives file found outcome
       → Brings file library requests outcome
-  brings_found found outcome fetches (inl wanting) = (same, counts, inl (wanting, asked file library.before requests.before requests.after asks))
-  brings_found found outcome fetches (inr gives) = (same, counts, inr (inr (came file library.before requests.before requests.after found outcome fetches asks gives)))
+  brings_found found outcome steady fetches (inl wanting) = (same, counts, inl (wanting, asked file library.before requests.before requests.after asks))
+  brings_found found outcome steady fetches (inr gives) = (same, counts, inr (inr (steady, came file library.before requests.before requests.after found outcome fetches asks gives)))
 
   -- Memory is wanting.
   pub brings_nothing : (outcome : Outcome) → outcome ≡ Err (Plain Memory) → Brings file library requests outcome

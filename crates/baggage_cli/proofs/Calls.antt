@@ -1,14 +1,17 @@
 -- What holds of every call.
-use Rattle.std.proofs.Common.{◌≡◌, ◌≢◌, ◌⊎◌, inl, inr, ℕ, List, Option, Some, None, Ok, Err, refl, ◌∙◌, arith}
+use Rattle.std.proofs.Common.{◌≡◌, ◌≢◌, ◌⊎◌, inl, inr, ℕ, ◌≤◌, List, Option, Some, None, Ok, Err, refl, ◌∙◌, subst, arith}
 use Rattle.std.specs.Io.KnownBytes.{Appends}
 use Rattle.command_line.specs.Commands.{Task, alone, load, build, under, compare, checking}
-use Rattle.baggage_cli.specs.declared.refusals.Notice.TheVariants.{WordsRefused}
+use Rattle.baggage_cli.specs.declared.refusals.Notice.{Notice}
+use Rattle.baggage_cli.specs.declared.refusals.Notice.TheVariants.{WordsRefused, LibraryFailed, Memory}
+use Rattle.baggage_cli.specs.declared.refusals.Refusal.TheVariants.{Plain}
 use Rattle.baggage_cli.specs.Delivery.{TellsLine, Delivers}
 use Rattle.baggage_cli.specs.Outcomes.{Outcome}
-use Rattle.baggage_cli.specs.Refusals.{notice_line}
+use Rattle.baggage_cli.specs.Refusals.{notice_line, status_of}
 use Rattle.baggage_cli.specs.Scene.{Change, Scene, IsSame, IsSteady, NeverFell, HasFailed, TakesWhole}
 use Rattle.baggage_cli.specs.Top.{Comes, Answers}
-use Rattle.baggage_cli.proofs.Facts.{steady_done, unread_task, quiet_task, sink_told, never_seven}
+use Rattle.baggage_cli.proofs.Obtained.{refused_steady, given_steady}
+use Rattle.baggage_cli.proofs.Facts.{steady_done, source_steady_task, unread_task, quiet_task, sink_told, never_seven}
 
 -- No count of faults fell.
 pub record KeepsCounts (scene : Scene) : Type 0 where
@@ -49,6 +52,22 @@ came_kept (checking origin file) scene outcome (inr (half, table, (same, counts,
 came_kept (checking origin file) scene outcome (inr (half, table, (same, counts, why), inr (certificate, (kept, more, how), (stays, read)))) =
     (kept ∙ same, omega (arith, counts, more), stays)
 
+-- Unless memory was wanting or the library failed, it counted no fault.
+came_steady : (task : Task) (scene : Scene) (outcome : Outcome) → Comes task scene.library scene.requests scene.source outcome
+    → (outcome ≡ Err (Plain Memory) → ⊥) → (outcome ≡ Err (Plain LibraryFailed) → ⊥) → IsSteady scene.library
+came_steady (alone filter) scene outcome (same, unasked, reads) some sure = same.1
+came_steady (load rounds) scene outcome (same, unasked, unread, gives) some sure = same.1
+came_steady (build product origin) scene outcome (unread, inl (refusal, taken, begun, is)) some sure = refused_steady refusal taken.2 outcome is some sure
+came_steady (build product origin) scene outcome (unread, inr (table, taken, built)) some sure = given_steady table taken.2
+came_steady (under purpose origin) scene outcome (inl (refusal, taken, unread, is)) some sure = refused_steady refusal taken.2 outcome is some sure
+came_steady (under purpose origin) scene outcome (inr (table, taken, rest)) some sure = given_steady table taken.2
+came_steady (compare old new) scene outcome (unread, inl (refusal, taken, begun, is)) some sure = refused_steady refusal taken.2 outcome is some sure
+came_steady (compare old new) scene outcome (unread, inr (half, before, taken, inl (refusal, rest, begun, is))) some sure = refused_steady refusal rest.2 outcome is some sure ∙ given_steady before taken.2
+came_steady (compare old new) scene outcome (unread, inr (half, before, taken, inr (after, rest, compared))) some sure = given_steady after rest.2 ∙ given_steady before taken.2
+came_steady (checking origin file) scene outcome (inl (refusal, taken, unread, is)) some sure = refused_steady refusal taken.2 outcome is some sure
+came_steady (checking origin file) scene outcome (inr (half, table, taken, inl (refusal, rest, unread, is))) some sure = refused_steady refusal rest.2 outcome is some sure ∙ given_steady table taken.2
+came_steady (checking origin file) scene outcome (inr (half, table, taken, inr (certificate, rest, read))) some sure = given_steady certificate rest.2 ∙ given_steady table taken.2
+
 delivered_kept : (outcome : Outcome) (out errs : Change (List ℕ)) (answer : ℕ) → Delivers outcome out errs answer → NeverFell out × NeverFell errs
 delivered_kept (Ok output) out errs answer (inl done) = (takes_never_fell out output done.1, same_never_fell errs done.2)
 delivered_kept (Ok output) out errs answer (inr (five, part, inl told)) = (part.2, takes_never_fell errs _ told)
@@ -75,11 +94,31 @@ counts_kept (Some task) scene answer (outcome, comes, delivers) =
 
 -- ---- statuses
 
--- With status 0 no count of the streams rose, and nothing was said.
-pub steady_call : (asked : Option Task) (scene : Scene) (answer : ℕ) → Answers asked scene answer → answer ≡ 0 → IsSteady scene.source × IsSteady scene.out × IsSame scene.errs
+-- With status 0 no count of the sinks rose, and nothing was said.
+pub steady_call : (asked : Option Task) (scene : Scene) (answer : ℕ) → Answers asked scene answer → answer ≡ 0 → IsSteady scene.out × IsSame scene.errs
 steady_call None scene answer (library, requests, source, out, inl told) zero = absurd (let seven = told.0 in omega arith)
 steady_call None scene answer (library, requests, source, out, inr failed) zero = absurd (let five = failed.0 in omega arith)
 steady_call (Some task) scene answer answers zero = steady_done task scene answer answers zero
+
+-- A refusal that says nothing of the input or its files has a status above 3.
+plain_above : (notice : Notice) (out errs : Change (List ℕ)) (answer : ℕ) (outcome : Outcome) → outcome ≡ Err (Plain notice) → Delivers outcome out errs answer → 4 ≤ status_of (Plain notice) → answer ≤ 3 → ⊥
+plain_above notice out errs answer outcome is delivers above low = by (subst (λ o. Delivers o out errs answer) is delivers)
+  where
+    by : Delivers (Err (Plain notice)) out errs answer → ⊥
+    by (same, inl told) = let status = told.0 in omega (arith, status, above, low)
+    by (same, inr failed) = let five = failed.0 in omega (arith, five, low)
+
+-- With a status up to 3 the library counted no fault.
+pub library_steady_call : (asked : Option Task) (scene : Scene) (answer : ℕ) → Answers asked scene answer → answer ≤ 3 → IsSteady scene.library
+library_steady_call None scene answer (library, requests, source, out, told) low = library.1
+library_steady_call (Some task) scene answer (outcome, comes, delivers) low =
+    came_steady task scene outcome comes (λ is. plain_above Memory scene.out scene.errs answer outcome is delivers (omega arith) low)
+    (λ is. plain_above LibraryFailed scene.out scene.errs answer outcome is delivers (omega arith) low)
+
+-- So did the source.
+pub source_steady_call : (asked : Option Task) (scene : Scene) (answer : ℕ) → Answers asked scene answer → answer ≤ 3 → IsSteady scene.source
+source_steady_call None scene answer (library, requests, source, out, told) low = source.1
+source_steady_call (Some task) scene answer answers low = source_steady_task task scene answer answers low
 
 -- With status 1 nothing was done to the source.
 pub unread_call : (asked : Option Task) (scene : Scene) (answer : ℕ) → Answers asked scene answer → answer ≡ 1 → IsSame scene.source

@@ -190,7 +190,7 @@ untaken_ending A Front All gives task scene library requests answer refusal outc
   | inl said ↦ library_failed said.0 fetches (rises lost.1) said.1
   | inr failed ↦ sink_failed failed.0 (inr failed.1)
 ]
-untaken_ending A Front All gives task scene library requests answer refusal outcome fetches rises status turns (same, counts, inr (inr (held, names, told, asked, (gave, all)))) unread is delivers =
+untaken_ending A Front All gives task scene library requests answer refusal outcome fetches rises status turns (same, counts, inr (inr (steady, (held, names, told, asked, (gave, all))))) unread is delivers =
     elim (refusal_delivered scene answer outcome refusal is delivers) [
       | inl said ↦ bad_files refusal (said.0 ∙ status held gave) fetches (turns (held, names, told, asked, (gave, all))) unread said.1
       | inr failed ↦ sink_failed failed.0 (inr failed.1)

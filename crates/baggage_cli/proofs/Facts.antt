@@ -530,16 +530,31 @@ ended_source task scene answer answers reads is =
 
 -- ---- counts and the other statuses
 
--- With status 0 no count of the streams rose, and nothing was said.
-pub steady_done : (task : Task) (scene : Scene) (answer : ℕ) → Answers (Some task) scene answer → answer ≡ 0 → IsSteady scene.source × IsSteady scene.out × IsSame scene.errs
+-- With status 0 no count of the sinks rose, and nothing was said.
+pub steady_done : (task : Task) (scene : Scene) (answer : ℕ) → Answers (Some task) scene answer → answer ≡ 0 → IsSteady scene.out × IsSame scene.errs
 steady_done task scene answer answers is = by (ending task scene answer answers)
   where
-    by : Ending task scene answer → IsSteady scene.source × IsSteady scene.out × IsSame scene.errs
-    by (read_out input output zero reads read gave written) = (read.steady (short_given task scene input output gave), written.0.1, written.1)
-    by (files_out output zero fetches none came unread written) = (unread.1, written.0.1, written.1)
-    by (load_out rounds output zero asks unread made written) = (unread.1, written.0.1, written.1)
+    by : Ending task scene answer → IsSteady scene.out × IsSame scene.errs
+    by (read_out input output zero reads read gave written) = (written.0.1, written.1)
+    by (files_out output zero fetches none came unread written) = (written.0.1, written.1)
+    by (load_out rounds output zero asks unread made written) = (written.0.1, written.1)
     by (bad_input input number fault status reads read gave said) = absurd (not_input fault answer status (λ two. omega arith) (λ three. omega arith))
     by (bad_files refusal one fetches came unread said) = absurd (omega arith)
+    by (library_failed four fetches failed said) = absurd (omega arith)
+    by (source_failed four reads failed said) = absurd (omega arith)
+    by (memory_wanting six said) = absurd (omega arith)
+    by (sink_failed five failed) = absurd (omega arith)
+
+-- With a status up to 3 the source counted no fault.
+pub source_steady_task : (task : Task) (scene : Scene) (answer : ℕ) → Answers (Some task) scene answer → answer ≤ 3 → IsSteady scene.source
+source_steady_task task scene answer answers low = by (ending task scene answer answers)
+  where
+    by : Ending task scene answer → IsSteady scene.source
+    by (read_out input output zero reads read gave written) = read.steady
+    by (files_out output zero fetches none came unread written) = unread.1
+    by (load_out rounds output zero asks unread made written) = unread.1
+    by (bad_input input number fault status reads read gave said) = read.steady
+    by (bad_files refusal one fetches came unread said) = unread.1
     by (library_failed four fetches failed said) = absurd (omega arith)
     by (source_failed four reads failed said) = absurd (omega arith)
     by (memory_wanting six said) = absurd (omega arith)

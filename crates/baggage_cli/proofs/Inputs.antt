@@ -29,7 +29,7 @@ whole_read source input taken end steady few = record {
   held = held_whole source.before source.after input taken end;
   taken = subst (Consumes source.before source.after) (sym (take_whole (INPUT_MAX + 1) input (omega arith))) taken;
   ended = λ short. end;
-  steady = λ short. steady;
+  steady = steady;
 }
 
 long_input : (before after : Option (List ℕ)) (front : List ℕ) → Consumes before after front → length front ≡ INPUT_MAX + 1
@@ -43,12 +43,12 @@ long_input (Some told) (Some rest) front taken long =
     (told, refl, taken ∙ ap (λ bytes. bytes ++ rest) (sym first), omega arith)
 
 -- A source that gave one byte more than an input may have held an input that is too long.
-pub long_read : (source : Change (List ℕ)) (front : List ℕ) → Consumes source.before source.after front → length front ≡ INPUT_MAX + 1
+pub long_read : (source : Change (List ℕ)) (front : List ℕ) → Consumes source.before source.after front → length front ≡ INPUT_MAX + 1 → IsSteady source
     → (input : List ℕ) × IsInputRead source input × (INPUT_MAX < length input)
-long_read source front taken long =
+long_read source front taken long steady =
     let found = long_input source.before source.after front taken long in
     let above = found.3 in
-    (found.0, record { held = found.1; taken = found.2; ended = λ short. absurd (omega arith); steady = λ short. absurd (omega arith) }, above)
+    (found.0, record { held = found.1; taken = found.2; ended = λ short. absurd (omega arith); steady = steady }, above)
 
 -- A source that gives no input is the refusal of each command that reads it.
 pub unread : (gives : List Line → Outcome → Type 0) (source : Change (List ℕ)) (result : Result (Vec ℕ) Refusal) (refusal : Refusal)

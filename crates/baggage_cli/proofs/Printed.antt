@@ -11,7 +11,7 @@ use Rattle.command_line.specs.Commands.{printed}
 use Rattle.baggage_cli.specs.Outcomes.{Outcome}
 use Rattle.baggage_cli.specs.Scene.{Change}
 use Rattle.baggage_cli.specs.Tables.{IsUntaken, IsUnprinted, PrintedGives, TableGives, Obtains, Brings}
-use Rattle.baggage_cli.proofs.Obtained.{brought_file}
+use Rattle.baggage_cli.proofs.Obtained.{brought_file, given_steady}
 
 given : (file : List ℕ) (held : Holding) (outcome : Result Nodes Refusal) → PrintedGives file (held file) outcome → TableGives (printed file) held outcome
 given file held (Ok table) gives = gives
@@ -29,8 +29,8 @@ untaken_table : (file : List ℕ) (library : Change Holding) (requests : Change 
     → Obtains (printed file) library requests (Err refusal)
 untaken_table file library requests refusal (same, counts, inl (is, asked)) = (same, counts, inl (ap Err (same_refusal refusal (Plain Memory) is), asked))
 untaken_table file library requests refusal (same, counts, inr (inl (is, failed, asked))) = (same, counts, inr (inl (ap Err (same_refusal refusal (Plain LibraryFailed) is), failed, asked)))
-untaken_table file library requests refusal (same, counts, inr (inr (held, names, told, asks, (bad, all)))) =
-    (same, counts, inr (inr (held, names, told, asks, (untaken_unprinted file (held file) refusal bad, all))))
+untaken_table file library requests refusal (same, counts, inr (inr (steady, (held, names, told, asks, (bad, all))))) =
+    (same, counts, inr (inr (steady, (held, names, told, asks, (untaken_unprinted file (held file) refusal bad, all)))))
 
 -- A file that isn't taken is why there is no table.
 pub unbrought_table : (file : List ℕ) (library : Change Holding) (requests : Change (List (List ℕ))) (refusal : Refusal) (result : Result Nodes Refusal)
@@ -43,9 +43,10 @@ pub obtains_printed : (file : List ℕ) (library : Change Holding) (requests : C
     → (outcome ≡ Err (Plain Memory)) ⊎ PrintedGives file (Some text) outcome → Obtains (printed file) library requests outcome
 obtains_printed file library requests text outcome brings came =
     let (held, names, told, asks, (is, all)) = brought_file file library requests text brings in
+    let steady = given_steady text brings.2 in
     elim came [
       | inl wanting ↦ (brings.0, brings.1, inl (wanting, (held, names, told, asks, all)))
-      | inr gives ↦ (brings.0, brings.1, inr (inr (held, names, told, asks, (given file held outcome (subst (λ content. PrintedGives file content outcome) (sym is.0) gives), all))))
+      | inr gives ↦ (brings.0, brings.1, inr (inr (steady, (held, names, told, asks, (given file held outcome (subst (λ content. PrintedGives file content outcome) (sym is.0) gives), all)))))
     ]
 
 -- A file that was taken isn't too long.

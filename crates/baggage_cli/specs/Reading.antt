@@ -28,12 +28,12 @@ use Rattle.baggage_cli.specs.Scene.{Change, NeverFell, IsSteady, HasFailed, Held
 
 -- ---- the source
 
--- The input that was read: all that the source held, or one byte more than an input may have of it.
+-- The input that was read, with no fault: all that the source held, or one byte more than an input may have of it.
 pub record IsInputRead (source : Change (List ℕ)) (input : List ℕ) : Type 0 where
   pub held : HeldContent source input
   pub taken : Consumes source.before source.after (take (INPUT_MAX + 1) input)
   pub ended : length input ≤ INPUT_MAX → IsAtEnd source.after
-  pub steady : length input ≤ INPUT_MAX → IsSteady source
+  pub steady : IsSteady source
 
 -- The input is too long, and refused as a whole.
 abbrev pub IsTooLong : List ℕ → Refusal → Type 0

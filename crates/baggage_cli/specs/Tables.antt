@@ -16,7 +16,7 @@ use Rattle.baggage_cli.specs.declared.refusals.Refusal.TheVariants.{Definition, 
 use Rattle.command_line.specs.Commands.{Origin, compiled, printed}
 use Rattle.baggage_cli.specs.Outcomes.{Use}
 use Rattle.baggage_cli.specs.Refusals.{blamed}
-use Rattle.baggage_cli.specs.Scene.{NeverFell, HasFailed}
+use Rattle.baggage_cli.specs.Scene.{NeverFell, IsSteady, HasFailed}
 
 -- Why what a file of this name holds isn't taken: there is no such file, or it is too long.
 abbrev pub IsUntaken : List ℕ → Option (List ℕ) → Refusal → Type 0
@@ -66,7 +66,7 @@ AsksFront held (printed file) names = names ≡ file ∷ []
 
 -- Something is taken from the files of a library, which stay. Memory may be wanting, and a library that failed has its cause; then the
 -- library was asked for the first names that are needed. Otherwise it is what is given for the files of the library,
--- which was asked for all names that are needed and for no others. A library that doesn't tell held some files, and was asked for some
+-- which counted no fault, and was asked for all names that are needed and for no others. A library that doesn't tell held some files, and was asked for some
 -- names, for which it is so.
 abbrev pub TakesFrom : {A : Type 0} → (Holding → List (List ℕ) → Type 0) → (Holding → List (List ℕ) → Type 0) → (Holding → Result A Refusal → Type 0) → Use A
 TakesFrom Front All gives library requests outcome =
@@ -74,7 +74,7 @@ TakesFrom Front All gives library requests outcome =
     × NeverFell library
     × (((outcome ≡ Err (Plain Memory)) × OfLibrary library.before requests.before requests.after Front)
     ⊎ ((outcome ≡ Err (Plain LibraryFailed)) × HasFailed library × OfLibrary library.before requests.before requests.after Front)
-    ⊎ OfLibrary library.before requests.before requests.after (λ held names. gives held outcome × All held names))
+    ⊎ (IsSteady library × OfLibrary library.before requests.before requests.after (λ held names. gives held outcome × All held names)))
 
 -- A table is taken from where it comes.
 abbrev pub Obtains : Origin → Use Nodes

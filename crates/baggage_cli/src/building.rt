@@ -32,7 +32,7 @@ fn product_text(alloc: Global, product: Product, table: &Table) -> Result<Vec<u8
 }
 
 /// Takes a table from where it comes, and answers what is made of it.
-pub fn build<L: Library>(
+pub(crate) fn build<L: Library>(
     alloc: Global,
     library: &mut L,
     product: Product,

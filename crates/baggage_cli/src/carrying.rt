@@ -30,7 +30,7 @@ fn only_bytes(alloc: Global, input: &[u8]) -> Result<Vec<u8>, Refusal>
 }
 
 /// The lines of the pieces of the context of an input's one line.
-pub fn carried_lines(alloc: Global, input: &[u8], width: u32) -> Result<Vec<u8>, Refusal>
+pub(crate) fn carried_lines(alloc: Global, input: &[u8], width: u32) -> Result<Vec<u8>, Refusal>
     requires least { WIDTH_MIN ≤ width }
     requires most { width ≤ WIDTH_MAX }
     ensures { OrMemory (CarriesLines width (lines_of input.now)) (outcome_of result) }

@@ -11,7 +11,7 @@ use text_lines::hex_line;
 use wire_bytes::read_context;
 
 /// The line of the context whose pieces an input's lines say. Its bytes are those that were carried, as they are.
-pub fn collected_line(alloc: Global, input: &[u8]) -> Result<Vec<u8>, Refusal>
+pub(crate) fn collected_line(alloc: Global, input: &[u8]) -> Result<Vec<u8>, Refusal>
     ensures { OrMemory (CollectsLines (lines_of input.now)) (outcome_of result) }
 {
     let bytes = collect(alloc, input)?;

@@ -32,7 +32,7 @@ fn compared_line(alloc: Global, old: &Table, new: &Table) -> Result<Vec<u8>, Mem
 
 /// Takes two tables from where they come, the old one first, and answers whether the new one may take its place. Where the old
 /// one is refused the library isn't asked for the new one.
-pub fn compare<L: Library>(
+pub(crate) fn compare<L: Library>(
     alloc: Global,
     library: &mut L,
     old: Origin<'_>,

@@ -51,7 +51,7 @@ fn only_context(alloc: Global, table: &Table, input: &[u8]) -> Result<(Form, Con
 }
 
 /// The block of the context of an input's one line.
-pub fn decoded_block(alloc: Global, table: &Table, input: &[u8]) -> Result<Vec<u8>, Refusal>
+pub(crate) fn decoded_block(alloc: Global, table: &Table, input: &[u8]) -> Result<Vec<u8>, Refusal>
     ensures { OrMemory (DecodesLines table.now (lines_of input.now)) (outcome_of result) }
 {
     let (form, context) = only_context(alloc, table, input)?;

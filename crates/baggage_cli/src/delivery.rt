@@ -41,7 +41,7 @@ fn tell_in_full<E: Sink>(errs: &mut E, line: Result<String, Memory>, status: u8)
 }
 
 /// Says a refusal to the sink of errors.
-pub fn refuse<E: Sink>(alloc: Global, errs: &mut E, refusal: &Refusal) -> u8
+pub(crate) fn refuse<E: Sink>(alloc: Global, errs: &mut E, refusal: &Refusal) -> u8
     ensures { Refuses refusal.now (change E.written E.faults errs.old errs.new) result }
 {
     match refusal {
@@ -66,7 +66,7 @@ pub fn refuse<E: Sink>(alloc: Global, errs: &mut E, refusal: &Refusal) -> u8
 }
 
 /// Writes an output. Where its sink fails, that is said to the sink of errors.
-pub fn deliver<K: Sink, E: Sink>(out: &mut K, errs: &mut E, output: &[u8]) -> u8
+pub(crate) fn deliver<K: Sink, E: Sink>(out: &mut K, errs: &mut E, output: &[u8]) -> u8
     ensures { Delivers (Ok output.now) (change K.written K.faults out.old out.new)
         (change E.written E.faults errs.old errs.new) result }
 {

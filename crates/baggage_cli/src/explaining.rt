@@ -57,7 +57,7 @@ fn certificate(
 
 /// The certificate for the slot of this name path at a step of the graph that an input says under the table. The graph's steps
 /// are run only where there are such a step and such a slot, and pass the gate before they are run.
-pub fn explained<R: Threads + Sync, G: Gate>(
+pub(crate) fn explained<R: Threads + Sync, G: Gate>(
     rt: &R,
     alloc: Global,
     gate: &G,

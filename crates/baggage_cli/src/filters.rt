@@ -31,7 +31,7 @@ fn filtered(alloc: Global, input: &[u8], filter: Filter) -> Result<Vec<u8>, Refu
 }
 
 /// Reads the source to its end and answers what is made of its input.
-pub fn filter_source<S: Source>(
+pub(crate) fn filter_source<S: Source>(
     alloc: Global,
     source: &mut S,
     filter: Filter,

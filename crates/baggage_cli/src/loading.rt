@@ -78,7 +78,7 @@ fn load_output(
 
 /// Runs the load of so many rounds, and answers how many rounds and steps there are, and the report of the last step. The steps
 /// pass the gate before they are run.
-pub fn run_load<R: Threads + Sync, G: Gate>(
+pub(crate) fn run_load<R: Threads + Sync, G: Gate>(
     rt: &R,
     alloc: Global,
     gate: &G,

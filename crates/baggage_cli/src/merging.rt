@@ -42,7 +42,7 @@ fn read_contexts(alloc: Global, input: &[u8]) -> Result<(Form, Vec<Context>), Re
 }
 
 /// The line of the merge of the contexts of an input's lines, in the widest of their forms.
-pub fn merged_line(alloc: Global, input: &[u8]) -> Result<Vec<u8>, Refusal>
+pub(crate) fn merged_line(alloc: Global, input: &[u8]) -> Result<Vec<u8>, Refusal>
     ensures { OrMemory (MergesLines (lines_of input.now)) (outcome_of result) }
 {
     let (form, contexts) = read_contexts(alloc, input)?;

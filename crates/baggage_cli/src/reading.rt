@@ -16,7 +16,7 @@ use text_lines::{HexFault, INPUT_MAX, Line, Lines, hex_bytes};
 use wire_bytes::{ContextFault, Form, form_of, read_context, read_context_owned, read_owned};
 
 /// Reads the source to its end.
-pub fn read_input<S: Source>(alloc: Global, source: &mut S) -> Result<Vec<u8>, Refusal>
+pub(crate) fn read_input<S: Source>(alloc: Global, source: &mut S) -> Result<Vec<u8>, Refusal>
     ensures { ReadsInput (change S.left S.faults source.old source.new) result }
 {
     match read_all(alloc, source, INPUT_MAX) {
@@ -28,7 +28,7 @@ pub fn read_input<S: Source>(alloc: Global, source: &mut S) -> Result<Vec<u8>, R
 }
 
 /// Takes the first of the lines, where a command wants one.
-pub fn first_line<'a>(lines: &mut Lines<'a>) -> Result<Line<'a>, Refusal>
+pub(crate) fn first_line<'a>(lines: &mut Lines<'a>) -> Result<Line<'a>, Refusal>
     ensures ok { IfOk result (λ line. lines.old ≡ line_value line ∷ lines.new) }
     ensures err { IfErr result (HasNoLine lines.old) }
 {
@@ -39,7 +39,7 @@ pub fn first_line<'a>(lines: &mut Lines<'a>) -> Result<Line<'a>, Refusal>
 }
 
 /// Refuses a line behind the one that a command wants.
-pub fn end_lines(lines: &mut Lines<'_>) -> Result<(), Refusal>
+pub(crate) fn end_lines(lines: &mut Lines<'_>) -> Result<(), Refusal>
     ensures ok { OnOk result (lines.old ≡ []) }
     ensures err { IfErr result (HasExcess lines.old) }
 {
@@ -68,7 +68,11 @@ fn line_bytes(alloc: Global, line: &Line<'_>) -> Result<Vec<u8>, Refusal>
 }
 
 /// The list that a line says, with the form of its bytes, which must be one in which a list can be cut to the budget.
-pub fn line_list(alloc: Global, line: &Line<'_>, budget: u64) -> Result<(Form, AtomList), Refusal>
+pub(crate) fn line_list(
+    alloc: Global,
+    line: &Line<'_>,
+    budget: u64,
+) -> Result<(Form, AtomList), Refusal>
     ensures ok { IfOk result (λ said. (cut_lines budget).says [] line.now.text.now said) }
     ensures err { IfErr result (λ refusal.
         RefusesLine (cut_lines budget) (line.now.number, line.now.text.now) refusal) }
@@ -88,7 +92,7 @@ pub fn line_list(alloc: Global, line: &Line<'_>, budget: u64) -> Result<(Form, A
 }
 
 /// The bytes of the context that a line says, as they stand there.
-pub fn context_bytes(alloc: Global, line: &Line<'_>) -> Result<Vec<u8>, Refusal>
+pub(crate) fn context_bytes(alloc: Global, line: &Line<'_>) -> Result<Vec<u8>, Refusal>
     ensures ok { IfOk result (λ bytes. byte_lines.says [] line.now.text.now bytes.items) }
     ensures few { IfOk result (λ bytes. length bytes.items ≤ CARRIED_MAX) }
     ensures err { IfErr result (λ refusal.
@@ -102,7 +106,7 @@ pub fn context_bytes(alloc: Global, line: &Line<'_>) -> Result<Vec<u8>, Refusal>
 }
 
 /// The context that a line says, with the form of its bytes.
-pub fn line_context(alloc: Global, line: &Line<'_>) -> Result<(Form, Context), Refusal>
+pub(crate) fn line_context(alloc: Global, line: &Line<'_>) -> Result<(Form, Context), Refusal>
     ensures ok { IfOk result (λ said. context_lines.says [] line.now.text.now said) }
     ensures err { IfErr result (λ refusal.
         RefusesLine context_lines (line.now.number, line.now.text.now) refusal) }

@@ -119,7 +119,7 @@ impl fmt::Display for InputCode {
 
 impl Refusal {
     /// The refusal of an input as a whole.
-    pub fn of_input(code: InputCode) -> Refusal
+    pub(crate) fn of_input(code: InputCode) -> Refusal
         ensures { result ≡ spec.of_input code }
     {
         Refusal::Input {
@@ -130,7 +130,7 @@ impl Refusal {
 }
 
 /// The refusal of bytes that aren't those of a list or a context: of the line with this number, or at line 0 those that pieces say.
-pub fn misread(line: u64, fault: ContextFault) -> Refusal
+pub(crate) fn misread(line: u64, fault: ContextFault) -> Refusal
     ensures { result ≡ spec.context_refusal line fault }
 {
     match fault {
@@ -241,7 +241,7 @@ impl From<CarryFault> for Refusal {
 
 impl InputFault {
     /// The status that the program ends with.
-    pub fn status(self) -> u8
+    pub(crate) fn status(self) -> u8
         ensures { result ≡ spec.input_status self }
     {
         match self {
@@ -256,7 +256,7 @@ impl InputFault {
     }
 
     /// The line that says it of a line of an input.
-    pub fn line(self, alloc: Global, line: u64) -> Result<String, Memory>
+    pub(crate) fn line(self, alloc: Global, line: u64) -> Result<String, Memory>
         ensures { IfOk result (λ said. string_bytes said ≡ spec.input_line line self) }
     {
         match self {
@@ -278,7 +278,7 @@ impl InputFault {
 }
 
 /// The line that says what is wrong with a definition.
-pub fn definition_line(
+pub(crate) fn definition_line(
     alloc: Global,
     file: &str,
     line: u32,
@@ -291,7 +291,12 @@ pub fn definition_line(
 }
 
 /// The line that says what is wrong with a printed table.
-pub fn table_line(alloc: Global, file: &str, line: u64, code: TableCode) -> Result<String, Memory>
+pub(crate) fn table_line(
+    alloc: Global,
+    file: &str,
+    line: u64,
+    code: TableCode,
+) -> Result<String, Memory>
     ensures { IfOk result (λ said. string_bytes said ≡ spec.table_line file.now line code) }
 {
     Ok(format!(in alloc; "definition {file} {line}:1 {code}\n")?)
@@ -299,7 +304,7 @@ pub fn table_line(alloc: Global, file: &str, line: u64, code: TableCode) -> Resu
 
 impl Notice {
     /// The status that the program ends with.
-    pub fn status(self) -> u8
+    pub(crate) fn status(self) -> u8
         ensures { result ≡ spec.notice_status self }
     {
         match self {
@@ -312,7 +317,7 @@ impl Notice {
     }
 
     /// The line that says it.
-    pub fn line(self) -> &'static str
+    pub(crate) fn line(self) -> &'static str
         ensures { result.now ≡ spec.notice_line self }
     {
         match self {

@@ -44,7 +44,7 @@ fn report_as(
 }
 
 /// The report of the graph that an input says under the table. Its steps pass the gate before they are run.
-pub fn run_report<R: Threads + Sync, G: Gate>(
+pub(crate) fn run_report<R: Threads + Sync, G: Gate>(
     rt: &R,
     alloc: Global,
     gate: &G,

@@ -40,7 +40,11 @@ fn whole_file(alloc: Global, file: &str, text: Vec<u8>) -> Result<Vec<u8>, Refus
 }
 
 /// All that the file of this name holds. A file that isn't there or is too long is refused as a definition of that name is.
-pub fn bring<L: Library>(alloc: Global, library: &mut L, file: &str) -> Result<Vec<u8>, Refusal>
+pub(crate) fn bring<L: Library>(
+    alloc: Global,
+    library: &mut L,
+    file: &str,
+) -> Result<Vec<u8>, Refusal>
     ensures { Brings file.now (change L.files L.faults library.old library.new)
         (change L.asked L.faults library.old library.new) (outcome_of result) }
 {
@@ -81,7 +85,7 @@ fn read_printed<L: Library>(alloc: Global, library: &mut L, file: &str) -> Resul
 }
 
 /// The table that comes from there, with files of the library.
-pub fn obtain<L: Library>(
+pub(crate) fn obtain<L: Library>(
     alloc: Global,
     library: &mut L,
     origin: Origin<'_>,

@@ -304,8 +304,10 @@ pub fn baggage_top<R: Threads + Sync, G: Gate, L: Library, S: Source, K: Sink, E
         → ReadsSource task → S.left source.old ≡ Some input
         → (result ≡ 0) ⊎ (result ≡ 2) ⊎ (result ≡ 3)
         → S.left source.new ≡ Some (drop (INPUT_MAX + 1) input) }
+    // No fault of the library or the source is hidden behind what files or an input come to.
+    ensures library_steady { result ≤ 3 → L.faults library.new ≡ L.faults library.old }
+    ensures source_steady { result ≤ 3 → S.faults source.new ≡ S.faults source.old }
     ensures unread { result ≡ 1 → S.left source.new ≡ S.left source.old }
-    ensures unread_steady { result ≡ 1 → S.faults source.new ≡ S.faults source.old }
 
     // What the words don't ask for isn't used: no file is fetched, nothing is read, and words that ask for nothing touch
     // the sink of errors alone.
@@ -318,8 +320,7 @@ pub fn baggage_top<R: Threads + Sync, G: Gate, L: Library, S: Source, K: Sink, E
         × (S.left source.new ≡ S.left source.old) × (S.faults source.new ≡ S.faults source.old)
         × (K.written out.new ≡ K.written out.old) × (K.faults out.new ≡ K.faults out.old) }
 
-    // With status 0 no stream counted a fault, and nothing was said.
-    ensures source_steady { result ≡ 0 → S.faults source.new ≡ S.faults source.old }
+    // With status 0 no sink counted a fault, and nothing was said.
     ensures out_steady { result ≡ 0 → K.faults out.new ≡ K.faults out.old }
     ensures errs_steady { result ≡ 0 → E.faults errs.new ≡ E.faults errs.old }
     ensures errs { result ≡ 0 → E.written errs.new ≡ E.written errs.old }

@@ -32,7 +32,11 @@ fn only_list(alloc: Global, input: &[u8], budget: u64) -> Result<(Form, AtomList
 }
 
 /// The line of the list of an input's one line, trimmed to the budget in the form that it came in.
-pub fn trimmed_line(alloc: Global, input: &[u8], budget: NonZeroU32) -> Result<Vec<u8>, Refusal>
+pub(crate) fn trimmed_line(
+    alloc: Global,
+    input: &[u8],
+    budget: NonZeroU32,
+) -> Result<Vec<u8>, Refusal>
     ensures { OrMemory (TrimsLines (non_zero_u32_get budget) (lines_of input.now)) (outcome_of result) }
 {
     let budget = u64::from(budget.get());

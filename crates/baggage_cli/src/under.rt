@@ -55,7 +55,7 @@ fn read_source<R: Threads + Sync, G: Gate, S: Source>(
 
 /// Takes a table from where it comes, and answers what the source's lines come to under it. Where the table is refused the
 /// source isn't read.
-pub fn read_under<R: Threads + Sync, G: Gate, L: Library, S: Source>(
+pub(crate) fn read_under<R: Threads + Sync, G: Gate, L: Library, S: Source>(
     rt: &R,
     alloc: Global,
     gate: &G,

@@ -76,7 +76,7 @@ fn check_under<L: Library, S: Source>(
 /// Takes a table from where it comes and a certificate from the file of this name, and answers the verdict on the certificate for the
 /// graph that the source says under the table. Where the table is refused the library isn't asked for the certificate, and
 /// where either is refused the source isn't read.
-pub fn check_certificate<L: Library, S: Source>(
+pub(crate) fn check_certificate<L: Library, S: Source>(
     alloc: Global,
     library: &mut L,
     source: &mut S,

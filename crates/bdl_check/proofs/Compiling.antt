@@ -48,6 +48,20 @@ pub exit_err : {T E : Type 0} (P Q : E → Type 0) (r : Result T E) → ((e : E)
 exit_err P Q (Ok x) h is = tt
 exit_err P Q (Err e) h is = h e is
 
+-- What holds holds of each fault that is blamed.
+blames_any : (P : Type 0) (answer : DefFault) → P → Blames (λ fault. P) answer
+blames_any P (defs.At file line column code) p = p
+blames_any P defs.Failed p = tt
+blames_any P defs.Memory p = tt
+
+pub exit_any : {T : Type 0} (P : Type 0) (r : Result T DefFault) → P → IfErr r (Blames (λ fault. P))
+exit_any P (Ok x) p = tt
+exit_any P (Err answer) p = blames_any P answer p
+
+pub exit_same : {T : Type 0} (Q : DefFault → Type 0) (r : Result T DefFault) (answer : DefFault) → IsErrAnd r (λ other. other ≡ answer) → Q answer → IfErr r Q
+exit_same Q (Ok x) answer is q = tt
+exit_same Q (Err other) answer is q = subst Q (sym is) q
+
 pub says_weaker : (P Q : Fault → Type 0) → ((f : Fault) → P f → Q f) → (r : Refusal) → RefusesFor P r → RefusesFor Q r
 says_weaker P Q h (At f) p = h f p
 says_weaker P Q h Memory p = tt

@@ -1,6 +1,6 @@
 //! The whole way from the name of a root to the table of a bag.
 
-ghost use Rattle.std.specs.Prelude.{◌≡◌, ◌≤◌, All, IfOk, IfErr, IfSome, IsErrOf};
+ghost use Rattle.std.specs.Prelude.{◌≡◌, ◌≤◌, All, IfOk, IfErr, IfSome, OnOk, IsErrOf};
 ghost use Rattle.outside.specs.Causes.{Rose};
 ghost use Rattle.bdl_load.specs.Faults.{Blames};
 ghost use Rattle.bdl_load.specs.Loading.{OfLibrary, AsksFirst};
@@ -56,6 +56,8 @@ pub fn compile<L: Library>(
         (λ held names. AsksFirst held file.now names) }
     ensures cause { IsErrOf result DefFault.Failed
         → Rose (L.faults library.old) (L.faults library.new) }
+    ensures steady { OnOk result (L.faults library.new ≡ L.faults library.old) }
+    ensures blamed { IfErr result (Blames (λ _. L.faults library.new ≡ L.faults library.old)) }
     ensures later { L.faults library.old ≤ L.faults library.new }
     ensures same { L.files library.new ≡ L.files library.old }
 {

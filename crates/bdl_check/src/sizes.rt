@@ -9,12 +9,13 @@ ghost use Rattle.bdl_check.specs.Passes.{are_distinct, passes_type, passes_decl}
 ghost use Rattle.bdl_check.specs.declared.sizes.TheConstants.{LEVELS_CAP, FIELDS_CAP};
 ghost use Rattle.bdl_check.specs.declared.types.Role.TheVariants.{BagField};
 ghost use Rattle.bdl_check.specs.Recursion.{links, names_in, uses};
-ghost use Rattle.bdl_check.specs.Sizes.{HasTypeSize, HasSize, IsSizeOf, AreKnown, AreSizes};
+ghost use Rattle.bdl_check.specs.Sizes.{HasTypeSize, HasSize, IsSizeOf, IsExcess, AreKnown, AreSizes};
 ghost use Rattle.bdl_parser.specs.Views.{tree_of};
 ghost use Rattle.topological_order.specs.Orders.{IsOrder};
 
 use crate::declarations::Declarations;
 use bag_model::{MAX_FIELDS, MAX_LEVELS};
+use bdl_load::DefCode;
 use bdl_parser::{BagFields, Decl, TypeForm, TypeNode};
 use outside::Memory;
 use std::alloc::Global;
@@ -136,4 +137,17 @@ pub(crate) fn sizes_of(
         }
     }
     Ok(sizes)
+}
+
+/// What is wrong with a bag of this size, if anything is.
+pub(crate) fn excess(size: Size) -> Option<DefCode>
+    ensures { IsExcess size result }
+{
+    if size.levels > MAX_LEVELS {
+        return Some(DefCode::TooDeep);
+    }
+    if size.fields > MAX_FIELDS {
+        return Some(DefCode::TooManySlots);
+    }
+    None
 }

@@ -6,16 +6,15 @@ ghost use Rattle.bdl_check.specs.Checks.{placed_faults};
 ghost use Rattle.bdl_check.specs.Declarations.{AreSpelled, number_named};
 ghost use Rattle.bdl_check.specs.Faults.{RefusesFor};
 ghost use Rattle.bdl_check.specs.Recursion.{links};
-ghost use Rattle.bdl_check.specs.Sizes.{IsExcess};
 ghost use Rattle.bdl_check.specs.Tables.{bag_named, IsTableAmong, IsUntabled};
 ghost use Rattle.topological_order.specs.Orders.{IsOrder};
 
 use crate::declarations::Declarations;
 use crate::layouts::lay_out;
 use crate::refusals::{Refusal, fault_in};
-use crate::sizes::{Size, sizes_of};
+use crate::sizes::{excess, sizes_of};
 use crate::struct_kinds::StructKinds;
-use bag_model::{MAX_FIELDS, MAX_LEVELS};
+use bag_model::MAX_LEVELS;
 use bdl_load::{DefCode, FIRST_SPOT, Finding};
 use bdl_parser::{BagFields, Decl, Spot};
 use field_table::Table;
@@ -50,19 +49,6 @@ fn find_bag<'a>(declarations: &Declarations<'a>, name: &str) -> Option<ChosenBag
         }),
         Decl::Struct { .. } => None,
     }
-}
-
-/// What is wrong with a bag of this size, if anything is.
-fn excess(size: Size) -> Option<DefCode>
-    ensures { IsExcess size result }
-{
-    if size.levels > MAX_LEVELS {
-        return Some(DefCode::TooDeep);
-    }
-    if size.fields > MAX_FIELDS {
-        return Some(DefCode::TooManySlots);
-    }
-    None
 }
 
 /// The table of the bag of this name among the declarations of a definition with this root. The order is one in which each

@@ -42,7 +42,7 @@ pub enum DefCode {
     FloatingType,
     /// No declaration has this name.
     UnknownName,
-    /// The elements of a set, or the keys of a map, can't be of this type.
+    /// The elements of a set, the keys of a map, or what a field keeps the greatest of, can't be of this type.
     BadKeyType,
     /// A struct's field can't be of this type.
     BadStructField,

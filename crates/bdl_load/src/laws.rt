@@ -6,7 +6,7 @@ ghost use Rattle.bdl_load.specs.Loading.{Holding, Loading, Loads, AsksAll, AsksF
 use bdl_lexer::laws as tokens;
 use bdl_parser::laws as modules;
 
-/// Files and the name of the root come to one outcome: all files in one order, or one first fault.
+/// Files and the name of the root come to at most one outcome: all files in one order, or a first fault.
 pub fn loading_is_unique()
     ensures { (held : Holding) (root : List ℕ) (outcome other : Loading) → Loads held root outcome → Loads held root other → outcome ≡ other }
 {

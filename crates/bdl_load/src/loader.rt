@@ -28,6 +28,8 @@ fn fetch_file<L: Library>(
     ensures fault { IfErr result (Blames (IsBroken (L.files library.old) name.now)) }
     ensures asked { Asks (name.now ∷ []) (L.asked library.old) (L.asked library.new) }
     ensures cause { IsErrOf result DefFault.Failed → Rose (L.faults library.old) (L.faults library.new) }
+    ensures steady { OnOk result (L.faults library.new ≡ L.faults library.old) }
+    ensures blamed { IfErr result (Blames (λ _. L.faults library.new ≡ L.faults library.old)) }
     ensures later { L.faults library.old ≤ L.faults library.new }
     ensures same { L.files library.new ≡ L.files library.old }
 {
@@ -114,6 +116,8 @@ impl Loader {
         ensures loaded { OnOk result (TakesAll L.files L.asked library.old library.new self.old from self.new) }
         ensures fault { IfErr result (StopsInAll L.files L.asked library.old library.new self.old from) }
         ensures cause { IsErrOf result DefFault.Failed → Rose (L.faults library.old) (L.faults library.new) }
+        ensures steady { OnOk result (L.faults library.new ≡ L.faults library.old) }
+        ensures blamed { IfErr result (Blames (λ _. L.faults library.new ≡ L.faults library.old)) }
         ensures later { L.faults library.old ≤ L.faults library.new }
         ensures same { L.files library.new ≡ L.files library.old }
     {
@@ -140,6 +144,8 @@ impl Loader {
         ensures loaded { OnOk result (TakesOne L.files L.asked library.old library.new self.old from number self.new) }
         ensures fault { IfErr result (StopsInOne L.files L.asked library.old library.new self.old from number) }
         ensures cause { IsErrOf result DefFault.Failed → Rose (L.faults library.old) (L.faults library.new) }
+        ensures steady { OnOk result (L.faults library.new ≡ L.faults library.old) }
+        ensures blamed { IfErr result (Blames (λ _. L.faults library.new ≡ L.faults library.old)) }
         ensures later { L.faults library.old ≤ L.faults library.new }
         ensures same { L.files library.new ≡ L.files library.old }
     {
@@ -177,6 +183,8 @@ pub fn load<L: Library>(
     ensures fault { IfErr result (Blames (StopsAt L.files L.asked library.old library.new root.now)) }
     ensures asked { AsksInOrder L.files L.asked library.old library.new root.now }
     ensures cause { IsErrOf result DefFault.Failed → Rose (L.faults library.old) (L.faults library.new) }
+    ensures steady { OnOk result (L.faults library.new ≡ L.faults library.old) }
+    ensures blamed { IfErr result (Blames (λ _. L.faults library.new ≡ L.faults library.old)) }
     ensures later { L.faults library.old ≤ L.faults library.new }
     ensures same { L.files library.new ≡ L.files library.old }
 {

@@ -9,8 +9,8 @@ use crate::answers::Failed;
 
 /// A stream of bytes to read.
 ///
-/// `left` is the bytes not yet read, where the source tells them. `faults` counts the failed reads; it never falls, and
-/// stays at `u64::MAX` once it has reached it.
+/// `left` is the bytes not yet read, where the source tells them. `faults` counts faults: it rises by one or more with each
+/// failed read and with nothing else, never falls, and stays at `u64::MAX` once it has reached it.
 pub trait Source {
     ghost left: { Self → Option (List ℕ) };
 
@@ -28,8 +28,8 @@ pub trait Source {
 
 /// A stream of bytes to write.
 ///
-/// `written` is the bytes taken so far, where the sink tells them. `faults` counts the failed writes; it never falls, and
-/// stays at `u64::MAX` once it has reached it.
+/// `written` is the bytes taken so far, where the sink tells them. `faults` counts faults: it rises by one or more with each
+/// failed write and with nothing else, never falls, and stays at `u64::MAX` once it has reached it.
 pub trait Sink {
     ghost written: { Self → Option (List ℕ) };
 

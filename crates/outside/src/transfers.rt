@@ -13,7 +13,7 @@ use std::alloc::Global;
 const BUFFER: usize = 4096;
 
 /// Reads everything that is left. `TooLong` comes where more than `limit` bytes were there, after `limit + 1` of them
-/// were read; `Failed` where a read failed.
+/// were read; `Failed` where a read failed. Each error leaves all but a front of at most `limit + 1` bytes.
 pub fn read_all<S: Source>(
     alloc: Global,
     source: &mut S,
@@ -26,8 +26,12 @@ pub fn read_all<S: Source>(
     ensures fits { IfOk result (λ bytes. length bytes.items ≤ limit) }
     ensures too_long { result ≡ Err ReadFault.TooLong → (front : List ℕ)
         × (length front ≡ limit + 1) × Consumes (S.left source.old) (S.left source.new) front }
+    ensures kept { OnErr result ((front : List ℕ)
+        × (length front ≤ limit + 1) × Consumes (S.left source.old) (S.left source.new) front) }
     ensures later { S.faults source.old ≤ S.faults source.new }
     ensures steady { OnOk result (S.faults source.new ≡ S.faults source.old) }
+    ensures long_steady { result ≡ Err ReadFault.TooLong
+        → S.faults source.new ≡ S.faults source.old }
     ensures failed { result ≡ Err ReadFault.Failed
         → Rose (S.faults source.old) (S.faults source.new) }
 {

@@ -13,6 +13,7 @@ pub returns-in-Err-TooLong : goal.returns-in-Err-TooLong
 returns-in-Err-TooLong g c =
     let source = change g.S.Source.left g.S.Source.faults c.args.source.now c.read_all.new.source in
     let read = c.in-Err-TooLong.ensures in
-    let taken = read.too_long (ap Err c.in-Err-TooLong.field-0-is) in
-    let input = long_read source taken.0 taken.2 taken.1 in
+    let is = ap Err c.in-Err-TooLong.field-0-is in
+    let taken = read.too_long is in
+    let input = long_read source taken.0 taken.2 taken.1 (read.long_steady is) in
     (read.later, inr (inr (input.0, input.1, (input.2, c.of_input.ensures))))

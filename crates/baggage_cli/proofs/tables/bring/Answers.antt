@@ -14,7 +14,7 @@ returns-in-Ok-Some g c =
     let file = c.args.file.now in
     let some = c.in-Ok-Some in
     let fetches = subst (λ (found : Option (Vec ℕ)). Fetches library.before file (option_map (λ text. text.items) found)) some.field-0-is some.ensures.held in
-    brings_found file library requests c.fetch.ensures.same c.fetch.ensures.cause.later c.fetch.ensures.asked (Some some.text.items) (outcome_of c.whole_file.result) fetches c.whole_file.ensures
+    brings_found file library requests c.fetch.ensures.same c.fetch.ensures.cause.later c.fetch.ensures.asked (Some some.text.items) (outcome_of c.whole_file.result) (rw some.is at c.fetch.ensures.cause.steady) fetches c.whole_file.ensures
 
 pub returns-in_err-refused_file-in-Ok-None : goal.returns-in_err-refused_file-in-Ok-None
 returns-in_err-refused_file-in-Ok-None g c =
@@ -30,7 +30,7 @@ returns-in_ok-refused_file-in-Ok-None g c =
     let file = c.args.file.now in
     let none = c.in-Ok-None in
     let fetches = subst (λ (found : Option (Vec ℕ)). Fetches library.before file (option_map (λ text. text.items) found)) none.field-0-is none.ensures.held in
-    brings_found file library requests c.fetch.ensures.same c.fetch.ensures.cause.later c.fetch.ensures.asked None (Err c.in_ok-refused_file-in-Ok-None.field-0) fetches (inr c.in_ok-refused_file-in-Ok-None.ensures)
+    brings_found file library requests c.fetch.ensures.same c.fetch.ensures.cause.later c.fetch.ensures.asked None (Err c.in_ok-refused_file-in-Ok-None.field-0) (rw none.is at c.fetch.ensures.cause.steady) fetches (inr c.in_ok-refused_file-in-Ok-None.ensures)
 
 pub returns-in-Err-Failed : goal.returns-in-Err-Failed
 returns-in-Err-Failed g c =

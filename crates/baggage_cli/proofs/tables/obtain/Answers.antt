@@ -12,4 +12,4 @@ returns-in_err-compile-in-Bag g c =
     let failure = c.in_err-compile-in-Bag in
     subst (λ origin. Obtains (origin_of origin) library requests c.from_residual.result) (sym c.in-Bag.is)
     (uncompiled c.in-Bag.file.now c.in-Bag.bag.now library requests failure.field-0.0 c.from_residual.result c.from_residual.ensures.1
-    failure.ensures.fault failure.ensures.asked (λ failed. failure.ensures.cause (ap Err failed)) failure.ensures.same failure.ensures.later)
+    failure.ensures.fault failure.ensures.blamed failure.ensures.asked (λ failed. failure.ensures.cause (ap Err failed)) failure.ensures.same failure.ensures.later)

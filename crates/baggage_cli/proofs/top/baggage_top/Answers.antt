@@ -1,6 +1,6 @@
 use Rattle.command_line.specs.Commands.{compiled, printed, slot_line, whole_text, as_lines}
 use Rattle.baggage_cli.specs.Scene.{change, scene_of}
-use Rattle.baggage_cli.proofs.Calls.{files_kept, counts_kept, steady_call, unread_call, quiet_call, sink_call, words_call, unasked_call, untouched_call}
+use Rattle.baggage_cli.proofs.Calls.{files_kept, counts_kept, steady_call, library_steady_call, source_steady_call, unread_call, quiet_call, sink_call, words_call, unasked_call, untouched_call}
 use Rattle.baggage_cli.proofs.Facts.{trim_appends, merge_appends, carry_appends, collect_appends, decode_appends, run_appends, run_json_appends, load_appends, build_appends, evolve_appends, why_appends, verify_appends, has_asked, ended_source, left_told, fault_told, refusal_told, input_told, bad_told, failed_told, memory_told, completes, part_told, unfetched_files, unread_input}
 use Rattle.baggage_cli.proofs.top.baggage_top.Goals as goal
 
@@ -150,23 +150,23 @@ returns-clause-ended g c = λ task is reads done. ended_source task _ c.answer_w
 pub returns-clause-left : goal.returns-clause-left
 returns-clause-left g c = λ task input is reads told ended. left_told task input _ c.answer_words.result (rw is at c.answer_words.ensures) reads told ended
 
+pub returns-clause-library_steady : goal.returns-clause-library_steady
+returns-clause-library_steady g c = λ low. library_steady_call _ _ c.answer_words.result c.answer_words.ensures low
+
 pub returns-clause-unread : goal.returns-clause-unread
 returns-clause-unread g c = λ one. (unread_call _ _ c.answer_words.result c.answer_words.ensures one).0
 
-pub returns-clause-unread_steady : goal.returns-clause-unread_steady
-returns-clause-unread_steady g c = λ one. (unread_call _ _ c.answer_words.result c.answer_words.ensures one).1
-
 pub returns-clause-source_steady : goal.returns-clause-source_steady
-returns-clause-source_steady g c = λ done. (steady_call _ _ c.answer_words.result c.answer_words.ensures done).0
+returns-clause-source_steady g c = λ low. source_steady_call _ _ c.answer_words.result c.answer_words.ensures low
 
 pub returns-clause-out_steady : goal.returns-clause-out_steady
-returns-clause-out_steady g c = λ done. (steady_call _ _ c.answer_words.result c.answer_words.ensures done).1
+returns-clause-out_steady g c = λ done. (steady_call _ _ c.answer_words.result c.answer_words.ensures done).0
 
 pub returns-clause-errs_steady : goal.returns-clause-errs_steady
-returns-clause-errs_steady g c = λ done. (steady_call _ _ c.answer_words.result c.answer_words.ensures done).2.1
+returns-clause-errs_steady g c = λ done. (steady_call _ _ c.answer_words.result c.answer_words.ensures done).1.1
 
 pub returns-clause-errs : goal.returns-clause-errs
-returns-clause-errs g c = λ done. (steady_call _ _ c.answer_words.result c.answer_words.ensures done).2.0
+returns-clause-errs g c = λ done. (steady_call _ _ c.answer_words.result c.answer_words.ensures done).1.0
 
 pub returns-clause-definition : goal.returns-clause-definition
 returns-clause-definition g c = λ task held is told one. fault_told task held _ c.answer_words.result (rw is at c.answer_words.ensures) told one

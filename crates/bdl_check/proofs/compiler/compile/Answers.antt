@@ -5,7 +5,7 @@ use Rattle.bdl_check.specs.Faults.{RefusesFor}
 use Rattle.bdl_check.specs.Refusals.{IsAnswerOf}
 use Rattle.bdl_load.specs.declared.faults.DefFault.{DefFault}
 use Rattle.bdl_load.specs.declared.files.LoadedFile.{LoadedFile}
-use Rattle.bdl_check.proofs.Compiling.{exit_err, BlamesFirst, table_of_files, blames_loading, blames_files, told_files, told_exit}
+use Rattle.bdl_check.proofs.Compiling.{exit_err, exit_any, exit_same, BlamesFirst, table_of_files, blames_loading, blames_files, told_files, told_exit}
 use Rattle.bdl_check.proofs.compiler.compile.Goals as goal
 
 pub returns-in_err-files-clause-fault : goal.returns-in_err-files-clause-fault
@@ -63,3 +63,9 @@ returns-clause-told_table g c =
     let Holds : Holding → Type 0 = λ held. IsTableOf held c.args.file.now c.args.bag.now c.in_ok-table_in.field-0 in
     told_files (g.L.Library.files c.args.library.now) (g.L.Library.asked c.args.library.now) (g.L.Library.asked c.load.new.library) c.args.file.now
     Holds (returns-clause-table g c)
+
+pub returns-in_err-files-clause-blamed : goal.returns-in_err-files-clause-blamed
+returns-in_err-files-clause-blamed g c = exit_same _ _ c.in_err-files.field-0.0 c.from_residual.ensures.1 c.in_err-files.ensures.blamed
+
+pub returns-in_err-table_in-clause-blamed : goal.returns-in_err-table_in-clause-blamed
+returns-in_err-table_in-clause-blamed g c = exit_any _ c.from_residual-in_err-table_in.result c.in_ok-files.ensures.steady

@@ -4,7 +4,7 @@ use Rattle.bdl_load.specs.declared.faults.Fault.{Fault}
 use Rattle.bdl_load.specs.Loader.{IsBroken}
 use Rattle.bdl_load.specs.Loading.{loaded_as}
 use Rattle.bdl_load.specs.Source.{IsFaultOfSource}
-use Rattle.bdl_load.proofs.Exits.{exit_err}
+use Rattle.bdl_load.proofs.Exits.{exit_err, exit_any, exit_library}
 use Rattle.bdl_load.proofs.Fetched.{says_held, breaks_held}
 use Rattle.bdl_load.proofs.Taking.{blames_so}
 use Rattle.bdl_load.proofs.loader.fetch_file.Goals as goal
@@ -40,3 +40,12 @@ returns-in_err-module-clause-fault g c =
     let breaks = breaks_held files name source f.finding bound held f.first in
     record { source = breaks.source; finding = f.finding; told = breaks.told; first = breaks.first; is = f.is })
     first)
+
+pub returns-in_err-module-clause-blamed : goal.returns-in_err-module-clause-blamed
+returns-in_err-module-clause-blamed g c = exit_any _ c.from_residual-in_err-module.result c.in_ok-source.ensures.cause.steady
+
+pub returns-in_err-name-clause-blamed : goal.returns-in_err-name-clause-blamed
+returns-in_err-name-clause-blamed g c = exit_any _ c.from_residual-in_err-name.result c.in_ok-source.ensures.cause.steady
+
+pub returns-in_err-source-clause-blamed : goal.returns-in_err-source-clause-blamed
+returns-in_err-source-clause-blamed g c = exit_library _ c.from_residual.result c.in_err-source.field-0.0 c.from_residual.ensures.1

@@ -6,7 +6,7 @@ use Rattle.bdl_load.specs.declared.files.LoadedFile.{LoadedFile}
 use Rattle.bdl_load.specs.Loader.{IsFound}
 use Rattle.bdl_load.specs.Loading.{is_among, file_names}
 use Rattle.bdl_load.proofs.Answering.{end_fault, end_asked, loaded_all, loaded_asked}
-use Rattle.bdl_load.proofs.Exits.{exit_err}
+use Rattle.bdl_load.proofs.Exits.{exit_err, exit_any, blames_any, blames_behind}
 use Rattle.bdl_load.proofs.FilesSoFar.{sound_empty, sound_begun}
 use Rattle.bdl_load.proofs.Steps.{read_spelled, root_memory, root_missing, root_broken, root_ended, root_loaded}
 use Rattle.bdl_load.proofs.Taking.{added_ended, added_loaded}
@@ -150,3 +150,22 @@ returns-clause-asked g c =
     let all = root_loaded files told before between after root file later c.fetch_file.ensures.asked c.in_ok-file.ensures.same read
     (added_loaded told between after [] begun later file [] now c.in_ok-from.from place none_of grown numbers c.in_ok-take_imports.ensures.loaded) in
     loaded_asked files before after root later all
+
+pub returns-in_err-file-clause-blamed : goal.returns-in_err-file-clause-blamed
+returns-in_err-file-clause-blamed g c = exit_err {E = DefFault} _ _ c.in_err-file.field-0.0 c.from_residual.ensures.1 c.in_err-file.ensures.blamed
+
+pub returns-in_default-clause-blamed : goal.returns-in_default-clause-blamed
+returns-in_default-clause-blamed g c = blames_any _ c.blame.result c.in_ok-file.ensures.steady
+
+pub returns-in_err-from-clause-blamed : goal.returns-in_err-from-clause-blamed
+returns-in_err-from-clause-blamed g c = exit_any _ c.from_residual-in_err-from.result c.in_ok-file.ensures.steady
+
+pub returns-in_err-take_imports-clause-blamed : goal.returns-in_err-take_imports-clause-blamed
+returns-in_err-take_imports-clause-blamed g c =
+    let refusal = c.in_err-take_imports.field-0.0 in
+    exit_err {E = DefFault} _ _ refusal c.from_residual-in_err-take_imports.ensures.1
+    (blames_behind (g.L.Library.faults c.args.library.now) (g.L.Library.faults c.fetch_file.new.library) (g.L.Library.faults c.take_imports.new.library) refusal
+    c.in_ok-file.ensures.steady c.in_err-take_imports.ensures.blamed)
+
+pub returns-clause-steady : goal.returns-clause-steady
+returns-clause-steady g c = c.in_ok-take_imports.ensures.steady ∙ c.in_ok-file.ensures.steady

@@ -4,7 +4,7 @@ use Rattle.bdl_load.specs.declared.loader.TheConstants.{MAX_FILES}
 use Rattle.bdl_load.specs.declared.faults.DefFault.{DefFault}
 use Rattle.bdl_load.specs.declared.faults.DefFault.TheVariants.{Memory}
 use Rattle.bdl_load.specs.Loader.{IsFound, IsChosen, AreSound, names_at}
-use Rattle.bdl_load.proofs.Exits.{exit_err}
+use Rattle.bdl_load.proofs.Exits.{exit_err, exit_any, blames_any, blames_behind}
 use Rattle.bdl_load.proofs.FilesSoFar.{sound_begun, sound_without_last, last_taken}
 use Rattle.bdl_load.proofs.Taking.{none_taken, one_taken, one_ended, all_taken, added_loaded, added_ended}
 use Rattle.bdl_load.proofs.Steps.{next_is, name_is, count_is, new_import, read_fresh, read_spelled, known_step, fetched_step, ended_step, halted_step, broken_step, missing_step, memory_step}
@@ -188,6 +188,7 @@ take_imports-loop-number-init g t c = record {
   sound = c.requires.sound;
   taking = refl;
   loaded = none_taken (g.L.Library.files c.args.library.now) (g.L.Library.asked c.args.library.now) c.args.self.now.files.items c.args.self.now.taking.items c.args.from c.requires.sound.distinct;
+  steady = refl;
   same = refl;
   later = omega arith;
 }
@@ -213,6 +214,7 @@ take_imports-loop-number-preserved g t c =
           (g.L.Library.asked c.args.library.now) (g.L.Library.asked c.loop-number.library) (g.L.Library.asked c.take_import.new.library)
           c.args.self.now.files.items c.loop-number.self.files.items c.take_import.new.self.files.items
           c.args.self.now.taking.items c.loop-number.self.taking.items c.args.from c.loop-number.number kept.same c.requires.sound c.requires.within kept.taking kept.loaded now.loaded;
+      steady = now.steady ∙ kept.steady;
       same = now.same ∙ kept.same;
       later = omega (arith, now.later, kept.later);
     }
@@ -223,3 +225,33 @@ take_imports-returns-clause-loaded g t c =
     let all = count_is loaded c.args.from c.len-count.result c.loop-number.number c.index.result.now c.requires.within c.index.ensures c.len-count.ensures c.loop-number-test.false in
     all_taken (g.L.Library.files c.args.library.now) (g.L.Library.asked c.args.library.now) (g.L.Library.asked c.loop-number.library) loaded c.loop-number.self.files.items c.args.self.now.taking.items
     c.args.from c.loop-number.number all c.loop-number.invariant.loaded
+
+pub take_import-returns-in_err-is_to_fetch-clause-blamed : goal.take_import-returns-in_err-is_to_fetch-clause-blamed
+take_import-returns-in_err-is_to_fetch-clause-blamed g t c = exit_any _ c.from_residual.result refl
+
+pub take_import-returns-in_err-file-clause-blamed : goal.take_import-returns-in_err-file-clause-blamed
+take_import-returns-in_err-file-clause-blamed g t c =
+    exit_err {E = DefFault} _ _ c.in_err-file.field-0.0 c.from_residual-in_err-file.ensures.1 c.in_err-file.ensures.blamed
+
+pub take_import-returns-in_err-from-in-Some-clause-blamed : goal.take_import-returns-in_err-from-in-Some-clause-blamed
+take_import-returns-in_err-from-in-Some-clause-blamed g t c = exit_any _ c.from_residual-in_err-from-in-Some.result c.in_ok-file.ensures.steady
+
+pub take_import-returns-in_err-take_imports-in-Some-clause-blamed : goal.take_import-returns-in_err-take_imports-in-Some-clause-blamed
+take_import-returns-in_err-take_imports-in-Some-clause-blamed g t c =
+    let refusal = c.in_err-take_imports-in-Some.field-0.0 in
+    exit_err {E = DefFault} _ _ refusal c.from_residual-in_err-take_imports-in-Some.ensures.1
+    (blames_behind (g.L.Library.faults c.args.library.now) (g.L.Library.faults c.fetch_file.new.library) (g.L.Library.faults c.take_imports.new.library) refusal
+    c.in_ok-file.ensures.steady c.in_err-take_imports-in-Some.ensures.blamed)
+
+pub take_import-returns-in_ok-take_imports-in-Some-clause-steady : goal.take_import-returns-in_ok-take_imports-in-Some-clause-steady
+take_import-returns-in_ok-take_imports-in-Some-clause-steady g t c = c.in_ok-take_imports-in-Some.ensures.steady ∙ c.in_ok-file.ensures.steady
+
+pub take_import-returns-in-None-clause-blamed : goal.take_import-returns-in-None-clause-blamed
+take_import-returns-in-None-clause-blamed g t c = blames_any _ c.blame.result c.in_ok-file.ensures.steady
+
+pub take_imports-returns-in_err-take_import-clause-blamed : goal.take_imports-returns-in_err-take_import-clause-blamed
+take_imports-returns-in_err-take_import-clause-blamed g t c =
+    let refusal = c.in_err-take_import.field-0.0 in
+    exit_err {E = DefFault} _ _ refusal c.from_residual.ensures.1
+    (blames_behind (g.L.Library.faults c.args.library.now) (g.L.Library.faults c.loop-number.library) (g.L.Library.faults c.take_import.new.library) refusal
+    c.loop-number.invariant.steady c.in_err-take_import.ensures.blamed)

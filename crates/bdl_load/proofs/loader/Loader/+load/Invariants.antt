@@ -15,6 +15,7 @@ invariant-take_imports-loop-number g l = record {
   sound : AreSound l.self.files.items l.self.taking.items;
   taking : l.self.taking.items ≡ l.fn.self.taking.items;
   loaded : Loaded (g.L.Library.files l.fn.library) (g.L.Library.asked l.fn.library) (g.L.Library.asked l.library) l.fn.self.files.items l.self.files.items (Taken l.fn.self.files.items l.fn.self.taking.items l.fn.from l.self.files.items l.number);
+  steady : g.L.Library.faults l.library ≡ g.L.Library.faults l.fn.library;
   same : g.L.Library.files l.library ≡ g.L.Library.files l.fn.library;
   later : g.L.Library.faults l.fn.library ≤ g.L.Library.faults l.library;
 }
