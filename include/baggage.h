@@ -34,7 +34,7 @@ enum baggage_status {
     BAGGAGE_OK = 0,     /* done */
     BAGGAGE_FAULT = 1,  /* an input isn't the bytes of a context: the first such input, and its first fault */
     BAGGAGE_ROOM = 2,   /* the room is too short: `size` says how many bytes are to be written */
-    BAGGAGE_MEMORY = 3, /* malloc refused; nothing is said of the inputs */
+    BAGGAGE_MEMORY = 3, /* malloc refused, or a list would have 2^32 bytes or more; nothing is said of the inputs */
     BAGGAGE_FORM = 4,   /* no form has this number */
     BAGGAGE_BUDGET = 5, /* the budget is below the least one: 1 in form one, 13 in form two */
     BAGGAGE_TABLE = 6,  /* the text isn't that of a table: its first bad line */

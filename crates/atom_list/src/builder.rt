@@ -62,9 +62,11 @@ impl Builder {
     }
 
     /// Takes room for so many more bytes and atoms, and where room is wanting for about as many again as are there, so that a
-    /// list grows in few turns. A buffer holds fewer than 2 ^ 32 bytes: for more there is no memory.
+    /// list grows in few turns. A buffer holds fewer than 2 ^ 32 bytes: for more there is no memory. Room that is there stays.
     pub fn reserve(&mut self, bytes: usize, atoms: usize) -> Result<(), Memory>
         ensures atoms { self.new.atoms ≡ self.old.atoms }
+        ensures kept_bytes { self.old.byte_room ≤ self.new.byte_room }
+        ensures kept_atoms { self.old.atom_room ≤ self.new.atom_room }
         ensures byte_room { OnOk result (bytes ≤ self.new.byte_room) }
         ensures atom_room { OnOk result (atoms ≤ self.new.atom_room) }
     {

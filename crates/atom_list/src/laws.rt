@@ -12,7 +12,7 @@ pub fn headers_are_nearest()
     ensures { HasNearestHeaders }
 {}
 
-/// A list is well formed or has one first fault.
+/// A list that is well formed has no first fault, and any other at most one.
 pub fn faults_once()
     ensures { FaultsOnce }
 {}

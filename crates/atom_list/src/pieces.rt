@@ -88,7 +88,8 @@ impl AtomList {
         }
     }
 
-    /// The bytes of the list in form one, where they stand in its buffer: `None` where something was cut from it.
+    /// The bytes of the list in form one, where its frames follow one another in its buffer. `None` says nothing: they may have to
+    /// be written.
     pub fn framed(&self) -> Option<&[u8]>
         ensures { IfSome result (λ bytes. bytes.now ≡ frames One self.now) }
     {
@@ -100,8 +101,7 @@ impl AtomList {
         }
     }
 
-    /// The bytes of the first `keep` atoms in form one, where the buffer begins with them: `None` where something was cut from
-    /// among them. None of the atoms is looked at but the last of these, so a place in a list is found by halves.
+    /// The bytes of the first `keep` atoms in form one, where the buffer begins with their frames. `None` says nothing. None of the atoms is looked at but the last of these, so a place in a list is found by halves.
     pub fn framed_front(&self, keep: usize) -> Option<&[u8]>
         requires { keep ≤ length self.now }
         ensures { IfSome result (λ bytes. bytes.now ≡ frames One (take keep self.now)) }

@@ -5,10 +5,11 @@ ghost use Rattle.context_model.specs.Atoms.{Atom};
 ghost use Rattle.context_model.specs.Merged.{IsMerged};
 ghost use Rattle.bag_encode.specs.Encoding.{bag_values};
 ghost use Rattle.bag_model.specs.Encodings.{FitsAtoms, IsEncoding};
+ghost use Rattle.bag_model.specs.Joins.{join};
 ghost use Rattle.bag_model.specs.Readings.{PathsOf, Reads};
 ghost use Rattle.bag_model.specs.Shapes as shapes;
 ghost use Rattle.bag_model.specs.Typed.{AreTyped};
-ghost use Rattle.bag_model.specs.Values.{IsOfShape};
+ghost use Rattle.bag_model.specs.Values.{Value, IsOfShape};
 ghost use Rattle.bag_value.specs.Vals.{plain};
 
 use atom_list::Context;
@@ -35,6 +36,9 @@ pub fn merge_and_read(
     ensures one { IfOk result (λ two. two.0 ≡ two.1) }
     ensures read { IfOk result (λ two. (merged : List Atom) → IsMerged (a.now ∷ b.now ∷ []) merged
         → Reads (shapes.Shape.Bag table.now) (PathsOf merged) [] (plain two.0)) }
+    ensures joined { IfOk result (λ two. (v w : Value)
+        → Reads (shapes.Shape.Bag table.now) (PathsOf a.now) [] v
+        → Reads (shapes.Shape.Bag table.now) (PathsOf b.now) [] w → plain two.1 ≡ join v w) }
 {
     // The proof rests on these laws.
     merges_read_as_joins();

@@ -85,7 +85,8 @@ pub fn write_field(
     Ok(Some(write(alloc, Form::One, context.list())?))
 }
 
-/// What the bytes of a context say of the field with this name, and whether that is whole.
+/// What the bytes of a context say of the field with this name, and whether that is whole. The name is looked up first, then
+/// the bytes are read, and then their atoms' types are checked.
 pub fn read_field(
     alloc: Global,
     table: &Table,

@@ -33,6 +33,6 @@ pub record HasOneShape (list : List Atom) : Type 0 where
   pub fault : (i j : ℕ) (c d : ByteCode) → IsFirstShapeFault list i c → IsFirstShapeFault list j d → (i ≡ j) × (c ≡ d)
   pub either : (i : ℕ) (c : ByteCode) → IsWellFormed list → IsFirstShapeFault list i c → ⊥
 
--- Each list has one shape: it is well formed, or has one first fault.
+-- A list that is well formed has no first fault, and any other at most one.
 abbrev pub FaultsOnce : Type 0
 FaultsOnce = (list : List Atom) → HasOneShape list

@@ -75,8 +75,8 @@ pub fn run_gated<G: Gate>(
 
 /// The lists of all steps of a graph of a table, in the order of the steps.
 ///
-/// Each list tells the truth of what was written and received on the way to its step, as far as it isn't cut off; and steps
-/// that the same writes and received lists reach say the same.
+/// Each list tells the truth of what was written and received on the way to its step, as far as it isn't cut off. Steps that
+/// the same writes and received lists reach say the same of each slot that is ended at both, and of all where nothing was cut.
 pub fn run_all(alloc: Global, table: &Table, graph: &Graph) -> Result<Vec<Context>, Memory>
     requires { IsOfTable table.now graph.now }
     ensures run { IfOk result (λ lists. IsRun table.now graph.now lists.items) }

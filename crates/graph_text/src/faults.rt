@@ -27,9 +27,9 @@ pub enum GraphCode {
     NoSuchPath,
     /// A write is to a slot that the service doesn't know.
     NotKnown,
-    /// A write's text is no write of the slot's shape.
+    /// A write's text is no write of the slot's shape in the form of its step's service.
     BadValue,
-    /// A budget is 0, or above [`crate::BUDGET_MAX`].
+    /// A budget is below the least of the form of its step's service, or above [`crate::BUDGET_MAX`].
     BudgetRange,
     /// A step stands behind as many as [`recorded_graph::STEPS_MAX`].
     TooManySteps,

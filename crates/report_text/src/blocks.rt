@@ -64,7 +64,7 @@ fn put_slots(
     Ok(())
 }
 
-/// Appends the block of a typed context. Want of memory may leave a part of it behind what stood there.
+/// Appends the block of a typed context. Want of memory may leave some bytes behind what stood there.
 pub fn put_block(
     alloc: Global,
     table: &Table,

@@ -19,7 +19,7 @@ use outside::Memory;
 use scalar_types::Scalar;
 use std::alloc::Global;
 
-/// Appends the text of a value of a field of this shape. Want of memory may leave a part of it behind what stood there.
+/// Appends the text of a value of a field of this shape. Want of memory may leave some bytes behind what stood there.
 ///
 /// The shape gives the names of a bag's fields, and nothing else. A map or a bag under a shape of another kind has no text.
 #[cycle(text)]

@@ -29,7 +29,7 @@ pub enum ByteCode {
     BadPrefix,
     /// Behind the first byte of an indexed header stands anything but one varint.
     BadIndex,
-    /// The level of a header is more than one above that of the last header before it.
+    /// The level of a header is more than one above that of the last header before it, or isn't 0 where there is none.
     LevelJump,
     /// The path of an atom isn't greater than that of the atom before it.
     OutOfOrder,

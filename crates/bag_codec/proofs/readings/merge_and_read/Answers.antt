@@ -33,3 +33,9 @@ pub returns-clause-read : goal.returns-clause-read
 returns-clause-read c = λ merged m.
     subst (λ list. Says c.args.table.now list (plain c.in_ok-read.read))
     (c.has_one_merge.ensures (c.args.a.now ∷ c.args.b.now ∷ []) c.in_ok-merged.merged merged c.in_ok-merged.ensures.merged m) c.in_ok-read.ensures
+
+pub returns-clause-joined : goal.returns-clause-joined
+returns-clause-joined c = λ v w a b.
+    let nodes = c.args.table.now in
+    let both = says_join c.merges_read_as_joins.ensures nodes c.args.a.now c.args.b.now c.in_ok-merged.merged v w c.in_ok-merged.ensures.merged a b in
+    ap plain (sym (returns-clause-one c)) ∙ says_one c.merges_read_as_joins.ensures nodes c.in_ok-merged.merged (plain c.in_ok-read.read) (join v w) c.in_ok-read.ensures both
