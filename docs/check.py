@@ -90,6 +90,23 @@ def check_crates():
     bad.extend(f"docs/CRATES.md: the map of crates names {name}, which crates.txt doesn't" for name in sorted(named - listed))
 
 
+def stems(folder, ending, skipped):
+    """The names of the files of a folder without their ending, but for these."""
+    names = (os.path.basename(path) for path in sources(ending) if path.startswith(f"crates/{folder}/"))
+    return {name.removesuffix(ending) for name in names} - skipped
+
+
+def check_files():
+    """The map of files has those of each crate that has definitions of its own."""
+    rows = re.findall(r"(?m)^\| `(\w+)` \| ([\w, ]+) \| ([\w, ]+) \|$", text_of("docs/CRATES.md").partition("## Files")[2])
+    told = {crate: (set(definitions.split(", ")), set(code.split(", "))) for crate, definitions, code in rows}
+    for crate in sorted(os.listdir(f"{TOP}/crates")):
+        definitions = stems(f"{crate}/specs", ".antt", {"Lib"})
+        code = stems(f"{crate}/src", ".rt", {"lib", "laws"}) or {"lib"}
+        if definitions and told.get(crate) != (definitions, code):
+            bad.append(f"docs/CRATES.md: the files of {crate} are {sorted(definitions)} and {sorted(code)}")
+
+
 def check_libraries():
     """Each line of crates.txt lists the libraries that a file of the crate names, and no others."""
     code = {}
@@ -143,7 +160,7 @@ def check_examples():
                         bad.append(f"{document}: {command!r} prints {(ran.stdout + ran.stderr)[:200]!r}")
 
 
-for check in (check_links, check_names, check_excerpts, check_crates, check_libraries, check_definitions, check_examples):
+for check in (check_links, check_names, check_excerpts, check_crates, check_files, check_libraries, check_definitions, check_examples):
     check()
 for line in bad:
     print(line)
