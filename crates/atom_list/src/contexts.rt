@@ -9,7 +9,7 @@ ghost use Rattle.context_model.specs.ShapeFault.{IsFirstShapeFault};
 ghost use Rattle.atom_list.specs.Contexts.{shape_fault_code_of};
 
 use crate::lists::AtomList;
-use crate::open_headers::OpenHeaders;
+use crate::shape_faults::OpenHeaders;
 use outside::Memory;
 use std::alloc::Global;
 use std::marker::Model;

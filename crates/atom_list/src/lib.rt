@@ -22,11 +22,11 @@ mod iter;
 pub mod laws;
 mod lengths;
 mod lists;
-mod open_headers;
 mod open_places;
 mod pieces;
 mod places;
 mod scan;
+mod shape_faults;
 mod sharing;
 mod starts;
 

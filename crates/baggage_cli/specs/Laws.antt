@@ -7,7 +7,7 @@ use Rattle.report_text.specs.Blocks.{HasOneBlock}
 use Rattle.text_carrier.specs.Collecting.{CollectOneWay}
 use Rattle.trace_model.specs.Graphs.{Graph, IsRecorded}
 use Rattle.trace_model.specs.Runs.{HasOneRun}
-use Rattle.trace_model.specs.Shown.{ShownIsHonest}
+use Rattle.trace_model.specs.ShownValues.{ShownIsHonest}
 use Rattle.graph_report.specs.Reports.{HasOneReport}
 use Rattle.report_json.specs.JsonReports.{HasOneJsonReport}
 use Rattle.graph_text.specs.Reading.{IsGraphOf, LinesAreDefinite}

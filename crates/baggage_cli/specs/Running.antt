@@ -7,7 +7,7 @@ use Rattle.text_lines.specs.Lines.{Line}
 use Rattle.text_lines.specs.Readings.{Reading}
 use Rattle.trace_model.specs.Graphs.{Graph}
 use Rattle.trace_model.specs.Runs.{Lists, list_at, IsRun}
-use Rattle.trace_model.specs.Shown.{IsShown, IsHonest}
+use Rattle.trace_model.specs.ShownValues.{IsShown, IsHonest}
 use Rattle.graph_report.specs.Reports.{IsReport}
 use Rattle.report_json.specs.JsonReports.{IsJsonReport}
 use Rattle.graph_text.specs.Additions.{Addition, graph_of}

@@ -18,9 +18,9 @@ use std::collections::BTreeMap;
 
 /// A library of files.
 ///
-/// `files` is what it holds by name, where it tells. `faults` counts faults: it rises by one or more with each failed fetch
-/// and with no other, never falls, and stays at `u64::MAX` once it has reached it. `asked` has the names that it was asked for, where it keeps them; by default it
-/// keeps none.
+/// `files` is what it holds by name, where it tells. `faults` counts faults: it rises by one or more with each fetch that
+/// answers [`LibraryFault::Failed`], stays with each that succeeds, never falls, and stays at `u64::MAX` once it has reached
+/// it. `asked` has the names that it was asked for, where it keeps them; by default it keeps none.
 pub trait Library {
     ghost files: { Self → Files };
 

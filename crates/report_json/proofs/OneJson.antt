@@ -11,7 +11,7 @@ use Rattle.bag_model.specs.Values.{Value}
 use Rattle.bag_model.proofs.Uniqueness.{Reads-unique}
 use Rattle.trace_model.specs.Graphs.{Graph, step_form}
 use Rattle.trace_model.specs.Runs.{Lists, list_at}
-use Rattle.trace_model.specs.Shown.{IsShown}
+use Rattle.trace_model.specs.ShownValues.{IsShown}
 use Rattle.bag_scan.specs.declared.states.State.{State}
 use Rattle.bag_scan.specs.declared.states.State.TheVariants.{Exact, Partial}
 use Rattle.report_text.specs.Blocks.{is_exact}

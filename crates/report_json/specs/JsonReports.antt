@@ -9,7 +9,7 @@ use Rattle.bag_model.specs.Slots.{SlotAt, slots_of, name_path}
 use Rattle.bag_model.specs.Values.{Value}
 use Rattle.trace_model.specs.Graphs.{Graph, step_form}
 use Rattle.trace_model.specs.Runs.{Lists, list_at}
-use Rattle.trace_model.specs.Shown.{IsShown}
+use Rattle.trace_model.specs.ShownValues.{IsShown}
 use Rattle.text_lines.specs.HexLines.{hex_text}
 use Rattle.bag_scan.specs.declared.states.State.{State}
 use Rattle.bag_scan.specs.declared.states.State.TheVariants.{Exact, Partial}

@@ -6,7 +6,7 @@ use Rattle.context_model.specs.Framing.{bytes_of}
 use Rattle.bag_model.specs.Shapes.{Nodes}
 use Rattle.bag_model.specs.Slots.{SlotAt, slots_of, name_path}
 use Rattle.bag_model.specs.Values.{Value}
-use Rattle.trace_model.specs.Shown.{IsShown}
+use Rattle.trace_model.specs.ShownValues.{IsShown}
 use Rattle.text_lines.specs.HexLines.{hex_line}
 use Rattle.bag_scan.specs.declared.states.State.{State}
 use Rattle.bag_scan.specs.declared.states.State.TheVariants.{Exact, Partial}

@@ -34,7 +34,7 @@ use Rattle.trace_model.specs.Graphs.{Act, Start, Recv, Set, Branch, Forward, Tri
 use Rattle.trace_model.specs.Runs.{list_at, StepGives, IsRun, IsNormalMerge}
 use Rattle.trace_model.specs.Truth.{itself, IsReachedBy, Adds, IsAdded, IsTruth, IsTruthAt, WasCut, AreReachedAlike}
 use Rattle.trace_model.specs.Faithful.{IsRunStep}
-use Rattle.trace_model.specs.Shown.{IsShown}
+use Rattle.trace_model.specs.ShownValues.{IsShown}
 use Rattle.trace_model.proofs.ReachLaws.{one_step, reached_split, reached_from}
 use Rattle.trace_model.proofs.TruthLaws.{has_one_truth, truth_alike}
 use Rattle.trace_model.proofs.FaithfulLaws.{runs_are_faithful}

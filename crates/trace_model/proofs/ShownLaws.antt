@@ -8,7 +8,7 @@ use Rattle.bag_model.specs.Readings.{SaysValues}
 use Rattle.trace_model.specs.Graphs.{Act, Start, Recv, Set, Branch, Forward, Trim, Join, Graph}
 use Rattle.trace_model.specs.Truth.{IsReachedBy, Adds, IsAdded, Writes, Receives, SameWritesReachAlike}
 use Rattle.trace_model.specs.Faithful.{IsFaithful}
-use Rattle.trace_model.specs.Shown.{ShownIsHonest}
+use Rattle.trace_model.specs.ShownValues.{ShownIsHonest}
 use Rattle.trace_model.proofs.ReachLaws.{reached_so}
 use Rattle.trace_model.proofs.FaithfulLaws.{runs_are_faithful}
 

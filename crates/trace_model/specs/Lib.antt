@@ -3,4 +3,4 @@ pub mod Runs
 pub mod Truth
 pub mod Contributions
 pub mod Faithful
-pub mod Shown
+pub mod ShownValues

@@ -3,7 +3,7 @@
 ghost use Rattle.trace_model.specs.Contributions.{TruthsAreContributed};
 ghost use Rattle.trace_model.specs.Faithful.{RunsAreFaithful, EndsInParents, AlikeStepsSayTheSame};
 ghost use Rattle.trace_model.specs.Runs.{GivesContexts, HasOneRun, RunsGrow};
-ghost use Rattle.trace_model.specs.Shown.{ShownIsHonest};
+ghost use Rattle.trace_model.specs.ShownValues.{ShownIsHonest};
 ghost use Rattle.trace_model.specs.Truth.{AdditionsAreListed, HasOneTruth, SameWritesReachAlike, TruthIsJoin};
 
 /// A sound graph of a table has one truth at each step, and that is the join of all that the steps on the way wrote and

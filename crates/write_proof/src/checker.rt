@@ -8,7 +8,7 @@ ghost use Rattle.write_proof.specs.Checker.{BeginWith};
 ghost use Rattle.write_proof.specs.Views.{entry_of};
 
 use crate::entries::Entry;
-use crate::first_lines::{missing, not_listed, too_much};
+use crate::whole_rules::{missing, not_listed, too_much};
 use crate::joins::{join_steps, known};
 use crate::marks::{named_uses, reached_marks};
 use crate::reading::read_entries;

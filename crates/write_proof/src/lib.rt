@@ -15,7 +15,6 @@ mod checker;
 mod child_rows;
 mod contributions;
 mod entries;
-mod first_lines;
 mod joins;
 pub mod laws;
 mod line_rules;
@@ -25,6 +24,7 @@ mod reading;
 mod together;
 mod used;
 mod verdicts;
+mod whole_rules;
 
 pub use certificates::why;
 pub use checker::verify;

@@ -2,7 +2,7 @@ use Rattle.std.proofs.Common.{Some, refl, sym, subst}
 use Rattle.atom_list.specs.OpenPlaces.{IsOpenPath, RisesTo, atom_at, path_before}
 use Rattle.atom_list.proofs.Opening.{datum_wrong, datum_follows, datum_taken, datum_within}
 use Rattle.atom_list.proofs.Walking.{path_next}
-use Rattle.atom_list.proofs.open_headers.OpenHeaders.admit_datum.Goals as goal
+use Rattle.atom_list.proofs.shape_faults.OpenHeaders.admit_datum.Goals as goal
 
 pub rises_behind-requires : goal.rises_behind-requires
 rises_behind-requires c = datum_within c.args.list.now _ _ _ c.requires.«open»

@@ -6,7 +6,7 @@ use Rattle.write_proof.specs.declared.verdicts.VerifyCode.TheVariants as codes
 use Rattle.write_proof.specs.Views.{entry_of}
 use Rattle.write_proof.specs.WholeRules.{Applies}
 use Rattle.write_proof.proofs.ContributionCalls.{More, ok_so, too_much_told, none_too_much, late_too_much}
-use Rattle.write_proof.proofs.first_lines.is_too_much.Goals as goal
+use Rattle.write_proof.proofs.whole_rules.is_too_much.Goals as goal
 
 pub returns-then-step-steps : goal.returns-then-step-steps
 returns-then-step-steps c =

@@ -4,7 +4,7 @@ use Rattle.bag_value.specs.Vals.{plain}
 use Rattle.write_proof.specs.Contributions.{contributed}
 use Rattle.write_proof.proofs.BelowCalls.{alike_of, no_answer}
 use Rattle.write_proof.proofs.ContributionCalls.{same_contributes, one_shape, more_answer, no_more}
-use Rattle.write_proof.proofs.first_lines.contributes_more.Goals as goal
+use Rattle.write_proof.proofs.whole_rules.contributes_more.Goals as goal
 
 pub is_below-requires-clause-one : goal.is_below-requires-clause-one
 is_below-requires-clause-one c =

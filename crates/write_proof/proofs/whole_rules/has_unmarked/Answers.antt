@@ -2,7 +2,7 @@ use Rattle.std.proofs.Common.{get_or, subst, arith}
 use Rattle.std.proofs.lemmas.Option.{slice_get-get_or, get_or_from_slice_get}
 use Rattle.write_proof.specs.Marks.{IsMarked}
 use Rattle.write_proof.proofs.BelowCalls.{in_place, place_in, place_within, yes_answer, no_answer}
-use Rattle.write_proof.proofs.first_lines.has_unmarked.Goals as goal
+use Rattle.write_proof.proofs.whole_rules.has_unmarked.Goals as goal
 
 pub returns-then-not-is_marked : goal.returns-then-not-is_marked
 returns-then-not-is_marked c =

@@ -3,8 +3,8 @@ use Rattle.context_model.specs.Orders.{atom_cmp}
 use Rattle.atom_list.specs.OpenPlaces.{IsOpenPath, atom_at, path_before}
 use Rattle.atom_list.proofs.Opening.{header_within, header_wrong, header_follows, header_taken}
 use Rattle.atom_list.proofs.Walking.{path_next}
-use Rattle.atom_list.proofs.open_headers.OpenHeaders.admit_header.Goals as goal
-use Rattle.atom_list.proofs.open_headers.OpenHeaders.admit_header.Goals.{else-level-count-via-then-level-count+else-not-rises, else-level-count-via-else-level-count}
+use Rattle.atom_list.proofs.shape_faults.OpenHeaders.admit_header.Goals as goal
+use Rattle.atom_list.proofs.shape_faults.OpenHeaders.admit_header.Goals.{else-level-count-via-then-level-count+else-not-rises, else-level-count-via-else-level-count}
 
 pub rises-requires : goal.rises-requires
 rises-requires c =

@@ -4,7 +4,7 @@ use Rattle.trace_model.specs.Graphs.{Graph}
 use Rattle.write_proof.specs.declared.verdicts.VerifyCode.TheVariants as codes
 use Rattle.write_proof.specs.Views.{entry_of}
 use Rattle.write_proof.proofs.FirstCalls.{NoneBefore}
-use Rattle.write_proof.proofs.first_lines.not_listed.Given as goal
+use Rattle.write_proof.proofs.whole_rules.not_listed.Given as goal
 
 abbrev pub invariant-loop-at : goal.invariant-loop-at
 invariant-loop-at l = (graph : Graph) (slot : ℕ) (at : SlotAt) → NoneBefore graph slot at (map entry_of l.entries) codes.NotListed l.at

@@ -6,7 +6,7 @@ use Rattle.atom_kinds.specs.declared.Kind.TheVariants.{Marker, Datum, Indexed, K
 use Rattle.atom_list.specs.OpenPlaces.{atom_at, path_before, IsOpenPath, IsHeaderOf, MayStandBehind}
 use Rattle.atom_list.proofs.Opening.{told_datum, told_marker, told_indexed, told_keyed, marker_follows, marker_opens}
 use Rattle.atom_list.proofs.Walking.{path_next}
-use Rattle.atom_list.proofs.open_headers.OpenHeaders.admit.Goals as goal
+use Rattle.atom_list.proofs.shape_faults.OpenHeaders.admit.Goals as goal
 
 -- What the look-up gave is the atom at the place.
 is_there : (list : List (List ℕ)) (at : ℕ) (x : List ℕ) → slice_get list at ≡ Some x → x ≡ atom_at list at

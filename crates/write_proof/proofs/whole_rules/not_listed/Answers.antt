@@ -3,7 +3,7 @@ use Rattle.std.proofs.lemmas.Option.{slice_get-get_or}
 use Rattle.write_proof.specs.declared.verdicts.VerifyCode.TheVariants as codes
 use Rattle.write_proof.proofs.FirstCalls.{found_here, stays_none, nowhere}
 use Rattle.write_proof.proofs.MarkCalls.{first_entry}
-use Rattle.write_proof.proofs.first_lines.not_listed.Goals as goal
+use Rattle.write_proof.proofs.whole_rules.not_listed.Goals as goal
 
 pub returns-then-is_not_listed : goal.returns-then-is_not_listed
 returns-then-is_not_listed c = λ graph slot at.
