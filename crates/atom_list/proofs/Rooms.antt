@@ -1,10 +1,10 @@
 -- The room for bytes that lists are given.
-use Rattle.std.proofs.Common.{◌≡◌, ℕ, ◌+◌, ◌*◌, ◌-◌, ◌≤◌, List, [], ◌∷◌, ◌++◌, length, take, drop, slice_range, sym, ◌∙◌, ap, length-append, arith}
+use Rattle.std.proofs.Common.{◌≡◌, ℕ, ◌+◌, ◌*◌, ◌^◌, ◌-◌, ◌<◌, ◌≤◌, List, [], ◌∷◌, ◌++◌, length, take, drop, slice_range, sym, ◌∙◌, ap, length-append, arith}
 use Rattle.std.proofs.lemmas.List.{take-append-drop, take-take}
-use Rattle.context_model.specs.Atoms.{Atom}
-use Rattle.context_model.specs.declared.Form.TheVariants.{One}
+use Rattle.context_model.specs.Atoms.{Atom, AreAtoms}
+use Rattle.context_model.specs.declared.Form.TheVariants.{One, Two}
 use Rattle.context_model.specs.Framing.{base_128, frame, frames}
-use Rattle.context_model.proofs.FramingLaws.{length-base_128}
+use Rattle.context_model.proofs.FramingLaws.{length-base_128, frames_lens}
 use Rattle.atom_list.specs.Builder.{byte_room_for}
 
 pub room_of-append : (xs ys : List Atom) → byte_room_for (xs ++ ys) ≡ byte_room_for xs + byte_room_for ys
@@ -30,3 +30,21 @@ room_of-front m n list below =
 -- A longer run.
 pub room_of-longer : (list : List Atom) (from m n : ℕ) → m ≤ n → byte_room_for (slice_range list from m) ≤ byte_room_for (slice_range list from n)
 room_of-longer list from m n below = room_of-front (m - from) (n - from) (drop from list) (omega arith)
+
+-- The room of a list whose frames are short, and two bytes more an atom.
+pub room_light : (list : List Atom) → AreAtoms list → length (frames Two list) < 2 ^ 32 → (length list < 2 ^ 32) × (byte_room_for list + 2 * length list < 2 ^ 35)
+room_light list short light =
+    let same = frames_lens list short in
+    let size = room_of-size list in
+    let few = few_frames list in
+    (omega arith, omega arith)
+  where
+    -- Each frame has a byte at least.
+    few_frames : (list : List Atom) → length list ≤ length (frames One list)
+    few_frames [] = omega arith
+    few_frames (x ∷ list) =
+        let rest = few_frames list in
+        let code = length-base_128 (length x) in
+        let long : length (frame One x) ≡ length (base_128 (length x)) + length x = length-append (base_128 (length x)) x in
+        let size : length (frames One (x ∷ list)) ≡ length (frame One x) + length (frames One list) = length-append (frame One x) (frames One list) in
+        omega arith

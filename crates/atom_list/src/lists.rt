@@ -60,6 +60,7 @@ impl AtomList {
         ensures len { result ≡ length self.now }
         ensures atoms { AreAtoms self.now }
         ensures light { length (frames Two self.now) < 2 ^ 32 }
+        ensures few { result < 2 ^ 32 }
     {
         self.starts.len()
     }
@@ -112,10 +113,8 @@ impl AtomList {
         requires { length atom.now ≤ ATOM_MAX }
         ensures { IfOk result (λ made. made ≡ self.now ++ atom.now ∷ []) }
     {
-        let room = self.room().ok_or(Memory)?;
-        let room = room.checked_add(atom.len() + 3).ok_or(Memory)?;
-        let count = self.len().checked_add(1).ok_or(Memory)?;
-        let mut built = Builder::with_room(self.alloc, room, count)?;
+        let room = self.room() + atom.len() + 3;
+        let mut built = Builder::with_room(self.alloc, room, self.len() + 1)?;
         built.push_rest(self, 0);
         built.push(atom);
         built.finish()

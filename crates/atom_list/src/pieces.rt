@@ -1,6 +1,6 @@
 //! Frames that follow one another in the buffer of a list.
 
-ghost use Rattle.std.specs.Prelude.{◌≡◌, ◌+◌, ◌*◌, ◌<◌, ◌≤◌, [], length, take, IfSome};
+ghost use Rattle.std.specs.Prelude.{◌≡◌, ◌+◌, ◌*◌, ◌^◌, ◌<◌, ◌≤◌, [], length, take, IfSome};
 ghost use Rattle.context_model.specs.declared.Form.TheVariants.{One};
 ghost use Rattle.context_model.specs.Framing.{frames};
 ghost use Rattle.atom_list.specs.Builder.{byte_room_for, run_room};
@@ -117,36 +117,35 @@ impl AtomList {
         }
     }
 
-    /// Room for the bytes of the list in a builder, at most two bytes an atom more than they take. `None` where no such
-    /// number fits.
-    pub fn room(&self) -> Option<usize>
-        ensures enough { IfSome result (λ room. byte_room_for self.now ≤ room) }
-        ensures bound { IfSome result (λ room. room ≤ byte_room_for self.now + 2 * length self.now) }
+    /// Room for the bytes of the list in a builder, at most two bytes an atom more than they take.
+    pub fn room(&self) -> usize
+        ensures enough { byte_room_for self.now ≤ result }
+        ensures bound { result ≤ byte_room_for self.now + 2 * length self.now }
+        ensures light { result < 2 ^ 35 }
     {
-        let mut room: usize = 0;
+        let mut room = 0;
         let mut at = 0;
         while at < self.len() {
-            let (count, more) = self.next_room(at)?;
-            room = room.checked_add(more)?;
+            let (count, more) = self.next_room(at);
+            room += more;
             at += count;
         }
-        Some(room)
+        room
     }
 
-    /// How many frames follow one another from a place on, or 1 where the atom there has none, and room for them. `None` where
-    /// no such number fits.
-    fn next_room(&self, at: usize) -> Option<(usize, usize)>
+    /// How many frames follow one another from a place on, or 1 where the atom there has none, and room for them.
+    fn next_room(&self, at: usize) -> (usize, usize)
         requires { at < length self.now }
-        ensures some { IfSome result (λ next. 1 ≤ next.0) }
-        ensures few { IfSome result (λ next. at + next.0 ≤ length self.now) }
-        ensures enough { IfSome result (λ next. run_room self.now at (at + next.0) ≤ next.1) }
-        ensures bound { IfSome result (λ next. next.1 ≤ run_room self.now at (at + next.0) + 2 * next.0) }
+        ensures some { 1 ≤ result.0 }
+        ensures few { at + result.0 ≤ length self.now }
+        ensures enough { run_room self.now at (at + result.0) ≤ result.1 }
+        ensures bound { result.1 ≤ run_room self.now at (at + result.0) + 2 * result.0 }
     {
         let piece = self.piece(at, self.len());
         let count = piece.starts.len();
         if count == 0 {
-            return Some((1, self.get(at).unwrap().len() + 3));
+            return (1, self.get(at).unwrap().len() + 3);
         }
-        Some((count, count.checked_mul(2)?.checked_add(piece.bytes.len())?))
+        (count, 2 * count + piece.bytes.len())
     }
 }

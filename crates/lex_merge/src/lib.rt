@@ -31,10 +31,7 @@ fn room_for(alloc: Global, a: &AtomList, b: &AtomList) -> Result<Builder, Memory
     ensures room { IfOk result (HasMergeRoom a.now 0 b.now 0) }
     ensures empty { IfOk result (λ built. built.atoms ≡ []) }
 {
-    let (first, second) = (a.room().ok_or(Memory)?, b.room().ok_or(Memory)?);
-    let room = first.checked_add(second).ok_or(Memory)?;
-    let count = a.len().checked_add(b.len()).ok_or(Memory)?;
-    Builder::with_room(alloc, room, count)
+    Builder::with_room(alloc, a.room() + b.room(), a.len() + b.len())
 }
 
 /// The merge of two lists whose first `front` atoms are the same. Where the second brings no atom, it is the first list.

@@ -164,7 +164,7 @@ fn lists_that_grow(rt: HostRuntime) -> Result<(), Fail> {
 
 /// All atoms of a list, in a list of their own.
 fn rest_of(alloc: Global, list: &AtomList) -> Result<AtomList, Memory> {
-    let room = list.room().ok_or(Memory)?;
+    let room = list.room();
     let mut built = Builder::with_room(alloc, room, list.len())?;
     built.push_rest(list, 0);
     built.finish()
@@ -181,7 +181,7 @@ fn run_of(
 ) -> Result<AtomList, Memory> {
     assert!(rt; from <= to);
     assert!(rt; to <= list.len());
-    let room = list.room().ok_or(Memory)?;
+    let room = list.room();
     let mut built = Builder::with_room(alloc, room, list.len())?;
     built.push_run(list, from, to);
     built.finish()
@@ -191,10 +191,10 @@ fn run_of(
 fn runs_of_lists(rt: HostRuntime) -> Result<(), Fail> {
     let alloc = rt.alloc();
     let mut origin = list_of(alloc, "f800 0061 0062 -")?;
-    assert_eq!(rt; origin.room(), Some(10 + 2 * 4));
+    assert_eq!(rt; origin.room(), 10 + 2 * 4);
     expect_atoms(alloc, &run_of(&rt, alloc, &origin, 1, 3)?, "0061 0062")?;
     cut(&rt, &mut origin, 2);
-    assert_eq!(rt; origin.room(), Some(6 + 2 * 2 + 3));
+    assert_eq!(rt; origin.room(), 6 + 2 * 2 + 3);
     expect_atoms(alloc, &run_of(&rt, alloc, &origin, 1, 3)?, "0061 -")
 }
 

@@ -8,6 +8,7 @@ ghost use Rattle.scalar_types.specs.Fronts.{Begins, BeginsWithSome};
 ghost use Rattle.scalar_types.specs.Escapes.{IsNonzero, IsEscapedRun, FitsOpen};
 
 use crate::codec::TakeFault;
+use memchr::memchr;
 use outside::Memory;
 use std::alloc::Global;
 
@@ -30,7 +31,7 @@ fn split_at_zero<'a>(bytes: &'a [u8]) -> Option<(&'a [u8], &'a [u8])>
     ensures found { IfSome result (λ parts. All IsNonzero parts.0.now × (bytes.now ≡ parts.0.now ++ 0 ∷ parts.1.now)) }
     ensures none { IsNone result → All IsNonzero bytes.now }
 {
-    let at = bytes.iter().position(|byte| *byte == 0)?;
+    let at = memchr(0, bytes)?;
     Some((&bytes[..at], &bytes[at + 1..]))
 }
 

@@ -116,7 +116,7 @@ fn is_long(list: &AtomList, room: usize) -> bool
 fn write_pieces(alloc: Global, list: &AtomList) -> Result<Vec<u8>, Memory>
     ensures { IfOk result (λ bytes. bytes.items ≡ bytes_of One list.now) }
 {
-    let room = list.room().ok_or(Memory)?;
+    let room = list.room();
     if is_long(list, room) {
         return write_two(alloc, list);
     }

@@ -15,9 +15,9 @@ returns-then-count-eq0-clause-bound c = let one = room_of-one c.args.self.now c.
 pub returns-clause-enough : goal.returns-clause-enough
 returns-clause-enough c =
     let room = room_of-piece _ _ _ _ c.piece-piece.ensures.piece in
-    omega (arith, room.1, c.in_ok-checked_mul.ensures, c.in_ok-checked_add.ensures)
+    omega (arith, room.1)
 
 pub returns-clause-bound : goal.returns-clause-bound
 returns-clause-bound c =
     let room = room_of-piece _ _ _ _ c.piece-piece.ensures.piece in
-    omega (arith, room.0, c.in_ok-checked_mul.ensures, c.in_ok-checked_add.ensures)
+    omega (arith, room.0)
