@@ -1,9 +1,8 @@
 //! Reports of shown steps.
 
-ghost use Rattle.std.specs.Prelude.{◌≡◌, ℕ, ◌<◌, ◌++◌, length, IfOk, OnOk};
+ghost use Rattle.std.specs.Prelude.{◌≡◌, ℕ, ◌<◌, length, IfOk, OnOk};
 ghost use Rattle.trace_model.specs.Graphs.{IsTypedContext};
 ghost use Rattle.trace_model.specs.Runs.{list_at};
-ghost use Rattle.text_model.specs.Commas.{comma_before};
 ghost use Rattle.report_json.specs.JsonReports.{AddsStepObject, IsJsonReport};
 
 use crate::objects::step_json;
@@ -11,17 +10,8 @@ use atom_list::Context;
 use field_table::Table;
 use outside::Memory;
 use recorded_graph::Graph;
+use report_text::put_comma;
 use std::alloc::Global;
-
-/// Appends the comma before the object that has `at` objects before it: none before the first.
-fn put_comma(at: usize, into: &mut Vec<u8>) -> Result<(), Memory>
-    ensures { OnOk result (into.new.items ≡ into.old.items ++ comma_before at) }
-{
-    if at > 0 {
-        into.push(b',')?;
-    }
-    Ok(())
-}
 
 /// Appends the object of the step with this number.
 fn put_step(

@@ -15,4 +15,5 @@ mod scalar_texts;
 mod value_texts;
 
 pub use blocks::{block, put_block};
+pub use commas::put_comma;
 pub use value_texts::{put_value, value_text};

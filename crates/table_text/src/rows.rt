@@ -1,6 +1,6 @@
 //! What a line says of a field.
 
-ghost use Rattle.std.specs.Prelude.{◌≡◌, ◌≢◌, ◌++◌, ◌∷◌, [], ℕ, List, IfOk, IfErr, MatchOption};
+ghost use Rattle.std.specs.Prelude.{◌≡◌, IfOk, IfErr, MatchOption};
 ghost use Rattle.field_table.specs.Plain.{IsIndexedShape};
 ghost use Rattle.table_text.specs.Rows.{SaysRow};
 ghost use Rattle.table_text.specs.Words.{IsFree, HasNoParts, parts_line};
@@ -12,6 +12,7 @@ use crate::shapes::read_shape;
 use crate::words::{cut_word, read_depth, read_name, read_number};
 use field_table::Shape;
 use std::alloc::Global;
+use text_lines::without_feed;
 
 /// A field at a depth, as a line says it. A bag that its shape ends in is without its fields.
 #[derive(Drop)]
@@ -29,17 +30,6 @@ struct Parts<'a> {
     number: &'a [u8],
     name: &'a [u8],
     shape: &'a [u8],
-}
-
-/// A line without the line feed at its end; none where it has none.
-fn without_feed(line: &[u8]) -> Option<&[u8]>
-    ensures { MatchOption result ((text : List ℕ) → line.now ≢ text ++ 10 ∷ [])
-        (λ text. line.now ≡ text.now ++ 10 ∷ []) }
-{
-    match line {
-        [text @ .., b'\n'] => Some(text),
-        _ => None,
-    }
 }
 
 /// The parts of a line, which ends with a line feed.

@@ -1,6 +1,6 @@
 //! The lines of some bytes with their line feeds, of which none is skipped.
 
-ghost use Rattle.std.specs.Prelude.{◌≡◌, ◌<◌, [], ◌∷◌, length, IfSome, MatchOption};
+ghost use Rattle.std.specs.Prelude.{◌≡◌, ◌≢◌, ◌<◌, List, ℕ, [], ◌∷◌, ◌++◌, length, IfSome, MatchOption};
 ghost use Rattle.text_lines.specs.FedLines.{fed_lines};
 
 use crate::lines::feed_at;
@@ -16,5 +16,16 @@ pub fn cut_fed_line(bytes: &[u8]) -> Option<(&[u8], &[u8])>
         Some(at) => Some(bytes.split_at(at + 1)),
         None if bytes.is_empty() => None,
         None => Some((bytes, &[])),
+    }
+}
+
+/// A line without the line feed at its end; none where it has none.
+pub fn without_feed(line: &[u8]) -> Option<&[u8]>
+    ensures { MatchOption result ((text : List ℕ) → line.now ≢ text ++ 10 ∷ [])
+        (λ text. line.now ≡ text.now ++ 10 ∷ []) }
+{
+    match line {
+        [text @ .., b'\n'] => Some(text),
+        _ => None,
     }
 }

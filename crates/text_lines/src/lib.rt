@@ -12,7 +12,7 @@ mod fed_lines;
 mod hex_lines;
 mod lines;
 
-pub use fed_lines::cut_fed_line;
+pub use fed_lines::{cut_fed_line, without_feed};
 pub use hex_lines::{HexCode, HexFault, hex_bytes, hex_line, push_digits, push_hex};
 pub use lines::{Line, Lines, lines_of};
 

@@ -8,11 +8,11 @@ ghost use Rattle.write_proof.specs.Checker.{BeginWith};
 ghost use Rattle.write_proof.specs.Views.{entry_of};
 
 use crate::entries::Entry;
-use crate::whole_rules::{missing, not_listed, too_much};
 use crate::joins::{join_steps, known};
 use crate::marks::{named_uses, reached_marks};
 use crate::reading::read_entries;
 use crate::verdicts::{Verified, VerifyCode};
+use crate::whole_rules::{missing, not_listed, too_much};
 use field_table::Table;
 use outside::Memory;
 use recorded_graph::Graph;

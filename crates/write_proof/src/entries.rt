@@ -1,6 +1,6 @@
 //! What the lines of a certificate say.
 
-ghost use Rattle.std.specs.Prelude.{◌≡◌, ◌≢◌, ◌++◌, [], ◌∷◌, ℕ, List, codes, MatchOption};
+ghost use Rattle.std.specs.Prelude.{◌≡◌, ◌≢◌, ◌++◌, ℕ, List, codes, MatchOption};
 ghost use Rattle.decimal_text.specs.Answers.{IsSomeOf};
 ghost use Rattle.graph_lines.specs.Reading.{IsNumberText};
 ghost use Rattle.write_proof.specs.Entries as plain;
@@ -9,6 +9,7 @@ ghost use Rattle.write_proof.specs.Views.{IsWhyText, IsReachText, IsInWords, ent
 
 use graph_lines::{cut_word, is_path, read_number, take_number};
 use std::str;
+use text_lines::without_feed;
 
 /// What a line of a certificate says.
 #[derive(Clone, Copy, Debug)]
@@ -21,17 +22,6 @@ pub(crate) enum Entry<'a> {
     Reach { step: u64, child: u64 },
     /// `uses STEP`: the value is joined from what these steps contribute.
     Uses { step: u64 },
-}
-
-/// A line without the line feed that it must end with.
-fn without_feed(line: &[u8]) -> Option<&[u8]>
-    ensures { MatchOption result ((text : List ℕ) → line.now ≢ text ++ 10 ∷ [])
-        (λ text. line.now ≡ text.now ++ 10 ∷ []) }
-{
-    match line {
-        [text @ .., b'\n'] => Some(text),
-        _ => None,
-    }
 }
 
 /// What stands behind `value ` at the front of a text.
