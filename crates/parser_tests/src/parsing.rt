@@ -4,6 +4,7 @@ use bdl_lexer::{MAX_SOURCE, lex};
 use bdl_parser::{BagField, Decl, Module, ParseFault, StructField, TypeForm, TypeNode, parse};
 use outside::Memory;
 use std::alloc::Global;
+use std::fmt::Write;
 use std::test::Fail;
 
 // Each text with the number of the token at fault and the code.
@@ -205,83 +206,94 @@ static NESTED: [Nested; 11] = [
     },
 ];
 
-/// A type with its place and those of the types inside it.
-fn type_text(alloc: Global, node: &TypeNode) -> Result<String, Fail> {
-    let place = format!(in alloc; "{}:{}", node.at.line, node.at.column)?;
-    let form = match &node.form {
-        TypeForm::Scalar(word) => format!(in alloc; "{word:?}")?,
-        TypeForm::Float => String::from_str(alloc, "Float")?,
-        TypeForm::Double => String::from_str(alloc, "Double")?,
-        TypeForm::Taint => String::from_str(alloc, "Taint")?,
-        TypeForm::Counter => String::from_str(alloc, "Counter")?,
+/// What the text of a type begins with, but that of a scalar.
+fn front_of(form: &TypeForm) -> &str {
+    match form {
+        TypeForm::Scalar(_) => "",
+        TypeForm::Float => "Float",
+        TypeForm::Double => "Double",
+        TypeForm::Taint => "Taint",
+        TypeForm::Counter => "Counter",
+        TypeForm::Set(_) => "set<",
+        TypeForm::Greatest(_) => "greatest<",
+        TypeForm::Map(_, _) => "map<",
+        TypeForm::Name(name) => name.as_str(),
+    }
+}
+
+/// Appends a type with its place and those of the types inside it.
+fn put_type(node: &TypeNode, text: &mut String) -> Result<(), Fail> {
+    let front = front_of(&node.form);
+    write!(text, "{}:{} {front}", node.at.line, node.at.column)?;
+    match &node.form {
+        TypeForm::Scalar(word) => write!(text, "{word:?}")?,
         TypeForm::Set(element) => {
-            let element = type_text(alloc, element)?;
-            format!(in alloc; "set<{element}>")?
+            put_type(element, text)?;
+            text.push('>')?;
         }
         TypeForm::Greatest(element) => {
-            let element = type_text(alloc, element)?;
-            format!(in alloc; "greatest<{element}>")?
+            put_type(element, text)?;
+            text.push('>')?;
         }
         TypeForm::Map(key, value) => {
-            let key = type_text(alloc, key)?;
-            let value = type_text(alloc, value)?;
-            format!(in alloc; "map<{key}, {value}>")?
+            put_type(key, text)?;
+            text.push_str(", ")?;
+            put_type(value, text)?;
+            text.push('>')?;
         }
-        TypeForm::Name(name) => String::from_str(alloc, name.as_str())?,
-    };
-    Ok(format!(in alloc; "{place} {form}")?)
+        _ => {}
+    }
+    Ok(())
 }
 
-/// The field of a bag with its places.
-fn bag_field_text(alloc: Global, field: &BagField) -> Result<String, Fail> {
-    let kind = type_text(alloc, &field.kind)?;
-    let name = format!(in alloc;
-        "{} {}:{}",
+/// Appends the field of a bag with its places.
+fn put_bag_field(field: &BagField, text: &mut String) -> Result<(), Fail> {
+    text.push(' ')?;
+    put_type(&field.kind, text)?;
+    let (name, number) = (&field.name_at, &field.number_at);
+    write!(
+        text,
+        " {} {}:{}",
         field.name.as_str(),
-        field.name_at.line,
-        field.name_at.column
+        name.line,
+        name.column
     )?;
-    let number = format!(in alloc;
-        "{} {}:{}",
-        field.number, field.number_at.line, field.number_at.column
+    write!(
+        text,
+        " = {} {}:{};",
+        field.number, number.line, number.column
     )?;
-    Ok(format!(in alloc; " {kind} {name} = {number};")?)
+    Ok(())
 }
 
-/// The field of a struct with its places.
-fn struct_field_text(alloc: Global, field: &StructField) -> Result<String, Fail> {
-    let kind = type_text(alloc, &field.kind)?;
-    Ok(format!(in alloc;
-        " {kind} {} {}:{};",
-        field.name.as_str(),
-        field.name_at.line,
-        field.name_at.column
-    )?)
+/// Appends the field of a struct with its places.
+fn put_struct_field(field: &StructField, text: &mut String) -> Result<(), Fail> {
+    text.push(' ')?;
+    put_type(&field.kind, text)?;
+    let at = &field.name_at;
+    write!(text, " {} {}:{};", field.name.as_str(), at.line, at.column)?;
+    Ok(())
 }
 
 /// Appends a declaration.
-fn put_decl(alloc: Global, decl: &Decl, text: &mut String) -> Result<(), Fail> {
+fn put_decl(decl: &Decl, text: &mut String) -> Result<(), Fail> {
     match decl {
         Decl::Bag { name, at, fields } => {
-            text.push_str(format!(in alloc;
-                " bag {} {}:{} {{",
-                name.as_str(),
-                at.line,
-                at.column
-            )?.as_str())?;
+            write!(text, " bag {} {}:{} {{", name.as_str(), at.line, at.column)?;
             for field in fields.as_slice() {
-                text.push_str(bag_field_text(alloc, field)?.as_str())?;
+                put_bag_field(field, text)?;
             }
         }
         Decl::Struct { name, at, fields } => {
-            text.push_str(format!(in alloc;
+            write!(
+                text,
                 " struct {} {}:{} {{",
                 name.as_str(),
                 at.line,
                 at.column
-            )?.as_str())?;
+            )?;
             for field in fields.as_slice() {
-                text.push_str(struct_field_text(alloc, field)?.as_str())?;
+                put_struct_field(field, text)?;
             }
         }
     }
@@ -294,13 +306,14 @@ fn module_text(alloc: Global, module: &Module) -> Result<String, Fail> {
     let mut text = String::from_str(alloc, "ok")?;
     for import in module.imports.as_slice() {
         let (line, column) = (import.at.line, import.at.column);
-        text.push_str(format!(in alloc;
+        write!(
+            text,
             " import \"{}\" {line}:{column};",
             import.file.as_str()
-        )?.as_str())?;
+        )?;
     }
     for decl in module.decls.as_slice() {
-        put_decl(alloc, decl, &mut text)?;
+        put_decl(decl, &mut text)?;
     }
     Ok(text)
 }

@@ -2,6 +2,7 @@
 
 use bdl_lexer::{LexFault, MAX_SOURCE, lex};
 use std::alloc::Global;
+use std::fmt::Write;
 use std::test::Fail;
 
 // Each source with its tokens (the class, the first byte and the length, the place), or the place and the code of its first fault.
@@ -113,13 +114,8 @@ fn answer_of(alloc: Global, source: &[u8]) -> Result<String, Fail> {
     };
     let mut text = String::from_str(alloc, "ok")?;
     for token in &tokens {
-        let class = format!(in alloc; " {:?}", token.class)?;
-        text.push_str(class.as_str())?;
-        let place = format!(in alloc;
-            " {}+{} {}:{}",
-            token.at, token.len, token.line, token.column
-        )?;
-        text.push_str(place.as_str())?;
+        write!(text, " {:?} {}+{}", token.class, token.at, token.len)?;
+        write!(text, " {}:{}", token.line, token.column)?;
     }
     Ok(text)
 }
