@@ -3,6 +3,7 @@
 use program_calls::output_of;
 use random_bags::Dice;
 use std::alloc::Global;
+use std::fmt::Write;
 use std::process::Abort;
 use std::test::Fail;
 use std::thread::Threads;
@@ -127,7 +128,7 @@ impl Graph {
     fn new(alloc: Global) -> Result<Graph, Fail> {
         let mut text = String::new(alloc);
         for (word, name, view) in &SERVICES {
-            text.push_str(format!(in alloc; "{word} {name} {view}\n")?.as_str())?;
+            writeln!(text, "{word} {name} {view}")?;
         }
         let mut graph = Graph {
             text,
@@ -155,8 +156,7 @@ impl Graph {
     /// Adds a step: the first word of its line, what stands behind its number, and what it is.
     fn add(&mut self, word: &str, rest: &str, service: usize, said: Said) -> Result<(), Fail> {
         let alloc = *self.text.allocator();
-        let line = format!(in alloc; "{word} {} {rest}\n", self.steps.len())?;
-        self.text.push_str(line.as_str())?;
+        writeln!(self.text, "{word} {} {rest}", self.steps.len())?;
         self.steps.push(Step { service, said })?;
         Ok(())
     }
@@ -208,7 +208,7 @@ fn add_join(graph: &mut Graph, alloc: Global, dice: &mut Dice) -> Result<(), Fai
         if service.is_none() || service == Some(step.service) {
             service = Some(step.service);
             said = said.join(&step.said);
-            parents.push_str(format!(in alloc; " {parent}")?.as_str())?;
+            write!(parents, " {parent}")?;
         }
     }
     graph.add("join", parents.trim_start(), service.unwrap_or(0), said)
@@ -397,8 +397,7 @@ fn random_graph(alloc: Global, dice: &mut Dice, trims: bool) -> Result<Graph, Fa
         add_step(&mut graph, alloc, dice, trims)?;
     }
     for step in 0..graph.steps.len() {
-        let line = format!(in alloc; "show {step}\n")?;
-        graph.text.push_str(line.as_str())?;
+        writeln!(graph.text, "show {step}")?;
     }
     Ok(graph)
 }

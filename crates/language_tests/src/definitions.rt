@@ -8,6 +8,7 @@ use field_table::{Shape, Table};
 use outside::{MemoryLibrary, SureLibrary};
 use scalar_types::ScalarKind;
 use std::alloc::Global;
+use std::fmt::Write;
 use std::test::Fail;
 
 #[test]
@@ -244,13 +245,13 @@ fn layers(alloc: Global, count: u32, width: u32) -> Result<String, Fail> {
     let mut text = String::new(alloc);
     for layer in 0..count {
         let inner = u64::from(layer) + 1;
-        text.push_str(format!(in alloc; "bag B{layer} {{ ")?.as_str())?;
+        write!(text, "bag B{layer} {{ ")?;
         for number in 0..width {
-            text.push_str(format!(in alloc; "B{inner} f{number} = {number}; ")?.as_str())?;
+            write!(text, "B{inner} f{number} = {number}; ")?;
         }
         text.push_str("}\n")?;
     }
-    text.push_str(format!(in alloc; "bag B{count} {{ bool b = 0; }}")?.as_str())?;
+    write!(text, "bag B{count} {{ bool b = 0; }}")?;
     Ok(text)
 }
 

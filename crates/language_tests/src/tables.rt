@@ -5,6 +5,7 @@ use field_table::{Shape, Table};
 use outside::Library;
 use scalar_types::ScalarKind;
 use std::alloc::Global;
+use std::fmt::Write;
 use std::test::Fail;
 
 /// The word for a shape.
@@ -28,12 +29,12 @@ pub(crate) fn slots_of(alloc: Global, table: &Table) -> Result<String, Fail> {
         let name = table.name(alloc, slot)?;
         let path = table.numbers(slot);
         let mut mark = ':';
-        text.push_str(format!(in alloc; " {}", name.as_str())?.as_str())?;
+        write!(text, " {}", name.as_str())?;
         for number in path.as_slice() {
-            text.push_str(format!(in alloc; "{mark}{number}")?.as_str())?;
+            write!(text, "{mark}{number}")?;
             mark = '.';
         }
-        text.push_str(format!(in alloc; ":{}", shape_name(table.shape(slot)))?.as_str())?;
+        write!(text, ":{}", shape_name(table.shape(slot)))?;
     }
     Ok(text)
 }

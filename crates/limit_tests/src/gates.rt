@@ -3,6 +3,7 @@
 use outside::{Gate, MeetingGate};
 use program_calls::{FILES, Objects, RUN, call};
 use std::alloc::Global;
+use std::fmt::Write;
 use std::process::Abort;
 use std::sync::atomic::{AtomicBool, AtomicUsize, Ordering};
 use std::test::Fail;
@@ -14,7 +15,7 @@ fn steps_of_one_rank_meet(rt: HostRuntime) -> Result<(), Fail> {
     let alloc = rt.alloc();
     let mut input = String::from_str(alloc, "service a all\nstart 0 a\n")?;
     for step in 1..1_001 {
-        input.push_str(format!(in alloc; "branch {step} 0\n")?.as_str())?;
+        writeln!(input, "branch {step} 0")?;
     }
     input.push_str("show 1000\n")?;
     let meeting = MeetingGate::new(1, 1_000);

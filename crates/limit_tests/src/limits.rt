@@ -2,6 +2,7 @@
 
 use program_calls::{FILES, Objects, RUN, answer_of_line, expect_row};
 use std::alloc::Global;
+use std::fmt::Write;
 use std::test::Fail;
 
 /// A long text: what stands before, so many copies of a piece, and what stands behind. In the copies `@` is the number of the copy,
@@ -467,8 +468,8 @@ fn data_lines(alloc: Global) -> Result<(String, String), Fail> {
     let mut merged = String::new(alloc);
     for at in 0..4096_u32 {
         let number = at * 1021 % 4096;
-        lines.push_str(format!(in alloc; "#\n0300{number:04x}\n")?.as_str())?;
-        merged.push_str(format!(in alloc; "0300{at:04x}")?.as_str())?;
+        writeln!(lines, "#\n0300{number:04x}")?;
+        write!(merged, "0300{at:04x}")?;
     }
     merged.push('\n')?;
     Ok((lines, merged))

@@ -4,6 +4,7 @@ use bdl_lexer::MAX_SOURCE;
 use bdl_load::{DefFault, load};
 use outside::MemoryLibrary;
 use std::alloc::Global;
+use std::fmt::Write;
 use std::test::Fail;
 
 // Files in lines, each with its name, a bar, and what it holds; the root; the names that are asked for; and the answer, where it
@@ -244,7 +245,7 @@ fn wide(alloc: Global, count: u32, last: &str) -> Result<MemoryLibrary, Fail> {
     for number in 0..count {
         let name = format!(in alloc; "f{number}")?;
         library.add(name.as_str(), b"")?;
-        text.push_str(format!(in alloc; "import \"f{number}\";\n")?.as_str())?;
+        writeln!(text, "import \"f{number}\";")?;
     }
     text.push_str("import \"f0\";\n")?;
     text.push_str(last)?;

@@ -3,6 +3,7 @@
 use crate::reports::REPORTS;
 use program_calls::{FILES, RUN, expect_row, output_of};
 use std::alloc::Global;
+use std::fmt::Write;
 use std::process::Abort;
 use std::test::Fail;
 use std::thread::Threads;
@@ -144,7 +145,7 @@ static LOADS: [Load; 3] = [
 fn counts(alloc: Global, rounds: u32) -> Result<String, Fail> {
     let mut text = format!(in alloc; "0x7730:{rounds}")?;
     for writer in 1..8 {
-        text.push_str(format!(in alloc; ",0x773{writer}:{rounds}")?.as_str())?;
+        write!(text, ",0x773{writer}:{rounds}")?;
     }
     Ok(text)
 }
@@ -153,7 +154,7 @@ fn counts(alloc: Global, rounds: u32) -> Result<String, Fail> {
 fn numbers(alloc: Global, bound: u32) -> Result<String, Fail> {
     let mut text = String::from_str(alloc, "0")?;
     for number in 1..bound {
-        text.push_str(format!(in alloc; ",{number}")?.as_str())?;
+        write!(text, ",{number}")?;
     }
     Ok(text)
 }

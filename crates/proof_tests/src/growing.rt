@@ -2,6 +2,7 @@
 
 use crate::fixtures::{DEFINITION, certificate_of, verdict_on};
 use std::alloc::Global;
+use std::fmt::Write;
 use std::test::Fail;
 use test_graphs::graph_of;
 use test_tables::table_of;
@@ -14,7 +15,7 @@ fn growing(alloc: Global) -> Result<String, Fail> {
     let mut text = String::from_str(alloc, "service a all\nstart 0 a\n")?;
     for before in 0..WRITES {
         let step = before + 1;
-        text.push_str(format!(in alloc; "set {step} {before} tags \"{step:04}\"\n")?.as_str())?;
+        writeln!(text, "set {step} {before} tags \"{step:04}\"")?;
     }
     Ok(text)
 }
@@ -26,9 +27,9 @@ fn certificate(alloc: Global) -> Result<String, Fail> {
     let mut using = String::from_str(alloc, "uses 1\n")?;
     for before in 1..WRITES {
         let step = before + 1;
-        value.push_str(format!(in alloc; ",\"{step:04}\"")?.as_str())?;
-        reaching.push_str(format!(in alloc; "reach {before} {step}\n")?.as_str())?;
-        using.push_str(format!(in alloc; "uses {step}\n")?.as_str())?;
+        write!(value, ",\"{step:04}\"")?;
+        writeln!(reaching, "reach {before} {step}")?;
+        writeln!(using, "uses {step}")?;
     }
     Ok(format!(in alloc; "why {WRITES} tags\nvalue {{{value}}}\n{reaching}{using}")?)
 }

@@ -1,6 +1,7 @@
 //! Graphs that are run, with their reports.
 
 use std::alloc::Global;
+use std::fmt::Write;
 use std::test::Fail;
 
 /// A request that goes through twelve services and comes back.
@@ -197,7 +198,7 @@ fn round(alloc: Global, steps: usize, from: usize, count: usize) -> Result<Strin
     let mut words = String::new(alloc);
     for number in 0..count {
         let parent = from.wrapping_add(number).checked_rem(steps).unwrap_or(0);
-        words.push_str(format!(in alloc; " {parent}")?.as_str())?;
+        write!(words, " {parent}")?;
     }
     Ok(words)
 }
@@ -219,8 +220,7 @@ fn line(alloc: Global, own: usize, steps: usize, number: usize) -> Result<String
 pub fn mixed_text(alloc: Global) -> Result<String, Fail> {
     let mut text = String::from_str(alloc, "service a all\n")?;
     for number in 0..80u8 {
-        let line = format!(in alloc; "recv {number} a 02f8{number:02x}0100\n")?;
-        text.push_str(line.as_str())?;
+        writeln!(text, "recv {number} a 02f8{number:02x}0100")?;
     }
     for number in 0..160 {
         text.push_str(line(alloc, 80 + number, 80, number)?.as_str())?;
@@ -236,12 +236,12 @@ pub fn mixed_text(alloc: Global) -> Result<String, Fail> {
 pub fn joins_text(alloc: Global, headers: u8, count: u8) -> Result<String, Fail> {
     let mut digits = String::new(alloc);
     for number in 0..headers {
-        digits.push_str(format!(in alloc; "02f8{number:02x}020000020001020002")?.as_str())?;
+        write!(digits, "02f8{number:02x}020000020001020002")?;
     }
     let mut text = format!(in alloc; "service a all\nrecv 0 a {digits}\nrecv 1 a {digits}\n")?;
     for number in 0..count {
         let own = u32::from(number) + 2;
-        text.push_str(format!(in alloc; "join {own} 0 1\n")?.as_str())?;
+        writeln!(text, "join {own} 0 1")?;
     }
     Ok(text)
 }

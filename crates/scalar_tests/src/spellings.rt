@@ -9,6 +9,37 @@ use std::cmp::Ordering;
 use std::process::Abort;
 use std::test::Fail;
 
+/// The value is put as this spelling, behind what stands there.
+fn is_put<C: Codec>(
+    rt: &impl Abort,
+    alloc: Global,
+    codec: &C,
+    value: &C::Value,
+    spelling: &[u8],
+) -> Result<(), Fail> {
+    assert!(rt; codec.fits(value));
+    let mut bytes = Vec::from_slice(alloc, b"before")?;
+    codec.put(value, &mut bytes)?;
+    assert!(rt; bytes.len() == 6 + spelling.len());
+    assert!(rt; &bytes[6..] == spelling);
+    Ok(())
+}
+
+/// The value is taken from this spelling.
+fn is_taken<C: Codec>(
+    rt: &impl Abort,
+    alloc: Global,
+    codec: &C,
+    value: &C::Value,
+    spelling: &[u8],
+) -> Result<(), Fail> {
+    assert!(rt; codec.fits(value));
+    assert!(rt; codec.spelled(spelling));
+    let taken = codec.take(alloc, spelling)?;
+    assert!(rt; codec.compare(&taken, value) == Ordering::Equal);
+    Ok(())
+}
+
 /// The value has this spelling, by every call of the codec.
 pub(crate) fn spells<C: Codec>(
     rt: &impl Abort,
@@ -19,16 +50,10 @@ pub(crate) fn spells<C: Codec>(
 ) -> Result<(), Fail> {
     let codec = &codec.copy_codec()?;
     let value = &codec.copy(value)?;
+    is_put(rt, alloc, codec, value, spelling)?;
+    is_taken(rt, alloc, codec, value, spelling)?;
     assert!(rt; codec.fits(value));
-    let mut bytes = Vec::from_slice(alloc, b"before")?;
-    codec.put(value, &mut bytes)?;
-    assert!(rt; bytes.len() == 6 + spelling.len());
-    assert!(rt; &bytes[6..] == spelling);
-    assert!(rt; codec.spelled(spelling));
-    let taken = codec.take(alloc, spelling)?;
-    assert!(rt; codec.compare(&taken, value) == Ordering::Equal);
-    let taken = round_trip(alloc, codec, value)?;
-    assert!(rt; codec.fits(&taken));
+    assert!(rt; codec.fits(&round_trip(alloc, codec, value)?));
     assert!(rt; respelled(alloc, codec, spelling)?.as_slice() == spelling);
     Ok(())
 }

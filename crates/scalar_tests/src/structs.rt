@@ -6,6 +6,7 @@ use outside::{Memory, Text};
 use scalar_types::{Codec, KindList, Scalar, ScalarKind, ScalarList, spellings_keep_order};
 use std::alloc::Global;
 use std::cmp::Ordering;
+use std::process::Abort;
 use std::test::Fail;
 
 /// The kind of structs of a text and a number with a sign.
@@ -94,13 +95,8 @@ fn order_of_values_of_any_form(rt: HostRuntime) -> Result<(), Fail> {
     Ok(())
 }
 
-#[test]
-fn shared_kinds(rt: HostRuntime) -> Result<(), Fail> {
-    let alloc = rt.alloc();
-    let mut kinds = KindList::new(alloc);
-    kinds.push(ScalarKind::Str)?;
-    kinds.push(ScalarKind::Int32)?;
-    let shared = kinds.shared()?;
+/// A copy of two kinds grows apart from them.
+fn grows_apart(rt: &impl Abort, shared: &KindList) -> Result<(), Fail> {
     let mut copied = shared.copy()?.shared()?;
     copied.push(ScalarKind::Bool)?;
     copied.push(ScalarKind::Bytes)?;
@@ -110,10 +106,22 @@ fn shared_kinds(rt: HostRuntime) -> Result<(), Fail> {
     assert_eq!(rt; shared.len(), 2);
     assert!(rt; matches!(shared.get(1), Some(ScalarKind::Int32)));
     assert!(rt; shared.get(2).is_none());
+    Ok(())
+}
+
+#[test]
+fn shared_kinds(rt: HostRuntime) -> Result<(), Fail> {
+    let alloc = rt.alloc();
+    let mut kinds = KindList::new(alloc);
+    kinds.push(ScalarKind::Str)?;
+    kinds.push(ScalarKind::Int32)?;
+    let shared = kinds.shared()?;
+    grows_apart(&rt, &shared)?;
     let kind = ScalarKind::Packed(shared);
+    let value = pair(alloc, "a", -1)?;
     let spelling = b"\x61\x00\x01\x7f".as_slice();
-    spells(&rt, alloc, &kind, &pair(alloc, "a", -1)?, spelling)?;
-    spells(&rt, alloc, &kind.copy()?, &pair(alloc, "a", -1)?, spelling)
+    spells(&rt, alloc, &kind, &value, spelling)?;
+    spells(&rt, alloc, &kind.copy()?, &value, spelling)
 }
 
 static FOUR_WORDS: [&str; 4] = ["bytes", "string", "bool", "fixed32"];

@@ -10,6 +10,7 @@ use field_table::{Shape, Table};
 use outside::Memory;
 use scalar_types::{Scalar, ScalarKind};
 use std::alloc::Global;
+use std::fmt::Write;
 use std::test::Fail;
 use table_text::TableText;
 use wire_bytes::{Form, read_context, write};
@@ -232,10 +233,10 @@ fn written_slots_are_read(rt: HostRuntime) -> Result<(), Fail> {
 }
 
 /// The text of a table of so many numbers of 32 bits.
-fn numbers(alloc: Global, count: u32) -> Result<String, Memory> {
+fn numbers(alloc: Global, count: u32) -> Result<String, Fail> {
     let mut text = String::from_str(alloc, "baggage table 1\n")?;
     for number in 0..count {
-        text.push_str(format!(in alloc; "0 {number} f{number} scalar fixed32\n")?.as_str())?;
+        writeln!(text, "0 {number} f{number} scalar fixed32")?;
     }
     Ok(text)
 }

@@ -3,6 +3,7 @@
 use field_table::Table;
 use outside::Memory;
 use std::alloc::Global;
+use std::fmt::Write;
 use std::test::Fail;
 use table_text::{TableFault, TableText};
 
@@ -220,10 +221,10 @@ fn bytes_have_faults(rt: HostRuntime) -> Result<(), Fail> {
 }
 
 /// The text of so many bags inside one another.
-fn bags(alloc: Global, count: u32) -> Result<String, Memory> {
+fn bags(alloc: Global, count: u32) -> Result<String, Fail> {
     let mut text = String::from_str(alloc, "baggage table 1/")?;
     for depth in 0..count {
-        text.push_str(format!(in alloc; "{depth} 7 a bag/")?.as_str())?;
+        write!(text, "{depth} 7 a bag/")?;
     }
     Ok(text)
 }
@@ -253,10 +254,10 @@ fn maps_stand_inside_one_another(rt: HostRuntime) -> Result<(), Fail> {
 }
 
 /// The text of a table of so many taints.
-fn taints(alloc: Global, count: u32) -> Result<String, Memory> {
+fn taints(alloc: Global, count: u32) -> Result<String, Fail> {
     let mut text = String::from_str(alloc, "baggage table 1/")?;
     for number in 0..count {
-        text.push_str(format!(in alloc; "0 {number} n{number} taint/")?.as_str())?;
+        write!(text, "0 {number} n{number} taint/")?;
     }
     Ok(text)
 }

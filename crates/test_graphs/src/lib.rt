@@ -8,6 +8,7 @@ use atom_list::Context;
 use field_table::Table;
 use graph_text::{Graph, read_graph};
 use std::alloc::Global;
+use std::fmt::Write;
 use std::test::Fail;
 use text_lines::hex_bytes;
 use wire_bytes::read_context_owned;
@@ -54,7 +55,7 @@ pub fn star_text(alloc: Global, branches: usize) -> Result<String, Fail> {
     let mut text = String::from_str(alloc, "service a all\nstart 0 a\n")?;
     for branch in 0..branches {
         let step = branch + 1;
-        text.push_str(format!(in alloc; "branch {step} 0\n")?.as_str())?;
+        writeln!(text, "branch {step} 0")?;
     }
     Ok(text)
 }

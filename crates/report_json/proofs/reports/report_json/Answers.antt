@@ -25,7 +25,7 @@ loop-at-preserved c =
     let number = get_or c.shows-number-items.result.now at 0 in
     let here : slice_index shows at ≡ number = ap (λ (l : List ℕ). slice_index l at) (sym c.shows-number-items.ensures) in
     one_begun c.args.table.now c.args.graph.now c.args.lists.now shows at number c.loop-at.text.items c.put_comma.new.into.items c.put_step.new.into.items c.loop-at.invariant
-    c.in_ok-put_comma.ensures here c.in_ok-put_step.ensures
+    c.in_ok-put_comma.ensures.ok here c.in_ok-put_step.ensures
 
 pub returns : goal.returns
 returns c =
