@@ -5,7 +5,8 @@ use Rattle.std.specs.FinMap.{IsAntisymmetric}
 use Rattle.std.specs.List.{slice_get}
 use Rattle.std.specs.Option.{option_map}
 use Rattle.std.specs.declared.cmp.Ordering.{Ordering}
-use Rattle.std.specs.declared.cmp.Ordering.TheVariants.{Less, Equal}
+use Rattle.std.specs.declared.cmp.Ordering.TheVariants.{Less, Equal, Greater}
+use Rattle.std.specs.Ordering.{is_ge}
 use Rattle.std.proofs.lemmas.Bool.{cases_lt}
 use Rattle.context_model.specs.KeyedMerge.{IsAt}
 use Rattle.context_model.specs.GreedyMerge.{first_of}
@@ -27,6 +28,12 @@ use Rattle.write_proof.proofs.BelowKinds.{set_below, set_within, counter_below, 
 some_value : (v w : ScalarValue) → Some v ≡ Some w → v ≡ w
 some_value v w e = cc e
 
+pub yes_answer : {P : Type 0} → P → IsTrue true ↔ P
+yes_answer p = ((λ e. p), λ q. refl)
+
+pub no_answer : {P : Type 0} → (P → ⊥) → IsTrue false ↔ P
+no_answer n = ((λ e. absurd (cc e)), λ p. absurd (n p))
+
 -- A scalar that stays over another isn't below it.
 pub not_kept : (R : ScalarValue → ScalarValue → Ordering) → IsTotalOrder R → (v w : ScalarValue) → R v w ≡ Less → first_of R (Some v) (Some w) ≡ Some w → ⊥
 not_kept R total v w less e =
@@ -38,6 +45,13 @@ not_kept R total v w less e =
 
 pub kept_equal : (R : ScalarValue → ScalarValue → Ordering) → IsAntisymmetric R → (v w : ScalarValue) → R v w ≡ Equal → first_of R (Some v) (Some w) ≡ Some w
 kept_equal R exact v w e = ap (λ r. by_order r (Some v) (Some v) (Some w)) e ∙ ap Some (exact v w e)
+
+-- The second of two values stays where the first isn't before it.
+pub kept_from : (R : ScalarValue → ScalarValue → Ordering) → IsTotalOrder R → IsAntisymmetric R → (v w : ScalarValue) (order : Ordering) → R v w ≡ order
+    → IsTrue (is_ge order) ↔ (first_of R (Some v) (Some w) ≡ Some w)
+kept_from R total exact v w Less less = no_answer (not_kept R total v w less)
+kept_from R total exact v w Equal same = yes_answer (kept_equal R exact v w same)
+kept_from R total exact v w Greater more = yes_answer (ap (λ r. by_order r (Some v) (Some v) (Some w)) more)
 
 -- ---- places
 
@@ -223,12 +237,6 @@ pub bags_answer : (vs ws : Values) → AreOfOneBag vs ws
 bags_answer vs ws one = (values_below one.0 vs ws one.1 one.2, below_each vs ws)
 
 -- ---- answers
-
-pub yes_answer : {P : Type 0} → P → IsTrue true ↔ P
-yes_answer p = ((λ e. p), λ q. refl)
-
-pub no_answer : {P : Type 0} → (P → ⊥) → IsTrue false ↔ P
-no_answer n = ((λ e. absurd (cc e)), λ p. absurd (n p))
 
 -- What holds of each element before a place, and of that there, holds of each before the next.
 pub each_more : {A : Type 0} (T : A → Type 0) (xs : List A) (i : ℕ) (y : A) → ((k : ℕ) (x : A) → k < i → slice_get xs k ≡ Some x → T x) → slice_get xs i ≡ Some y → T y

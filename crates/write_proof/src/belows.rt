@@ -17,7 +17,6 @@ ghost use Rattle.write_proof.specs.Belows.{AreOfOne, AreOfOneBag};
 use bag_value::{Entries, ScalarSet, Val, Vals};
 use counter_type::Counts;
 use scalar_types::Scalar;
-use std::cmp::Ordering;
 
 /// Whether of two scalars the second stays, where the least stays.
 fn is_least(ours: &Option<Scalar>, theirs: &Option<Scalar>) -> bool
@@ -26,11 +25,7 @@ fn is_least(ours: &Option<Scalar>, theirs: &Option<Scalar>) -> bool
     match (ours, theirs) {
         (None, _) => true,
         (Some(_), None) => false,
-        (Some(our), Some(their)) => match our.order(their) {
-            Ordering::Less => false,
-            Ordering::Equal => true,
-            Ordering::Greater => true,
-        },
+        (Some(our), Some(their)) => our.order(their).is_ge(),
     }
 }
 
@@ -41,11 +36,7 @@ fn is_greatest(ours: &Option<Scalar>, theirs: &Option<Scalar>) -> bool
     match (ours, theirs) {
         (None, _) => true,
         (Some(_), None) => false,
-        (Some(our), Some(their)) => match their.order(our) {
-            Ordering::Less => false,
-            Ordering::Equal => true,
-            Ordering::Greater => true,
-        },
+        (Some(our), Some(their)) => their.order(our).is_ge(),
     }
 }
 

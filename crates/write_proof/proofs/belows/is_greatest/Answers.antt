@@ -3,17 +3,9 @@ use Rattle.bag_model.specs.declared.Pick.TheVariants.{Greatest}
 use Rattle.bag_model.specs.Scalars.{pick_cmp}
 use Rattle.bag_model.proofs.ScalarOrder.{pick_total, pick_exact}
 use Rattle.scalar_types.specs.Scalars.{value_of}
-use Rattle.write_proof.proofs.BelowCalls.{not_kept, kept_equal, yes_answer, no_answer}
+use Rattle.write_proof.proofs.BelowCalls.{kept_from}
 use Rattle.write_proof.proofs.belows.is_greatest.Goals as goal
 
-pub returns-in-Less : goal.returns-in-Less
-returns-in-Less c =
-    let v = value_of c.in-Some-Some.our in
-    let w = value_of c.in-Some-Some.their in
-    rw (c.in-Some-Some.is-0, c.in-Some-Some.is-1) (no_answer (not_kept (pick_cmp Greatest) (pick_total Greatest) v w (sym c.in-Less.ensures)))
-
-pub returns-in-Equal : goal.returns-in-Equal
-returns-in-Equal c =
-    let v = value_of c.in-Some-Some.our in
-    let w = value_of c.in-Some-Some.their in
-    rw (c.in-Some-Some.is-0, c.in-Some-Some.is-1) (yes_answer (kept_equal (pick_cmp Greatest) (pick_exact Greatest) v w (sym c.in-Equal.ensures)))
+pub returns-in-Some-Some : goal.returns-in-Some-Some
+returns-in-Some-Some c =
+    rw (c.in-Some-Some.is-0, c.in-Some-Some.is-1, c.is_ge.ensures) (kept_from (pick_cmp Greatest) (pick_total Greatest) (pick_exact Greatest) (value_of c.in-Some-Some.our) (value_of c.in-Some-Some.their) c.order.result (sym c.order.ensures))
