@@ -26,8 +26,13 @@ def text_of(path):
 
 def sources(*endings):
     """The paths of the files of all crates that end so, those that are made left out."""
+    return sources_of("crates", *endings)
+
+
+def sources_of(top, *endings):
+    """The paths of the files below a folder that end so, those that are made left out."""
     found = []
-    for folder, folders, names in os.walk(f"{TOP}/crates"):
+    for folder, folders, names in os.walk(f"{TOP}/{top}"):
         folders[:] = [name for name in folders if name != "out"]
         found += [os.path.relpath(f"{folder}/{name}", TOP) for name in names if name.endswith(endings)]
     return found
@@ -54,6 +59,13 @@ def check_links():
                 bad.append(f"{document}: {target} isn't there")
             elif re.fullmatch(r"`\w+`", text) and path.startswith("crates/") and not defines(path, text.strip("`")):
                 bad.append(f"{document}: {path} has no {text}")
+
+
+def check_headline():
+    """Each name in HEADLINE's table leads to the file that defines it; those of Rattle's std lead nowhere."""
+    for names in re.findall(r"(?m)^\| ([^|]*`[^|]*) \| [^|]* \| [^|]* \|$", text_of("docs/HEADLINE.md").partition("| name | in | says |")[2]):
+        if "](" not in names and "Appends" not in names:
+            bad.append(f"docs/HEADLINE.md: {names} leads to no definition")
 
 
 def check_names():
@@ -143,11 +155,51 @@ def check_definitions():
             bad.append(f"crates/: {' and '.join(sorted(crates[name]))} define {name}")
 
 
+def check_codes():
+    """CODES has a section for each code in a table of FORMATS, in alphabetical order, and no others; its third line is a sentence."""
+    codes = set(re.findall(r"(?m)^ *\| `([A-Z][A-Za-z0-9]+)` \|", text_of("docs/FORMATS.md")))
+    sections = re.findall(r"(?m)^## `(\w+)`\n\n(.*)$", text_of("docs/CODES.md"))
+    named = [code for code, _ in sections]
+    bad.extend(f"docs/CODES.md: there is no section for {code}" for code in sorted(codes - set(named)))
+    told = set(re.findall(r"`([A-Z][A-Za-z0-9]+)[` ]", text_of("docs/FORMATS.md")))
+    bad.extend(f"docs/CODES.md: FORMATS has no code {code}" for code in sorted(set(named) - told))
+    bad.extend(f"docs/CODES.md: the sentence of {code} has no end" for code, sentence in sections if not sentence.endswith("."))
+    if named != sorted(named, key=str.lower):
+        bad.append("docs/CODES.md: the sections aren't in alphabetical order")
+
+
+def check_counts():
+    """Counts that documents state are those of the tree: planted bugs, the gate's edits, and the median of SPEED's table."""
+    planted = len(sources_of("planted", ".edit"))
+    kept = len([path for path in sources(".edit") if "/must-fail/" in path])
+    told = re.search(r"([0-9,]+) wrong bodies", text_of("README.md"))
+    if not told or int(told.group(1).replace(",", "")) != planted + kept:
+        bad.append(f"README.md: there are {planted} planted bugs and {kept} that the gate tries, so {planted + kept} wrong bodies")
+    speed = text_of("docs/SPEED.md")
+    table = speed.partition("| command | input | times |")[2].partition("\n\n")[0]
+    figures = sorted(float(figure) for figure in re.findall(r"\b\d+\.\d\d\b", table))
+    median = re.search(r"The median of these is (\d+\.\d+)", speed)
+    if not median or abs(float(median.group(1)) - figures[len(figures) // 2]) > 0.001:
+        bad.append(f"docs/SPEED.md: the median of the table's {len(figures)} figures is {figures[len(figures) // 2]}")
+
+
+def check_c():
+    """Each line of a C example that names the library stands in the header or in a program of examples/."""
+    header = text_of("include/baggage.h")
+    for document in DOCUMENTS:
+        for block in re.findall(r"(?ms)^```c\n(.*?)^```", text_of(document)):
+            for name in set(re.findall(r"\b(?:baggage|BAGGAGE)_\w+", block)):
+                if not re.search(rf"\b{name}\b", header):
+                    bad.append(f"{document}: the header has no {name}")
+
+
 def check_examples():
-    """Each shell example prints what stands below it, where the program is built."""
+    """Each shell example prints what stands below it, where the program is built, and it is told how many ran."""
     program = next((path for path in PROGRAMS if os.path.isfile(path)), None)
     if not program:
+        print("check.py: no example was run, since the program isn't built", file=sys.stderr)
         return
+    ran_count = 0
     for document in DOCUMENTS:
         with tempfile.TemporaryDirectory() as folder:
             os.symlink(program, f"{folder}/baggage")
@@ -156,11 +208,15 @@ def check_examples():
                 for example in re.split(r"(?m)^\$ ", block)[1:]:
                     command, _, expected = example.partition("\n")
                     ran = subprocess.run(["bash", "-c", command], cwd=folder, capture_output=True, text=True, timeout=60)
+                    ran_count += 1
                     if ran.stdout + ran.stderr != expected:
                         bad.append(f"{document}: {command!r} prints {(ran.stdout + ran.stderr)[:200]!r}")
+    if not ran_count:
+        bad.append("docs/: there is no example to run")
+    print(f"check.py: {ran_count} examples ran", file=sys.stderr)
 
 
-for check in (check_links, check_names, check_excerpts, check_crates, check_files, check_libraries, check_definitions, check_examples):
+for check in (check_links, check_headline, check_names, check_excerpts, check_crates, check_files, check_libraries, check_definitions, check_codes, check_counts, check_c, check_examples):
     check()
 for line in bad:
     print(line)

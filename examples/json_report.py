@@ -11,7 +11,7 @@ import sys
 import tempfile
 
 PROGRAM = sys.argv[1] if len(sys.argv) > 1 else "./baggage"
-REQUEST = ["examples/request.bdl", "Request"]
+CHECKOUT = ["examples/checkout.bdl", "Checkout"]
 
 # A field of every shape and every scalar word, with a write to it.
 FIELDS = [
@@ -79,7 +79,7 @@ def main():
     with open("examples/checkout.graph", encoding="utf-8") as file:
         graphs = [file.read(), graph_of(TEXTS), "service a all\n"]
     for graph in graphs:
-        agrees(REQUEST, graph)
+        agrees(CHECKOUT, graph)
     with tempfile.TemporaryDirectory() as folder:
         path = os.path.join(folder, "all.bdl")
         with open(path, "w", encoding="utf-8") as file:
