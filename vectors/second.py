@@ -1,5 +1,5 @@
 #!/usr/bin/env python3
-"""A second implementation of docs/FORMATS.md, written from that page and not from the code, in plain and slow Python.
+"""A second implementation of docs/FORMATS.md, written from that page, in plain and slow Python.
 
 usage: second.py COMMAND ..        does what the program baggage does with the same arguments
        second.py --rows FILE ..    runs the rows of row files (vectors/README.md) and says which differ
