@@ -1,5 +1,6 @@
 -- What is told of an atom's kind.
 use Rattle.std.specs.Prelude.{◌≡◌, ℕ, ◌<◌, ◌^◌, true, List}
+use Rattle.context_model.specs.declared.TheConstants.{LEVELS_MAX}
 use Rattle.context_model.specs.Varints.{unsigned_varint}
 use Rattle.context_model.specs.Paths.{is_header, level}
 use Rattle.context_model.specs.Kinds.{HasKind}
@@ -21,7 +22,7 @@ TellsKind atom kind = (f : HasKind atom) × (outer_kind f.kind ≡ kind)
 
 -- The atom is a header of this level.
 abbrev pub IsHeaderOfLevel : List ℕ → ℕ → Type 0
-IsHeaderOfLevel atom found = (is_header atom ≡ true) × (found ≡ level atom) × (found < 16)
+IsHeaderOfLevel atom found = (is_header atom ≡ true) × (found ≡ level atom) × (found < LEVELS_MAX)
 
 -- The bytes are the code of this number, from the first to the last.
 abbrev pub IsNumberCode : List ℕ → ℕ → Type 0

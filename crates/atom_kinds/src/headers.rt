@@ -7,6 +7,7 @@ ghost use Rattle.context_model.specs.Orders.{atom_cmp};
 ghost use Rattle.context_model.specs.Varints.{unsigned_varint};
 
 use crate::compare;
+use context_model::LEVELS_MAX;
 use lex_varint::{Spelled, put_u64};
 use std::cmp::Ordering;
 use std::marker::Model;
@@ -19,7 +20,7 @@ const OUTER_KEYED: u8 = 0xf9;
 
 /// The first byte of the indexed headers of a level, before the varint of the number.
 pub fn indexed_prefix(level: u8) -> u8
-    requires { level < 16 }
+    requires { level < LEVELS_MAX }
     ensures { (number : ℕ) → atom_of (PlainIndexed level number) ≡ result ∷ unsigned_varint number }
 {
     OUTER_INDEXED - 8 * level
@@ -27,14 +28,14 @@ pub fn indexed_prefix(level: u8) -> u8
 
 /// The first byte of the keyed headers of a level, before the key.
 pub fn keyed_prefix(level: u8) -> u8
-    requires { level < 16 }
+    requires { level < LEVELS_MAX }
     ensures { (key : List ℕ) → atom_of (PlainKeyed level key) ≡ result ∷ key }
 {
     OUTER_KEYED - 8 * level
 }
 
 /// The indexed header of a field, spelled once for a whole search. It takes no memory. Contracts see it as the atom.
-#[derive(Drop)]
+#[derive(Debug, Drop)]
 pub struct FieldHeader {
     first: u8,
     number: Spelled,
@@ -51,7 +52,7 @@ impl Model for FieldHeader {
 impl FieldHeader {
     /// The header of a level and a number.
     pub fn new(level: u8, number: u64) -> FieldHeader
-        requires { level < 16 }
+        requires { level < LEVELS_MAX }
         ensures { result ≡ atom_of (PlainIndexed level number) }
     {
         FieldHeader {
@@ -84,7 +85,7 @@ impl FieldHeader {
 
 /// Whether an atom is the header of a key of this level.
 pub fn is_key(atom: &[u8], level: u8) -> bool
-    requires { level < 16 }
+    requires { level < LEVELS_MAX }
     ensures { IsTrue result ↔ ((key : List ℕ) × (atom.now ≡ atom_of (PlainKeyed level key))) }
 {
     match atom.split_first() {

@@ -20,6 +20,7 @@ ghost use Rattle.context_model.specs.Paths.{is_header};
 ghost use Rattle.atom_kinds.specs.Kinds.{TellsKind, IsHeaderOfLevel, IsNumberCode};
 ghost use Rattle.atom_kinds.specs.declared.Kind.{Kind as AnyKind};
 
+use context_model::LEVELS_MAX;
 use lex_varint::{put_u64, take_u64};
 use outside::{ATOM_MAX, Memory, Octets};
 use std::alloc::Global;
@@ -142,7 +143,7 @@ fn atom_from(alloc: Global, first: u8, rest: &[u8]) -> Result<Octets, Memory>
 
 /// The indexed header of a level and a number.
 pub fn indexed(alloc: Global, level: u8, number: u64) -> Result<Octets, Memory>
-    requires { level ≤ 15 }
+    requires { level < LEVELS_MAX }
     ensures atom { IfOk result (λ made. made ≡ atom_of (PlainIndexed level number)) }
     ensures short { IfOk result (λ made. length made ≤ ATOM_MAX) }
 {
@@ -151,7 +152,7 @@ pub fn indexed(alloc: Global, level: u8, number: u64) -> Result<Octets, Memory>
 
 /// The keyed header of a level and a key of fewer than [`ATOM_MAX`] bytes.
 pub fn keyed(alloc: Global, level: u8, key: &[u8]) -> Result<Octets, Memory>
-    requires level { level ≤ 15 }
+    requires level { level < LEVELS_MAX }
     requires key { length key.now < ATOM_MAX }
     ensures atom { IfOk result (λ made. made ≡ atom_of (PlainKeyed level key.now)) }
     ensures short { IfOk result (λ made. length made ≤ ATOM_MAX) }

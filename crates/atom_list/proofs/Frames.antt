@@ -3,8 +3,7 @@ use Rattle.std.proofs.Common.{◌≡◌, ℕ, ◌+◌, ◌-◌, ◌/◌, ◌%◌
 use Rattle.std.proofs.lemmas.List.{take_at, drop_at, take_more, map-append, length-take, length-drop, drop-drop, drop_all, get_or-drop, get_or_append_left}
 use Rattle.std.proofs.lemmas.Bool.{cases_lt}
 use Rattle.std.proofs.lemmas.Bool.Decides.{nat_tests}
-use Rattle.outside.specs.declared.TheConstants.{ATOM_MAX}
-use Rattle.context_model.specs.declared.TheConstants.{LENGTH_MAX}
+use Rattle.context_model.specs.declared.TheConstants.{ATOM_MAX, LENGTH_MAX}
 use Rattle.context_model.specs.Atoms.{Atom}
 use Rattle.context_model.specs.declared.Form.TheVariants.{One}
 use Rattle.context_model.specs.Framing.{base_128, frame, has_long}

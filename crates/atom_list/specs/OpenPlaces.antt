@@ -1,6 +1,7 @@
 -- The headers that are open behind the atoms before a place.
 use Rattle.std.specs.Prelude.{◌≡◌, ◌⊎◌, ℕ, ◌-◌, ◌<◌, ◌≤◌, true, List, [], ◌∷◌, length, map, drop, replicate, slice_get, slice_index, Option, Some, None}
 use Rattle.std.specs.declared.cmp.Ordering.TheVariants.{Less}
+use Rattle.context_model.specs.declared.TheConstants.{LEVELS_MAX}
 use Rattle.context_model.specs.Atoms.{Atom}
 use Rattle.context_model.specs.ByteCodes.{ByteCode}
 use Rattle.context_model.specs.Kinds.{HasKind}
@@ -22,11 +23,11 @@ pub record IsHeaderOf (a : Atom) (n : ℕ) : Type 0 where
   pub kind : HasKind a
   pub header : is_header a ≡ true
   pub level : level a ≡ n
-  pub few : n < 16
+  pub few : n < LEVELS_MAX
 
 -- The places of the levels from this one on are 0.
 abbrev pub AreClosed : ℕ → List ℕ → Type 0
-AreClosed count above = drop count above ≡ replicate (16 - count) 0
+AreClosed count above = drop count above ≡ replicate (LEVELS_MAX - count) 0
 
 -- The atom may stand behind one with the path q.
 pub record MayStandBehind (q : Path) (a : Atom) : Type 0 where
@@ -46,7 +47,7 @@ EndsWith list q count None = (length q ≡ count) ⊎ (slice_get q count ≡ Som
 -- These are the places of a path's headers by their levels, and of the datum behind them.
 pub record IsOpenPath (list : List Atom) (q : Path) (headers : List ℕ) (datum : Option ℕ) : Type 0 where
   pub number : length headers ≡ header_count q
-  pub few : length headers ≤ 16
+  pub few : length headers ≤ LEVELS_MAX
   pub stand : (k : ℕ) → k < length headers
       → (a : Atom) × StandsAt list (slice_index headers k) q k a
   pub behind : EndsWith list q (length headers) datum

@@ -1,6 +1,7 @@
 -- The places of a walk over a list: each atom's, with those of the headers around it.
 use Rattle.std.specs.Prelude.{◌≡◌, ℕ, ◌+◌, ◌-◌, ◌<◌, ◌≤◌, ◌==◌, ◌&&◌, true, false, if◌then◌else◌, List, [], ◌∷◌, ◌++◌, length, map, replicate, take, slice_get, slice_index, Some}
 use Rattle.std.specs.List.{range_with_len}
+use Rattle.context_model.specs.declared.TheConstants.{LEVELS_MAX}
 use Rattle.context_model.specs.Atoms.{Atom}
 use Rattle.context_model.specs.Orders.{Path}
 use Rattle.context_model.specs.Paths.{is_header, level, header_count, last_path_after}
@@ -28,7 +29,7 @@ headers_around q a = if is_header a then level a else header_count q
 
 -- The places, and 0 for each of the other levels.
 abbrev pub padded : List ℕ → List ℕ
-padded places = places ++ replicate (16 - length places) 0
+padded places = places ++ replicate (LEVELS_MAX - length places) 0
 
 -- The place of an atom behind the others: its number, how many headers are around it, and their places.
 abbrev pub place_of : List Atom → Atom → Place
@@ -64,7 +65,7 @@ depth_behind = depth_from 0
 -- At each level below its own a place has that of the nearest header of that level before the atom, and 0 at the others.
 pub record IsPlaceAt (list : List Atom) (at : ℕ) (place : Place) : Type 0 where
   pub number : place.at ≡ at
-  pub few : place.level ≤ 16
+  pub few : place.level ≤ LEVELS_MAX
   pub header : is_header (atom_at list at) ≡ true → place.level ≡ level (atom_at list at)
   pub other : is_header (atom_at list at) ≡ false → place.level ≡ depth_behind (take at list)
   pub nearest : (n : ℕ) → n < place.level → IsNearestPlace list at n (slice_index place.above n)

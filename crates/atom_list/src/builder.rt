@@ -19,7 +19,7 @@ pub(crate) const BUFFER_MAX: usize = 0xffff_ffff;
 
 /// A list in the making. Contracts see it as the list, the room for bytes and the room for atoms: an atom takes its own
 /// bytes and at most three of its length.
-#[derive(Drop)]
+#[derive(Debug, Drop)]
 pub struct Builder {
     alloc: Global,
     bytes: Vec<u8>,

@@ -29,7 +29,7 @@ pub enum ShapeFault {
 
 /// A context: a list of atoms each of which has a kind, whose headers go down one level at most at a time, and whose paths
 /// strictly rise. Contracts see it as the list.
-#[derive(Drop)]
+#[derive(Debug, Drop)]
 pub struct Context {
     list: AtomList,
 }

@@ -8,11 +8,12 @@ use crate::contexts::Context;
 use crate::lists::AtomList;
 use crate::open_places::OpenPlaces;
 use atom_kinds::{FieldHeader, header_level};
+use context_model::LEVELS_MAX;
 use std::cmp::Ordering;
 
 /// Whether the headers at these places are beyond the field with these numbers.
 fn are_beyond(list: &AtomList, headers: &OpenPlaces, numbers: &[u64]) -> bool
-    requires few { length numbers.now ≤ 16 }
+    requires few { length numbers.now ≤ LEVELS_MAX }
     requires within { ArePlaces headers.now list.now }
     ensures { IsTrue result ↔ IsBeyond (field_path numbers.now) (atoms_at_places list.now headers.now) }
 {
@@ -32,7 +33,7 @@ impl Context {
     /// cut off: no marker stands in the context, or an atom beyond the field stands before the first one. The numbers are
     /// at most 16. It takes no memory.
     pub fn ended(&self, numbers: &[u64]) -> bool
-        requires { length numbers.now ≤ 16 }
+        requires { length numbers.now ≤ LEVELS_MAX }
         ensures { IsTrue result ↔ IsEnded self.now (field_path numbers.now) }
     {
         let list = self.list();

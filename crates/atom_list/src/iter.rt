@@ -8,7 +8,7 @@ use std::marker::Model;
 use std::slice::Iter;
 
 /// The atoms of a list that are left to go over. Contracts see it as their list.
-#[derive(Drop)]
+#[derive(Debug, Drop)]
 pub struct Atoms<'a> {
     bytes: &'a [u8],
     starts: Iter<'a, u32>,

@@ -21,7 +21,7 @@ use std::marker::Model;
 /// A list of atoms: byte strings of at most [`ATOM_MAX`] bytes each. Contracts see it as a list of byte strings.
 ///
 /// The atoms stand in one buffer, which copies share.
-#[derive(Drop)]
+#[derive(Debug, Drop)]
 pub struct AtomList {
     pub(crate) alloc: Global,
     pub(crate) bytes: Bytes,

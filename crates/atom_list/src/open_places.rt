@@ -3,28 +3,27 @@
 ghost use Rattle.std.specs.Prelude.{◌≡◌, ◌<◌, ◌≤◌, [], ◌∷◌, ◌++◌, length, take, slice_index};
 ghost use Rattle.atom_list.specs.Places.{padded};
 
+use context_model::LEVELS_MAX;
 use std::marker::Model;
-
-/// How many levels headers have.
-pub(crate) const LEVELS: usize = 16;
 
 /// The places of the open headers by their levels, and 0 at each level that isn't open. Contracts see it as the list of
 /// these places.
-#[derive(Drop)]
+#[derive(Debug, Drop)]
 pub(crate) struct OpenPlaces {
     count: usize,
-    above: [usize; LEVELS],
+    above: [usize; LEVELS_MAX],
 }
 
 impl Model for OpenPlaces {
     ghost use Rattle.std.specs.Prelude.{List, ℕ, take, ◌≤◌};
+    ghost use Rattle.context_model.specs.declared.TheConstants.{LEVELS_MAX};
     ghost use Rattle.atom_list.specs.OpenPlaces.{AreClosed};
 
     ghost Value = { List ℕ };
 
     ghost view = { λ places. take places.count places.above };
 
-    ghost invariant = { λ places. (places.count ≤ 16) × AreClosed places.count places.above };
+    ghost invariant = { λ places. (places.count ≤ LEVELS_MAX) × AreClosed places.count places.above };
 }
 
 impl OpenPlaces {
@@ -34,14 +33,14 @@ impl OpenPlaces {
     {
         OpenPlaces {
             count: 0,
-            above: [0; LEVELS],
+            above: [0; LEVELS_MAX],
         }
     }
 
     /// How many headers are open.
     pub(crate) fn len(&self) -> usize
         ensures len { result ≡ length self.now }
-        ensures few { result ≤ 16 }
+        ensures few { result ≤ LEVELS_MAX }
     {
         self.count
     }
@@ -67,7 +66,7 @@ impl OpenPlaces {
 
     /// Opens the next level by the header at a place.
     pub(crate) fn push(&mut self, at: usize)
-        requires { length self.old < 16 }
+        requires { length self.old < LEVELS_MAX }
         ensures { self.new ≡ self.old ++ at ∷ [] }
     {
         self.above[self.count] = at;
@@ -75,7 +74,7 @@ impl OpenPlaces {
     }
 
     /// The places by levels, and 0 at those that aren't open.
-    pub(crate) fn by_level(&self) -> [usize; LEVELS]
+    pub(crate) fn by_level(&self) -> [usize; LEVELS_MAX]
         ensures { result ≡ padded self.now }
     {
         self.above

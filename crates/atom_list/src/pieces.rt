@@ -10,7 +10,7 @@ use crate::lists::AtomList;
 use crate::starts::{frame_end, row_of};
 
 /// Frames that follow one another, which begin at `at` in the buffer of their list, and where each begins there.
-#[derive(Clone, Copy)]
+#[derive(Clone, Copy, Debug)]
 pub struct Piece<'a> {
     pub bytes: &'a [u8],
     pub at: u32,

@@ -6,8 +6,9 @@ ghost use Rattle.atom_list.specs.Places.{places, padded};
 
 use crate::contexts::Context;
 use crate::lists::AtomList;
-use crate::open_places::{LEVELS, OpenPlaces};
+use crate::open_places::OpenPlaces;
 use atom_kinds::header_level;
+use context_model::LEVELS_MAX;
 use std::marker::Model;
 
 /// Where an atom stands in a context: at place `at` of the list, within `level` headers. Their places are the first
@@ -17,11 +18,11 @@ use std::marker::Model;
 pub struct Place {
     pub at: usize,
     pub level: u8,
-    pub above: [usize; LEVELS],
+    pub above: [usize; LEVELS_MAX],
 }
 
 /// The places of the atoms of a context that are left to walk over. Contracts see it as their list.
-#[derive(Drop)]
+#[derive(Debug, Drop)]
 pub struct Walk<'a> {
     list: &'a AtomList,
     at: usize,

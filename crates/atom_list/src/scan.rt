@@ -17,7 +17,7 @@ use std::marker::Model;
 
 /// A list whose frames are found one by one at the front of bytes that it takes over and doesn't copy. Contracts see it as
 /// the list so far and the bytes behind it.
-#[derive(Drop)]
+#[derive(Debug, Drop)]
 pub struct Scan {
     alloc: Global,
     bytes: Vec<u8>,

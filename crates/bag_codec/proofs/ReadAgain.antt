@@ -1,6 +1,6 @@
 -- What a list of atoms says fits atoms again.
 use Rattle.std.proofs.Common.{inl, inr, ◌-◌, ◌*◌, ◌≤◌, List, [], ◌∷◌, ◌++◌, length, take, Some, None, sym, ap, subst, ◌∙◌}
-use Rattle.outside.specs.declared.TheConstants.{ATOM_MAX}
+use Rattle.context_model.specs.declared.TheConstants.{ATOM_MAX}
 use Rattle.context_model.specs.Atoms.{Atom, AreAtoms}
 use Rattle.context_model.specs.Merged.{last_atom}
 use Rattle.context_model.specs.Orders.{Path, IsIn}

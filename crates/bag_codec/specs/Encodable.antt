@@ -1,7 +1,7 @@
 -- What can be encoded, told by the parts of a value.
 use Rattle.std.specs.Prelude.{◌≡◌, ℕ, ◌<◌, List, length, None, Some}
 use Rattle.std.specs.List.{AllByRecursion}
-use Rattle.outside.specs.declared.TheConstants.{ATOM_MAX}
+use Rattle.context_model.specs.declared.TheConstants.{ATOM_MAX}
 use Rattle.context_model.specs.KeyedMerge.{EachPair}
 use Rattle.bag_model.specs.Scalars.{ScalarKind, ScalarValue, IsScalarOf, spelling}
 use Rattle.bag_model.specs.Shapes as shapes

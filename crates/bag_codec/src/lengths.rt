@@ -1,7 +1,7 @@
 //! How long the spellings of scalars are. Nothing here takes memory.
 
 ghost use Rattle.std.specs.Prelude.{◌≡◌, ◌↔◌, ◌<◌, length, map, All, IsTrue};
-ghost use Rattle.outside.specs.declared.TheConstants.{ATOM_MAX as ATOM_LIMIT};
+ghost use Rattle.context_model.specs.declared.TheConstants.{ATOM_MAX as ATOM_LIMIT};
 ghost use Rattle.bag_model.specs.Scalars.{ArePlainsOf, IsPlainOf, IsScalarOf, terminated, field_spelling, spelling_form_of, packed_spelling, plain_spelling, spelling};
 ghost use Rattle.bag_model.specs.Scalars as model;
 ghost use Rattle.scalar_types.specs.KindViews.{IsPlainWord, kind_of, word_of};

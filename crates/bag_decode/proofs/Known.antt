@@ -9,30 +9,16 @@ use Rattle.context_model.specs.Paths.{atom_at}
 use Rattle.context_model.specs.Varints.{unsigned_varint}
 use Rattle.bag_model.specs.Readings.{PathsOf, datum_path}
 use Rattle.bag_model.specs.Scalars.{ScalarValue, scalar_cmp, IsScalarOf, spelling}
-use Rattle.bag_model.specs.Typed.{IsSpelling}
 use Rattle.bag_model.proofs.SpellingOrder.{spelling-order}
 use Rattle.bag_walks.specs.Parts.{IsBehind, HasNoHeader, IsDataPart}
 use Rattle.bag_walks.specs.Gathering.{IsDatumAt, IsFirstDatum}
 use Rattle.bag_walks.proofs.Bridge.{data_are}
 use Rattle.lex_varint.specs.Readings.{IsUnsignedAt}
 use Rattle.set_map_types.specs.SetsAndMaps.{value_cmp}
-use Rattle.scalar_types.specs.KindCodec.{scalar_of, value_back}
 use Rattle.scalar_types.specs.KindViews.{kind_of}
 use Rattle.scalar_types.specs.Scalars.{value_of}
-use Rattle.scalar_types.specs.Codec.{IsSpelled}
 use Rattle.scalar_types.specs.declared.kinds.ScalarKind.{ScalarKind}
 use Rattle.scalar_types.specs.declared.scalars.Scalar.{Scalar}
-
--- Bytes that spell a value of the kind are spelled by one of the codec.
-pub codec_spelled : (kind : ScalarKind) (bytes : List ℕ) → IsSpelling (kind_of kind) bytes
-    → IsSpelled (λ (v : Scalar). IsScalarOf (kind_of kind) (value_of v)) (λ (v : Scalar). spelling (kind_of kind) (value_of v)) bytes
-codec_spelled kind bytes (v, fits, is) = (
-  scalar_of v,
-  record {
-    fit = subst (IsScalarOf (kind_of kind)) (sym (value_back v)) fits;
-    same = ap (spelling (kind_of kind)) (value_back v) ∙ sym is;
-  },
-)
 
 -- The bytes of a count are its varint and nothing more.
 pub count_there : (bytes : List ℕ) (n : ℕ) → n < 2 ^ 64 → bytes ≡ unsigned_varint n → IsUnsignedAt bytes n (length (unsigned_varint n))

@@ -15,7 +15,7 @@ ghost use Rattle.scalar_types.specs.KindViews.{kind_of};
 use crate::bottoms::bottom_of;
 use crate::leaves::{counts_of, has_datum, next_key, scalar_that_stays, set_of, take_known};
 use atom_list::{AtomList, Context};
-use bag_model::{MAX_LEVELS, Pick};
+use bag_model::{LEVELS_MAX, Pick};
 use bag_scan::{find_field, segment_end};
 use bag_value::{Entries, Entry, Val, Vals};
 use field_table::{Shape, Slots, Table};
@@ -36,7 +36,7 @@ pub fn decode_field(
     requires behind { IsBehind list.now (path_before list.now from) from }
     requires level { length (path_before list.now from) ≡ level }
     requires shape { IsShape (shape_of shape.now) }
-    requires room { level + levels_under (shape_of shape.now) ≤ MAX_LEVELS }
+    requires room { level + levels_under (shape_of shape.now) ≤ LEVELS_MAX }
     requires typed { IsTyped (shape_of shape.now) (PathsOf list.now) (path_before list.now from) }
     ensures value { IfOk result (λ found. Reads (shape_of shape.now) (PathsOf list.now) (path_before list.now from)
         (plain found.0)) }
@@ -86,7 +86,7 @@ fn decode_fields(
     requires behind { IsBehind list.now (path_before list.now from) from }
     requires level { length (path_before list.now from) ≡ level }
     requires fields { AreFields (nodes_of fields.now) }
-    requires room { level + levels (nodes_of fields.now) ≤ MAX_LEVELS }
+    requires room { level + levels (nodes_of fields.now) ≤ LEVELS_MAX }
     requires typed { AreTyped (nodes_of fields.now) (PathsOf list.now) (path_before list.now from) }
     ensures value { IfOk result (λ found. ReadsEach (nodes_of fields.now) (PathsOf list.now) (path_before list.now from)
         found.0) }
@@ -124,7 +124,7 @@ fn decode_entries(
     requires behind { IsBehind list.now (path_before list.now from) from }
     requires level { length (path_before list.now from) ≡ level }
     requires shape { IsShape (shape_of shape.now) }
-    requires room { level + 1 + levels_under (shape_of shape.now) ≤ MAX_LEVELS }
+    requires room { level + 1 + levels_under (shape_of shape.now) ≤ LEVELS_MAX }
     requires typed { IsTyped (shapes.Shape.Map (kind_of kind.now) (shape_of shape.now)) (PathsOf list.now)
         (path_before list.now from) }
     ensures value { IfOk result (λ found. Reads (shapes.Shape.Map (kind_of kind.now) (shape_of shape.now)) (PathsOf list.now)

@@ -18,7 +18,7 @@ ghost use Rattle.bag_decode.specs.Leaves.{AreCountsAt, IsNextKey};
 
 use atom_kinds::rest;
 use atom_list::AtomList;
-use bag_model::{MAX_LEVELS, Pick};
+use bag_model::{LEVELS_MAX, Pick};
 use bag_scan::{atom, data_end, find_key, first_datum, is_datum, last_datum};
 use bag_value::ScalarSet;
 use counter_type::Counts;
@@ -127,7 +127,7 @@ fn last_count(list: &AtomList, from: usize) -> u64
 /// The next key of this level from a place on, and the place behind its header; or, where there is none, the place where
 /// what stands below ends.
 pub(crate) fn next_key(list: &AtomList, level: usize, from: usize) -> Result<(&[u8], usize), usize>
-    requires level { level < MAX_LEVELS }
+    requires level { level < LEVELS_MAX }
     requires from { from ≤ length list.now }
     ensures found { IfOk result (λ found. IsNextKey list.now level from found.0.now found.1) }
     ensures none { IfErr result (HasNoKey list.now level from) }
@@ -151,7 +151,7 @@ pub(crate) fn counts_of(
 ) -> Result<(Counts, usize), Memory>
     requires behind { IsBehind list.now (path_before list.now from) from }
     requires level { length (path_before list.now from) ≡ level }
-    requires room { level < MAX_LEVELS }
+    requires room { level < LEVELS_MAX }
     requires typed { IsTyped shapes.Shape.Counter (PathsOf list.now) (path_before list.now from) }
     ensures value { IfOk result (λ found. Reads shapes.Shape.Counter (PathsOf list.now) (path_before list.now from)
         (values.Value.Counter found.0)) }

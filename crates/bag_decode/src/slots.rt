@@ -12,7 +12,7 @@ ghost use Rattle.bag_decode.specs.Slots.{IsPlaceBehind, IsSlotPlace, IsSpanOfSlo
 use crate::bottoms::bottom_of;
 use crate::decoding::decode_field;
 use atom_list::{AtomList, Context};
-use bag_model::MAX_LEVELS;
+use bag_model::LEVELS_MAX;
 use bag_scan::{Span, find_field};
 use bag_value::Val;
 use field_table::Table;
@@ -70,7 +70,7 @@ pub fn slot_value(
 
 /// The place behind the header of the field with these numbers, where there is one.
 fn place_of(list: &AtomList, numbers: &[u64]) -> Option<usize>
-    requires few { length numbers.now ≤ MAX_LEVELS }
+    requires few { length numbers.now ≤ LEVELS_MAX }
     requires well_formed { IsWellFormed list.now }
     ensures { IsPlaceBehind list.now numbers.now result }
 {

@@ -5,7 +5,7 @@ use Rattle.std.specs.Option.{option_map}
 use Rattle.context_model.specs.Ended.{field_path, field_path_from}
 use Rattle.context_model.specs.Kinds.{atom_of}
 use Rattle.context_model.specs.Kinds.Kind.{Indexed}
-use Rattle.bag_model.specs.declared.TheConstants.{MAX_LEVELS}
+use Rattle.context_model.specs.declared.TheConstants.{LEVELS_MAX}
 use Rattle.bag_model.specs.Joins.{IsBottom}
 use Rattle.bag_model.specs.Shapes.{Shape, Nodes}
 use Rattle.bag_model.specs.Slots.{SlotAt, slots_of}
@@ -44,7 +44,7 @@ module _ (nodes : Nodes) (slot : ℕ) (v : Value) (within : slot < length (slots
     -- on the way to the slot.
     pub record IsWritten (numbers : List ℕ) (shape : Shape) : Type 0 where
       pub is : IsOfShape shape v
-      pub room : length numbers + levels_under shape ≤ MAX_LEVELS
+      pub room : length numbers + levels_under shape ≤ LEVELS_MAX
       pub laid : ¬ (IsBottom v) → field_atoms nodes 0 (only nodes slot v) ≡ field_path numbers ++ atoms_of shape (length numbers) v
 
     pub slot_written : (numbers : List ℕ) (shape : Shape) → IsTable nodes

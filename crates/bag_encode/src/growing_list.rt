@@ -9,6 +9,7 @@ ghost use Rattle.scalar_types.specs.Scalars.{value_of};
 
 use atom_kinds::{indexed_prefix, keyed_prefix};
 use atom_list::{AtomList, Builder};
+use context_model::LEVELS_MAX;
 use lex_varint::put_u64;
 use outside::{ATOM_MAX, Memory};
 use scalar_types::{Codec, Scalar, ScalarKind};
@@ -100,7 +101,7 @@ impl GrowingList {
 
     /// Adds the header of a field.
     pub(crate) fn push_index(&mut self, level: u8, number: u64) -> Result<(), Memory>
-        requires { level < 16 }
+        requires { level < LEVELS_MAX }
         ensures { OnOk result (self.new ≡ self.old ++ atom_of (Indexed level number) ∷ []) }
     {
         self.push(indexed_prefix(level), put_u64(number).as_slice())
@@ -108,7 +109,7 @@ impl GrowingList {
 
     /// Adds the header of a counter's writer.
     pub(crate) fn push_writer(&mut self, level: u8, writer: &[u8]) -> Result<(), Memory>
-        requires level { level < 16 }
+        requires level { level < LEVELS_MAX }
         requires short { length writer.now < ATOM_MAX }
         ensures { OnOk result (self.new ≡ self.old ++ atom_of (Keyed level writer.now) ∷ []) }
     {
@@ -122,7 +123,7 @@ impl GrowingList {
         kind: &ScalarKind,
         key: &Scalar,
     ) -> Result<(), Memory>
-        requires level { level < 16 }
+        requires level { level < LEVELS_MAX }
         requires fits { IsScalarOf (kind_of kind.now) (value_of key.now) }
         requires short { length (spelling (kind_of kind.now) (value_of key.now)) < ATOM_MAX }
         ensures { OnOk result

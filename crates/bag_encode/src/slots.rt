@@ -14,7 +14,7 @@ ghost use Rattle.bag_encode.specs.Values.{field_atoms};
 use crate::growing_list::GrowingList;
 use crate::values::put_value;
 use atom_list::Context;
-use bag_model::MAX_LEVELS;
+use bag_model::LEVELS_MAX;
 use bag_value::Val;
 use counter_type::Lattice;
 use field_table::Table;
@@ -23,7 +23,7 @@ use std::alloc::Global;
 
 /// Adds the headers of the fields with these numbers, each one level further in than the one before.
 fn put_headers(list: &mut GrowingList, numbers: &[u64]) -> Result<(), Memory>
-    requires { length numbers.now ≤ MAX_LEVELS }
+    requires { length numbers.now ≤ LEVELS_MAX }
     ensures { OnOk result (list.new ≡ list.old ++ field_path numbers.now) }
 {
     for (level, number) in numbers.iter().enumerate() {

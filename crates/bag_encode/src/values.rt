@@ -13,7 +13,7 @@ ghost use Rattle.bag_value.specs.declared.vals.Val.TheVariants.{Set as SetVal};
 ghost use Rattle.bag_encode.specs.Values.{atoms_of, field_atoms, one_field_atoms};
 
 use crate::growing_list::GrowingList;
-use bag_model::MAX_LEVELS;
+use bag_model::LEVELS_MAX;
 use bag_value::{Entries, ScalarSet, Val, Vals};
 use counter_type::{Counts, Lattice};
 use field_table::{Shape, Slot, Slots};
@@ -30,7 +30,7 @@ pub(crate) fn put_value(
     value: &Val,
 ) -> Result<(), Memory>
     requires shape { IsOfShape (shape_of shape.now) (plain value.now) }
-    requires levels { level + levels_under (shape_of shape.now) ≤ MAX_LEVELS }
+    requires levels { level + levels_under (shape_of shape.now) ≤ LEVELS_MAX }
     requires fits { AreAtoms (atoms_of (shape_of shape.now) level (plain value.now)) }
     ensures { OnOk result (list.new ≡ list.old ++ atoms_of (shape_of shape.now) level (plain value.now)) }
 {
@@ -66,7 +66,7 @@ fn put_set(list: &mut GrowingList, kind: &ScalarKind, set: &ScalarSet) -> Result
 
 /// Adds the writers of a counter, whose headers are of this level, each with its count.
 fn put_counts(list: &mut GrowingList, level: u8, counts: &Counts) -> Result<(), Memory>
-    requires level { level < 16 }
+    requires level { level < LEVELS_MAX }
     requires fits { AreAtoms (atoms_of shapes.Shape.Counter level (values.Value.Counter counts.now)) }
     ensures { OnOk result
         (list.new ≡ list.old ++ atoms_of shapes.Shape.Counter level (values.Value.Counter counts.now)) }
@@ -89,7 +89,7 @@ fn put_entries(
     entries: &Entries,
 ) -> Result<(), Memory>
     requires shape { IsOfShape (shapes.Shape.Map (kind_of kind.now) (shape_of shape.now)) (values.Value.Map entries.now) }
-    requires levels { level + 1 + levels_under (shape_of shape.now) ≤ MAX_LEVELS }
+    requires levels { level + 1 + levels_under (shape_of shape.now) ≤ LEVELS_MAX }
     requires fits { AreAtoms
         (atoms_of (shapes.Shape.Map (kind_of kind.now) (shape_of shape.now)) level (values.Value.Map entries.now)) }
     ensures { OnOk result (list.new ≡ list.old
@@ -111,7 +111,7 @@ pub(crate) fn put_fields(
     values: &Vals,
 ) -> Result<(), Memory>
     requires shapes { AreOfShapes (nodes_of fields.now) values.now }
-    requires levels { level + levels (nodes_of fields.now) ≤ MAX_LEVELS }
+    requires levels { level + levels (nodes_of fields.now) ≤ LEVELS_MAX }
     requires fits { AreAtoms (field_atoms (nodes_of fields.now) level values.now) }
     ensures { OnOk result (list.new ≡ list.old ++ field_atoms (nodes_of fields.now) level values.now) }
 {
@@ -130,7 +130,7 @@ pub(crate) fn put_fields(
 #[cycle(put)]
 fn put_field(list: &mut GrowingList, level: u8, field: &Slot, value: &Val) -> Result<(), Memory>
     requires shape { IsOfShape (field_of field.now).shape (plain value.now) }
-    requires levels { level + 1 + levels_under (field_of field.now).shape ≤ MAX_LEVELS }
+    requires levels { level + 1 + levels_under (field_of field.now).shape ≤ LEVELS_MAX }
     requires fits { AreAtoms (one_field_atoms (field_of field.now) level (plain value.now)) }
     ensures { OnOk result (list.new ≡ list.old ++ one_field_atoms (field_of field.now) level (plain value.now)) }
 {

@@ -14,7 +14,7 @@ use Rattle.bag_model.specs.Scalars.{ScalarKind, ScalarValue, scalar_cmp, pick_cm
 use Rattle.bag_model.specs.Shapes.{Shape, Nodes, Taint, Scalar, Set, Counter, Map, Bag, no_node, node}
 use Rattle.bag_model.specs.Values.{Value, Values, Taint, Scalar, Set, Counter, Map, Bag, no_value, value, pairs}
 use Rattle.bag_model.specs.Readings.{datum_path, key_path, node_path, HasScalar, HasCount, IsGreatest, Reads, ReadsEach}
-use Rattle.bag_model.specs.Typed.{IsCount, IsTyped, AreTyped}
+use Rattle.bag_model.specs.Typed.{IsSpelling, IsCount, IsTyped, AreTyped}
 use Rattle.bag_model.specs.NormalForm.{Keeping, EachDatum, LeastDatum, GreatestDatum, kept_by, GivesWay}
 use Rattle.bag_model.proofs.ScalarOrder.{pick_total}
 use Rattle.bag_model.proofs.SpellingOrder.{spelling-order}
@@ -29,14 +29,14 @@ CoversData keep P Q q =
     ((x : List ℕ) → P (datum_path q x) → Q (datum_path q x))
     × ((x : List ℕ) → Q (datum_path q x) → (y : List ℕ) × P (datum_path q y) × ((y ≡ x) ⊎ GivesWay keep x y))
 
--- For a field of this shape at q, P says all that Q says.
+-- For a field of this shape at q, P says all that Q says. Of what stands below a key that is no spelling nothing is asked.
 abbrev mutual
   pub Covers : Shape → (Path → Type 0) → (Path → Type 0) → Path → Type 0
   Covers Taint P Q q = CoversData EachDatum P Q q
   Covers (Scalar pick kind) P Q q = CoversData (kept_by pick) P Q q
   Covers (Set kind) P Q q = CoversData EachDatum P Q q
   Covers Counter P Q q = (w : List ℕ) → (P (key_path q w) ↔ Q (key_path q w)) × CoversData GreatestDatum P Q (key_path q w)
-  Covers (Map kind shape) P Q q = (key : List ℕ) → (P (key_path q key) ↔ Q (key_path q key)) × Covers shape P Q (key_path q key)
+  Covers (Map kind shape) P Q q = (key : List ℕ) → (P (key_path q key) ↔ Q (key_path q key)) × (IsSpelling kind key → Covers shape P Q (key_path q key))
   Covers (Bag nodes) P Q q = AreCovered nodes P Q q
 
   pub AreCovered : Nodes → (Path → Type 0) → (Path → Type 0) → Path → Type 0
@@ -54,7 +54,7 @@ mutual
   Covers-alike (Scalar pick kind) P Q q s = data_alike (kept_by pick) P Q q s
   Covers-alike (Set kind) P Q q s = data_alike EachDatum P Q q s
   Covers-alike Counter P Q q s = λ w. ((key_there P Q q s w, key_back P Q q s w), data_alike GreatestDatum P Q (key_path q w) (same_step q (atom_of (Keyed (length q) w)) P Q s))
-  Covers-alike (Map kind shape) P Q q s = λ key. ((key_there P Q q s key, key_back P Q q s key), Covers-alike shape P Q (key_path q key) (same_step q (atom_of (Keyed (length q) key)) P Q s))
+  Covers-alike (Map kind shape) P Q q s = λ key. ((key_there P Q q s key, key_back P Q q s key), λ spelled. Covers-alike shape P Q (key_path q key) (same_step q (atom_of (Keyed (length q) key)) P Q s))
   Covers-alike (Bag nodes) P Q q s = AreCovered-alike nodes P Q q s
 
   pub AreCovered-alike : (nodes : Nodes) (P Q : Path → Type 0) (q : Path) → SameBelow q P Q → AreCovered nodes P Q q
@@ -86,7 +86,7 @@ mutual
   Covers-onwards (Scalar pick kind) P Q S q f g = data_onwards (kept_by pick) P Q S q f g
   Covers-onwards (Set kind) P Q S q f g = data_onwards EachDatum P Q S q f g
   Covers-onwards Counter P Q S q f g = λ w. let a = f w in let b = g w in ((λ i. b.0.0 (a.0.0 i), λ i. a.0.1 (b.0.1 i)), data_onwards GreatestDatum P Q S (key_path q w) a.1 b.1)
-  Covers-onwards (Map kind shape) P Q S q f g = λ key. let a = f key in let b = g key in ((λ i. b.0.0 (a.0.0 i), λ i. a.0.1 (b.0.1 i)), Covers-onwards shape P Q S (key_path q key) a.1 b.1)
+  Covers-onwards (Map kind shape) P Q S q f g = λ key. let a = f key in let b = g key in ((λ i. b.0.0 (a.0.0 i), λ i. a.0.1 (b.0.1 i)), λ spelled. Covers-onwards shape P Q S (key_path q key) (a.1 spelled) (b.1 spelled))
   Covers-onwards (Bag nodes) P Q S q f g = AreCovered-onwards nodes P Q S q f g
 
   pub AreCovered-onwards : (nodes : Nodes) (P Q S : Path → Type 0) (q : Path) → AreCovered nodes P Q q → AreCovered nodes Q S q → AreCovered nodes P S q
@@ -102,7 +102,7 @@ mutual
   Covers-any (Scalar pick kind) I F G q f = data_any (kept_by pick) I F G q f
   Covers-any (Set kind) I F G q f = data_any EachDatum I F G q f
   Covers-any Counter I F G q f = λ w. ((λ i. (i.0, (f i.0 w).0.0 i.1), λ i. (i.0, (f i.0 w).0.1 i.1)), data_any GreatestDatum I F G (key_path q w) (λ i. (f i w).1))
-  Covers-any (Map kind shape) I F G q f = λ key. ((λ i. (i.0, (f i.0 key).0.0 i.1), λ i. (i.0, (f i.0 key).0.1 i.1)), Covers-any shape I F G (key_path q key) (λ i. (f i key).1))
+  Covers-any (Map kind shape) I F G q f = λ key. ((λ i. (i.0, (f i.0 key).0.0 i.1), λ i. (i.0, (f i.0 key).0.1 i.1)), λ spelled. Covers-any shape I F G (key_path q key) (λ i. (f i key).1 spelled))
   Covers-any (Bag nodes) I F G q f = AreCovered-any nodes I F G q f
 
   pub AreCovered-any : (nodes : Nodes) (I : Type 0) (F G : I → Path → Type 0) (q : Path) → ((i : I) → AreCovered nodes (F i) (G i) q) → AreCovered nodes (AnyOf F) (AnyOf G) q
@@ -184,7 +184,8 @@ covers_map kind shape P Q q (Map es) t c below r = (
   r.0,
   λ k. ((λ i. let h = (r.1 k).0 i in (h.0, (c (spelling kind k)).0.0 h.1)), λ h. (r.1 k).1 (h.0, (c (spelling kind k)).0.1 h.1)),
   EachPair-from (λ k v. Reads shape Q (key_path q (spelling kind k)) v) (pairs es)
-      (λ k v at. below (spelling kind k) v (t (spelling kind k) ((c (spelling kind k)).0.0 ((r.1 k).0 (IsIn-keys_of (pairs es) k v at)).1)).1 (c (spelling kind k)).1
+      (λ k v at. below (spelling kind k) v (t (spelling kind k) ((c (spelling kind k)).0.0 ((r.1 k).0 (IsIn-keys_of (pairs es) k v at)).1)).1
+      ((c (spelling kind k)).1 (k, ((r.1 k).0 (IsIn-keys_of (pairs es) k v at)).0, refl))
       (EachPair-at (λ k v. Reads shape P (key_path q (spelling kind k)) v) (pairs es) k v r.2 at)),
 )
 covers_map kind shape P Q q v t c below r = absurd r

@@ -29,7 +29,7 @@ mutual
   HoldsData-below (Set kind) q keep p h = ([], h.1 ∙ sym (append-nil q))
   HoldsData-below Counter q keep p h = (atom_of (Keyed (length q) h.1.0) ∷ [], h.1.1)
   HoldsData-below (Map kind shape) q keep p h =
-      let s = HoldsData-below shape (key_path q h.0) keep p h.1 in (atom_of (Keyed (length q) h.0) ∷ s.0, s.1 ∙ append_assoc q (atom_of (Keyed (length q) h.0) ∷ []) s.0)
+      let s = HoldsData-below shape (key_path q h.0) keep p h.2 in (atom_of (Keyed (length q) h.0) ∷ s.0, s.1 ∙ append_assoc q (atom_of (Keyed (length q) h.0) ∷ []) s.0)
   HoldsData-below (Bag nodes) q keep p h = SomeHoldsData-below nodes q keep p h
 
   pub SomeHoldsData-below : (nodes : Nodes) (q : Path) (keep : Keeping) (p : Path) → SomeHoldsData nodes q keep p → (r : Path) × (p ≡ q ++ r)
@@ -52,10 +52,10 @@ mutual
   HoldsData-one (Set kind) q p k l w f g = f.0 ∙ sym g.0
   HoldsData-one Counter q p k l w f g = f.0 ∙ sym g.0
   HoldsData-one (Map kind shape) q p k l w f g =
-      let a = HoldsData-below shape (key_path q f.0) k p f.1 in
-      let b = HoldsData-below shape (key_path q g.0) l p g.1 in
+      let a = HoldsData-below shape (key_path q f.0) k p f.2 in
+      let b = HoldsData-below shape (key_path q g.0) l p g.2 in
       let same : f.0 ≡ g.0 = key_one-below q f.0 g.0 a.0 b.0 (sym a.1 ∙ b.1) in
-      HoldsData-one shape (key_path q f.0) p k l w.1 f.1 (subst (λ x. HoldsData shape (key_path q x) l p) (sym same) g.1)
+      HoldsData-one shape (key_path q f.0) p k l w.1 f.2 (subst (λ x. HoldsData shape (key_path q x) l p) (sym same) g.2)
   HoldsData-one (Bag nodes) q p k l w f g = SomeHoldsData-one nodes q p k l w f g
 
   pub SomeHoldsData-one : (nodes : Nodes) (q p : Path) (k l : Keeping) → AreFields nodes → SomeHoldsData nodes q k p → SomeHoldsData nodes q l p → k ≡ l
@@ -75,7 +75,7 @@ mutual
   HoldsData-used (Scalar pick kind) q keep p x h = (x, ap (λ v. datum_path v x) h.1)
   HoldsData-used (Set kind) q keep p x h = (x, ap (λ v. datum_path v x) h.1)
   HoldsData-used Counter q keep p x h = (h.1.0, inr (x, ap (λ v. datum_path v x) h.1.1))
-  HoldsData-used (Map kind shape) q keep p x h = (h.0, inr (HoldsData-used shape (key_path q h.0) keep p x h.1))
+  HoldsData-used (Map kind shape) q keep p x h = (h.0, inr (HoldsData-used shape (key_path q h.0) keep p x h.2))
   HoldsData-used (Bag nodes) q keep p x h = SomeHoldsData-used nodes q keep p x h
 
   pub SomeHoldsData-used : (nodes : Nodes) (q : Path) (keep : Keeping) (p : Path) (x : List ℕ) → SomeHoldsData nodes q keep p → AreUsed nodes q (datum_path p x)
@@ -199,7 +199,7 @@ mutual
   Covers-places Counter P Q q l s f = λ w. (s q (length q) w (omega (arith, l)), f GreatestDatum (key_path q w) (refl, (w, refl)))
   Covers-places (Map kind shape) P Q q l s f = λ key. (
     s q (length q) key (omega (arith, l)),
-    Covers-places shape P Q (key_path q key) (let e = long_path q (atom_of (Keyed (length q) key)) in omega (arith, l, e)) s (λ keep p h. f keep p (key, h)),
+    λ spelled. Covers-places shape P Q (key_path q key) (let e = long_path q (atom_of (Keyed (length q) key)) in omega (arith, l, e)) s (λ keep p h. f keep p (key, spelled, h)),
   )
   Covers-places (Bag nodes) P Q q l s f = AreCovered-places nodes P Q q l s f
 

@@ -11,7 +11,7 @@ use Rattle.context_model.specs.Ended.{IsBelow, IsBeyond, field_path_from, field_
 use Rattle.context_model.proofs.Beyond.{beyond_all, beyond_less, beyond_same, beyond_cases}
 use Rattle.context_model.proofs.MergedLaws.{same_end}
 use Rattle.context_model.proofs.PlacesOf.{path_there, front_is_path}
-use Rattle.bag_model.specs.declared.TheConstants.{MAX_LEVELS}
+use Rattle.context_model.specs.declared.TheConstants.{LEVELS_MAX}
 use Rattle.bag_model.specs.Shapes.{Shape, Nodes, Field, fields, Taint, Scalar, Set, Counter, Map, Bag, no_node, node}
 use Rattle.bag_model.specs.Slots.{SlotAt, slots_in, slots_of, within}
 use Rattle.bag_model.specs.Tables.{AreFields, IsShape, IsTable}
@@ -119,7 +119,7 @@ last_header n number (other ∷ numbers) l = by (last_header (suc n) other numbe
     by : EndsWithHeader (field_path_from (suc n) (other ∷ numbers)) → EndsWithHeader (field_path_from n (number ∷ other ∷ numbers))
     by h = record { front = atom_of (Indexed n number) ∷ h.front; level = h.level; number = h.number; few = h.few; is = ap (λ q. atom_of (Indexed n number) ∷ q) h.is }
 
-slot_header : (numbers : List ℕ) → 0 < length numbers → length numbers ≤ MAX_LEVELS → EndsWithHeader (field_path numbers)
+slot_header : (numbers : List ℕ) → 0 < length numbers → length numbers ≤ LEVELS_MAX → EndsWithHeader (field_path numbers)
 slot_header [] some few = absurd (omega (arith, some))
 slot_header (number ∷ numbers) some few = last_header 0 number numbers (omega (arith, few))
 

@@ -5,7 +5,7 @@ use Rattle.std.specs.Option.{option_map}
 use Rattle.std.proofs.lemmas.Bool.{cases_lt}
 use Rattle.std.proofs.lemmas.List.{length-map}
 use Rattle.std.proofs.lemmas.Option.{slice_get-map}
-use Rattle.bag_model.specs.declared.TheConstants.{MAX_LEVELS}
+use Rattle.context_model.specs.declared.TheConstants.{LEVELS_MAX}
 use Rattle.bag_model.specs.Shapes.{Shape, Nodes, Taint, Scalar, Set, Counter, Map, Bag, no_node, node}
 use Rattle.bag_model.specs.Slots.{SlotAt, slots_of, slots_in, slot_count, within}
 use Rattle.bag_model.specs.Tables.{levels, levels_under, IsTable}
@@ -76,5 +76,5 @@ mutual
   inside_upto (Map key value) k at e = omega (arith, alone_few (Map key value) k at e)
 
 -- A slot of a table has 1 to 16 numbers.
-pub numbers_few : (nodes : Nodes) (k : ℕ) (at : SlotAt) → IsTable nodes → slice_get (slots_of nodes) k ≡ Some at → (0 < length at.numbers) × (length at.numbers ≤ MAX_LEVELS)
+pub numbers_few : (nodes : Nodes) (k : ℕ) (at : SlotAt) → IsTable nodes → slice_get (slots_of nodes) k ≡ Some at → (0 < length at.numbers) × (length at.numbers ≤ LEVELS_MAX)
 numbers_few nodes k at table e = let r = some_upto nodes k at e in (r.0, omega (arith, r.1, table.shallow))

@@ -1,6 +1,6 @@
 -- The layout of values as paths, and which paths the fields of a bag name.
 use Rattle.std.specs.Prelude.{◌≡◌, ◌≢◌, ◌⊎◌, ℕ, ◌≤◌, IsTrue, List, [], length, Some, None}
-use Rattle.outside.specs.declared.TheConstants.{ATOM_MAX}
+use Rattle.context_model.specs.declared.TheConstants.{ATOM_MAX}
 use Rattle.context_model.specs.Atoms.{Atom}
 use Rattle.context_model.specs.Orders.{Path, IsIn}
 use Rattle.context_model.specs.Merged.{HasPaths, last_atom}

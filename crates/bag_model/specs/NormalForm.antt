@@ -13,6 +13,7 @@ use Rattle.bag_model.specs.Shapes.{Shape, Nodes, Taint, Scalar, Set, Counter, Ma
 use Rattle.bag_model.specs.Slots.{SlotAt, slots_of}
 use Rattle.bag_model.specs.Views.{View, Knows}
 use Rattle.bag_model.specs.Readings.{datum_path, key_path, node_path, PathsOf}
+use Rattle.bag_model.specs.Typed.{IsSpelling}
 
 -- Which of the data of one place normal form keeps: each of them, the first by bytes, or the last.
 pub data Keeping : Type 0 where
@@ -23,7 +24,8 @@ abbrev pub kept_by : Pick → Keeping
 kept_by Least = LeastDatum
 kept_by Greatest = GreatestDatum
 
--- Data are read at p for a field of this shape at q, and normal form keeps these of them.
+-- Data are read at p for a field of this shape at q, and normal form keeps these of them. Below a map's key no data are read
+-- where the key is no spelling of a key of the map's kind: there normal form keeps all.
 abbrev mutual
   pub HoldsData : Shape → Path → Keeping → Path → Type 0
   HoldsData Taint q keep p = (keep ≡ EachDatum) × (p ≡ q)
@@ -31,7 +33,8 @@ abbrev mutual
   HoldsData (Set kind) q keep p = (keep ≡ EachDatum) × (p ≡ q)
   HoldsData Counter q keep p =
       (keep ≡ GreatestDatum) × ((writer : List ℕ) × (p ≡ key_path q writer))
-  HoldsData (Map kind shape) q keep p = (key : List ℕ) × HoldsData shape (key_path q key) keep p
+  HoldsData (Map kind shape) q keep p =
+      (key : List ℕ) × IsSpelling kind key × HoldsData shape (key_path q key) keep p
   HoldsData (Bag nodes) q keep p = SomeHoldsData nodes q keep p
 
   -- The same for some field of a bag.

@@ -1,7 +1,8 @@
 -- What fields make a table.
 use Rattle.std.specs.Prelude.{◌≡◌, ◌≢◌, ℕ, ◌+◌, ◌^◌, ◌<◌, ◌≤◌, max, true, []}
 use Rattle.std.specs.List.{AllByRecursion}
-use Rattle.bag_model.specs.declared.TheConstants.{MAX_LEVELS, MAX_FIELDS}
+use Rattle.context_model.specs.declared.TheConstants.{LEVELS_MAX}
+use Rattle.bag_model.specs.declared.TheConstants.{FIELDS_MAX}
 use Rattle.bag_model.specs.Scalars as scalars
 pub use Rattle.bag_model.specs.Words.{is_letter, is_word, is_name, reserved_words}
 use Rattle.bag_model.specs.Shapes.{Shape, Nodes, Field, fields, Taint, Scalar, Set, Counter, Map, Bag, no_node, node}
@@ -65,5 +66,5 @@ abbrev mutual
 -- The fields make a table: each bag is one, and neither the levels of headers nor the fields are too many.
 pub record IsTable (nodes : Nodes) : Type 0 where
   pub well_formed : AreFields nodes
-  pub shallow : levels nodes ≤ MAX_LEVELS
-  pub small : node_count nodes ≤ MAX_FIELDS
+  pub shallow : levels nodes ≤ LEVELS_MAX
+  pub small : node_count nodes ≤ FIELDS_MAX

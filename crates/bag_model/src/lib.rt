@@ -4,11 +4,11 @@
 //! scalar field keeps.
 #![tactic(auto)]
 
-/// The most levels of headers that the fields of a table take, those of the keys of counters and maps included.
-pub const MAX_LEVELS: usize = 16;
+// The fields of a table take at most so many levels of headers, those of the keys of counters and maps included.
+pub use context_model::LEVELS_MAX;
 
 /// The most fields that a table has, with those of all bags inside it.
-pub const MAX_FIELDS: usize = 16_384;
+pub const FIELDS_MAX: usize = 16_384;
 
 /// Which of several values of a scalar field stays.
 #[derive(Clone, Copy, Debug, PartialEq, Eq)]

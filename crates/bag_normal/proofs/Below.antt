@@ -10,8 +10,10 @@ use Rattle.bag_model.specs.declared.Pick.{Pick}
 use Rattle.bag_model.specs.NormalForm.{Keeping, GreatestDatum, kept_by, HoldsData, SomeHoldsData}
 use Rattle.bag_model.specs.Readings.{PathsOf, key_path, node_path}
 use Rattle.bag_model.specs.Scalars.{ScalarKind}
+use Rattle.bag_model.specs.Typed.{IsSpelling}
 use Rattle.bag_model.specs.Shapes.{Shape, Nodes, Field, fields, Scalar, Counter, Map, Bag, no_node, node}
 use Rattle.bag_model.proofs.DataPlaces.{HoldsData-below}
+use Rattle.bag_model.proofs.PathsApart.{key_one}
 use Rattle.bag_normal.specs.Known.{GivesWayAt, IsSupersededIn, HoldsAtKey}
 use Rattle.bag_normal.proofs.FieldHeaders.{HoldsAtField}
 
@@ -32,11 +34,34 @@ counter_is list q place = (
   },
 )
 
-pub map_is : (kind : ScalarKind) (shape : Shape) (list : List Atom) (q : Path) (place : ℕ) → HoldsAtKey (IsSupersededIn shape list) q place ↔ IsSupersededIn (Map kind shape) list q place
+-- p is the path of a spelled key behind q, and the place is superseded in the value there.
+pub record IsSupersededAtKey (kind : ScalarKind) (shape : Shape) (list : List Atom) (q p : Path) (place : ℕ) : Type 0 where
+  pub key : List ℕ
+  pub spelled : IsSpelling kind key
+  pub is : p ≡ key_path q key
+  pub holds : IsSupersededIn shape list p place
+
+pub map_is : (kind : ScalarKind) (shape : Shape) (list : List Atom) (q : Path) (place : ℕ) → HoldsAtKey (IsSupersededAtKey kind shape list q) q place ↔ IsSupersededIn (Map kind shape) list q place
 map_is kind shape list q place = (
-  λ h. record { keep = h.holds.keep; path = h.holds.path; holds = (h.key, h.holds.holds); way = h.holds.way },
-  λ s. record { key = s.holds.0; holds = record { keep = s.keep; path = s.path; holds = s.holds.1; way = s.way } },
+  λ h. let s = h.holds in record {
+    keep = s.holds.keep;
+    path = s.holds.path;
+    holds = (s.key, s.spelled, subst (λ p. HoldsData shape p s.holds.keep s.holds.path) s.is s.holds.holds);
+    way = s.holds.way;
+  },
+  λ s. record {
+    key = s.holds.0;
+    holds = record { key = s.holds.0; spelled = s.holds.1; is = refl; holds = record { keep = s.keep; path = s.path; holds = s.holds.2; way = s.way } };
+  },
 )
+
+-- At a key that is a spelling goes what is superseded in its value, and at one that is none nothing goes.
+module _ (kind : ScalarKind) (shape : Shape) (list : List Atom) (q p : Path) (key : List ℕ) (is : p ≡ key_path q key) where
+  pub at_spelling : IsSpelling kind key → (place : ℕ) → IsSupersededIn shape list p place ↔ IsSupersededAtKey kind shape list q p place
+  at_spelling spelled place = (λ s. record { key = key; spelled = spelled; is = is; holds = s }, λ s. s.holds)
+
+  pub at_none : (IsSpelling kind key → ⊥) → (place : ℕ) → IsSupersededAtKey kind shape list q p place → ⊥
+  at_none none place s = none (subst (IsSpelling kind) (key_one q s.key key (sym s.is ∙ is)) s.spelled)
 
 -- ---- some field of a bag
 

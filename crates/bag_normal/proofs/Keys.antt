@@ -54,6 +54,11 @@ module _ (P : Path → ℕ → Type 0) (list : List Atom) (q : Path) (depth from
     pub key_behind : IsBehind list (path_before list (place + 1)) (place + 1)
     key_behind = header_behind (IsKeyHeader (length q)) (AtHeader P q) list q (length q) from at refl at_level behind before gone come place (passes place found.before) found.within wanted
 
+    pub key_is : path_before list (place + 1) ≡ key_path q found.key
+    key_is =
+        path_is (IsKeyHeader (length q)) (AtHeader P q) list q (length q) from at refl at_level behind before gone come place (passes place found.before) found.within wanted
+        ∙ ap (λ h. q ++ h ∷ []) (found.is ∙ ap (λ d. atom_of (Keyed d found.key)) (sym own))
+
     pub key_level : length (path_before list (place + 1)) ≡ depth + 1
     key_level =
         header_level (IsKeyHeader (length q)) (AtHeader P q) list q (length q) from at refl at_level behind before gone come place (passes place found.before) found.within wanted

@@ -1,6 +1,7 @@
 -- What a search for the headers of a bag's fields finds.
 use Rattle.std.specs.Prelude.{◌≡◌, ℕ, ◌+◌, ◌<◌, ◌≤◌, ◌^◌, List, length, Some}
 use Rattle.std.specs.List.{slice_get}
+use Rattle.context_model.specs.declared.TheConstants.{LEVELS_MAX}
 use Rattle.context_model.specs.Atoms.{Atom}
 use Rattle.context_model.specs.Kinds.{atom_of}
 use Rattle.context_model.specs.Kinds.Kind.{Indexed}
@@ -10,7 +11,7 @@ use Rattle.bag_walks.specs.Parts.{StaysBelow, IsSegment}
 
 -- The atom is the indexed header of this level and number.
 pub record IsIndex (level : ℕ) (atom : Atom) (number : ℕ) : Type 0 where
-  pub low : level < 16
+  pub low : level < LEVELS_MAX
   pub wide : number < 2 ^ 64
   pub is : atom ≡ atom_of (Indexed level number)
 

@@ -3,20 +3,24 @@
 ghost use Rattle.std.specs.Prelude.{◌≡◌, ◌+◌, ◌<◌, ◌≤◌, length, OnOk, IfOk};
 ghost use Rattle.context_model.specs.Paths.{path_before};
 ghost use Rattle.bag_model.specs.NormalForm.{GreatestDatum};
-ghost use Rattle.bag_model.specs.Shapes.{Bag};
+ghost use Rattle.bag_model.specs.Shapes.{Bag, Map};
 ghost use Rattle.bag_model.specs.Tables.{IsShape, AreFields, levels, levels_under};
 ghost use Rattle.bag_walks.specs.Parts.{IsBehind, IsSegment};
 ghost use Rattle.field_table.specs.Plain.{shape_of, nodes_of};
+ghost use Rattle.scalar_types.specs.KindViews.{kind_of};
 ghost use Rattle.bag_normal.specs.Known.{GivesWayAt, IsSupersededIn, HoldsAtKey};
 ghost use Rattle.bag_normal.specs.Data.{RisesUpTo, AddsPlaces};
 
 use crate::data::{add_earlier_data, add_other_data};
 use crate::headers::next_field;
+use atom_kinds::rest;
 use atom_list::AtomList;
 use bag_model::Pick;
-use bag_scan::{find_key, segment_end};
+use bag_scan::{atom, find_key, segment_end};
+use context_model::LEVELS_MAX;
 use field_table::{Shape, Slots};
 use outside::Memory;
+use scalar_types::{Codec, ScalarKind};
 
 /// Adds the places of the data of a counter's writers that go, and gives the end of what stands below the counter.
 fn add_counts(
@@ -27,7 +31,7 @@ fn add_counts(
 ) -> Result<usize, Memory>
     requires behind { IsBehind list.now (path_before list.now from) from }
     requires level { length (path_before list.now from) ≡ level }
-    requires room { level < 16 }
+    requires room { level < LEVELS_MAX }
     requires rises { RisesUpTo gone.old.items from }
     ensures segment { IfOk result (IsSegment list.now level from) }
     ensures rises { IfOk result (RisesUpTo gone.new.items) }
@@ -57,7 +61,7 @@ pub(crate) fn add_field(
     requires behind { IsBehind list.now (path_before list.now from) from }
     requires level { length (path_before list.now from) ≡ level }
     requires shape { IsShape (shape_of shape.now) }
-    requires room { level + levels_under (shape_of shape.now) ≤ 16 }
+    requires room { level + levels_under (shape_of shape.now) ≤ LEVELS_MAX }
     requires rises { RisesUpTo gone.old.items from }
     ensures segment { IfOk result (IsSegment list.now level from) }
     ensures rises { IfOk result (RisesUpTo gone.new.items) }
@@ -76,14 +80,16 @@ pub(crate) fn add_field(
         }
         Shape::Set(_) => Ok(segment_end(list, level, from)),
         Shape::Counter => add_counts(list, level, from, gone),
-        Shape::Map(_, value) => add_values(value, list, level, from, gone),
+        Shape::Map(key, value) => add_values(key, value, list, level, from, gone),
         Shape::Bag(fields) => add_fields(fields, list, level, from, gone),
     }
 }
 
-/// Adds the places of the data that go below the keys of a map, whose values have this shape, likewise.
+/// Adds the places of the data that go below the keys of a map, whose keys are of this kind and whose values have this
+/// shape, likewise. No data are read below a key that is no spelling, and there all stay.
 #[cycle(adding)]
 fn add_values(
+    kind: &ScalarKind,
     shape: &Shape,
     list: &AtomList,
     level: usize,
@@ -93,17 +99,24 @@ fn add_values(
     requires behind { IsBehind list.now (path_before list.now from) from }
     requires level { length (path_before list.now from) ≡ level }
     requires shape { IsShape (shape_of shape.now) }
-    requires room { level + 1 + levels_under (shape_of shape.now) ≤ 16 }
+    requires room { level + 1 + levels_under (shape_of shape.now) ≤ LEVELS_MAX }
     requires rises { RisesUpTo gone.old.items from }
     ensures segment { IfOk result (IsSegment list.now level from) }
     ensures rises { IfOk result (RisesUpTo gone.new.items) }
-    ensures adds { OnOk result (AddsPlaces (HoldsAtKey (IsSupersededIn (shape_of shape.now) list.now) (path_before list.now from))
+    ensures adds { OnOk result (AddsPlaces
+        (IsSupersededIn (Map (kind_of kind.now) (shape_of shape.now)) list.now
+        (path_before list.now from))
         gone.old.items gone.new.items) }
 {
     let mut place = from;
     'keys: while place < list.len() {
         match find_key(list, level, place) {
-            Ok(key) => place = add_field(shape, list, level + 1, key + 1, gone)?,
+            Ok(key) => {
+                place = key + 1;
+                if kind.spelled(rest(atom(list, key))) {
+                    place = add_field(shape, list, level + 1, place, gone)?;
+                }
+            }
             Err(stop) => return Ok(stop),
         }
     }
@@ -122,7 +135,7 @@ fn add_fields(
     requires behind { IsBehind list.now (path_before list.now from) from }
     requires level { length (path_before list.now from) ≡ level }
     requires fields { AreFields (nodes_of fields.now) }
-    requires room { level + levels (nodes_of fields.now) ≤ 16 }
+    requires room { level + levels (nodes_of fields.now) ≤ LEVELS_MAX }
     requires rises { RisesUpTo gone.old.items from }
     ensures segment { IfOk result (IsSegment list.now level from) }
     ensures rises { IfOk result (RisesUpTo gone.new.items) }

@@ -10,6 +10,7 @@ ghost use Rattle.bag_normal.specs.Headers.{IsIndex, IsFieldHeader, IsFieldFound,
 use atom_kinds::{Kind, header_level, kind_of};
 use atom_list::AtomList;
 use bag_scan::atom;
+use context_model::LEVELS_MAX;
 use field_table::{Slot, Slots};
 
 /// The number of an indexed header of this level.
@@ -36,7 +37,7 @@ fn index_of(atom: &[u8], level: usize) -> Option<u64>
 /// The field of a bag whose header of this level an atom is, behind its place among the fields.
 fn headed_field<'a>(fields: &'a Slots, level: usize, atom: &[u8]) -> Option<(usize, &'a Slot)>
     requires fields { AreFields (nodes_of fields.now) }
-    requires room { level + levels (nodes_of fields.now) ≤ 16 }
+    requires room { level + levels (nodes_of fields.now) ≤ LEVELS_MAX }
     ensures field { MatchOption result
         ((at : ℕ) (field : Field) → IsFieldHeader (nodes_of fields.now) level atom.now at field → ⊥)
         (λ found. IsFieldHeader (nodes_of fields.now) level atom.now found.0 (field_of found.1.now)) }
@@ -56,7 +57,7 @@ pub(crate) fn next_field<'a>(
     from: usize,
 ) -> Result<(usize, &'a Slot, usize), usize>
     requires fields { AreFields (nodes_of fields.now) }
-    requires room { level + levels (nodes_of fields.now) ≤ 16 }
+    requires room { level + levels (nodes_of fields.now) ≤ LEVELS_MAX }
     requires from { from ≤ length list.now }
     ensures found { IfOk result (λ found.
         IsFieldFound (nodes_of fields.now) list.now level from found.0 (field_of found.1.now) found.2) }

@@ -15,8 +15,9 @@ ghost use Rattle.bag_normal.specs.Data.{RisesUpTo, AddsPlaces};
 use crate::fields::add_field;
 use crate::headers::next_field;
 use atom_list::AtomList;
-use bag_model::MAX_FIELDS;
+use bag_model::FIELDS_MAX;
 use bag_scan::segment_end;
+use context_model::LEVELS_MAX;
 use field_table::{Shape, Slots, View};
 use outside::Memory;
 
@@ -36,8 +37,8 @@ fn add_known(
     requires level { length (path_before list.now from) ≡ level }
     requires shape { IsShape (shape_of shape.now) }
     requires ready { (inner : KeptBag) → kept_shape shape.now ≡ Bag inner → IsReady inner }
-    requires room { level + levels_under (shape_of shape.now) ≤ 16 }
-    requires slots { before + slot_count (shape_of shape.now) ≤ MAX_FIELDS }
+    requires room { level + levels_under (shape_of shape.now) ≤ LEVELS_MAX }
+    requires slots { before + slot_count (shape_of shape.now) ≤ FIELDS_MAX }
     requires rises { RisesUpTo gone.old.items from }
     ensures segment { IfOk result (IsSegment list.now level from) }
     ensures rises { IfOk result (RisesUpTo gone.new.items) }
@@ -69,8 +70,8 @@ pub(crate) fn add_known_fields(
     requires behind { IsBehind list.now (path_before list.now from) from }
     requires level { length (path_before list.now from) ≡ level }
     requires ready { IsReady (kept_bag fields.now) }
-    requires room { level + levels (nodes_of fields.now) ≤ 16 }
-    requires slots { before + length (slots_of (nodes_of fields.now)) ≤ MAX_FIELDS }
+    requires room { level + levels (nodes_of fields.now) ≤ LEVELS_MAX }
+    requires slots { before + length (slots_of (nodes_of fields.now)) ≤ FIELDS_MAX }
     requires rises { RisesUpTo gone.old.items from }
     ensures segment { IfOk result (IsSegment list.now level from) }
     ensures rises { IfOk result (RisesUpTo gone.new.items) }

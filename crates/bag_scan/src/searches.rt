@@ -9,6 +9,7 @@ ghost use Rattle.bag_scan.specs.Searches.{IsFoundBehind, IsMissing, IsKeyFound, 
 use crate::parts::atom;
 use atom_kinds::{FieldHeader, header_level, is_key};
 use atom_list::AtomList;
+use context_model::LEVELS_MAX;
 
 /// Whether a search for a header of this level goes past the atom at a place.
 fn passes(list: &AtomList, level: usize, header: &FieldHeader, at: usize) -> bool
@@ -40,7 +41,7 @@ fn seek(list: &AtomList, level: usize, header: &FieldHeader, from: usize) -> usi
 /// The place behind the header of the field with this number, sought from a place on among the headers of this level; or,
 /// where it isn't there, the place where the search stopped.
 pub fn find_field(list: &AtomList, level: usize, number: u64, from: usize) -> Result<usize, usize>
-    requires level { level < 16 }
+    requires level { level < LEVELS_MAX }
     requires from { from ≤ length list.now }
     ensures found { IfOk result (IsFoundBehind list.now level (atom_of (Indexed level number)) from) }
     ensures missing { IfErr result (IsMissing list.now level (atom_of (Indexed level number)) from) }
@@ -57,7 +58,7 @@ pub fn find_field(list: &AtomList, level: usize, number: u64, from: usize) -> Re
 /// The place of the next header of a key of this level, from a place on; or, where there is none, the place where what
 /// stands below ends.
 pub fn find_key(list: &AtomList, level: usize, from: usize) -> Result<usize, usize>
-    requires level { level < 16 }
+    requires level { level < LEVELS_MAX }
     requires from { from ≤ length list.now }
     ensures found { IfOk result (IsKeyFound list.now level from) }
     ensures none { IfErr result (HasNoKey list.now level from) }

@@ -11,13 +11,13 @@ ghost use Rattle.field_table.specs.Plain.{nodes_of, shape_of};
 use crate::parts::segment_end;
 use crate::searches::find_field;
 use atom_list::{AtomList, Context};
-use bag_model::MAX_LEVELS;
+use bag_model::LEVELS_MAX;
 use field_table::{Shape, Slots, Table};
 use outside::Memory;
 use std::alloc::Global;
 
 /// Where a slot stands in a context.
-#[derive(Clone, Copy)]
+#[derive(Clone, Copy, Debug)]
 pub struct Span {
     /// The place behind the slot's header, where there is one.
     pub from: Option<usize>,
@@ -47,7 +47,7 @@ fn add_fields(
     requires behind { IsBehind list.now (path_before list.now from) from }
     requires level { length (path_before list.now from) ≡ level }
     requires fields { AreFields (nodes_of fields.now) }
-    requires room { level + levels (nodes_of fields.now) ≤ MAX_LEVELS }
+    requires room { level + levels (nodes_of fields.now) ≤ LEVELS_MAX }
     ensures spans { OnOk result (AddsSpans list.now (slots_of (nodes_of fields.now)) (path_before list.now from) spans.old.items spans.new.items) }
     ensures stop { IfOk result (IsSegment list.now level from) }
 {
@@ -80,7 +80,7 @@ fn add_field(
     requires behind { IsBehind list.now (path_before list.now from) from }
     requires level { length (path_before list.now from) ≡ level }
     requires shape { IsShape (shape_of shape.now) }
-    requires room { level + levels_under (shape_of shape.now) ≤ MAX_LEVELS }
+    requires room { level + levels_under (shape_of shape.now) ≤ LEVELS_MAX }
     ensures spans { OnOk result (AddsSpans list.now (slots_in (shape_of shape.now)) (path_before list.now from) spans.old.items spans.new.items) }
     ensures stop { IfOk result (IsSegment list.now level from) }
 {

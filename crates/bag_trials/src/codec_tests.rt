@@ -4,15 +4,15 @@ ghost use Rattle.scalar_types.specs.KindViews.{IsPlainWord};
 
 use atom_list::Context;
 use bag_codec::{Val, Vals, bottom, can_encode, check_typed, decode, merge, normal};
-use bag_texts::{encoded, fields_of, join_of, slots_of};
 use field_table::{Table, View};
+use fixture_bags::{encoded, fields_of, join_of, slots_of};
+use fixture_tables::table_of;
 use random_bags::{Dice, random_bag, random_definition};
 use scalar_types::{KindList, ScalarKind};
 use set_map_types::SetOf;
 use std::alloc::Global;
 use std::process::Abort;
 use std::test::Fail;
-use test_tables::table_of;
 use wire_bytes::{Form, write};
 
 /// How deep a value may be. No bag here is so deep.

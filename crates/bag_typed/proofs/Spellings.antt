@@ -1,29 +1,10 @@
--- Bytes that spell a scalar or a count, as the codecs tell them.
-use Rattle.std.proofs.Common.{◌≡◌, ◌↔◌, ℕ, List, [], ◌∷◌, ◌++◌, length, Result, Ok, Err, IsTrue, nat_eq, sym, ap, ◌∙◌, subst, arith, length-append, append-nil}
+-- Bytes that spell a count, as the varint at their front tells.
+use Rattle.std.proofs.Common.{◌≡◌, ◌↔◌, ℕ, List, [], ◌∷◌, ◌++◌, length, Result, Ok, Err, IsTrue, nat_eq, sym, ap, ◌∙◌, arith, length-append, append-nil}
 use Rattle.std.proofs.lemmas.Bool.Decides.{nat_tests}
 use Rattle.context_model.specs.Varints.{unsigned_varint}
-use Rattle.bag_model.specs.Scalars.{ScalarKind, IsScalarOf, spelling}
-use Rattle.bag_model.specs.Typed.{IsSpelling, IsCount}
+use Rattle.bag_model.specs.Typed.{IsCount}
 use Rattle.lex_varint.specs.declared.VarintFault.{VarintFault}
 use Rattle.lex_varint.specs.Readings.{IsUnsignedAt}
-use Rattle.scalar_types.specs.KindCodec.{scalar_of, value_back}
-use Rattle.scalar_types.specs.Scalars.{value_of}
-use Rattle.scalar_types.specs.Codec.{IsSpelled}
-
--- What a kind's codec spells is what the kind spells.
-pub spelling_told : (kind : ScalarKind) (bytes : List ℕ) → IsSpelled (λ v. IsScalarOf kind (value_of v)) (λ v. spelling kind (value_of v)) bytes ↔ IsSpelling kind bytes
-spelling_told kind bytes = (
-  λ s. (value_of s.0, s.1.fit, sym s.1.same),
-  λ (x, fits, is). (
-    scalar_of x,
-    record {
-      fit = subst (IsScalarOf kind) (sym (value_back x)) fits;
-      same = ap (spelling kind) (value_back x) ∙ sym is;
-    },
-  ),
-)
-
--- ---- counts
 
 whole_count : (bytes : List ℕ) (n count : ℕ) → IsUnsignedAt bytes n count → count ≡ length bytes → IsCount bytes
 whole_count bytes n count at whole = (n, at.fits, by at.front.0 at.front.1 (let long = ap length at.front.1 ∙ length-append (unsigned_varint n) at.front.0 in omega (arith, long, at.whole)))

@@ -15,6 +15,7 @@ use crate::payloads::{Payload, check_data};
 use atom_kinds::rest;
 use atom_list::{AtomList, Context};
 use bag_scan::{atom, find_field, find_key, segment_end};
+use context_model::LEVELS_MAX;
 use field_table::{Shape, Slots, Table};
 use scalar_types::{Codec, ScalarKind};
 
@@ -22,7 +23,7 @@ use scalar_types::{Codec, ScalarKind};
 fn check_counts(list: &AtomList, level: usize, from: usize) -> Result<usize, usize>
     requires behind { IsBehind list.now (path_before list.now from) from }
     requires level { length (path_before list.now from) ≡ level }
-    requires room { level + 1 ≤ 16 }
+    requires room { level + 1 ≤ LEVELS_MAX }
     ensures end { IfOk result (IsSegment list.now level from) }
     ensures typed { IfOk result (λ _. HasNone list.now
         (Misspells PlainCounter (path_before list.now from))) }
@@ -55,7 +56,7 @@ fn check_entries(
     requires behind { IsBehind list.now (path_before list.now from) from }
     requires level { length (path_before list.now from) ≡ level }
     requires shape { IsShape (shape_of value.now) }
-    requires room { level + 1 + levels_under (shape_of value.now) ≤ 16 }
+    requires room { level + 1 + levels_under (shape_of value.now) ≤ LEVELS_MAX }
     ensures end { IfOk result (IsSegment list.now level from) }
     ensures typed { IfOk result (λ _. HasNone list.now
         (Misspells (PlainMap (kind_of kind.now) (shape_of value.now)) (path_before list.now from))) }
@@ -85,7 +86,7 @@ fn check_fields(fields: &Slots, list: &AtomList, level: usize, from: usize) -> R
     requires behind { IsBehind list.now (path_before list.now from) from }
     requires level { length (path_before list.now from) ≡ level }
     requires fields { AreFields (nodes_of fields.now) }
-    requires room { level + levels (nodes_of fields.now) ≤ 16 }
+    requires room { level + levels (nodes_of fields.now) ≤ LEVELS_MAX }
     ensures end { IfOk result (IsSegment list.now level from) }
     ensures typed { IfOk result (λ _. HasNone list.now
         (SomeMisspells (nodes_of fields.now) (path_before list.now from))) }
@@ -109,7 +110,7 @@ fn check_field(shape: &Shape, list: &AtomList, level: usize, from: usize) -> Res
     requires behind { IsBehind list.now (path_before list.now from) from }
     requires level { length (path_before list.now from) ≡ level }
     requires shape { IsShape (shape_of shape.now) }
-    requires room { level + levels_under (shape_of shape.now) ≤ 16 }
+    requires room { level + levels_under (shape_of shape.now) ≤ LEVELS_MAX }
     ensures end { IfOk result (IsSegment list.now level from) }
     ensures typed { IfOk result (λ _. HasNone list.now
         (Misspells (shape_of shape.now) (path_before list.now from))) }

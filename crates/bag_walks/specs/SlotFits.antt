@@ -1,6 +1,6 @@
 -- Which values fit the limit of bytes at any slot.
 use Rattle.std.specs.Prelude.{◌≤◌, length}
-use Rattle.outside.specs.declared.TheConstants.{ATOM_MAX}
+use Rattle.context_model.specs.declared.TheConstants.{ATOM_MAX}
 use Rattle.context_model.specs.Merged.{last_atom}
 use Rattle.context_model.specs.Orders.{Path}
 use Rattle.bag_model.specs.Encodings.{InLayout}

@@ -38,7 +38,7 @@ pub const TYPE: u32 = 9;
 
 /// The outcome of a call. A number that its status doesn't speak of is 0.
 #[repr(C)]
-#[derive(Clone, Copy)]
+#[derive(Clone, Copy, Debug)]
 pub struct Answer {
     /// One of the constants of this module.
     pub status: u32,

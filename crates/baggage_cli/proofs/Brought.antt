@@ -7,7 +7,7 @@ use Rattle.std.proofs.lemmas.Bool.{cases_lt}
 use Rattle.std.proofs.lemmas.List.{take_all, length-take-le}
 use Rattle.outside.specs.declared.TheConstants.{FETCH_MAX}
 use Rattle.outside.specs.Transfers.{Files, Asked, Asks, Fetches, fetched}
-use Rattle.bdl_lexer.specs.declared.TheConstants.{MAX_SOURCE}
+use Rattle.bdl_lexer.specs.declared.TheConstants.{SOURCE_MAX}
 use Rattle.bdl_load.specs.Loading.{Holding}
 use Rattle.baggage_cli.specs.declared.refusals.Notice.TheVariants.{LibraryFailed, Memory}
 use Rattle.baggage_cli.specs.declared.refusals.Refusal.{Refusal}
@@ -17,11 +17,11 @@ use Rattle.baggage_cli.specs.Scene.{Change, NeverFell, IsSteady, HasFailed}
 use Rattle.baggage_cli.specs.Tables.{FileGives, Brings}
 
 -- All of a file was fetched, or it is longer than a file may be that is taken, and so is what was fetched.
-whole_or : (text : List ℕ) → (fetched text ≡ text) ⊎ ((MAX_SOURCE < length (fetched text)) × (MAX_SOURCE < length text))
+whole_or : (text : List ℕ) → (fetched text ≡ text) ⊎ ((SOURCE_MAX < length (fetched text)) × (SOURCE_MAX < length text))
 unfolding fetched
 whole_or text = by (cases_lt FETCH_MAX (length text))
   where
-    by : (FETCH_MAX < length text) ⊎ (length text ≤ FETCH_MAX) → (take FETCH_MAX text ≡ text) ⊎ ((MAX_SOURCE < length (take FETCH_MAX text)) × (MAX_SOURCE < length text))
+    by : (FETCH_MAX < length text) ⊎ (length text ≤ FETCH_MAX) → (take FETCH_MAX text ≡ text) ⊎ ((SOURCE_MAX < length (take FETCH_MAX text)) × (SOURCE_MAX < length text))
     by (inl long) = inr (omega (arith, length-take-le FETCH_MAX text (omega (arith, long))), omega (arith, long))
     by (inr short) = inl (take_all FETCH_MAX text short)
 
@@ -29,9 +29,9 @@ some_text : (a b : List ℕ) → ◌≡◌ {A = Option (List ℕ)} (Some a) (Som
 some_text a b e = cc e
 
 -- What is given of a file that is too long is given of each such file.
-of_long : (file text other : List ℕ) (outcome : Outcome) → MAX_SOURCE < length text → MAX_SOURCE < length other → FileGives file (Some text) outcome → FileGives file (Some other) outcome
+of_long : (file text other : List ℕ) (outcome : Outcome) → SOURCE_MAX < length text → SOURCE_MAX < length other → FileGives file (Some text) outcome → FileGives file (Some other) outcome
 of_long file text other (Ok whole) long longer (is, short) =
-    let above : MAX_SOURCE < length whole = subst (λ t. MAX_SOURCE < length t) (some_text text whole is) long in
+    let above : SOURCE_MAX < length whole = subst (λ t. SOURCE_MAX < length t) (some_text text whole is) long in
     absurd (omega (arith, above, short))
 of_long file text other (Err refusal) long longer (above, is) = (longer, is)
 

@@ -1,15 +1,16 @@
 -- What holds of every call.
 use Rattle.std.proofs.Common.{◌≡◌, ◌≢◌, ◌⊎◌, inl, inr, ℕ, ◌≤◌, List, Option, Some, None, Ok, Err, refl, ◌∙◌, subst, arith}
 use Rattle.std.specs.Io.KnownBytes.{Appends}
-use Rattle.command_line.specs.Commands.{Task, alone, load, build, under, compare, checking}
+use Rattle.command_line.specs.Commands.{Task}
 use Rattle.baggage_cli.specs.declared.refusals.Notice.{Notice}
 use Rattle.baggage_cli.specs.declared.refusals.Notice.TheVariants.{WordsRefused, LibraryFailed, Memory}
 use Rattle.baggage_cli.specs.declared.refusals.Refusal.TheVariants.{Plain}
 use Rattle.baggage_cli.specs.Delivery.{TellsLine, Delivers}
 use Rattle.baggage_cli.specs.Outcomes.{Outcome}
+use Rattle.baggage_cli.specs.Plans.{Plan, of_nothing, of_input, of_table, under_table, of_tables, under_both, plan, PlanComes}
 use Rattle.baggage_cli.specs.Refusals.{notice_line, status_of}
-use Rattle.baggage_cli.specs.Scene.{Change, Scene, IsSame, IsSteady, NeverFell, HasFailed, TakesWhole}
-use Rattle.baggage_cli.specs.Top.{Comes, Answers}
+use Rattle.baggage_cli.specs.Scene.{Change, Scene, IsSame, IsSteady, NeverFell, HasFailed, TakesWhole, TakesPart}
+use Rattle.baggage_cli.specs.Top.{Answers}
 use Rattle.baggage_cli.proofs.Obtained.{refused_steady, given_steady}
 use Rattle.baggage_cli.proofs.Facts.{steady_done, source_steady_task, unread_task, quiet_task, sink_told, never_seven}
 
@@ -33,40 +34,40 @@ told_never_fell status line errs answer (inl told) = takes_never_fell errs line 
 told_never_fell status line errs answer (inr failed) = failed.1.2
 
 -- The files of the library are as before, and no count of the library and the source fell.
-came_kept : (task : Task) (scene : Scene) (outcome : Outcome) → Comes task scene.library scene.requests scene.source outcome
+came_kept : (way : Plan) (scene : Scene) (outcome : Outcome) → PlanComes way scene.library scene.requests scene.source outcome
     → (scene.library.after ≡ scene.library.before) × NeverFell scene.library × NeverFell scene.source
-came_kept (alone filter) scene outcome (same, unasked, (counts, why)) = (same.0, same_never_fell scene.library same, counts)
-came_kept (load rounds) scene outcome (same, unasked, unread, gives) = (same.0, same_never_fell scene.library same, same_never_fell scene.source unread)
-came_kept (build product origin) scene outcome (unread, inl (refusal, (same, counts, why), begun, is)) = (same, counts, same_never_fell scene.source unread)
-came_kept (build product origin) scene outcome (unread, inr (table, (same, counts, why), built)) = (same, counts, same_never_fell scene.source unread)
-came_kept (under purpose origin) scene outcome (inl (refusal, (same, counts, why), unread, is)) = (same, counts, same_never_fell scene.source unread)
-came_kept (under purpose origin) scene outcome (inr (table, (same, counts, why), (kept, rest))) = (same, counts, kept)
-came_kept (compare old new) scene outcome (unread, inl (refusal, (same, counts, why), begun, is)) = (same, counts, same_never_fell scene.source unread)
-came_kept (compare old new) scene outcome (unread, inr (half, before, (same, counts, why), inl (refusal, (kept, more, how), begun, is))) =
+came_kept (of_input gives) scene outcome (same, unasked, (counts, why)) = (same.0, same_never_fell scene.library same, counts)
+came_kept (of_nothing made) scene outcome (same, unasked, unread, makes) = (same.0, same_never_fell scene.library same, same_never_fell scene.source unread)
+came_kept (of_table origin text) scene outcome (unread, inl (refusal, (same, counts, why), begun, is)) = (same, counts, same_never_fell scene.source unread)
+came_kept (of_table origin text) scene outcome (unread, inr (table, (same, counts, why), built)) = (same, counts, same_never_fell scene.source unread)
+came_kept (under_table origin gives) scene outcome (inl (refusal, (same, counts, why), unread, is)) = (same, counts, same_never_fell scene.source unread)
+came_kept (under_table origin gives) scene outcome (inr (table, (same, counts, why), (kept, rest))) = (same, counts, kept)
+came_kept (of_tables old new gives) scene outcome (unread, inl (refusal, (same, counts, why), begun, is)) = (same, counts, same_never_fell scene.source unread)
+came_kept (of_tables old new gives) scene outcome (unread, inr (half, before, (same, counts, why), inl (refusal, (kept, more, how), begun, is))) =
     (kept ∙ same, omega (arith, counts, more), same_never_fell scene.source unread)
-came_kept (compare old new) scene outcome (unread, inr (half, before, (same, counts, why), inr (after, (kept, more, how), compared))) =
+came_kept (of_tables old new gives) scene outcome (unread, inr (half, before, (same, counts, why), inr (after, (kept, more, how), compared))) =
     (kept ∙ same, omega (arith, counts, more), same_never_fell scene.source unread)
-came_kept (checking origin file) scene outcome (inl (refusal, (same, counts, why), unread, is)) = (same, counts, same_never_fell scene.source unread)
-came_kept (checking origin file) scene outcome (inr (half, table, (same, counts, why), inl (refusal, (kept, more, how), unread, is))) =
+came_kept (under_both origin file gives) scene outcome (inl (refusal, (same, counts, why), unread, is)) = (same, counts, same_never_fell scene.source unread)
+came_kept (under_both origin file gives) scene outcome (inr (half, table, (same, counts, why), inl (refusal, (kept, more, how), unread, is))) =
     (kept ∙ same, omega (arith, counts, more), same_never_fell scene.source unread)
-came_kept (checking origin file) scene outcome (inr (half, table, (same, counts, why), inr (certificate, (kept, more, how), (stays, read)))) =
+came_kept (under_both origin file gives) scene outcome (inr (half, table, (same, counts, why), inr (certificate, (kept, more, how), (stays, read)))) =
     (kept ∙ same, omega (arith, counts, more), stays)
 
 -- Unless memory was wanting or the library failed, it counted no fault.
-came_steady : (task : Task) (scene : Scene) (outcome : Outcome) → Comes task scene.library scene.requests scene.source outcome
+came_steady : (way : Plan) (scene : Scene) (outcome : Outcome) → PlanComes way scene.library scene.requests scene.source outcome
     → (outcome ≡ Err (Plain Memory) → ⊥) → (outcome ≡ Err (Plain LibraryFailed) → ⊥) → IsSteady scene.library
-came_steady (alone filter) scene outcome (same, unasked, reads) some sure = same.1
-came_steady (load rounds) scene outcome (same, unasked, unread, gives) some sure = same.1
-came_steady (build product origin) scene outcome (unread, inl (refusal, taken, begun, is)) some sure = refused_steady refusal taken.2 outcome is some sure
-came_steady (build product origin) scene outcome (unread, inr (table, taken, built)) some sure = given_steady table taken.2
-came_steady (under purpose origin) scene outcome (inl (refusal, taken, unread, is)) some sure = refused_steady refusal taken.2 outcome is some sure
-came_steady (under purpose origin) scene outcome (inr (table, taken, rest)) some sure = given_steady table taken.2
-came_steady (compare old new) scene outcome (unread, inl (refusal, taken, begun, is)) some sure = refused_steady refusal taken.2 outcome is some sure
-came_steady (compare old new) scene outcome (unread, inr (half, before, taken, inl (refusal, rest, begun, is))) some sure = refused_steady refusal rest.2 outcome is some sure ∙ given_steady before taken.2
-came_steady (compare old new) scene outcome (unread, inr (half, before, taken, inr (after, rest, compared))) some sure = given_steady after rest.2 ∙ given_steady before taken.2
-came_steady (checking origin file) scene outcome (inl (refusal, taken, unread, is)) some sure = refused_steady refusal taken.2 outcome is some sure
-came_steady (checking origin file) scene outcome (inr (half, table, taken, inl (refusal, rest, unread, is))) some sure = refused_steady refusal rest.2 outcome is some sure ∙ given_steady table taken.2
-came_steady (checking origin file) scene outcome (inr (half, table, taken, inr (certificate, rest, read))) some sure = given_steady certificate rest.2 ∙ given_steady table taken.2
+came_steady (of_input gives) scene outcome (same, unasked, reads) some sure = same.1
+came_steady (of_nothing made) scene outcome (same, unasked, unread, makes) some sure = same.1
+came_steady (of_table origin text) scene outcome (unread, inl (refusal, taken, begun, is)) some sure = refused_steady refusal taken.2 outcome is some sure
+came_steady (of_table origin text) scene outcome (unread, inr (table, taken, built)) some sure = given_steady table taken.2
+came_steady (under_table origin gives) scene outcome (inl (refusal, taken, unread, is)) some sure = refused_steady refusal taken.2 outcome is some sure
+came_steady (under_table origin gives) scene outcome (inr (table, taken, rest)) some sure = given_steady table taken.2
+came_steady (of_tables old new gives) scene outcome (unread, inl (refusal, taken, begun, is)) some sure = refused_steady refusal taken.2 outcome is some sure
+came_steady (of_tables old new gives) scene outcome (unread, inr (half, before, taken, inl (refusal, rest, begun, is))) some sure = refused_steady refusal rest.2 outcome is some sure ∙ given_steady before taken.2
+came_steady (of_tables old new gives) scene outcome (unread, inr (half, before, taken, inr (after, rest, compared))) some sure = given_steady after rest.2 ∙ given_steady before taken.2
+came_steady (under_both origin file gives) scene outcome (inl (refusal, taken, unread, is)) some sure = refused_steady refusal taken.2 outcome is some sure
+came_steady (under_both origin file gives) scene outcome (inr (half, table, taken, inl (refusal, rest, unread, is))) some sure = refused_steady refusal rest.2 outcome is some sure ∙ given_steady table taken.2
+came_steady (under_both origin file gives) scene outcome (inr (half, table, taken, inr (certificate, rest, read))) some sure = given_steady certificate rest.2 ∙ given_steady table taken.2
 
 delivered_kept : (outcome : Outcome) (out errs : Change (List ℕ)) (answer : ℕ) → Delivers outcome out errs answer → NeverFell out × NeverFell errs
 delivered_kept (Ok output) out errs answer (inl done) = (takes_never_fell out output done.1, same_never_fell errs done.2)
@@ -77,7 +78,7 @@ delivered_kept (Err refusal) out errs answer (same, told) = (same_never_fell out
 -- The files of the library are as before, whatever the call answers.
 pub files_kept : (asked : Option Task) (scene : Scene) (answer : ℕ) → Answers asked scene answer → scene.library.after ≡ scene.library.before
 files_kept None scene answer (library, requests, source, out, told) = library.0
-files_kept (Some task) scene answer (outcome, comes, delivers) = (came_kept task scene outcome comes).0
+files_kept (Some task) scene answer (outcome, comes, delivers) = (came_kept (plan task) scene outcome comes).0
 
 -- No count falls.
 pub counts_kept : (asked : Option Task) (scene : Scene) (answer : ℕ) → Answers asked scene answer → KeepsCounts scene
@@ -88,7 +89,7 @@ counts_kept None scene answer (library, requests, source, out, told) = record {
   errs = told_never_fell _ _ scene.errs answer told;
 }
 counts_kept (Some task) scene answer (outcome, comes, delivers) =
-    let came = came_kept task scene outcome comes in
+    let came = came_kept (plan task) scene outcome comes in
     let kept = delivered_kept outcome scene.out scene.errs answer delivers in
     record { library = came.1; source = came.2; out = kept.0; errs = kept.1 }
 
@@ -112,7 +113,7 @@ plain_above notice out errs answer outcome is delivers above low = by (subst (λ
 pub library_steady_call : (asked : Option Task) (scene : Scene) (answer : ℕ) → Answers asked scene answer → answer ≤ 3 → IsSteady scene.library
 library_steady_call None scene answer (library, requests, source, out, told) low = library.1
 library_steady_call (Some task) scene answer (outcome, comes, delivers) low =
-    came_steady task scene outcome comes (λ is. plain_above Memory scene.out scene.errs answer outcome is delivers (omega arith) low)
+    came_steady (plan task) scene outcome comes (λ is. plain_above Memory scene.out scene.errs answer outcome is delivers (omega arith) low)
     (λ is. plain_above LibraryFailed scene.out scene.errs answer outcome is delivers (omega arith) low)
 
 -- So did the source.
@@ -150,3 +151,8 @@ unasked_call scene answer (library, requests, source, out, inr failed) = inr fai
 -- Words that ask for nothing touch the sink of errors alone.
 pub untouched_call : (scene : Scene) (answer : ℕ) → Answers None scene answer → IsSame scene.library × IsSame scene.requests × IsSame scene.source × IsSame scene.out
 untouched_call scene answer (library, requests, source, out, told) = (library, requests, source, out)
+
+-- Where they are answered by 5, a part of their line was written.
+pub unasked_part : (scene : Scene) (answer : ℕ) → Answers None scene answer → answer ≡ 5 → TakesPart scene.errs (notice_line WordsRefused)
+unasked_part scene answer (library, requests, source, out, inl told) five = absurd (let seven = told.0 in omega arith)
+unasked_part scene answer (library, requests, source, out, inr failed) five = failed.1

@@ -6,13 +6,13 @@ use Rattle.context_model.specs.declared.Form.TheVariants.{One, Two}
 use Rattle.text_lines.specs.Lines.{Line}
 use Rattle.text_lines.proofs.ReadingLaws.{all_say_more, at_most-few, next_bad}
 use Rattle.context_model.specs.Atoms.{Atom}
-use Rattle.baggage_cli.specs.declared.merging.TheConstants.{LINES_MAX}
+use Rattle.baggage_cli.specs.declared.commands.merge.TheConstants.{LINES_MAX}
 use Rattle.baggage_cli.specs.declared.refusals.InputCode.TheVariants.{TooManyLines}
 use Rattle.baggage_cli.specs.declared.refusals.InputFault.TheVariants.{Code}
 use Rattle.baggage_cli.specs.declared.refusals.Notice.TheVariants.{Memory}
 use Rattle.baggage_cli.specs.declared.refusals.Refusal.{Refusal}
 use Rattle.baggage_cli.specs.declared.refusals.Refusal.TheVariants.{Input, Plain}
-use Rattle.baggage_cli.specs.Merging.{lists_of, merged_lines, widest, AreContexts}
+use Rattle.baggage_cli.specs.Merge.{lists_of, merged_lines, widest, AreContexts}
 use Rattle.baggage_cli.specs.Reading.{Framed, RefusesLine, RefusesLines, context_lines}
 
 -- The widest form of some lines with one more behind them.

@@ -31,27 +31,26 @@ use Rattle.text_lines.specs.Lines.{Line, lines_of}
 use Rattle.text_lines.specs.Readings.{Reading, IsDefinite, AllSay, IsFirstBad}
 use Rattle.text_lines.proofs.HexLaws.{hex_lines_definite}
 use Rattle.text_lines.proofs.ReadingLaws.{all_say_one, first_bad_one, good_not_bad, none_bad, at_most_definite}
-use Rattle.command_line.specs.Commands.{Origin, ReportForm, as_lines, as_json, Purpose, decoding, running, explaining, Filter, trimming, merging, carrying, collecting, Task, alone, load, build, under, compare, checking}
-use Rattle.baggage_cli.specs.declared.merging.TheConstants.{LINES_MAX}
+use Rattle.command_line.specs.Commands.{Task, trim, merge, carry, collect, load, check, table as print_table, decode, run, run_json, run_table, evolve, why, verify}
+use Rattle.baggage_cli.specs.declared.commands.merge.TheConstants.{LINES_MAX}
 use Rattle.baggage_cli.specs.declared.refusals.InputCode.TheVariants.{Form as Excess, TooManyLines}
 use Rattle.baggage_cli.specs.declared.refusals.InputFault.{InputFault}
 use Rattle.baggage_cli.specs.declared.refusals.InputFault.TheVariants.{Code, Hex, Bytes}
 use Rattle.baggage_cli.specs.declared.refusals.Refusal.{Refusal}
-use Rattle.baggage_cli.specs.Carrying.{AreOfContext, own_bytes, byte_lines}
-use Rattle.baggage_cli.specs.Collecting.{CollectsLines}
-use Rattle.baggage_cli.specs.Verifying.{verified_line, IsVerified, ChecksLines, VerdictUnder}
-use Rattle.baggage_cli.specs.Decoding.{DecodesLines}
-use Rattle.baggage_cli.specs.Explaining.{IsPlace, IsNoPlace, IsUnexplained, IsExplained, ExplainsLines}
-use Rattle.baggage_cli.specs.Filters.{FiltersLines}
+use Rattle.baggage_cli.specs.Carry.{AreOfContext, own_bytes, byte_lines, CarriesLines}
+use Rattle.baggage_cli.specs.Collect.{CollectsLines}
+use Rattle.baggage_cli.specs.Verify.{verified_line, IsVerified, VerifiesLines}
+use Rattle.baggage_cli.specs.Decode.{DecodesLines}
+use Rattle.baggage_cli.specs.Why.{IsPlace, IsNoPlace, IsUnexplained, IsExplained, ExplainsLines}
 use Rattle.baggage_cli.specs.Laws.{TableLaws, GraphLaws, Laws}
-use Rattle.baggage_cli.specs.Merging.{lists_of, merged_lines, IsMergeLine}
+use Rattle.baggage_cli.specs.Merge.{lists_of, merged_lines, IsMergeLine, MergesLines}
 use Rattle.baggage_cli.specs.Outcomes.{Outcome}
+use Rattle.baggage_cli.specs.Plans.{Plan, of_nothing, of_input, of_table, under_table, of_tables, under_both, plan, PlanGives}
 use Rattle.baggage_cli.specs.Reading.{Framed, Within, RefusesLines, ReadsLines, only_one, ReadsOne, list_bytes, context_bytes, typed_bytes, cut_bytes, cut_lines, context_lines, typed_lines}
-use Rattle.baggage_cli.specs.Running.{input_fault, IsReportAs, IsRunReport, graph_inputs, GraphGives, RunsLines}
-use Rattle.baggage_cli.specs.Tables.{TableGives}
+use Rattle.baggage_cli.specs.Run.{ReportForm, as_lines, as_json, input_fault, IsReportAs, IsRunReport, graph_inputs, GraphGives, RunsLines}
+use Rattle.baggage_cli.specs.Tables.{Origin, FileGives, TableGives}
 use Rattle.baggage_cli.specs.Top.{InputGives}
-use Rattle.baggage_cli.specs.Trimming.{trimmed_line}
-use Rattle.baggage_cli.specs.Under.{InputUnder}
+use Rattle.baggage_cli.specs.Trim.{trimmed_line, TrimsLines}
 use Rattle.baggage_cli.proofs.GraphInputs.{lines_say}
 
 -- There is one outcome for an input.
@@ -306,8 +305,8 @@ module _ (laws : GraphLaws) (table : Nodes) (is_table : IsTable table) where
 
   -- A graph that is run gives one report.
   runs_one : (form : ReportForm) (graph : Graph) → IsRecorded table graph → (x y : List ℕ) → IsRunReport form table graph x → IsRunReport form table graph y → x ≡ y
-  runs_one form graph recorded x y (lists, ran, report) (others, run, reported) =
-      let one = laws.one_run table graph others lists recorded run ran in
+  runs_one form graph recorded x y (lists, ran, report) (others, again, reported) =
+      let one = laws.one_run table graph others lists recorded again ran in
       reports_one form graph lists x y report (subst (λ ls. IsReportAs form table graph ls y) one reported)
 
   -- Lines that say a graph aren't refused for a line.
@@ -330,7 +329,7 @@ module _ (laws : GraphLaws) (table : Nodes) (is_table : IsTable table) where
   graph_gives_one gives one text (Err r) (Ok y) refused (every, all, gave) = absurd (graph_not_bad text every r all refused)
   graph_gives_one gives one text (Err r) (Err s) f g = ap Err (refuses_lines_one (graph_inputs table) (graph_inputs_definite laws.definite table is_table) (lines_of text) r s f g)
 
-  run_gives_one : (form : ReportForm) → GivesOne (InputUnder (running form) table)
+  run_gives_one : (form : ReportForm) → GivesOne (Within (RunsLines form table))
   run_gives_one form = within_text_one (RunsLines form table) (graph_gives_one (IsRunReport form table) (runs_one form))
 
 -- ---- certificates
@@ -364,7 +363,7 @@ unexplained_one : (table : Nodes) (graph : Graph) (step : ℕ) (path : List ℕ)
 unexplained_one table graph step path a b (inl none) (inl also) = no_place_one table graph step path a b none also
 unexplained_one table graph step path a b (inl none) (inr (lists, slot, ran, place, unended, is)) = absurd (place_or_not table graph step path slot a place none)
 unexplained_one table graph step path a b (inr (lists, slot, ran, place, unended, is)) (inl none) = absurd (place_or_not table graph step path slot b place none)
-unexplained_one table graph step path a b (inr (lists, slot, ran, place, unended, a_is)) (inr (others, other, run, there, also, b_is)) = a_is ∙ sym b_is
+unexplained_one table graph step path a b (inr (lists, slot, ran, place, unended, a_is)) (inr (others, other, again, there, also, b_is)) = a_is ∙ sym b_is
 
 -- What has a certificate isn't left without one.
 explained_not_left : Laws → (table : Nodes) (graph : Graph) (step : ℕ) (path output : List ℕ) (refusal : Refusal) → IsRecorded table graph
@@ -381,8 +380,8 @@ module _ (laws : Laws) (table : Nodes) (is_table : IsTable table) where
   verdicts_one certificate graph recorded x y (verdict, right, x_is) (other, also, y_is) =
       x_is ∙ ap verified_line (laws.certificates.one_verdict table graph certificate verdict other is_table right also) ∙ sym y_is
 
-  checks_one : (certificate : List ℕ) → GivesOne (VerdictUnder table certificate)
-  checks_one certificate = within_text_one (ChecksLines table certificate) (graph_gives_one laws.graphs table is_table (IsVerified table certificate) (verdicts_one certificate))
+  checks_one : (certificate : List ℕ) → GivesOne (Within (VerifiesLines table certificate))
+  checks_one certificate = within_text_one (VerifiesLines table certificate) (graph_gives_one laws.graphs table is_table (IsVerified table certificate) (verdicts_one certificate))
 
   -- Lines that have a certificate aren't refused.
   explained_not_refused : (step : ℕ) (path text x : List ℕ) (s : Refusal) → ExplainsLines step path table (lines_of text) (Ok x) → ExplainsLines step path table (lines_of text) (Err s) → ⊥
@@ -409,16 +408,28 @@ module _ (laws : Laws) (table : Nodes) (is_table : IsTable table) where
 
 -- ---- inputs under a table
 
+-- An input that is refused comes to that alone.
+abbrev pub RefusesOnce : (List ℕ → Outcome → Type 0) → Type 0
+RefusesOnce gives = (input : List ℕ) (a b : Outcome) → OneRefused a b → gives input a → gives input b → a ≡ b
+
+-- What comes to one thing does so where it is refused.
+once : (gives : List ℕ → Outcome → Type 0) → GivesOne gives → RefusesOnce gives
+once gives one input a b refused f g = one input a b f g
+
 module _ (laws : Laws) (table : Nodes) (is_table : IsTable table) where
-  -- An input that is refused under a table comes to that alone.
-  under_refused_one : (purpose : Purpose) (input : List ℕ) (a b : Outcome) → OneRefused a b → InputUnder purpose table input a → InputUnder purpose table input b → a ≡ b
-  under_refused_one decoding input a b refused f g =
-      within_one (DecodesLines table) (reads_one_one (typed_lines table) (typed_lines_definite table) (λ said. IsBlock table said.0 said.1) (λ said. laws.one_block table said.0 said.1)) input a b f g
-  under_refused_one (running form) input a b refused f g = run_gives_one laws.graphs table is_table form input a b f g
-  under_refused_one (explaining step path) input a b refused (inl f) (inl g) = f.1 ∙ sym g.1
-  under_refused_one (explaining step path) input a b refused (inl f) (inr g) = absurd (let long = f.0 in let short = g.0 in omega arith)
-  under_refused_one (explaining step path) input a b refused (inr f) (inl g) = absurd (let long = g.0 in let short = f.0 in omega arith)
-  under_refused_one (explaining step path) input a b refused (inr f) (inr g) = explains_one laws table is_table step path input a b refused f.1 g.1
+  decodes_once : RefusesOnce (Within (DecodesLines table))
+  decodes_once =
+      once (Within (DecodesLines table)) (within_one (DecodesLines table)
+      (reads_one_one (typed_lines table) (typed_lines_definite table) (λ said. IsBlock table said.0 said.1) (λ said. laws.one_block table said.0 said.1)))
+
+  runs_once : (form : ReportForm) → RefusesOnce (Within (RunsLines form table))
+  runs_once form = once (Within (RunsLines form table)) (run_gives_one laws.graphs table is_table form)
+
+  explains_once : (step : ℕ) (path : List ℕ) → RefusesOnce (Within (ExplainsLines step path table))
+  explains_once step path input a b refused (inl f) (inl g) = f.1 ∙ sym g.1
+  explains_once step path input a b refused (inl f) (inr g) = absurd (let long = f.0 in let short = g.0 in omega arith)
+  explains_once step path input a b refused (inr f) (inl g) = absurd (let long = g.0 in let short = f.0 in omega arith)
+  explains_once step path input a b refused (inr f) (inr g) = explains_one laws table is_table step path input a b refused f.1 g.1
 
 -- ---- tasks
 
@@ -432,13 +443,6 @@ same_table laws origin files held other table found told is same known =
     let whole : ◌≡◌ {A = Option Holding} (Some other) (Some held) = sym same ∙ told in
     let one : other ≡ held = cc whole in
     ok_table found table (laws.gives_one origin held (Ok found) (Ok table) (subst (λ h. TableGives origin h (Ok found)) one known) is)
-
--- Lines come to one outcome by themselves.
-filters_lines_one : Laws → (filter : Filter) (lines : List Line) (a b : Outcome) → FiltersLines filter lines a → FiltersLines filter lines b → a ≡ b
-filters_lines_one laws (trimming budget) = reads_one_one (cut_lines budget) (cut_lines_definite budget) (λ said output. output ≡ trimmed_line budget said) (trims_one budget)
-filters_lines_one laws merging = reads_lines_one merged_lines merged_lines_definite IsMergeLine merged_one
-filters_lines_one laws (carrying width) = reads_one_one byte_lines byte_lines_definite (λ bytes output. output ≡ carried_text width bytes) (carries_one width)
-filters_lines_one laws collecting = collects_lines_one laws
 
 pub refused_right : (a : Outcome) (r : Refusal) → OneRefused a (Err r)
 refused_right (Ok x) r = tt
@@ -454,16 +458,48 @@ same_file file files held other text found told is same known =
     let one : other ≡ held = cc whole in
     some_file found text (sym known ∙ ap (λ h. h file) one ∙ is)
 
+-- Each input that is refused comes to that alone, under each table and beside each file.
+abbrev pub PlanOnce : Plan → Type 0
+PlanOnce (of_nothing made) = Unit {0}
+PlanOnce (of_input gives) = RefusesOnce (Within gives)
+PlanOnce (of_table origin text) = Unit {0}
+PlanOnce (under_table origin gives) = (table : Nodes) → IsTable table → RefusesOnce (Within (gives table))
+PlanOnce (of_tables old new gives) = Unit {0}
+PlanOnce (under_both origin file gives) = (table : Nodes) (text : List ℕ) → IsTable table → RefusesOnce (Within (gives table text))
+
+each_once : Laws → (task : Task) → PlanOnce (plan task)
+each_once laws (trim budget) =
+    once (Within (TrimsLines budget)) (within_one (TrimsLines budget)
+    (reads_one_one (cut_lines budget) (cut_lines_definite budget) (λ said output. output ≡ trimmed_line budget said) (trims_one budget)))
+each_once laws merge = once (Within MergesLines) (within_one MergesLines (reads_lines_one merged_lines merged_lines_definite IsMergeLine merged_one))
+each_once laws (carry width) =
+    once (Within (CarriesLines width)) (within_one (CarriesLines width)
+    (reads_one_one byte_lines byte_lines_definite (λ bytes output. output ≡ carried_text width bytes) (carries_one width)))
+each_once laws collect = once (Within CollectsLines) (within_one CollectsLines (collects_lines_one laws))
+each_once laws (load rounds) = tt
+each_once laws (check file bag) = tt
+each_once laws (print_table file bag) = tt
+each_once laws (decode file bag) = λ table is_table. decodes_once laws table is_table
+each_once laws (run file bag) = λ table is_table. runs_once laws table is_table as_lines
+each_once laws (run_table file) = λ table is_table. runs_once laws table is_table as_lines
+each_once laws (run_json file bag) = λ table is_table. runs_once laws table is_table as_json
+each_once laws (evolve old new bag) = tt
+each_once laws (why file bag step path) = λ table is_table. explains_once laws table is_table step path
+each_once laws (verify file bag name) = λ table text is_table. once (Within (VerifiesLines table text)) (checks_one laws table is_table text)
+
+plan_refused_one : Laws → (way : Plan) → PlanOnce way → (files : Option Holding) (input : List ℕ) (a b : Outcome) → OneRefused a b → PlanGives way files input a → PlanGives way files input b → a ≡ b
+plan_refused_one laws (of_nothing made) one files input a b refused f g = absurd f
+plan_refused_one laws (of_input gives) one files input a b refused f g = one input a b refused f g
+plan_refused_one laws (of_table origin text) one files input a b refused f g = absurd f
+plan_refused_one laws (of_tables old new gives) one files input a b refused f g = absurd f
+plan_refused_one laws (under_table origin gives) one files input a b refused (held, told, table, is, gave) (other, same, found, known, given) =
+    one table (laws.tables.is_table origin held table is) input a b refused gave
+    (subst (λ t. Within (gives t) input b) (same_table laws.tables origin files held other table found told is same known) given)
+plan_refused_one laws (under_both origin file gives) one files input a b refused (held, told, table, text, is, holds, gave) (other, same, found, another, known, also, given) =
+    one table text (laws.tables.is_table origin held table is) input a b refused gave
+    (subst (λ c. Within (gives table c) input b) (same_file file files held other text another told holds.0 same also.0)
+    (subst (λ t. Within (gives t another) input b) (same_table laws.tables origin files held other table found told is same known) given))
+
 -- An input that is refused comes to that alone.
 pub input_refused_one : Laws → (task : Task) (files : Option Holding) (input : List ℕ) (a b : Outcome) → OneRefused a b → InputGives task files input a → InputGives task files input b → a ≡ b
-input_refused_one laws (alone filter) files input a b refused f g = within_one (FiltersLines filter) (filters_lines_one laws filter) input a b f g
-input_refused_one laws (load rounds) files input a b refused f g = absurd f
-input_refused_one laws (build product origin) files input a b refused f g = absurd f
-input_refused_one laws (compare old new) files input a b refused f g = absurd f
-input_refused_one laws (under purpose origin) files input a b refused (held, told, table, is, gave) (other, same, found, known, given) =
-    under_refused_one laws table (laws.tables.is_table origin held table is) purpose input a b refused gave
-    (subst (λ t. InputUnder purpose t input b) (same_table laws.tables origin files held other table found told is same known) given)
-input_refused_one laws (checking origin file) files input a b refused (held, told, table, text, is, holds, gave) (other, same, found, another, known, also, given) =
-    checks_one laws table (laws.tables.is_table origin held table is) text input a b gave
-    (subst (λ c. VerdictUnder table c input b) (same_file file files held other text another told holds.0 same also.0)
-    (subst (λ t. VerdictUnder t another input b) (same_table laws.tables origin files held other table found told is same known) given))
+input_refused_one laws task files input a b refused f g = plan_refused_one laws (plan task) (each_once laws task) files input a b refused f g

@@ -16,9 +16,9 @@ use Rattle.trace_model.specs.Graphs.{Graph}
 use Rattle.trace_model.specs.Runs.{Lists, list_at, IsRun}
 use Rattle.write_proof.specs.Certificates.{IsEndedAt}
 use Rattle.baggage_cli.specs.declared.refusals.Refusal.{Refusal}
-use Rattle.baggage_cli.specs.Explaining.{IsPlace, IsNoPlace, IsPartial, CertifiesSlot, IsExplained, ExplainsLines}
+use Rattle.baggage_cli.specs.Why.{IsPlace, IsNoPlace, IsPartial, CertifiesSlot, IsExplained, ExplainsLines}
 use Rattle.baggage_cli.specs.Outcomes.{Outcome, outcome_of, OrMemory}
-use Rattle.baggage_cli.specs.Running.{GraphGives}
+use Rattle.baggage_cli.specs.Run.{GraphGives}
 use Rattle.baggage_cli.proofs.GraphInputs.{inputs_say, graph_gave}
 
 module _ (table : Nodes) (lists : Lists) (step slot : ℕ) (list : List Atom) (is : list_at lists step ≡ list) (state : State)

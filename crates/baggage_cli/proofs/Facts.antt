@@ -29,38 +29,40 @@ use Rattle.text_lines.proofs.ReadingLaws.{at_most-all_say, at_most-few}
 use Rattle.text_carrier.specs.Carrying.{carried_text}
 use Rattle.write_proof.specs.Verdicts.{IsVerdictOf}
 use Rattle.write_proof.specs.declared.verdicts.Verified.{Verified}
-use Rattle.baggage_cli.specs.Building.{product_text}
-use Rattle.baggage_cli.specs.Carrying.{byte_lines}
-use Rattle.baggage_cli.specs.Collecting.{CollectsLines}
-use Rattle.command_line.specs.Commands.{Origin, compiled, Product, ReportForm, as_json, Purpose, decoding, running, explaining, trimming, carrying, Task, alone, trim, merge, carry, collect, load, build, under, compare, checking, decode, run_json, evolve, why, verify, ReadsSource, FetchesFiles}
-use Rattle.baggage_cli.specs.Verifying.{verified_line, IsVerified, ChecksLines, VerdictUnder, TruthWhereYes}
-use Rattle.baggage_cli.specs.Explaining.{IsExplainedAt, IsExplained, ExplainsLines}
-use Rattle.baggage_cli.specs.Comparing.{verdict_line, SafeWhereItFits}
-use Rattle.baggage_cli.specs.declared.merging.TheConstants.{LINES_MAX}
+use Rattle.bag_model.specs.Slots.{slots_of}
+use Rattle.table_text.specs.TableTexts.{table_text}
+use Rattle.baggage_cli.specs.Check.{ok_line}
+use Rattle.baggage_cli.specs.Carry.{byte_lines, CarriesLines}
+use Rattle.baggage_cli.specs.Collect.{CollectsLines}
+use Rattle.command_line.specs.Commands.{Task, trim, merge, carry, collect, load, check, table as print_table, decode, run, run_json, run_table, evolve, why, verify}
+use Rattle.baggage_cli.specs.Verify.{verified_line, IsVerified, VerifiesLines, TruthWhereYes}
+use Rattle.baggage_cli.specs.Why.{IsExplainedAt, IsExplained, ExplainsLines}
+use Rattle.baggage_cli.specs.Evolve.{verdict_line, IsVerdictLine, SafeWhereItFits}
+use Rattle.baggage_cli.specs.declared.commands.merge.TheConstants.{LINES_MAX}
 use Rattle.baggage_cli.specs.declared.refusals.InputCode.TheVariants.{TooLong, Form as Excess, TooManyLines}
 use Rattle.baggage_cli.specs.declared.refusals.InputFault.{InputFault}
 use Rattle.baggage_cli.specs.declared.refusals.InputFault.TheVariants.{Code, Hex, Graph, Piece, Missing, Bytes, IllTyped}
 use Rattle.baggage_cli.specs.declared.refusals.Notice.TheVariants.{LibraryFailed, SourceFailed, Memory}
 use Rattle.baggage_cli.specs.declared.refusals.Refusal.{Refusal}
 use Rattle.baggage_cli.specs.declared.refusals.Refusal.TheVariants.{Input}
-use Rattle.baggage_cli.specs.Filters.{FiltersLines, FilterGives}
 use Rattle.baggage_cli.specs.Laws.{GraphLaws, Laws}
-use Rattle.baggage_cli.specs.Merging.{lists_of, widest, MergesLines}
+use Rattle.baggage_cli.specs.Merge.{lists_of, widest, MergesLines}
 use Rattle.baggage_cli.specs.Outcomes.{Outcome}
+use Rattle.baggage_cli.specs.Decode.{DecodesLines, SaysTyped}
+use Rattle.baggage_cli.specs.Plans.{Plan, of_nothing, of_input, of_table, under_table, of_tables, under_both, plan, PlanReads, PlanFetches, PlanGives, PlanRefuses}
 use Rattle.baggage_cli.specs.Reading.{Framed, IsInputRead, Within, ReadsOne, cut_lines, context_lines, typed_lines}
 use Rattle.baggage_cli.specs.Refusals.{status_of, input_status, input_line, refusal_line, notice_line}
-use Rattle.baggage_cli.specs.Loading.{load_heading, IsLoadOutput}
-use Rattle.baggage_cli.specs.Running.{IsReportAs, IsRunReport, ShowsTruth}
+use Rattle.baggage_cli.specs.Load.{load_heading, IsLoadOutput}
+use Rattle.baggage_cli.specs.Run.{ReportForm, as_lines, as_json, IsReportAs, IsRunReport, RunsLines, SaysGraph, ShowsTruth}
 use Rattle.baggage_cli.specs.Scene.{Change, Scene, scene_of, IsSame, IsSteady, HasFailed, TakesWhole, HasNoFault}
-use Rattle.baggage_cli.specs.Tables.{TableGives}
-use Rattle.baggage_cli.specs.Top.{TellsFiles, TellsAll, InputGives, RefusesFiles, Comes, Answers, SaysList, SaysContexts, SaysBytes, SaysPieces, IsRefusedFor, FailsSink, IsFailure}
+use Rattle.baggage_cli.specs.Tables.{Origin, compiled, printed, IsPrinted, TableGives}
+use Rattle.baggage_cli.specs.Top.{ReadsSource, FetchesFiles, TellsFiles, TellsAll, InputGives, RefusesFiles, Comes, Answers, SaysList, SaysContexts, SaysBytes, SaysPieces, IsRefusedFor, FailsSink, IsFailure}
 use Rattle.baggage_cli.specs.Top.IsRefusedFor.{by_files, by_input}
-use Rattle.baggage_cli.specs.Trimming.{trimmed_line}
-use Rattle.baggage_cli.specs.Under.{LinesGive, InputUnder, SaysTyped}
+use Rattle.baggage_cli.specs.Trim.{trimmed_line, TrimsLines}
 use Rattle.baggage_cli.proofs.GraphInputs.{said_graph, given_graph}
 use Rattle.baggage_cli.proofs.Definite.{ok_no_err, refused_right, input_refused_one}
-use Rattle.baggage_cli.proofs.Endings.{Ending, Gives, ending}
-use Rattle.baggage_cli.proofs.Endings.Ending.{read_out, files_out, load_out, bad_input, bad_files, library_failed, source_failed, memory_wanting, sink_failed}
+use Rattle.baggage_cli.proofs.Endings.{Ending, Gives, Made, AnswersBy, ending}
+use Rattle.baggage_cli.proofs.Endings.Ending.{read_out, files_out, made_out, bad_input, bad_files, library_failed, source_failed, memory_wanting, sink_failed}
 use Rattle.baggage_cli.proofs.ToldFiles.{AskedAll, FilesGive, refused_once, given_not_refused, no_table_given}
 
 -- No status of an input is another's.
@@ -100,58 +102,68 @@ read_left source told input is read =
 
 -- ---- what the library told
 
--- What an input gives for a task, it gives with the files that the library told.
-told_gives : (task : Task) (scene : Scene) (input : List ℕ) (outcome : Outcome) → TellsFiles task scene.library.before → Gives task scene input outcome → InputGives task scene.library.before input outcome
-told_gives (alone filter) scene input outcome tells gave = gave
-told_gives (load rounds) scene input outcome tells gave = absurd gave
-told_gives (build product origin) scene input outcome tells gave = absurd gave
-told_gives (under purpose origin) scene input outcome tells (table, came, gave) =
+-- What an input gives, it gives with the files that the library told.
+told_gives : (way : Plan) (scene : Scene) (input : List ℕ) (outcome : Outcome) → (PlanFetches way → (held : Holding) × (scene.library.before ≡ Some held)) → Gives way scene input outcome
+    → PlanGives way scene.library.before input outcome
+told_gives (of_nothing made) scene input outcome tells gave = absurd gave
+told_gives (of_input gives) scene input outcome tells gave = gave
+told_gives (of_table origin text) scene input outcome tells gave = absurd gave
+told_gives (under_table origin gives) scene input outcome tells (table, came, gave) =
     let held = tells tt in
     (held.0, held.1, table, (came held.0 held.1).0, gave)
-told_gives (compare old new) scene input outcome tells gave = absurd gave
-told_gives (checking origin file) scene input outcome tells (table, certificate, came, gave) =
+told_gives (of_tables old new gives) scene input outcome tells gave = absurd gave
+told_gives (under_both origin file gives) scene input outcome tells (table, certificate, came, gave) =
     let held = tells tt in
     let given = (came held.0 held.1).0 in
     (held.0, held.1, table, certificate, given.0, given.1, gave)
 
-given_tells : (task : Task) (files : Option Holding) (input : List ℕ) (outcome : Outcome) → InputGives task files input outcome → TellsFiles task files
-given_tells (alone filter) files input outcome gave = λ fetches. absurd fetches
-given_tells (load rounds) files input outcome gave = absurd gave
-given_tells (build product origin) files input outcome gave = absurd gave
-given_tells (under purpose origin) files input outcome gave = λ fetches. (gave.0, gave.1)
-given_tells (compare old new) files input outcome gave = absurd gave
-given_tells (checking origin file) files input outcome gave = λ fetches. (gave.0, gave.1)
+given_tells : (way : Plan) (files : Option Holding) (input : List ℕ) (outcome : Outcome) → PlanGives way files input outcome → PlanFetches way → (held : Holding) × (files ≡ Some held)
+given_tells (of_nothing made) files input outcome gave = absurd gave
+given_tells (of_input gives) files input outcome gave = λ fetches. absurd fetches
+given_tells (of_table origin text) files input outcome gave = absurd gave
+given_tells (under_table origin gives) files input outcome gave = λ fetches. (gave.0, gave.1)
+given_tells (of_tables old new gives) files input outcome gave = absurd gave
+given_tells (under_both origin file gives) files input outcome gave = λ fetches. (gave.0, gave.1)
 
--- A task of which an input gives something reads the source.
-given_reads : (task : Task) (files : Option Holding) (input : List ℕ) (outcome : Outcome) → InputGives task files input outcome → ReadsSource task
-given_reads (alone filter) files input outcome gave = tt
-given_reads (load rounds) files input outcome gave = gave
-given_reads (build product origin) files input outcome gave = gave
-given_reads (under purpose origin) files input outcome gave = tt
-given_reads (compare old new) files input outcome gave = gave
-given_reads (checking origin file) files input outcome gave = tt
+-- Where an input gives something, the source is read.
+given_reads : (way : Plan) (files : Option Holding) (input : List ℕ) (outcome : Outcome) → PlanGives way files input outcome → PlanReads way
+given_reads (of_nothing made) files input outcome gave = gave
+given_reads (of_input gives) files input outcome gave = tt
+given_reads (of_table origin text) files input outcome gave = gave
+given_reads (under_table origin gives) files input outcome gave = tt
+given_reads (of_tables old new gives) files input outcome gave = gave
+given_reads (under_both origin file gives) files input outcome gave = tt
+
+-- Where files are refused, some are fetched.
+refused_fetches : (way : Plan) (held : Holding) (refusal : Refusal) → PlanRefuses way held refusal → PlanFetches way
+refused_fetches (of_nothing made) held refusal bad = bad
+refused_fetches (of_input gives) held refusal bad = bad
+refused_fetches (of_table origin text) held refusal bad = tt
+refused_fetches (under_table origin gives) held refusal bad = tt
+refused_fetches (of_tables old new gives) held refusal bad = tt
+refused_fetches (under_both origin file gives) held refusal bad = tt
 
 -- ---- status 0
 
 -- With status 0 of a task that reads, an output was written that its input gives.
-pub record ReadOut (task : Task) (scene : Scene) : Type 0 where
+pub record ReadOut (way : Plan) (scene : Scene) : Type 0 where
   pub input : List ℕ
   pub output : List ℕ
   pub read : IsInputRead scene.source input
-  pub gave : Gives task scene input (Ok output)
+  pub gave : Gives way scene input (Ok output)
   pub out : TakesWhole scene.out output
 
-pub read_done : (task : Task) (scene : Scene) (answer : ℕ) → Ending task scene answer → ReadsSource task → answer ≡ 0 → ReadOut task scene
-read_done task scene answer (read_out input output zero reads read gave written) some is =
+pub read_done : (way : Plan) (scene : Scene) (answer : ℕ) → Ending way scene answer → PlanReads way → answer ≡ 0 → ReadOut way scene
+read_done way scene answer (read_out input output zero reads read gave written) some is =
     record { input = input; output = output; read = read; gave = gave; out = written.0 }
-read_done task scene answer (files_out output zero fetches none came unread written) some is = absurd (none some)
-read_done task scene answer (load_out rounds output zero asks unread made written) some is = absurd (subst ReadsSource asks some)
-read_done task scene answer (bad_input input number fault status reads read gave said) some is = absurd (not_input fault answer status (λ two. omega arith) (λ three. omega arith))
-read_done task scene answer (bad_files refusal one fetches came unread said) some is = absurd (omega arith)
-read_done task scene answer (library_failed four fetches failed said) some is = absurd (omega arith)
-read_done task scene answer (source_failed four reads failed said) some is = absurd (omega arith)
-read_done task scene answer (memory_wanting six said) some is = absurd (omega arith)
-read_done task scene answer (sink_failed five failed) some is = absurd (omega arith)
+read_done way scene answer (files_out output zero fetches none came unread written) some is = absurd (none some)
+read_done way scene answer (made_out output zero none unfetched made unread written) some is = absurd (none some)
+read_done way scene answer (bad_input input number fault status reads read gave said) some is = absurd (not_input fault answer status (λ two. omega arith) (λ three. omega arith))
+read_done way scene answer (bad_files refusal one fetches came unread said) some is = absurd (omega arith)
+read_done way scene answer (library_failed four fetches failed said) some is = absurd (omega arith)
+read_done way scene answer (source_failed four reads failed said) some is = absurd (omega arith)
+read_done way scene answer (memory_wanting six said) some is = absurd (omega arith)
+read_done way scene answer (sink_failed five failed) some is = absurd (omega arith)
 
 -- What one line of an input gave is what the line says.
 one_said : {A : Type 0} (reading : Reading A InputFault) (gives : A → List ℕ → Type 0) (input output : List ℕ) → Within (ReadsOne reading gives) input (Ok output)
@@ -165,9 +177,9 @@ one_said reading gives input output (inr (short, inr (said, all, (a, is, gave)))
 pub trim_appends : (budget : ℕ) (input : List ℕ) (scene : Scene) (answer : ℕ) → Answers (Some (trim budget)) scene answer → scene.source.before ≡ Some input → answer ≡ 0
     → (said : Framed) × SaysList budget input said × Appends scene.out.before scene.out.after (trimmed_line budget said)
 trim_appends budget input scene answer answers told zero =
-    let done = read_done (trim budget) scene answer (ending (trim budget) scene answer answers) tt zero in
+    let done = read_done (plan (trim budget)) scene answer (ending (trim budget) scene answer answers) tt zero in
     let same = told_input scene.source input done.input told done.read in
-    let (said, says, is) = one_said (cut_lines budget) (λ s output. output ≡ trimmed_line budget s) input done.output (subst (λ i. FilterGives (trimming budget) i (Ok done.output)) (sym same) done.gave) in
+    let (said, says, is) = one_said (cut_lines budget) (λ s output. output ≡ trimmed_line budget s) input done.output (subst (λ i. Within (TrimsLines budget) i (Ok done.output)) (sym same) done.gave) in
     (said, says, subst (Appends scene.out.before scene.out.after) is done.out.0)
 
 -- The lines of an input that were merged say contexts.
@@ -182,7 +194,7 @@ pub merge_appends : (input : List ℕ) (scene : Scene) (answer : ℕ) → Answer
     → (said : List Framed) × (merged : List Atom) × SaysContexts input said × IsMerged (lists_of said) merged
     × Appends scene.out.before scene.out.after (hex_line (bytes_of (widest said) merged))
 merge_appends input scene answer answers told zero =
-    let done = read_done merge scene answer (ending merge scene answer answers) tt zero in
+    let done = read_done (plan merge) scene answer (ending merge scene answer answers) tt zero in
     let same = told_input scene.source input done.input told done.read in
     let (said, merged, says, merges, is) = contexts_merged input done.output (subst (λ i. Within MergesLines i (Ok done.output)) (sym same) done.gave) in
     (said, merged, says, merges, subst (Appends scene.out.before scene.out.after) is done.out.0)
@@ -191,9 +203,9 @@ merge_appends input scene answer answers told zero =
 pub carry_appends : (width : ℕ) (input : List ℕ) (scene : Scene) (answer : ℕ) → Answers (Some (carry width)) scene answer → scene.source.before ≡ Some input → answer ≡ 0
     → (bytes : List ℕ) × SaysBytes input bytes × Appends scene.out.before scene.out.after (carried_text width bytes)
 carry_appends width input scene answer answers told zero =
-    let done = read_done (carry width) scene answer (ending (carry width) scene answer answers) tt zero in
+    let done = read_done (plan (carry width)) scene answer (ending (carry width) scene answer answers) tt zero in
     let same = told_input scene.source input done.input told done.read in
-    let (bytes, says, is) = one_said byte_lines (λ b output. output ≡ carried_text width b) input done.output (subst (λ i. FilterGives (carrying width) i (Ok done.output)) (sym same) done.gave) in
+    let (bytes, says, is) = one_said byte_lines (λ b output. output ≡ carried_text width b) input done.output (subst (λ i. Within (CarriesLines width) i (Ok done.output)) (sym same) done.gave) in
     (bytes, says, subst (Appends scene.out.before scene.out.after) is done.out.0)
 
 -- What lines of pieces gave are the bytes that they say.
@@ -205,28 +217,28 @@ bytes_collected input output (inr (short, (bytes, says, of, is))) = (bytes, (sho
 pub collect_appends : (input : List ℕ) (scene : Scene) (answer : ℕ) → Answers (Some collect) scene answer → scene.source.before ≡ Some input → answer ≡ 0
     → (bytes : List ℕ) × SaysPieces input bytes × Appends scene.out.before scene.out.after (hex_line bytes)
 collect_appends input scene answer answers told zero =
-    let done = read_done collect scene answer (ending collect scene answer answers) tt zero in
+    let done = read_done (plan collect) scene answer (ending collect scene answer answers) tt zero in
     let same = told_input scene.source input done.input told done.read in
     let (bytes, says, is) = bytes_collected input done.output (subst (λ i. Within CollectsLines i (Ok done.output)) (sym same) done.gave) in
     (bytes, says, subst (Appends scene.out.before scene.out.after) is done.out.0)
 
 -- Where the answer is 0, the input gave what was written, under a table that the told files give.
-record GaveUnder (purpose : Purpose) (origin : Origin) (held : Holding) (input : List ℕ) (scene : Scene) : Type 0 where
+record GaveUnder (origin : Origin) (gives : Nodes → List Line → Outcome → Type 0) (held : Holding) (input : List ℕ) (scene : Scene) : Type 0 where
   table : Nodes
   output : List ℕ
   is : TableGives origin held (Ok table)
-  gave : InputUnder purpose table input (Ok output)
+  gave : Within (gives table) input (Ok output)
   written : Appends scene.out.before scene.out.after output
 
-gave_under : (purpose : Purpose) (origin : Origin) (held : Holding) (input : List ℕ) (scene : Scene) (answer : ℕ) → Answers (Some (under purpose origin)) scene answer
-    → scene.library.before ≡ Some held → scene.source.before ≡ Some input → answer ≡ 0 → GaveUnder purpose origin held input scene
-gave_under purpose origin held input scene answer answers told content zero =
-    let done = read_done (under purpose origin) scene answer (ending (under purpose origin) scene answer answers) tt zero in
+gave_under : (origin : Origin) (gives : Nodes → List Line → Outcome → Type 0) (held : Holding) (input : List ℕ) (scene : Scene) (answer : ℕ) → Ending (under_table origin gives) scene answer
+    → scene.library.before ≡ Some held → scene.source.before ≡ Some input → answer ≡ 0 → GaveUnder origin gives held input scene
+gave_under origin gives held input scene answer ended told content zero =
+    let done = read_done (under_table origin gives) scene answer ended tt zero in
     record {
       table = done.gave.0;
       output = done.output;
       is = (done.gave.1 held told).0;
-      gave = subst (λ i. InputUnder purpose done.gave.0 i (Ok done.output)) (sym (told_input scene.source input done.input content done.read)) done.gave.2;
+      gave = subst (λ i. Within (gives done.gave.0) i (Ok done.output)) (sym (told_input scene.source input done.input content done.read)) done.gave.2;
       written = done.out.0;
     }
 
@@ -236,7 +248,7 @@ pub decode_appends : (file bag : List ℕ) (held : Holding) (input : List ℕ) (
     → (table : Nodes) × (said : Framed) × (text : List ℕ) × IsTableOf held file bag table × SaysTyped table input said × IsBlock table said.0 said.1 text
     × Appends scene.out.before scene.out.after text
 decode_appends file bag held input scene answer answers told content zero =
-    let done = gave_under decoding (compiled file bag) held input scene answer answers told content zero in
+    let done = gave_under (compiled file bag) DecodesLines held input scene answer (ending (decode file bag) scene answer answers) told content zero in
     let (said, says, block) = one_said (typed_lines done.table) (λ s. IsBlock done.table s.0 s.1) input done.output done.gave in
     (done.table, said, done.output, done.is, says, block, done.written)
 
@@ -248,76 +260,86 @@ shows_truth laws table graph lists recorded ran = λ n slot exact v among shown.
 -- Where the answer is 0, the report of the run of the graph that the input says was written.
 abbrev pub RanUnder : ReportForm → Origin → Holding → List ℕ → Scene → Type 0
 RanUnder form origin held input scene =
-    (table : Nodes) × (graph : model.Graph) × (lists : Lists) × (output : List ℕ) × TableGives origin held (Ok table) × IsGraphOf table input graph
+    (table : Nodes) × (graph : model.Graph) × (lists : Lists) × (output : List ℕ) × TableGives origin held (Ok table) × SaysGraph table input graph
     × IsRun table graph lists × IsReportAs form table graph lists output × ShowsTruth table graph lists × Appends scene.out.before scene.out.after output
 
-pub run_appends : Laws → (form : ReportForm) (origin : Origin) (held : Holding) (input : List ℕ) (scene : Scene) (answer : ℕ) → Answers (Some (under (running form) origin)) scene answer
+ran_under : Laws → (form : ReportForm) (origin : Origin) (held : Holding) (input : List ℕ) (scene : Scene) (answer : ℕ) → Ending (under_table origin (RunsLines form)) scene answer
     → scene.library.before ≡ Some held → scene.source.before ≡ Some input → answer ≡ 0 → RanUnder form origin held input scene
-run_appends laws form origin held input scene answer answers told content zero =
-    let done = gave_under (running form) origin held input scene answer answers told content zero in
+ran_under laws form origin held input scene answer ended told content zero =
+    let done = gave_under origin (RunsLines form) held input scene answer ended told content zero in
     let table = done.table in
     let ran = given_graph (IsRunReport form table) table input done.output done.gave in
     let lists = ran.2.0 in
-    let recorded = laws.graphs.recorded table input ran.0 (laws.tables.is_table origin held table done.is) ran.1 in
+    let recorded = laws.graphs.recorded table input ran.0 (laws.tables.is_table origin held table done.is) ran.1.1 in
     (table, ran.0, lists, done.output, done.is, ran.1, ran.2.1, ran.2.2, shows_truth laws.graphs table ran.0 lists recorded ran.2.1, done.written)
+
+pub run_appends : Laws → (file bag : List ℕ) (held : Holding) (input : List ℕ) (scene : Scene) (answer : ℕ) → Answers (Some (run file bag)) scene answer
+    → scene.library.before ≡ Some held → scene.source.before ≡ Some input → answer ≡ 0 → RanUnder as_lines (compiled file bag) held input scene
+run_appends laws file bag held input scene answer answers told content zero =
+    ran_under laws as_lines (compiled file bag) held input scene answer (ending (run file bag) scene answer answers) told content zero
+
+pub run_table_appends : Laws → (file : List ℕ) (held : Holding) (input : List ℕ) (scene : Scene) (answer : ℕ) → Answers (Some (run_table file)) scene answer
+    → scene.library.before ≡ Some held → scene.source.before ≡ Some input → answer ≡ 0 → RanUnder as_lines (printed file) held input scene
+run_table_appends laws file held input scene answer answers told content zero =
+    ran_under laws as_lines (printed file) held input scene answer (ending (run_table file) scene answer answers) told content zero
 
 -- The same as JSON: the line feed is the last byte.
 pub run_json_appends : Laws → (file bag : List ℕ) (held : Holding) (input : List ℕ) (scene : Scene) (answer : ℕ) → Answers (Some (run_json file bag)) scene answer
     → scene.library.before ≡ Some held → scene.source.before ≡ Some input → answer ≡ 0
-    → (table : Nodes) × (graph : model.Graph) × (lists : Lists) × (text : List ℕ) × IsTableOf held file bag table × IsGraphOf table input graph
+    → (table : Nodes) × (graph : model.Graph) × (lists : Lists) × (text : List ℕ) × IsTableOf held file bag table × SaysGraph table input graph
     × IsRun table graph lists × IsJsonReport table graph lists text × ShowsTruth table graph lists × Appends scene.out.before scene.out.after (text ++ 10 ∷ [])
 run_json_appends laws file bag held input scene answer answers told content zero =
-    let (table, graph, lists, output, is, says, ran, (text, report, output_is), truth, written) = run_appends laws as_json (compiled file bag) held input scene answer answers told content zero in
+    let (table, graph, lists, output, is, says, ran, (text, report, output_is), truth, written) =
+    ran_under laws as_json (compiled file bag) held input scene answer (ending (run_json file bag) scene answer answers) told content zero in
     (table, graph, lists, text, is, says, ran, report, truth, subst (Appends scene.out.before scene.out.after) output_is written)
 
 -- What lines that have a certificate say.
 explained_graph : (step : ℕ) (path : List ℕ) (table : Nodes) (input output : List ℕ) → Within (ExplainsLines step path table) input (Ok output)
-    → (graph : model.Graph) × IsGraphOf table input graph × IsExplained step path table graph output
+    → (graph : model.Graph) × SaysGraph table input graph × IsExplained step path table graph output
 explained_graph step path table input output (inl long) = absurd (ok_no_err output _ long.1)
-explained_graph step path table input output (inr (short, inl gave)) = said_graph (IsExplained step path table) table input output gave
+explained_graph step path table input output (inr (short, inl gave)) =
+    let (graph, says, explained) = said_graph (IsExplained step path table) table input output gave in
+    (graph, (short, says), explained)
 explained_graph step path table input output (inr (short, inr (every, left, all, reason, is))) = absurd (ok_no_err output _ is)
 
 -- Where the answer is 0, the certificate of the slot at the step was written.
 pub why_appends : (file bag path : List ℕ) (step : ℕ) (held : Holding) (input : List ℕ) (scene : Scene) (answer : ℕ) → Answers (Some (why file bag step path)) scene answer
     → scene.library.before ≡ Some held → scene.source.before ≡ Some input → answer ≡ 0
-    → (table : Nodes) × (graph : model.Graph) × (lists : Lists) × (slot : ℕ) × (text : List ℕ) × IsTableOf held file bag table × IsGraphOf table input graph
+    → (table : Nodes) × (graph : model.Graph) × (lists : Lists) × (slot : ℕ) × (text : List ℕ) × IsTableOf held file bag table × SaysGraph table input graph
     × IsExplainedAt table graph lists step path slot text × Appends scene.out.before scene.out.after text
 why_appends file bag path step held input scene answer answers told content zero =
-    let done = gave_under (explaining step path) (compiled file bag) held input scene answer answers told content zero in
+    let done = gave_under (compiled file bag) (ExplainsLines step path) held input scene answer (ending (why file bag step path) scene answer answers) told content zero in
     let (graph, says, (lists, slot, explained)) = explained_graph step path done.table input done.output done.gave in
     (done.table, graph, lists, slot, done.output, done.is, says, explained, done.written)
 
 -- Where the answer is 0, the verdict on the certificate was written.
 pub verify_appends : Laws → (file bag name : List ℕ) (held : Holding) (input : List ℕ) (scene : Scene) (answer : ℕ) → Answers (Some (verify file bag name)) scene answer
     → scene.library.before ≡ Some held → scene.source.before ≡ Some input → answer ≡ 0
-    → (table : Nodes) × (graph : model.Graph) × (certificate : List ℕ) × (verdict : Verified) × IsTableOf held file bag table × (held name ≡ Some certificate) × IsGraphOf table input graph
+    → (table : Nodes) × (graph : model.Graph) × (certificate : List ℕ) × (verdict : Verified) × IsTableOf held file bag table × (held name ≡ Some certificate) × SaysGraph table input graph
     × IsVerdictOf table graph certificate verdict × TruthWhereYes table graph certificate verdict × Appends scene.out.before scene.out.after (verified_line verdict)
 verify_appends laws file bag name held input scene answer answers told content zero =
-    let done = read_done (verify file bag name) scene answer (ending (verify file bag name) scene answer answers) tt zero in
+    let done = read_done (plan (verify file bag name)) scene answer (ending (verify file bag name) scene answer answers) tt zero in
     let (table, certificate, came, gave) = done.gave in
     let (is, text) = (came held told).0 in
-    let here = subst (λ i. VerdictUnder table certificate i (Ok done.output)) (sym (told_input scene.source input done.input content done.read)) gave in
+    let here = subst (λ i. Within (VerifiesLines table certificate) i (Ok done.output)) (sym (told_input scene.source input done.input content done.read)) gave in
     let (graph, says, (verdict, right, line)) = given_graph (IsVerified table certificate) table input done.output here in
-    let recorded = laws.graphs.recorded table input graph (laws.tables.is_table (compiled file bag) held table is) says in
+    let recorded = laws.graphs.recorded table input graph (laws.tables.is_table (compiled file bag) held table is) says.1 in
     let truth : TruthWhereYes table graph certificate verdict = (λ yes. laws.certificates.truth table graph certificate recorded (subst (IsVerdictOf table graph certificate) yes right)) in
     (table, graph, certificate, verdict, is, text.0, says, right, truth, subst (Appends scene.out.before scene.out.after) line done.out.0)
 
 -- ---- loads
 
-same_rounds : (a b : ℕ) → ◌≡◌ {A = Task} (load a) (load b) → a ≡ b
-same_rounds a b e = cc e
-
-load_written : (rounds : ℕ) (scene : Scene) (answer : ℕ) → Ending (load rounds) scene answer → answer ≡ 0
-    → (output : List ℕ) × IsLoadOutput rounds output × Appends scene.out.before scene.out.after output
-load_written rounds scene answer (read_out input output zero reads read gave written) is = absurd reads
-load_written rounds scene answer (files_out output zero fetches none came unread written) is = absurd fetches
-load_written rounds scene answer (load_out other output zero asks unread made written) is = (output, subst (λ n. IsLoadOutput n output) (sym (same_rounds rounds other asks)) made, written.0.0)
-load_written rounds scene answer (bad_input input number fault status reads read gave said) is = absurd reads
-load_written rounds scene answer (bad_files refusal one fetches came unread said) is = absurd (omega arith)
-load_written rounds scene answer (library_failed four fetches failed said) is = absurd (omega arith)
-load_written rounds scene answer (source_failed four reads failed said) is = absurd (omega arith)
-load_written rounds scene answer (memory_wanting six said) is = absurd (omega arith)
-load_written rounds scene answer (sink_failed five failed) is = absurd (omega arith)
+made_written : (made : List ℕ → Type 0) (scene : Scene) (answer : ℕ) → Ending (of_nothing made) scene answer → answer ≡ 0
+    → (output : List ℕ) × made output × Appends scene.out.before scene.out.after output
+made_written made scene answer (read_out input output zero reads read gave written) is = absurd reads
+made_written made scene answer (files_out output zero fetches none came unread written) is = absurd fetches
+made_written made scene answer (made_out output zero none unfetched holds unread written) is = (output, holds, written.0.0)
+made_written made scene answer (bad_input input number fault status reads read gave said) is = absurd reads
+made_written made scene answer (bad_files refusal one fetches came unread said) is = absurd (omega arith)
+made_written made scene answer (library_failed four fetches failed said) is = absurd (omega arith)
+made_written made scene answer (source_failed four reads failed said) is = absurd (omega arith)
+made_written made scene answer (memory_wanting six said) is = absurd (omega arith)
+made_written made scene answer (sink_failed five failed) is = absurd (omega arith)
 
 -- Where the answer is 0, the heading of the load and the report of its graph's run were written.
 pub load_appends : Laws → (rounds : ℕ) (scene : Scene) (answer : ℕ) → Answers (Some (load rounds)) scene answer → answer ≡ 0
@@ -325,31 +347,41 @@ pub load_appends : Laws → (rounds : ℕ) (scene : Scene) (answer : ℕ) → An
     × IsRun load_table graph lists × IsReport load_table graph lists text × ShowsTruth load_table graph lists
     × Appends scene.out.before scene.out.after (load_heading rounds ++ text)
 load_appends laws rounds scene answer answers zero =
-    let (output, (graph, text, says, (lists, ran, report), is), written) = load_written rounds scene answer (ending (load rounds) scene answer answers) zero in
+    let (output, (graph, text, says, (lists, ran, report), is), written) = made_written (IsLoadOutput rounds) scene answer (ending (load rounds) scene answer answers) zero in
     let recorded = laws.graphs.recorded load_table (load_text rounds) graph load_is_table says in
     (graph, lists, text, says, ran, report, shows_truth laws.graphs load_table graph lists recorded ran, subst (Appends scene.out.before scene.out.after) is written)
 
 -- ---- tables
 
 -- With status 0 of a task that reads nothing, what its files give was written.
-files_written : (task : Task) (held : Holding) (scene : Scene) (answer : ℕ) → Ending task scene answer → FetchesFiles task → (ReadsSource task → ⊥) → scene.library.before ≡ Some held → answer ≡ 0
-    → (output : List ℕ) × FilesGive task held output × Appends scene.out.before scene.out.after output
-files_written task held scene answer (read_out input output zero reads read gave written) fetching unasked told is = absurd (unasked reads)
-files_written task held scene answer (files_out output zero fetches none came unread written) fetching unasked told is = (output, (came held told).0, written.0.0)
-files_written task held scene answer (load_out rounds output zero asks unread made written) fetching unasked told is = absurd (subst FetchesFiles asks fetching)
-files_written task held scene answer (bad_input input number fault status reads read gave said) fetching unasked told is = absurd (unasked reads)
-files_written task held scene answer (bad_files refusal one fetches came unread said) fetching unasked told is = absurd (omega arith)
-files_written task held scene answer (library_failed four fetches failed said) fetching unasked told is = absurd (omega arith)
-files_written task held scene answer (source_failed four reads failed said) fetching unasked told is = absurd (omega arith)
-files_written task held scene answer (memory_wanting six said) fetching unasked told is = absurd (omega arith)
-files_written task held scene answer (sink_failed five failed) fetching unasked told is = absurd (omega arith)
+files_written : (way : Plan) (held : Holding) (scene : Scene) (answer : ℕ) → Ending way scene answer → PlanFetches way → (PlanReads way → ⊥) → scene.library.before ≡ Some held → answer ≡ 0
+    → (output : List ℕ) × FilesGive way held output × Appends scene.out.before scene.out.after output
+files_written way held scene answer (read_out input output zero reads read gave written) fetching unasked told is = absurd (unasked reads)
+files_written way held scene answer (files_out output zero fetches none came unread written) fetching unasked told is = (output, (came held told).0, written.0.0)
+files_written way held scene answer (made_out output zero none unfetched made unread written) fetching unasked told is = absurd (unfetched fetching)
+files_written way held scene answer (bad_input input number fault status reads read gave said) fetching unasked told is = absurd (unasked reads)
+files_written way held scene answer (bad_files refusal one fetches came unread said) fetching unasked told is = absurd (omega arith)
+files_written way held scene answer (library_failed four fetches failed said) fetching unasked told is = absurd (omega arith)
+files_written way held scene answer (source_failed four reads failed said) fetching unasked told is = absurd (omega arith)
+files_written way held scene answer (memory_wanting six said) fetching unasked told is = absurd (omega arith)
+files_written way held scene answer (sink_failed five failed) fetching unasked told is = absurd (omega arith)
 
 -- Where the answer is 0, what is made of the table was written.
-pub build_appends : (product : Product) (origin : Origin) (held : Holding) (scene : Scene) (answer : ℕ) → Answers (Some (build product origin)) scene answer → scene.library.before ≡ Some held → answer ≡ 0
-    → (table : Nodes) × TableGives origin held (Ok table) × Appends scene.out.before scene.out.after (product_text product table)
-build_appends product origin held scene answer answers told zero =
-    let (output, (table, gave, is), written) = files_written (build product origin) held scene answer (ending (build product origin) scene answer answers) tt (λ reads. reads) told zero in
+built_of : (origin : Origin) (text : Nodes → List ℕ) (held : Holding) (scene : Scene) (answer : ℕ) → Ending (of_table origin text) scene answer → scene.library.before ≡ Some held → answer ≡ 0
+    → (table : Nodes) × TableGives origin held (Ok table) × Appends scene.out.before scene.out.after (text table)
+built_of origin text held scene answer ended told zero =
+    let (output, (table, gave, is), written) = files_written (of_table origin text) held scene answer ended tt (λ reads. reads) told zero in
     (table, gave, subst (Appends scene.out.before scene.out.after) is written)
+
+pub check_appends : (file bag : List ℕ) (held : Holding) (scene : Scene) (answer : ℕ) → Answers (Some (check file bag)) scene answer → scene.library.before ≡ Some held → answer ≡ 0
+    → (table : Nodes) × IsTableOf held file bag table × Appends scene.out.before scene.out.after (ok_line (length (slots_of table)))
+check_appends file bag held scene answer answers told zero =
+    built_of (compiled file bag) (λ table. ok_line (length (slots_of table))) held scene answer (ending (check file bag) scene answer answers) told zero
+
+pub table_appends : (file bag : List ℕ) (held : Holding) (scene : Scene) (answer : ℕ) → Answers (Some (print_table file bag)) scene answer → scene.library.before ≡ Some held → answer ≡ 0
+    → (table : Nodes) × IsTableOf held file bag table × Appends scene.out.before scene.out.after (table_text table)
+table_appends file bag held scene answer answers told zero =
+    built_of (compiled file bag) table_text held scene answer (ending (print_table file bag) scene answer answers) told zero
 
 -- Contexts of a table are safe under one that fits.
 safe_where_it_fits : Laws → (old new : Nodes) (verdict : Verdict) → IsTable old → IsTable new → IsVerdict old new verdict → SafeWhereItFits old new verdict
@@ -360,28 +392,28 @@ pub evolve_appends : Laws → (old new bag : List ℕ) (held : Holding) (scene :
     → (before : Nodes) × (after : Nodes) × (verdict : Verdict) × IsTableOf held old bag before × IsTableOf held new bag after
     × IsVerdict before after verdict × SafeWhereItFits before after verdict × Appends scene.out.before scene.out.after (verdict_line verdict)
 evolve_appends laws old new bag held scene answer answers told zero =
-    let (output, (before, after, (is, also), (verdict, right, line)), written) = files_written (evolve old new bag) held scene answer (ending (evolve old new bag) scene answer answers) tt (λ reads. reads) told zero in
+    let (output, (before, after, (is, also), (verdict, right, line)), written) = files_written (plan (evolve old new bag)) held scene answer (ending (evolve old new bag) scene answer answers) tt (λ reads. reads) told zero in
     let safe = safe_where_it_fits laws before after verdict (laws.tables.is_table (compiled old bag) held before is) (laws.tables.is_table (compiled new bag) held after also) right in
     (before, after, verdict, is, also, right, safe, subst (Appends scene.out.before scene.out.after) line written)
 
 -- A task that fetches asked for all files that it needs, in order, and for no others.
 pub has_asked : (task : Task) (held : Holding) (scene : Scene) (answer : ℕ) → Answers (Some task) scene answer → FetchesFiles task → scene.library.before ≡ Some held → answer ≤ 3
-    → AskedAll held task scene
+    → AskedAll held (plan task) scene
 has_asked task held scene answer answers fetching told few = by (ending task scene answer answers)
   where
-    asked_given : (t : Task) (input : List ℕ) (outcome : Outcome) → FetchesFiles t → Gives t scene input outcome → AskedAll held t scene
-    asked_given (alone filter) input outcome own gave = absurd own
-    asked_given (load rounds) input outcome own gave = absurd own
-    asked_given (build product origin) input outcome own gave = absurd gave
-    asked_given (under purpose origin) input outcome own (table, came, gave) = (came held told).1
-    asked_given (compare old new) input outcome own gave = absurd gave
-    asked_given (checking origin file) input outcome own (table, certificate, came, gave) = (came held told).1
+    asked_given : (way : Plan) (input : List ℕ) (outcome : Outcome) → PlanFetches way → Gives way scene input outcome → AskedAll held way scene
+    asked_given (of_nothing made) input outcome own gave = absurd own
+    asked_given (of_input gives) input outcome own gave = absurd own
+    asked_given (of_table origin text) input outcome own gave = absurd gave
+    asked_given (under_table origin gives) input outcome own (table, came, gave) = (came held told).1
+    asked_given (of_tables old new gives) input outcome own gave = absurd gave
+    asked_given (under_both origin file gives) input outcome own (table, certificate, came, gave) = (came held told).1
 
-    by : Ending task scene answer → AskedAll held task scene
-    by (read_out input output zero reads read gave written) = asked_given task input (Ok output) fetching gave
+    by : Ending (plan task) scene answer → AskedAll held (plan task) scene
+    by (read_out input output zero reads read gave written) = asked_given (plan task) input (Ok output) fetching gave
     by (files_out output zero fetches none came unread written) = (came held told).1
-    by (load_out rounds output zero asks unread made written) = absurd (subst FetchesFiles asks fetching)
-    by (bad_input input number fault status reads read gave said) = asked_given task input (Err (Input number fault)) fetching gave
+    by (made_out output zero none unfetched made unread written) = absurd (unfetched fetching)
+    by (bad_input input number fault status reads read gave said) = asked_given (plan task) input (Err (Input number fault)) fetching gave
     by (bad_files refusal one fetches came unread said) = (came held told).1
     by (library_failed four fetches failed said) = absurd (omega arith)
     by (source_failed four reads failed said) = absurd (omega arith)
@@ -397,10 +429,10 @@ TellsFault held task scene = (refusal : Refusal) × RefusesFiles task held refus
 pub fault_told : (task : Task) (held : Holding) (scene : Scene) (answer : ℕ) → Answers (Some task) scene answer → scene.library.before ≡ Some held → answer ≡ 1 → TellsFault held task scene
 fault_told task held scene answer answers told is = by (ending task scene answer answers)
   where
-    by : Ending task scene answer → TellsFault held task scene
+    by : Ending (plan task) scene answer → TellsFault held task scene
     by (read_out input output zero reads read gave written) = absurd (omega arith)
     by (files_out output zero fetches none came unread written) = absurd (omega arith)
-    by (load_out rounds output zero asks unread made written) = absurd (omega arith)
+    by (made_out output zero none unfetched made unread written) = absurd (omega arith)
     by (bad_input input number fault status reads read gave said) = absurd (not_input fault answer status (λ two. omega arith) (λ three. omega arith))
     by (bad_files refusal one fetches came unread said) = (refusal, (came held told).0, said.1.0)
     by (library_failed four fetches failed said) = absurd (omega arith)
@@ -415,17 +447,17 @@ pub refusal_told : Laws → (task : Task) (held : Holding) (refusal : Refusal) (
 refusal_told laws task held refusal scene answer answers told bad = by (ending task scene answer answers)
   where
     -- The task gave nothing of an input.
-    not_given : (input : List ℕ) (outcome : Outcome) → Gives task scene input outcome → ⊥
+    not_given : (input : List ℕ) (outcome : Outcome) → Gives (plan task) scene input outcome → ⊥
     not_given input outcome gave =
-        no_table_given laws task held refusal scene.library.before input outcome told bad (told_gives task scene input outcome (λ fetches. (held, told)) gave)
+        no_table_given laws (plan task) held refusal scene.library.before input outcome told bad (told_gives (plan task) scene input outcome (λ fetches. (held, told)) gave)
 
-    by : Ending task scene answer → ((answer ≡ 1) × Appends scene.errs.before scene.errs.after (refusal_line refusal)) ⊎ IsFailure answer
+    by : Ending (plan task) scene answer → ((answer ≡ 1) × Appends scene.errs.before scene.errs.after (refusal_line refusal)) ⊎ IsFailure answer
     by (read_out input output zero reads read gave written) = absurd (not_given input (Ok output) gave)
-    by (files_out output zero fetches none came unread written) = absurd (given_not_refused laws task held output refusal (came held told).0 bad)
-    by (load_out rounds output zero asks unread made written) = absurd (subst (λ t. RefusesFiles t held refusal) asks bad)
+    by (files_out output zero fetches none came unread written) = absurd (given_not_refused laws (plan task) held output refusal (came held told).0 bad)
+    by (made_out output zero none unfetched made unread written) = absurd (unfetched (refused_fetches (plan task) held refusal bad))
     by (bad_input input number other status reads read gave said) = absurd (not_given input (Err (Input number other)) gave)
     by (bad_files other one fetches came unread said) =
-        inl (one, subst (λ r. Appends scene.errs.before scene.errs.after (refusal_line r)) (refused_once laws task held other refusal (came held told).0 bad) said.1.0)
+        inl (one, subst (λ r. Appends scene.errs.before scene.errs.after (refusal_line r)) (refused_once laws (plan task) held other refusal (came held told).0 bad) said.1.0)
     by (library_failed four fetches failed said) = inr (inl four)
     by (source_failed four reads failed said) = inr (inl four)
     by (memory_wanting six said) = inr (inr (inr six))
@@ -447,12 +479,12 @@ input_told task input scene answer answers tells told ended = by (ending task sc
     neither : (answer ≡ 2 → ⊥) → (answer ≡ 3 → ⊥) → ⊥
     neither not_two not_three = elim ended [ inl two ↦ not_two two | inr three ↦ not_three three ]
 
-    by : Ending task scene answer → TellsInput task input scene answer
+    by : Ending (plan task) scene answer → TellsInput task input scene answer
     by (read_out bytes output zero reads read gave written) = absurd (neither (λ two. omega arith) (λ three. omega arith))
     by (files_out output zero fetches none came unread written) = absurd (neither (λ two. omega arith) (λ three. omega arith))
-    by (load_out rounds output zero asks unread made written) = absurd (neither (λ two. omega arith) (λ three. omega arith))
+    by (made_out output zero none unfetched made unread written) = absurd (neither (λ two. omega arith) (λ three. omega arith))
     by (bad_input bytes number fault status reads read gave said) =
-        let given = told_gives task scene bytes (Err (Input number fault)) tells gave in
+        let given = told_gives (plan task) scene bytes (Err (Input number fault)) tells gave in
         (number, fault, status, subst (λ i. InputGives task scene.library.before i (Err (Input number fault))) (sym (told_input scene.source input bytes told read)) given, said.1.0)
     by (bad_files refusal one fetches came unread said) = absurd (neither (λ two. omega arith) (λ three. omega arith))
     by (library_failed four fetches failed said) = absurd (neither (λ two. omega arith) (λ three. omega arith))
@@ -470,22 +502,22 @@ pub bad_told : Laws → (task : Task) (input : List ℕ) (number : ℕ) (fault :
 bad_told laws task input number fault scene answer answers told bad = by (ending task scene answer answers)
   where
     -- Whatever the task gave of its input is that.
-    gave_same : (bytes : List ℕ) (outcome : Outcome) → IsInputRead scene.source bytes → Gives task scene bytes outcome → outcome ≡ Err (Input number fault)
+    gave_same : (bytes : List ℕ) (outcome : Outcome) → IsInputRead scene.source bytes → Gives (plan task) scene bytes outcome → outcome ≡ Err (Input number fault)
     gave_same bytes outcome read gave =
-        let given = told_gives task scene bytes outcome (given_tells task scene.library.before input (Err (Input number fault)) bad) gave in
+        let given = told_gives (plan task) scene bytes outcome (given_tells (plan task) scene.library.before input (Err (Input number fault)) bad) gave in
         let same = told_input scene.source input bytes told read in
         input_refused_one laws task scene.library.before bytes outcome (Err (Input number fault)) (refused_right outcome (Input number fault)) given (subst (λ i. InputGives task scene.library.before i (Err (Input number fault))) same bad)
 
-    by : Ending task scene answer → ((answer ≡ input_status fault) × Appends scene.errs.before scene.errs.after (input_line number fault)) ⊎ IsFailure answer
+    by : Ending (plan task) scene answer → ((answer ≡ input_status fault) × Appends scene.errs.before scene.errs.after (input_line number fault)) ⊎ IsFailure answer
     by (read_out bytes output zero reads read gave written) = absurd (ok_no_err output (Input number fault) (gave_same bytes (Ok output) read gave))
-    by (files_out output zero fetches none came unread written) = absurd (none (given_reads task scene.library.before input (Err (Input number fault)) bad))
-    by (load_out rounds output zero asks unread made written) = absurd (subst (λ t. InputGives t scene.library.before input (Err (Input number fault))) asks bad)
+    by (files_out output zero fetches none came unread written) = absurd (none (given_reads (plan task) scene.library.before input (Err (Input number fault)) bad))
+    by (made_out output zero none unfetched made unread written) = absurd (none (given_reads (plan task) scene.library.before input (Err (Input number fault)) bad))
     by (bad_input bytes line other status reads read gave said) =
         let same = input_same line number other fault (gave_same bytes (Err (Input line other)) read gave) in
         inl (status ∙ ap input_status same.1, subst (λ n. Appends scene.errs.before scene.errs.after (input_line n fault)) same.0 (subst (λ f. Appends scene.errs.before scene.errs.after (input_line line f)) same.1 said.1.0))
     by (bad_files refusal one fetches came unread said) =
-        let held = given_tells task scene.library.before input (Err (Input number fault)) bad fetches in
-        absurd (no_table_given laws task held.0 refusal scene.library.before input (Err (Input number fault)) held.1 (came held.0 held.1).0 bad)
+        let held = given_tells (plan task) scene.library.before input (Err (Input number fault)) bad fetches in
+        absurd (no_table_given laws (plan task) held.0 refusal scene.library.before input (Err (Input number fault)) held.1 (came held.0 held.1).0 bad)
     by (library_failed four fetches failed said) = inr (inl four)
     by (source_failed four reads failed said) = inr (inl four)
     by (memory_wanting six said) = inr (inr (inr six))
@@ -499,10 +531,10 @@ left_told task input scene answer answers reading told ended = by (ending task s
     never : (answer ≡ 0 → ⊥) → (answer ≡ 2 → ⊥) → (answer ≡ 3 → ⊥) → ⊥
     never not_zero not_two not_three = elim ended [ inl zero ↦ not_zero zero | inr bad ↦ elim bad [ inl two ↦ not_two two | inr three ↦ not_three three ] ]
 
-    by : Ending task scene answer → scene.source.after ≡ Some (drop (INPUT_MAX + 1) input)
+    by : Ending (plan task) scene answer → scene.source.after ≡ Some (drop (INPUT_MAX + 1) input)
     by (read_out bytes output zero reads read gave written) = read_left scene.source input bytes told read
     by (files_out output zero fetches none came unread written) = absurd (none reading)
-    by (load_out rounds output zero asks unread made written) = absurd (subst ReadsSource asks reading)
+    by (made_out output zero none unfetched made unread written) = absurd (none reading)
     by (bad_input bytes number fault status reads read gave said) = read_left scene.source input bytes told read
     by (bad_files refusal one fetches came unread said) = absurd (never (λ zero. omega arith) (λ two. omega arith) (λ three. omega arith))
     by (library_failed four fetches failed said) = absurd (never (λ zero. omega arith) (λ two. omega arith) (λ three. omega arith))
@@ -514,19 +546,19 @@ within_short : (gives : List Line → Outcome → Type 0) (input output : List �
 within_short gives input output (inl long) = absurd (ok_no_err output (Input 0 (Code TooLong)) long.1)
 within_short gives input output (inr (short, gave)) = short
 
-short_given : (task : Task) (scene : Scene) (input output : List ℕ) → Gives task scene input (Ok output) → length input ≤ INPUT_MAX
-short_given (alone filter) scene input output gave = within_short (FiltersLines filter) input output gave
-short_given (load rounds) scene input output gave = absurd gave
-short_given (build product origin) scene input output gave = absurd gave
-short_given (compare old new) scene input output gave = absurd gave
-short_given (under purpose origin) scene input output (table, came, gave) = within_short (LinesGive purpose table) input output gave
-short_given (checking origin file) scene input output (table, certificate, came, gave) = within_short (ChecksLines table certificate) input output gave
+short_given : (way : Plan) (scene : Scene) (input output : List ℕ) → Gives way scene input (Ok output) → length input ≤ INPUT_MAX
+short_given (of_nothing made) scene input output gave = absurd gave
+short_given (of_input gives) scene input output gave = within_short gives input output gave
+short_given (of_table origin text) scene input output gave = absurd gave
+short_given (under_table origin gives) scene input output (table, came, gave) = within_short (gives table) input output gave
+short_given (of_tables old new gives) scene input output gave = absurd gave
+short_given (under_both origin file gives) scene input output (table, certificate, came, gave) = within_short (gives table certificate) input output gave
 
 -- After an output nothing is left of a source that was read.
 pub ended_source : (task : Task) (scene : Scene) (answer : ℕ) → Answers (Some task) scene answer → ReadsSource task → answer ≡ 0 → IsAtEnd scene.source.after
 ended_source task scene answer answers reads is =
-    let done = read_done task scene answer (ending task scene answer answers) reads is in
-    done.read.ended (short_given task scene done.input done.output done.gave)
+    let done = read_done (plan task) scene answer (ending task scene answer answers) reads is in
+    done.read.ended (short_given (plan task) scene done.input done.output done.gave)
 
 -- ---- counts and the other statuses
 
@@ -534,10 +566,10 @@ ended_source task scene answer answers reads is =
 pub steady_done : (task : Task) (scene : Scene) (answer : ℕ) → Answers (Some task) scene answer → answer ≡ 0 → IsSteady scene.out × IsSame scene.errs
 steady_done task scene answer answers is = by (ending task scene answer answers)
   where
-    by : Ending task scene answer → IsSteady scene.out × IsSame scene.errs
+    by : Ending (plan task) scene answer → IsSteady scene.out × IsSame scene.errs
     by (read_out input output zero reads read gave written) = (written.0.1, written.1)
     by (files_out output zero fetches none came unread written) = (written.0.1, written.1)
-    by (load_out rounds output zero asks unread made written) = (written.0.1, written.1)
+    by (made_out output zero none unfetched made unread written) = (written.0.1, written.1)
     by (bad_input input number fault status reads read gave said) = absurd (not_input fault answer status (λ two. omega arith) (λ three. omega arith))
     by (bad_files refusal one fetches came unread said) = absurd (omega arith)
     by (library_failed four fetches failed said) = absurd (omega arith)
@@ -549,10 +581,10 @@ steady_done task scene answer answers is = by (ending task scene answer answers)
 pub source_steady_task : (task : Task) (scene : Scene) (answer : ℕ) → Answers (Some task) scene answer → answer ≤ 3 → IsSteady scene.source
 source_steady_task task scene answer answers low = by (ending task scene answer answers)
   where
-    by : Ending task scene answer → IsSteady scene.source
+    by : Ending (plan task) scene answer → IsSteady scene.source
     by (read_out input output zero reads read gave written) = read.steady
     by (files_out output zero fetches none came unread written) = unread.1
-    by (load_out rounds output zero asks unread made written) = unread.1
+    by (made_out output zero none unfetched made unread written) = unread.1
     by (bad_input input number fault status reads read gave said) = read.steady
     by (bad_files refusal one fetches came unread said) = unread.1
     by (library_failed four fetches failed said) = absurd (omega arith)
@@ -564,10 +596,10 @@ source_steady_task task scene answer answers low = by (ending task scene answer 
 pub unread_task : (task : Task) (scene : Scene) (answer : ℕ) → Answers (Some task) scene answer → answer ≡ 1 → IsSame scene.source
 unread_task task scene answer answers is = by (ending task scene answer answers)
   where
-    by : Ending task scene answer → IsSame scene.source
+    by : Ending (plan task) scene answer → IsSame scene.source
     by (read_out input output zero reads read gave written) = absurd (omega arith)
     by (files_out output zero fetches none came unread written) = unread
-    by (load_out rounds output zero asks unread made written) = unread
+    by (made_out output zero none unfetched made unread written) = unread
     by (bad_input input number fault status reads read gave said) = absurd (not_input fault answer status (λ two. omega arith) (λ three. omega arith))
     by (bad_files refusal one fetches came unread said) = unread
     by (library_failed four fetches failed said) = absurd (omega arith)
@@ -581,11 +613,11 @@ pub failed_told : (task : Task) (scene : Scene) (answer : ℕ) → Answers (Some
     ⊎ (ReadsSource task × HasFailed scene.source × Appends scene.errs.before scene.errs.after (notice_line SourceFailed))
 failed_told task scene answer answers is = by (ending task scene answer answers)
   where
-    by : Ending task scene answer → (FetchesFiles task × HasFailed scene.library × Appends scene.errs.before scene.errs.after (notice_line LibraryFailed))
+    by : Ending (plan task) scene answer → (FetchesFiles task × HasFailed scene.library × Appends scene.errs.before scene.errs.after (notice_line LibraryFailed))
         ⊎ (ReadsSource task × HasFailed scene.source × Appends scene.errs.before scene.errs.after (notice_line SourceFailed))
     by (read_out input output zero reads read gave written) = absurd (omega arith)
     by (files_out output zero fetches none came unread written) = absurd (omega arith)
-    by (load_out rounds output zero asks unread made written) = absurd (omega arith)
+    by (made_out output zero none unfetched made unread written) = absurd (omega arith)
     by (bad_input input number fault status reads read gave said) = absurd (not_input fault answer status (λ two. omega arith) (λ three. omega arith))
     by (bad_files refusal one fetches came unread said) = absurd (omega arith)
     by (library_failed four fetches failed said) = inl (fetches, failed, said.1.0)
@@ -597,10 +629,10 @@ failed_told task scene answer answers is = by (ending task scene answer answers)
 pub memory_told : (task : Task) (scene : Scene) (answer : ℕ) → Answers (Some task) scene answer → answer ≡ 6 → Appends scene.errs.before scene.errs.after (notice_line Memory)
 memory_told task scene answer answers is = by (ending task scene answer answers)
   where
-    by : Ending task scene answer → Appends scene.errs.before scene.errs.after (notice_line Memory)
+    by : Ending (plan task) scene answer → Appends scene.errs.before scene.errs.after (notice_line Memory)
     by (read_out input output zero reads read gave written) = absurd (omega arith)
     by (files_out output zero fetches none came unread written) = absurd (omega arith)
-    by (load_out rounds output zero asks unread made written) = absurd (omega arith)
+    by (made_out output zero none unfetched made unread written) = absurd (omega arith)
     by (bad_input input number fault status reads read gave said) = absurd (not_input fault answer status (λ two. omega arith) (λ three. omega arith))
     by (bad_files refusal one fetches came unread said) = absurd (omega arith)
     by (library_failed four fetches failed said) = absurd (omega arith)
@@ -612,10 +644,10 @@ memory_told task scene answer answers is = by (ending task scene answer answers)
 pub never_seven : (task : Task) (scene : Scene) (answer : ℕ) → Answers (Some task) scene answer → answer ≡ 7 → ⊥
 never_seven task scene answer answers is = by (ending task scene answer answers)
   where
-    by : Ending task scene answer → ⊥
+    by : Ending (plan task) scene answer → ⊥
     by (read_out input output zero reads read gave written) = omega arith
     by (files_out output zero fetches none came unread written) = omega arith
-    by (load_out rounds output zero asks unread made written) = omega arith
+    by (made_out output zero none unfetched made unread written) = omega arith
     by (bad_input input number fault status reads read gave said) = not_input fault answer status (λ two. omega arith) (λ three. omega arith)
     by (bad_files refusal one fetches came unread said) = omega arith
     by (library_failed four fetches failed said) = omega arith
@@ -627,10 +659,10 @@ never_seven task scene answer answers is = by (ending task scene answer answers)
 pub quiet_task : (task : Task) (scene : Scene) (answer : ℕ) → Answers (Some task) scene answer → answer ≢ 0 → answer ≢ 5 → scene.out.after ≡ scene.out.before
 quiet_task task scene answer answers not_zero not_five = by (ending task scene answer answers)
   where
-    by : Ending task scene answer → scene.out.after ≡ scene.out.before
+    by : Ending (plan task) scene answer → scene.out.after ≡ scene.out.before
     by (read_out input output zero reads read gave written) = absurd (not_zero zero)
     by (files_out output zero fetches none came unread written) = absurd (not_zero zero)
-    by (load_out rounds output zero asks unread made written) = absurd (not_zero zero)
+    by (made_out output zero none unfetched made unread written) = absurd (not_zero zero)
     by (bad_input input number fault status reads read gave said) = said.0.0
     by (bad_files refusal one fetches came unread said) = said.0.0
     by (library_failed four fetches failed said) = said.0.0
@@ -641,10 +673,10 @@ quiet_task task scene answer answers not_zero not_five = by (ending task scene a
 pub sink_told : (task : Task) (scene : Scene) (answer : ℕ) → Answers (Some task) scene answer → answer ≡ 5 → HasFailed scene.out ⊎ HasFailed scene.errs
 sink_told task scene answer answers is = by (ending task scene answer answers)
   where
-    by : Ending task scene answer → HasFailed scene.out ⊎ HasFailed scene.errs
+    by : Ending (plan task) scene answer → HasFailed scene.out ⊎ HasFailed scene.errs
     by (read_out input output zero reads read gave written) = absurd (omega arith)
     by (files_out output zero fetches none came unread written) = absurd (omega arith)
-    by (load_out rounds output zero asks unread made written) = absurd (omega arith)
+    by (made_out output zero none unfetched made unread written) = absurd (omega arith)
     by (bad_input input number fault status reads read gave said) = absurd (not_input fault answer status (λ two. omega arith) (λ three. omega arith))
     by (bad_files refusal one fetches came unread said) = absurd (omega arith)
     by (library_failed four fetches failed said) = absurd (omega arith)
@@ -659,14 +691,14 @@ pub completes : (task : Task) (scene : Scene) (answer : ℕ) → Answers (Some t
     → ((refusal : Refusal) → IsRefusedFor task scene.library.before scene.source.before refusal → ⊥) → HasNoFault scene → (answer ≡ 0) ⊎ (answer ≡ 6)
 completes task scene answer answers tells sound sure = by (ending task scene answer answers)
   where
-    by : Ending task scene answer → (answer ≡ 0) ⊎ (answer ≡ 6)
+    by : Ending (plan task) scene answer → (answer ≡ 0) ⊎ (answer ≡ 6)
     by (read_out input output zero reads read gave written) = inl zero
     by (files_out output zero fetches none came unread written) = inl zero
-    by (load_out rounds output zero asks unread made written) = inl zero
+    by (made_out output zero none unfetched made unread written) = inl zero
     by (bad_input input number fault status reads read gave said) =
         let told = tells.1 reads in
         let same = told_input scene.source told.0 input told.1 read in
-        absurd (sound (Input number fault) (by_input input (told.1 ∙ ap Some same) (told_gives task scene input (Err (Input number fault)) tells.0 gave)))
+        absurd (sound (Input number fault) (by_input input (told.1 ∙ ap Some same) (told_gives (plan task) scene input (Err (Input number fault)) tells.0 gave)))
     by (bad_files refusal one fetches came unread said) =
         let held = tells.0 fetches in
         absurd (sound refusal (by_files held.0 held.1 (came held.0 held.1).0))
@@ -702,18 +734,24 @@ part_told task scene answer (Err refusal, comes, (same, inr (is, part))) five = 
 
 -- ---- what a task doesn't use
 
+plan_unfetched : (way : Plan) (scene : Scene) (answer : ℕ) → AnswersBy way scene answer → (PlanFetches way → ⊥) → IsSame scene.library × IsSame scene.requests
+plan_unfetched (of_nothing made) scene answer (outcome, (same, unasked, unread, makes), delivers) none = (same, unasked)
+plan_unfetched (of_input gives) scene answer (outcome, (same, unasked, reads), delivers) none = (same, unasked)
+plan_unfetched (of_table origin text) scene answer answers none = absurd (none tt)
+plan_unfetched (under_table origin gives) scene answer answers none = absurd (none tt)
+plan_unfetched (of_tables old new gives) scene answer answers none = absurd (none tt)
+plan_unfetched (under_both origin file gives) scene answer answers none = absurd (none tt)
+
 pub unfetched_files : (task : Task) (scene : Scene) (answer : ℕ) → Answers (Some task) scene answer → (FetchesFiles task → ⊥) → IsSame scene.library × IsSame scene.requests
-unfetched_files (alone filter) scene answer (outcome, (same, unasked, reads), delivers) none = (same, unasked)
-unfetched_files (load rounds) scene answer (outcome, (same, unasked, unread, gives), delivers) none = (same, unasked)
-unfetched_files (build product origin) scene answer answers none = absurd (none tt)
-unfetched_files (under purpose origin) scene answer answers none = absurd (none tt)
-unfetched_files (compare old new) scene answer answers none = absurd (none tt)
-unfetched_files (checking origin file) scene answer answers none = absurd (none tt)
+unfetched_files task scene answer answers none = plan_unfetched (plan task) scene answer answers none
+
+plan_unread : (way : Plan) (scene : Scene) (answer : ℕ) → AnswersBy way scene answer → (PlanReads way → ⊥) → IsSame scene.source
+plan_unread (of_nothing made) scene answer (outcome, (same, unasked, unread, makes), delivers) none = unread
+plan_unread (of_input gives) scene answer answers none = absurd (none tt)
+plan_unread (of_table origin text) scene answer (outcome, (unread, builds), delivers) none = unread
+plan_unread (under_table origin gives) scene answer answers none = absurd (none tt)
+plan_unread (of_tables old new gives) scene answer (outcome, (unread, takes), delivers) none = unread
+plan_unread (under_both origin file gives) scene answer answers none = absurd (none tt)
 
 pub unread_input : (task : Task) (scene : Scene) (answer : ℕ) → Answers (Some task) scene answer → (ReadsSource task → ⊥) → IsSame scene.source
-unread_input (alone filter) scene answer answers none = absurd (none tt)
-unread_input (load rounds) scene answer (outcome, (same, unasked, unread, gives), delivers) none = unread
-unread_input (build product origin) scene answer (outcome, (unread, builds), delivers) none = unread
-unread_input (under purpose origin) scene answer answers none = absurd (none tt)
-unread_input (compare old new) scene answer (outcome, (unread, compares), delivers) none = unread
-unread_input (checking origin file) scene answer answers none = absurd (none tt)
+unread_input task scene answer answers none = plan_unread (plan task) scene answer answers none

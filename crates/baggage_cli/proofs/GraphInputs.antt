@@ -16,7 +16,7 @@ use Rattle.baggage_cli.specs.declared.refusals.Refusal.{Refusal}
 use Rattle.baggage_cli.specs.Outcomes.{Outcome, outcome_of, OrMemory}
 use Rattle.baggage_cli.specs.Reading.{Within}
 use Rattle.baggage_cli.specs.Refusals.{graph_refusal}
-use Rattle.baggage_cli.specs.Running.{input_fault, graph_inputs, GraphGives}
+use Rattle.baggage_cli.specs.Run.{input_fault, graph_inputs, GraphGives, SaysGraph}
 
 -- What lines add to a graph they say as an input.
 pub inputs_say : (table : Nodes) (earlier : List Addition) (lines : List Line) (said : List Addition) → AllSay (graph_lines table) earlier lines said → AllSay (graph_inputs table) earlier lines said
@@ -71,6 +71,6 @@ no_output output refusal e = cc e
 pub said_graph : (gives : Graph → List ℕ → Type 0) (table : Nodes) (input output : List ℕ) → GraphGives table gives (lines_of input) (Ok output) → (graph : Graph) × IsGraphOf table input graph × gives graph output
 said_graph gives table input output (every, all, gave) = (graph_of every, (every, lines_say table [] (lines_of input) every all, refl), gave)
 
-pub given_graph : (gives : Graph → List ℕ → Type 0) (table : Nodes) (input output : List ℕ) → Within (GraphGives table gives) input (Ok output) → (graph : Graph) × IsGraphOf table input graph × gives graph output
+pub given_graph : (gives : Graph → List ℕ → Type 0) (table : Nodes) (input output : List ℕ) → Within (GraphGives table gives) input (Ok output) → (graph : Graph) × SaysGraph table input graph × gives graph output
 given_graph gives table input output (inl long) = absurd (no_output output _ long.1)
-given_graph gives table input output (inr (short, gave)) = said_graph gives table input output gave
+given_graph gives table input output (inr (short, gave)) = let (graph, says, given) = said_graph gives table input output gave in (graph, (short, says), given)

@@ -6,9 +6,9 @@ use Rattle.std.specs.Global.{Vec}
 use Rattle.std.specs.Result.{IsErrAnd}
 use Rattle.std.specs.Io.KnownBytes.{Consumes, IsAtEnd}
 use Rattle.text_lines.specs.declared.TheConstants.{INPUT_MAX}
-use Rattle.text_lines.specs.Lines.{Line}
+use Rattle.text_lines.specs.Lines.{Line, lines_of}
 use Rattle.baggage_cli.specs.declared.refusals.Refusal.{Refusal}
-use Rattle.baggage_cli.specs.Outcomes.{Outcome, outcome_of}
+use Rattle.baggage_cli.specs.Outcomes.{Outcome, outcome_of, OrMemory}
 use Rattle.baggage_cli.specs.Reading.{IsInputRead, ReadsInput, ReadsAll, Within}
 use Rattle.baggage_cli.specs.Scene.{Change, IsSteady}
 
@@ -64,3 +64,9 @@ unread gives source (Err other) refusal is (counts, unread_) = subst (λ r. Read
     ]
   ],
 )
+
+-- What the lines of an input that was read come to is what the source gives.
+pub read_gave : (gives : List Line → Outcome → Type 0) (source : Change (List ℕ)) (input : Vec ℕ) (text : List ℕ) (outcome : Outcome) → ReadsInput source (Ok input) → text ≡ input.items
+    → OrMemory (gives (lines_of text)) outcome → ReadsAll (Within gives) source outcome
+read_gave gives source input text outcome (counts, read, short) is (inl wanting) = (counts, inl wanting)
+read_gave gives source input text outcome (counts, read, short) is (inr gave) = (counts, inr (inr (input.items, read, inr (short, subst (λ bytes. gives (lines_of bytes) outcome) is gave))))

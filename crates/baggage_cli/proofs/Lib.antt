@@ -15,7 +15,7 @@ pub mod HexLengths
 pub mod Delivered
 pub mod Definite
 pub mod Compared
-pub mod Checked
+pub mod TakenFirst
 pub mod ToldFiles
 pub mod Endings
 pub mod Facts

@@ -12,7 +12,7 @@ use Rattle.wire_bytes.specs.declared.reading.WireFault.TheVariants as wires
 use Rattle.wire_bytes.specs.Reading.{code_of, IsContextRefusalOf, IsWireRefusalOf, SaysFault}
 use Rattle.baggage_cli.specs.declared.refusals.InputFault.TheVariants.{Bytes}
 use Rattle.baggage_cli.specs.declared.refusals.Refusal.{Refusal}
-use Rattle.baggage_cli.specs.Collecting.{CollectsLines}
+use Rattle.baggage_cli.specs.Collect.{CollectsLines}
 use Rattle.baggage_cli.specs.Outcomes.{OrMemory}
 use Rattle.baggage_cli.specs.Reading.{RefusesLine, context_lines, cut_lines}
 use Rattle.baggage_cli.specs.Refusals.{context_refusal}

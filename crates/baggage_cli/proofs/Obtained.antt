@@ -12,11 +12,10 @@ use Rattle.bdl_check.specs.Compiler.{IsFirstFaultOf}
 use Rattle.baggage_cli.specs.declared.refusals.Notice.TheVariants.{LibraryFailed, Memory}
 use Rattle.baggage_cli.specs.declared.refusals.Refusal.{Refusal}
 use Rattle.baggage_cli.specs.declared.refusals.Refusal.TheVariants.{Plain}
-use Rattle.command_line.specs.Commands.{Origin, compiled, printed}
 use Rattle.baggage_cli.specs.Outcomes.{Outcome, outcome_of, Then}
 use Rattle.baggage_cli.specs.Refusals.{refusal_of}
 use Rattle.baggage_cli.specs.Scene.{Change, NeverFell, IsSteady, HasFailed}
-use Rattle.baggage_cli.specs.Tables.{FileGives, TableGives, AsksForTable, AsksFront, Obtains, Brings}
+use Rattle.baggage_cli.specs.Tables.{Origin, compiled, printed, FileGives, TableGives, AsksForTable, AsksFront, Obtains, Brings}
 
 -- It is so of the files of the library, which was asked for all names that the table needs, and for no others.
 abbrev pub CameFrom : Origin → Change Holding → Change (List (List ℕ)) → (Holding → Type 0) → Type 0

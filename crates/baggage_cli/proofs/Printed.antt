@@ -2,15 +2,14 @@
 use Rattle.std.proofs.Common.{◌≡◌, ◌⊎◌, inl, inr, ℕ, ◌≤◌, List, length, Option, Some, None, Result, Ok, Err, ap, subst, sym}
 use Rattle.std.specs.Result.{IsErrAnd}
 use Rattle.bag_model.specs.Shapes.{Nodes}
-use Rattle.bdl_lexer.specs.declared.TheConstants.{MAX_SOURCE}
+use Rattle.bdl_lexer.specs.declared.TheConstants.{SOURCE_MAX}
 use Rattle.bdl_load.specs.Loading.{Holding}
 use Rattle.baggage_cli.specs.declared.refusals.Notice.TheVariants.{LibraryFailed, Memory}
 use Rattle.baggage_cli.specs.declared.refusals.Refusal.{Refusal}
 use Rattle.baggage_cli.specs.declared.refusals.Refusal.TheVariants.{Plain}
-use Rattle.command_line.specs.Commands.{printed}
 use Rattle.baggage_cli.specs.Outcomes.{Outcome}
 use Rattle.baggage_cli.specs.Scene.{Change}
-use Rattle.baggage_cli.specs.Tables.{IsUntaken, IsUnprinted, PrintedGives, TableGives, Obtains, Brings}
+use Rattle.baggage_cli.specs.Tables.{printed, IsUntaken, IsUnprinted, PrintedGives, TableGives, Obtains, Brings}
 use Rattle.baggage_cli.proofs.Obtained.{brought_file, given_steady}
 
 given : (file : List ℕ) (held : Holding) (outcome : Result Nodes Refusal) → PrintedGives file (held file) outcome → TableGives (printed file) held outcome
@@ -50,7 +49,7 @@ obtains_printed file library requests text outcome brings came =
     ]
 
 -- A file that was taken isn't too long.
-pub brought_short : (file : List ℕ) (library : Change Holding) (requests : Change (List (List ℕ))) (text : List ℕ) → Brings file library requests (Ok text) → length text ≤ MAX_SOURCE
+pub brought_short : (file : List ℕ) (library : Change Holding) (requests : Change (List (List ℕ))) (text : List ℕ) → Brings file library requests (Ok text) → length text ≤ SOURCE_MAX
 brought_short file library requests text brings =
     let (held, names, told, asks, (is, all)) = brought_file file library requests text brings in
     is.1

@@ -9,9 +9,8 @@ use Rattle.table_text.specs.declared.faults.TableCode.{TableCode}
 use Rattle.table_text.specs.Reading.{IsTableFault}
 use Rattle.table_text.specs.TableTexts.{table_text}
 use Rattle.baggage_cli.specs.declared.refusals.Refusal.{Refusal}
-use Rattle.command_line.specs.Commands.{Origin, compiled, printed}
 use Rattle.baggage_cli.specs.Refusals.{blamed}
-use Rattle.baggage_cli.specs.Tables.{IsPrinted, PrintedGives, TableGives}
+use Rattle.baggage_cli.specs.Tables.{Origin, compiled, printed, IsPrinted, PrintedGives, TableGives}
 
 -- ---- printed tables
 

@@ -16,8 +16,7 @@ use Rattle.def_evolve.specs.Evolution.{IsSafe}
 use Rattle.write_proof.specs.Verdicts.{IsVerdictOf, TellsTruth, VerdictsAreOne}
 use Rattle.write_proof.specs.declared.verdicts.Verified.TheVariants.{Yes}
 use Rattle.baggage_cli.specs.declared.refusals.Refusal.{Refusal}
-use Rattle.command_line.specs.Commands.{Origin}
-use Rattle.baggage_cli.specs.Tables.{TableGives}
+use Rattle.baggage_cli.specs.Tables.{Origin, TableGives}
 
 -- Where a table comes from, files give one table or one refusal, never both, and what they give is a table.
 pub record TableLaws : Type 0 where

@@ -24,6 +24,10 @@ OrMemory gives outcome = (outcome ≡ Err (Plain Memory)) ⊎ gives outcome
 abbrev pub Builds : List ℕ → Outcome → Type 0
 Builds output = OrMemory (λ outcome. outcome ≡ Ok output)
 
+-- An output of which this holds is made, or memory is wanting for it.
+abbrev pub Makes : (List ℕ → Type 0) → Outcome → Type 0
+Makes made = OrMemory (λ outcome. (output : List ℕ) × made output × (outcome ≡ Ok output))
+
 -- One part of the work comes first. Where it is refused, that is the outcome, and the rest isn't begun;
 -- what it gives otherwise decides the rest.
 abbrev pub Then : {A : Type 0} → (Result A Refusal → Type 0) → Type 0 → (A → Outcome → Type 0) → Outcome → Type 0

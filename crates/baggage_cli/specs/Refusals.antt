@@ -50,18 +50,30 @@ input_status (Missing piece) = 2
 input_status (Bytes offset code) = 3
 input_status (IllTyped offset) = 3
 
+-- The text of what is wrong with an input or a line of it: its code, and where it has them the piece or how many bytes stand before it.
+abbrev pub input_fault_text : InputFault → List ℕ
+input_fault_text (Code code) = input_name code
+input_fault_text (Hex code) = hex_name code
+input_fault_text (Graph code) = graph_code_name code
+input_fault_text (Piece code) = carry_code_name code
+input_fault_text (Missing piece) = codes "Missing " ++ decimal piece
+input_fault_text (Bytes offset code) = codes "offset " ++ (decimal offset ++ (codes " " ++ code_name (byte_code_of code)))
+input_fault_text (IllTyped offset) = codes "offset " ++ (decimal offset ++ codes " IllTyped")
+
+-- What is wrong: the input, or bytes of it that aren't those of a typed list or context.
+abbrev pub input_subject : InputFault → List ℕ
+input_subject (Code code) = codes "input"
+input_subject (Hex code) = codes "input"
+input_subject (Graph code) = codes "input"
+input_subject (Piece code) = codes "input"
+input_subject (Missing piece) = codes "input"
+input_subject (Bytes offset code) = codes "context"
+input_subject (IllTyped offset) = codes "context"
+
 -- The line that says what is wrong with a line of an input.
 abbrev pub input_line : ℕ → InputFault → List ℕ
-input_line line (Code code) = codes "input line " ++ (decimal line ++ (codes " " ++ (input_name code ++ 10 ∷ [])))
-input_line line (Hex code) = codes "input line " ++ (decimal line ++ (codes " " ++ (hex_name code ++ 10 ∷ [])))
-input_line line (Graph code) = codes "input line " ++ (decimal line ++ (codes " " ++ (graph_code_name code ++ 10 ∷ [])))
-input_line line (Piece code) = codes "input line " ++ (decimal line ++ (codes " " ++ (carry_code_name code ++ 10 ∷ [])))
-input_line line (Missing piece) = codes "input line " ++ (decimal line ++ (codes " Missing " ++ (decimal piece ++ 10 ∷ [])))
-input_line line (Bytes offset code) =
-    codes "context line "
-    ++ (decimal line ++ (codes " offset " ++ (decimal offset ++ (codes " " ++ (code_name (byte_code_of code) ++ 10 ∷ [])))))
-input_line line (IllTyped offset) =
-    codes "context line " ++ (decimal line ++ (codes " offset " ++ (decimal offset ++ (codes " IllTyped" ++ 10 ∷ []))))
+input_line line fault =
+    input_subject fault ++ (codes " line " ++ (decimal line ++ (codes " " ++ (input_fault_text fault ++ 10 ∷ []))))
 
 -- The line that says what is wrong with a definition.
 abbrev pub definition_line : List ℕ → ℕ → ℕ → DefCode → List ℕ

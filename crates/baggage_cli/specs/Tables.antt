@@ -2,7 +2,7 @@
 use Rattle.std.specs.Prelude.{◌≡◌, ◌⊎◌, ℕ, ◌<◌, ◌≤◌, List, [], ◌∷◌, length, Option, Some, None, Result, Ok, Err}
 use Rattle.bag_model.specs.Shapes.{Nodes}
 use Rattle.bag_model.specs.Tables.{IsTable}
-use Rattle.bdl_lexer.specs.declared.TheConstants.{MAX_SOURCE}
+use Rattle.bdl_lexer.specs.declared.TheConstants.{SOURCE_MAX}
 use Rattle.bdl_load.specs.declared.faults.DefCode.TheVariants.{NoFile, DefTooLong}
 use Rattle.bdl_load.specs.declared.faults.Fault.{Fault}
 use Rattle.bdl_load.specs.Loading.{Holding, OfLibrary, AsksAll, AsksFirst}
@@ -10,35 +10,47 @@ use Rattle.bdl_check.specs.Compiler.{IsTableOf, IsFirstFaultOf}
 use Rattle.table_text.specs.declared.faults.TableCode.{TableCode}
 use Rattle.table_text.specs.Reading.{IsTableFault}
 use Rattle.table_text.specs.TableTexts.{table_text}
+use Rattle.baggage_cli.specs.declared.tables.Origin as code_origins
+use Rattle.baggage_cli.specs.declared.tables.Origin.TheVariants.{Bag, Printed}
 use Rattle.baggage_cli.specs.declared.refusals.Notice.TheVariants.{LibraryFailed, Memory}
 use Rattle.baggage_cli.specs.declared.refusals.Refusal.{Refusal}
 use Rattle.baggage_cli.specs.declared.refusals.Refusal.TheVariants.{Definition, Table, Plain}
-use Rattle.command_line.specs.Commands.{Origin, compiled, printed}
 use Rattle.baggage_cli.specs.Outcomes.{Use}
 use Rattle.baggage_cli.specs.Refusals.{blamed}
 use Rattle.baggage_cli.specs.Scene.{NeverFell, IsSteady, HasFailed}
 
+-- Where a table comes from: it is that of the bag of this name, in the definition whose root is this file, or the one whose
+-- text this file holds.
+pub data Origin : Type 0 where
+  compiled : List ℕ → List ℕ → Origin
+  printed : List ℕ → Origin
+
+-- The place that the code's name of it stands for.
+abbrev pub origin_of : code_origins.Origin → Origin
+origin_of (Bag file bag) = compiled file.now bag.now
+origin_of (Printed file) = printed file.now
+
 -- Why what a file of this name holds isn't taken: there is no such file, or it is too long.
 abbrev pub IsUntaken : List ℕ → Option (List ℕ) → Refusal → Type 0
 IsUntaken file None refusal = refusal ≡ Definition file 1 1 NoFile
-IsUntaken file (Some text) refusal = (MAX_SOURCE < length text) × (refusal ≡ Definition file 1 1 DefTooLong)
+IsUntaken file (Some text) refusal = (SOURCE_MAX < length text) × (refusal ≡ Definition file 1 1 DefTooLong)
 
 -- What a file gives: all that it holds, or why that isn't taken.
 abbrev pub FileGives : List ℕ → Option (List ℕ) → Result (List ℕ) Refusal → Type 0
-FileGives file content (Ok text) = (content ≡ Some text) × (length text ≤ MAX_SOURCE)
+FileGives file content (Ok text) = (content ≡ Some text) × (length text ≤ SOURCE_MAX)
 FileGives file content (Err refusal) = IsUntaken file content refusal
 
 -- What a file holds is the text of this table, and not too long.
 abbrev pub IsPrinted : Option (List ℕ) → Nodes → Type 0
 IsPrinted None table = ⊥
-IsPrinted (Some text) table = (length text ≤ MAX_SOURCE) × IsTable table × (text ≡ table_text table)
+IsPrinted (Some text) table = (length text ≤ SOURCE_MAX) × IsTable table × (text ≡ table_text table)
 
 -- Why the file of this name, which holds this, has no table: it isn't taken, or a line of it is the first bad one.
 abbrev pub IsUnprinted : List ℕ → Option (List ℕ) → Refusal → Type 0
 IsUnprinted file None refusal = IsUntaken file None refusal
 IsUnprinted file (Some text) refusal =
     IsUntaken file (Some text) refusal
-    ⊎ ((length text ≤ MAX_SOURCE)
+    ⊎ ((length text ≤ SOURCE_MAX)
     × ((line : ℕ) × (code : TableCode) × IsTableFault text line code × (refusal ≡ Table file line code)))
 
 -- What a file gives as a table.

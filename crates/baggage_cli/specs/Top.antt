@@ -1,28 +1,29 @@
 -- What a call of the program may come to.
-use Rattle.std.specs.Prelude.{◌≡◌, ◌⊎◌, ℕ, ◌≤◌, List, [], ◌∷◌, ◌++◌, length, Option, Some, None, Ok, Err}
+use Rattle.std.specs.Prelude.{◌≡◌, ◌⊎◌, ℕ, ◌≤◌, List, [], ◌∷◌, length, Option, Some, None, Ok, Err}
 use Rattle.text_lines.specs.declared.TheConstants.{INPUT_MAX}
 use Rattle.text_lines.specs.Lines.{lines_of}
 use Rattle.text_lines.specs.Readings.{AllSay}
-use Rattle.bag_model.specs.Shapes.{Nodes}
+use Rattle.text_carrier.specs.Collecting.{Collects}
 use Rattle.bdl_load.specs.Loading.{Holding}
-use Rattle.baggage_cli.specs.declared.merging.TheConstants.{LINES_MAX}
+use Rattle.command_line.specs.Commands.{Task}
+use Rattle.baggage_cli.specs.declared.commands.merge.TheConstants.{LINES_MAX}
 use Rattle.baggage_cli.specs.declared.refusals.Notice.TheVariants.{SinkFailed, WordsRefused}
 use Rattle.baggage_cli.specs.declared.refusals.Refusal.{Refusal}
-use Rattle.baggage_cli.specs.Building.{BuildsProduct}
-use Rattle.text_carrier.specs.Collecting.{Collects}
-use Rattle.baggage_cli.specs.Carrying.{AreOfContext, byte_lines}
-use Rattle.baggage_cli.specs.Verifying.{VerdictUnder, Checks}
-use Rattle.baggage_cli.specs.Comparing.{Compares}
-use Rattle.command_line.specs.Commands.{Task, Origin, ReadsSource, FetchesFiles, alone, load, build, under, compare, checking}
+use Rattle.baggage_cli.specs.Carry.{AreOfContext, byte_lines}
 use Rattle.baggage_cli.specs.Delivery.{Notifies, Delivers}
-use Rattle.baggage_cli.specs.Filters.{FilterGives}
-use Rattle.baggage_cli.specs.Loading.{LoadGives}
 use Rattle.baggage_cli.specs.Outcomes.{Outcome}
-use Rattle.baggage_cli.specs.Reading.{Framed, ReadsAll, cut_lines, context_lines}
+use Rattle.baggage_cli.specs.Plans.{plan, PlanReads, PlanFetches, PlanGives, PlanRefuses, PlanAsks, PlanComes}
+use Rattle.baggage_cli.specs.Reading.{Framed, cut_lines, context_lines}
 use Rattle.baggage_cli.specs.Refusals.{refusal_line, notice_line}
 use Rattle.baggage_cli.specs.Scene.{Change, Scene, IsSame, TakesWhole, TakesPart}
-use Rattle.baggage_cli.specs.Tables.{FileGives, TableGives, AsksForTable}
-use Rattle.baggage_cli.specs.Under.{InputUnder, ReadsUnder}
+
+-- The task reads the source.
+abbrev pub ReadsSource : Task → Type 0
+ReadsSource task = PlanReads (plan task)
+
+-- The task fetches files of the library.
+abbrev pub FetchesFiles : Task → Type 0
+FetchesFiles task = PlanFetches (plan task)
 
 -- The library tells which files it holds, where the task fetches any.
 abbrev pub TellsFiles : Task → Option Holding → Type 0
@@ -31,65 +32,19 @@ TellsFiles task files = FetchesFiles task → (held : Holding) × (files ≡ Som
 -- What an input gives for a task, with the files that the library told. Of files that it doesn't tell and the task
 -- fetches, nothing is said.
 abbrev pub InputGives : Task → Option Holding → List ℕ → Outcome → Type 0
-InputGives (alone filter) files = FilterGives filter
-InputGives (load rounds) files = λ input outcome. ⊥
-InputGives (build product origin) files = λ input outcome. ⊥
-InputGives (under purpose origin) files = λ input outcome.
-    (held : Holding) × (files ≡ Some held) × (table : Nodes) × TableGives origin held (Ok table)
-    × InputUnder purpose table input outcome
-InputGives (compare old new) files = λ input outcome. ⊥
-InputGives (checking origin file) files = λ input outcome.
-    (held : Holding) × (files ≡ Some held) × (table : Nodes) × (certificate : List ℕ)
-    × TableGives origin held (Ok table) × FileGives file (held file) (Ok certificate) × VerdictUnder table certificate input outcome
+InputGives task = PlanGives (plan task)
 
--- What is first wrong with the files that a task takes its tables from, or a certificate. The second of two things is wanted where the
--- first is given.
+-- What is first wrong with the files that a task takes its tables from, or a certificate.
 abbrev pub RefusesFiles : Task → Holding → Refusal → Type 0
-RefusesFiles (alone filter) held refusal = ⊥
-RefusesFiles (load rounds) held refusal = ⊥
-RefusesFiles (build product origin) held refusal = TableGives origin held (Err refusal)
-RefusesFiles (under purpose origin) held refusal = TableGives origin held (Err refusal)
-RefusesFiles (compare old new) held refusal =
-    TableGives old held (Err refusal)
-    ⊎ ((table : Nodes) × TableGives old held (Ok table) × TableGives new held (Err refusal))
-RefusesFiles (checking origin file) held refusal =
-    TableGives origin held (Err refusal)
-    ⊎ ((table : Nodes) × TableGives origin held (Ok table) × FileGives file (held file) (Err refusal))
-
--- All names that are asked for two tables, in order: those of the first, and behind them those of the second where the first is given.
-abbrev pub AsksForBoth : Holding → Origin → Origin → List (List ℕ) → Type 0
-AsksForBoth held old new names =
-    ((refusal : Refusal) × TableGives old held (Err refusal) × AsksForTable held old names)
-    ⊎ ((table : Nodes) × (front : List (List ℕ)) × (rest : List (List ℕ)) × TableGives old held (Ok table)
-    × AsksForTable held old front × AsksForTable held new rest × (names ≡ front ++ rest))
-
--- All names that are asked for a table and one more file, in order: those of the table, and behind them the file where the table is given.
-abbrev pub AsksForFile : Holding → Origin → List ℕ → List (List ℕ) → Type 0
-AsksForFile held origin file names =
-    ((refusal : Refusal) × TableGives origin held (Err refusal) × AsksForTable held origin names)
-    ⊎ ((table : Nodes) × (front : List (List ℕ)) × TableGives origin held (Ok table) × AsksForTable held origin front
-    × (names ≡ front ++ file ∷ []))
+RefusesFiles task = PlanRefuses (plan task)
 
 -- All names that a task asks for, in order.
 abbrev pub AsksNames : Holding → Task → List (List ℕ) → Type 0
-AsksNames held (alone filter) names = names ≡ []
-AsksNames held (load rounds) names = names ≡ []
-AsksNames held (build product origin) names = AsksForTable held origin names
-AsksNames held (under purpose origin) names = AsksForTable held origin names
-AsksNames held (compare old new) names = AsksForBoth held old new names
-AsksNames held (checking origin file) names = AsksForFile held origin file names
+AsksNames held task = PlanAsks held (plan task)
 
 -- What a task may come to, with the library and the source before and after it.
 abbrev pub Comes : Task → Change Holding → Change (List (List ℕ)) → Change (List ℕ) → Outcome → Type 0
-Comes (alone filter) library requests source outcome =
-    IsSame library × IsSame requests × ReadsAll (FilterGives filter) source outcome
-Comes (load rounds) library requests source outcome =
-    IsSame library × IsSame requests × IsSame source × LoadGives rounds outcome
-Comes (build product origin) library requests source outcome =
-    IsSame source × BuildsProduct product origin library requests outcome
-Comes (under purpose origin) library requests source outcome = ReadsUnder purpose origin library requests source outcome
-Comes (compare old new) library requests source outcome = IsSame source × Compares old new library requests outcome
-Comes (checking origin file) library requests source outcome = Checks origin file library requests source outcome
+Comes task = PlanComes (plan task)
 
 -- The call answers: words that ask for nothing are refused and nothing else is touched; otherwise what the
 -- task comes to is delivered.

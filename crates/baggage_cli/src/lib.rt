@@ -5,24 +5,12 @@
 //! ```
 #![tactic(auto)]
 
-mod building;
-mod carrying;
-mod collecting;
-mod comparing;
-mod decoding;
+mod commands;
 mod delivery;
-mod explaining;
-mod filters;
-mod loading;
-mod merging;
 mod reading;
 mod refusals;
-mod running;
 mod tables;
 mod top;
-mod trimming;
-mod under;
-mod verifying;
 
 pub use delivery::notify;
 pub use refusals::Notice;

@@ -2,7 +2,7 @@
 
 ghost use Rattle.std.specs.Prelude.{◌≡◌, ◌≤◌, [], ◌∷◌, length, OnOk, IfOk, IfErr};
 ghost use Rattle.baggage_cli.specs.Scene.{change};
-ghost use Rattle.baggage_cli.specs.Carrying.{byte_lines};
+ghost use Rattle.baggage_cli.specs.Carry.{byte_lines};
 ghost use Rattle.baggage_cli.specs.Reading.{ReadsInput, HasNoLine, HasExcess, IsNoHex, RefusesLine, cut_lines, context_lines};
 ghost use Rattle.text_carrier.specs.declared.TheConstants.{CARRIED_MAX};
 ghost use Rattle.text_lines.specs.HexLines.{IsHexOf};

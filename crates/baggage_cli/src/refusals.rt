@@ -72,7 +72,7 @@ pub enum Notice {
 }
 
 /// Why a command gives no output.
-#[derive(Drop)]
+#[derive(Debug, Drop)]
 pub enum Refusal {
     /// A line of the input is bad. Line 0 is the input as a whole.
     Input {
@@ -113,6 +113,25 @@ impl fmt::Display for InputCode {
             InputCode::StepRange => write!(f, "StepRange"),
             InputCode::NoSuchPath => write!(f, "NoSuchPath"),
             InputCode::Partial => write!(f, "Partial"),
+        }
+    }
+}
+
+impl fmt::Display for InputFault {
+    ghost use Rattle.std.specs.Prelude.{Some};
+    ghost use Rattle.baggage_cli.specs.Refusals.{input_fault_text};
+
+    ghost output = { λ fault. Some (input_fault_text fault) };
+
+    fn fmt<W: fmt::Write>(&self, f: &mut fmt::Formatter<W>) -> fmt::Result {
+        match self {
+            InputFault::Code(code) => write!(f, "{code}"),
+            InputFault::Hex(code) => write!(f, "{code}"),
+            InputFault::Graph(code) => write!(f, "{code}"),
+            InputFault::Piece(code) => write!(f, "{code}"),
+            InputFault::Missing { piece } => write!(f, "Missing {piece}"),
+            InputFault::Bytes { offset, code } => write!(f, "offset {offset} {code}"),
+            InputFault::IllTyped { offset } => write!(f, "offset {offset} IllTyped"),
         }
     }
 }
@@ -255,25 +274,27 @@ impl InputFault {
         }
     }
 
+    /// What is wrong: the input, or bytes of it that aren't those of a typed list or context.
+    fn subject(self) -> &'static str
+        ensures { result.now ≡ spec.input_subject self }
+    {
+        match self {
+            InputFault::Code(_) => "input",
+            InputFault::Hex(_) => "input",
+            InputFault::Graph(_) => "input",
+            InputFault::Piece(_) => "input",
+            InputFault::Missing { .. } => "input",
+            InputFault::Bytes { .. } => "context",
+            InputFault::IllTyped { .. } => "context",
+        }
+    }
+
     /// The line that says it of a line of an input.
     pub(crate) fn line(self, alloc: Global, line: u64) -> Result<String, Memory>
         ensures { IfOk result (λ said. string_bytes said ≡ spec.input_line line self) }
     {
-        match self {
-            InputFault::Code(code) => Ok(format!(in alloc; "input line {line} {code}\n")?),
-            InputFault::Hex(code) => Ok(format!(in alloc; "input line {line} {code}\n")?),
-            InputFault::Graph(code) => Ok(format!(in alloc; "input line {line} {code}\n")?),
-            InputFault::Piece(code) => Ok(format!(in alloc; "input line {line} {code}\n")?),
-            InputFault::Missing { piece } => Ok(format!(in alloc;
-                "input line {line} Missing {piece}\n"
-            )?),
-            InputFault::Bytes { offset, code } => Ok(format!(in alloc;
-                "context line {line} offset {offset} {code}\n"
-            )?),
-            InputFault::IllTyped { offset } => Ok(format!(in alloc;
-                "context line {line} offset {offset} IllTyped\n"
-            )?),
-        }
+        let subject = self.subject();
+        Ok(format!(in alloc; "{subject} line {line} {}\n", self)?)
     }
 }
 

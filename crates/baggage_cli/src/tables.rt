@@ -1,20 +1,27 @@
 //! Tables, taken from where they come.
 
 ghost use Rattle.std.specs.Prelude.{◌≡◌, ◌⊎◌, ◌≤◌, ℕ, Some, Err, length, IfOk};
-ghost use Rattle.bdl_lexer.specs.declared.TheConstants.{MAX_SOURCE};
-ghost use Rattle.command_line.specs.Commands.{origin_of, printed};
+ghost use Rattle.bdl_lexer.specs.declared.TheConstants.{SOURCE_MAX};
 ghost use Rattle.baggage_cli.specs.Scene.{change};
 ghost use Rattle.baggage_cli.specs.Outcomes.{outcome_of, OrMemory};
-ghost use Rattle.baggage_cli.specs.Tables.{Brings, FileGives, PrintedGives, Obtains};
+ghost use Rattle.baggage_cli.specs.Tables.{Brings, FileGives, PrintedGives, Obtains, origin_of, printed};
 
 use crate::refusals::{Notice, Refusal};
 use bdl_check::{DefCode, compile};
-use bdl_lexer::MAX_SOURCE;
-use command_line::Origin;
+use bdl_lexer::SOURCE_MAX;
 use field_table::Table;
 use outside::{Library, LibraryFault, Memory, Text};
 use std::alloc::Global;
 use table_text::{TableFault, read_table};
+
+/// Where a table comes from.
+#[derive(Clone, Copy, Debug)]
+pub enum Origin<'a> {
+    /// It is that of a bag of the definition whose root is this file.
+    Bag { file: &'a str, bag: &'a str },
+    /// It is the one whose text this file holds.
+    Printed { file: &'a str },
+}
 
 /// The refusal of a file as a whole.
 fn refused_file(alloc: Global, file: &str, code: DefCode) -> Result<Refusal, Memory>
@@ -33,7 +40,7 @@ fn refused_file(alloc: Global, file: &str, code: DefCode) -> Result<Refusal, Mem
 fn whole_file(alloc: Global, file: &str, text: Vec<u8>) -> Result<Vec<u8>, Refusal>
     ensures { OrMemory (FileGives file.now (Some text.items)) (outcome_of result) }
 {
-    if MAX_SOURCE < text.len() {
+    if SOURCE_MAX < text.len() {
         return Err(refused_file(alloc, file, DefCode::DefTooLong)?);
     }
     Ok(text)
@@ -58,7 +65,7 @@ pub(crate) fn bring<L: Library>(
 
 /// The table whose text the file of this name holds.
 fn table_in(alloc: Global, file: &str, text: &[u8]) -> Result<Table, Refusal>
-    requires { length text.now ≤ MAX_SOURCE }
+    requires { length text.now ≤ SOURCE_MAX }
     ensures { (result ≡ Err (Refusal.Plain Notice.Memory)) ⊎ PrintedGives file.now (Some text.now) result }
 {
     match read_table(alloc, text) {

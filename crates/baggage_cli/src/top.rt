@@ -25,32 +25,39 @@ ghost use Rattle.text_lines.specs.declared.TheConstants.{INPUT_MAX};
 ghost use Rattle.text_lines.specs.HexLines.{hex_line};
 ghost use Rattle.write_proof.specs.Verdicts.{IsVerdictOf};
 ghost use Rattle.write_proof.specs.declared.verdicts.Verified.{Verified};
-ghost use Rattle.command_line.specs.Commands.{Task, task_of, command_of, trim, merge, carry, collect, load, check, print, decode, run, run_json, run_table, evolve, why, verify, ReadsSource, FetchesFiles, IsWithinLimits};
+ghost use Rattle.command_line.specs.Commands.{Task, task_of, command_of, trim, merge, carry, collect, load, check, table, decode, run, run_json, run_table, evolve, why, verify, IsWithinLimits};
 ghost use Rattle.baggage_cli.specs.Refusals.{input_status, input_line, notice_line, refusal_line};
-ghost use Rattle.baggage_cli.specs.Scene.{change, scene_of, HasNoFault};
+ghost use Rattle.baggage_cli.specs.Scene.{change, scene_of, TakesPart, HasNoFault};
 ghost use Rattle.baggage_cli.specs.Laws.{Laws};
 ghost use Rattle.baggage_cli.specs.Outcomes.{outcome_of};
-ghost use Rattle.baggage_cli.specs.Trimming.{trimmed_line};
-ghost use Rattle.baggage_cli.specs.Merging.{lists_of, widest};
+ghost use Rattle.baggage_cli.specs.Trim.{trimmed_line};
+ghost use Rattle.baggage_cli.specs.Merge.{lists_of, widest};
 ghost use Rattle.baggage_cli.specs.Reading.{Framed};
-ghost use Rattle.baggage_cli.specs.Building.{ok_line};
-ghost use Rattle.baggage_cli.specs.Verifying.{TruthWhereYes, verified_line};
-ghost use Rattle.baggage_cli.specs.Comparing.{verdict_line, SafeWhereItFits};
-ghost use Rattle.baggage_cli.specs.Explaining.{IsExplainedAt};
-ghost use Rattle.baggage_cli.specs.Loading.{load_heading};
-ghost use Rattle.baggage_cli.specs.Running.{ShowsTruth};
+ghost use Rattle.baggage_cli.specs.Check.{ok_line};
+ghost use Rattle.baggage_cli.specs.Decode.{SaysTyped};
+ghost use Rattle.baggage_cli.specs.Verify.{TruthWhereYes, verified_line};
+ghost use Rattle.baggage_cli.specs.Evolve.{verdict_line, SafeWhereItFits};
+ghost use Rattle.baggage_cli.specs.Why.{IsExplainedAt};
+ghost use Rattle.baggage_cli.specs.Load.{load_heading};
+ghost use Rattle.baggage_cli.specs.Run.{SaysGraph, ShowsTruth};
 ghost use Rattle.baggage_cli.specs.Tables.{IsPrinted};
-ghost use Rattle.baggage_cli.specs.Top.{TellsFiles, TellsAll, InputGives, Comes, Answers, SaysList, SaysContexts, SaysBytes, SaysPieces, RefusesFiles, AsksNames, IsRefusedFor, FailsSink, IsFailure};
-ghost use Rattle.baggage_cli.specs.Under.{SaysTyped};
+ghost use Rattle.baggage_cli.specs.Top.{ReadsSource, FetchesFiles, TellsFiles, TellsAll, InputGives, Comes, Answers, SaysList, SaysContexts, SaysBytes, SaysPieces, RefusesFiles, AsksNames, IsRefusedFor, FailsSink, IsFailure};
 
-use crate::building::build;
-use crate::comparing::compare;
+use crate::commands::carry::carry;
+use crate::commands::check::check;
+use crate::commands::collect::collect;
+use crate::commands::decode::decode;
+use crate::commands::evolve::evolve;
+use crate::commands::load::load;
+use crate::commands::merge::merge;
+use crate::commands::run::{ReportForm, run};
+use crate::commands::table::table;
+use crate::commands::trim::trim;
+use crate::commands::verify::verify;
+use crate::commands::why::{Place, why};
 use crate::delivery::{deliver, notify, refuse};
-use crate::filters::filter_source;
-use crate::loading::run_load;
 use crate::refusals::{InputFault, Notice, Refusal};
-use crate::under::read_under;
-use crate::verifying::check_certificate;
+use crate::tables::Origin;
 use bdl_check::laws;
 use command_line::{Command, command_of};
 use def_evolve::laws::fitting_tables_are_safe;
@@ -108,17 +115,42 @@ fn carry_out<R: Threads + Sync, G: Gate, L: Library, S: Source>(
         (change S.left S.faults source.old source.new) (outcome_of result) }
 {
     match command {
-        Command::Alone(filter) => filter_source(alloc, source, filter),
-        Command::Load { rounds } => run_load(rt, alloc, gate, rounds),
-        Command::Build { product, origin } => build(alloc, library, product, origin),
-        Command::Read { purpose, origin } => {
-            read_under(rt, alloc, gate, library, source, purpose, origin)
+        Command::Trim { budget } => trim(alloc, source, budget),
+        Command::Merge => merge(alloc, source),
+        Command::Carry { width } => carry(alloc, source, width),
+        Command::Collect => collect(alloc, source),
+        Command::Check { file, bag } => check(alloc, library, file, bag),
+        Command::Table { file, bag } => table(alloc, library, file, bag),
+        Command::Decode { file, bag } => decode(alloc, library, source, file, bag),
+        Command::Run { file, bag } => {
+            let origin = Origin::Bag { file, bag };
+            run(rt, alloc, gate, library, source, origin, ReportForm::Text)
         }
-        Command::Compare { old, new } => compare(alloc, library, old, new),
+        Command::RunTable { file } => {
+            let origin = Origin::Printed { file };
+            run(rt, alloc, gate, library, source, origin, ReportForm::Text)
+        }
+        Command::RunJson { file, bag } => {
+            let origin = Origin::Bag { file, bag };
+            run(rt, alloc, gate, library, source, origin, ReportForm::Json)
+        }
+        Command::Load { rounds } => load(rt, alloc, gate, rounds),
+        Command::Evolve { old, new, bag } => evolve(alloc, library, old, new, bag),
+        Command::Why {
+            file,
+            bag,
+            step,
+            path,
+        } => {
+            let origin = Origin::Bag { file, bag };
+            let place = Place { step, path };
+            why(rt, alloc, gate, library, source, origin, place)
+        }
         Command::Verify {
-            origin,
+            file,
+            bag,
             certificate,
-        } => check_certificate(alloc, library, source, origin, certificate),
+        } => verify(alloc, library, source, file, bag, certificate),
     }
 }
 
@@ -226,7 +258,7 @@ pub fn baggage_top<R: Threads + Sync, G: Gate, L: Library, S: Source, K: Sink, E
         → (table : Nodes) × IsTableOf held file bag table
         × Appends (K.written out.old) (K.written out.new) (ok_line (length (slots_of table))) }
     ensures table { (file bag : List ℕ) (held : Holding)
-        → command_of words.now ≡ Some (print file bag) → L.files library.old ≡ Some held → result ≡ 0
+        → command_of words.now ≡ Some (table file bag) → L.files library.old ≡ Some held → result ≡ 0
         → (table : Nodes) × IsTableOf held file bag table
         × Appends (K.written out.old) (K.written out.new) (table_text table) }
     ensures decode { (file bag : List ℕ) (held : Holding) (input : List ℕ)
@@ -239,7 +271,7 @@ pub fn baggage_top<R: Threads + Sync, G: Gate, L: Library, S: Source, K: Sink, E
         → command_of words.now ≡ Some (run file bag) → L.files library.old ≡ Some held
         → S.left source.old ≡ Some input → result ≡ 0
         → (table : Nodes) × (graph : Graph) × (lists : Lists) × (text : List ℕ)
-        × IsTableOf held file bag table × IsGraphOf table input graph
+        × IsTableOf held file bag table × SaysGraph table input graph
         × IsRun table graph lists × IsReport table graph lists text
         × ShowsTruth table graph lists
         × Appends (K.written out.old) (K.written out.new) text }
@@ -247,7 +279,7 @@ pub fn baggage_top<R: Threads + Sync, G: Gate, L: Library, S: Source, K: Sink, E
         → command_of words.now ≡ Some (run_table file) → L.files library.old ≡ Some held
         → S.left source.old ≡ Some input → result ≡ 0
         → (table : Nodes) × (graph : Graph) × (lists : Lists) × (text : List ℕ)
-        × IsPrinted (held file) table × IsGraphOf table input graph
+        × IsPrinted (held file) table × SaysGraph table input graph
         × IsRun table graph lists × IsReport table graph lists text
         × ShowsTruth table graph lists
         × Appends (K.written out.old) (K.written out.new) text }
@@ -255,7 +287,7 @@ pub fn baggage_top<R: Threads + Sync, G: Gate, L: Library, S: Source, K: Sink, E
         → command_of words.now ≡ Some (run_json file bag) → L.files library.old ≡ Some held
         → S.left source.old ≡ Some input → result ≡ 0
         → (table : Nodes) × (graph : Graph) × (lists : Lists) × (text : List ℕ)
-        × IsTableOf held file bag table × IsGraphOf table input graph
+        × IsTableOf held file bag table × SaysGraph table input graph
         × IsRun table graph lists × IsJsonReport table graph lists text
         × ShowsTruth table graph lists
         × Appends (K.written out.old) (K.written out.new) (text ++ 10 ∷ []) }
@@ -275,14 +307,14 @@ pub fn baggage_top<R: Threads + Sync, G: Gate, L: Library, S: Source, K: Sink, E
         → command_of words.now ≡ Some (why file bag step path) → L.files library.old ≡ Some held
         → S.left source.old ≡ Some input → result ≡ 0
         → (table : Nodes) × (graph : Graph) × (lists : Lists) × (slot : ℕ) × (text : List ℕ)
-        × IsTableOf held file bag table × IsGraphOf table input graph
+        × IsTableOf held file bag table × SaysGraph table input graph
         × IsExplainedAt table graph lists step path slot text
         × Appends (K.written out.old) (K.written out.new) text }
     ensures verify { (file bag name : List ℕ) (held : Holding) (input : List ℕ)
         → command_of words.now ≡ Some (verify file bag name) → L.files library.old ≡ Some held
         → S.left source.old ≡ Some input → result ≡ 0
         → (table : Nodes) × (graph : Graph) × (certificate : List ℕ) × (verdict : Verified)
-        × IsTableOf held file bag table × (held name ≡ Some certificate) × IsGraphOf table input graph
+        × IsTableOf held file bag table × (held name ≡ Some certificate) × SaysGraph table input graph
         × IsVerdictOf table graph certificate verdict × TruthWhereYes table graph certificate verdict
         × Appends (K.written out.old) (K.written out.new) (verified_line verdict) }
     ensures fetched { (task : Task) (held : Holding)
@@ -365,6 +397,9 @@ pub fn baggage_top<R: Threads + Sync, G: Gate, L: Library, S: Source, K: Sink, E
         (change S.left S.faults source.old source.new)
         (change K.written K.faults out.old out.new)
         (change E.written E.faults errs.old errs.new)) }
+    // Of words that ask for nothing the errors have a front of their line.
+    ensures errs_part { command_of words.now ≡ None → result ≡ 5
+        → TakesPart (change E.written E.faults errs.old errs.new) (notice_line Notice.WordsRefused) }
     ensures memory { (task : Task) → command_of words.now ≡ Some task → result ≡ 6
         → Appends (E.written errs.old) (E.written errs.new) (notice_line Notice.Memory) }
     ensures words { result ≡ 7 → (command_of words.now ≡ None)

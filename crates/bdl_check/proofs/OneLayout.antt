@@ -15,7 +15,8 @@ use Rattle.bdl_parser.specs.Trees.{BagFieldTree, TypeTree}
 use Rattle.bdl_check.specs.Declarations.{Placed, decl_named}
 use Rattle.bdl_check.specs.Layouts.{Layout, IsShapeOfDecl, IsShapeOf, IsFieldOf, AreFieldsOf, IsLaidOutInOrder, IsLaidOutWithin, IsLaidOut, held_shape}
 use Rattle.bdl_check.specs.Tables.{BagTree, bag_named, FitsTable, IsUnfit, IsTableAmong, IsUntabled}
-use Rattle.bag_model.specs.declared.TheConstants.{MAX_LEVELS, MAX_FIELDS}
+use Rattle.context_model.specs.declared.TheConstants.{LEVELS_MAX}
+use Rattle.bag_model.specs.declared.TheConstants.{FIELDS_MAX}
 use Rattle.bdl_check.proofs.Lists.{is_in_front, is_behind}
 
 -- ---- fields in ascending order
@@ -175,14 +176,14 @@ one_layout ds list m n a b = one_within ds a.0 b.0 list m n a.1 b.1
 -- ---- tables and faults
 
 -- Fields that are laid out in few levels aren't in more.
-not_deeper : (ds : List Placed) (list : List BagFieldTree) (m n : Nodes) → IsLaidOut ds list m → IsLaidOut ds list n → MAX_LEVELS < levels m
-    → levels n ≤ MAX_LEVELS → ⊥
+not_deeper : (ds : List Placed) (list : List BagFieldTree) (m n : Nodes) → IsLaidOut ds list m → IsLaidOut ds list n → LEVELS_MAX < levels m
+    → levels n ≤ LEVELS_MAX → ⊥
 not_deeper ds list m n a b deep shallow =
     let same = ap levels (one_layout ds list m n a b) in
     omega (arith, same, deep, shallow)
 
-not_larger : (ds : List Placed) (list : List BagFieldTree) (m n : Nodes) → IsLaidOut ds list m → IsLaidOut ds list n → MAX_FIELDS < node_count m
-    → node_count n ≤ MAX_FIELDS → ⊥
+not_larger : (ds : List Placed) (list : List BagFieldTree) (m n : Nodes) → IsLaidOut ds list m → IsLaidOut ds list n → FIELDS_MAX < node_count m
+    → node_count n ≤ FIELDS_MAX → ⊥
 not_larger ds list m n a b large small =
     let same = ap node_count (one_layout ds list m n a b) in
     omega (arith, same, large, small)

@@ -11,8 +11,8 @@ use Rattle.bdl_lexer.specs.declared.TokenClass.TheVariants.{Word, Number, Text, 
 use Rattle.bdl_lexer.specs.Scan.{IsNumberInRange}
 use Rattle.bdl_lexer.specs.Spans.{LiesIn, token_text}
 use Rattle.bdl_lexer.proofs.Spans.{tokens_lie}
-use Rattle.grammar_model.specs.Forms.{Form, token, two, either, made, Repeats, many, nothing, at_end}
-use Rattle.bdl_parser.specs.declared.TheConstants.{MAX_NESTING}
+use Rattle.grammar_model.specs.Grammars.{Grammar, token, two, either, made, Repeats, many, nothing, at_end}
+use Rattle.bdl_parser.specs.declared.TheConstants.{NESTING_MAX}
 use Rattle.bdl_parser.specs.declared.trees.Decl.TheVariants.{Bag, Struct}
 use Rattle.bdl_parser.specs.declared.trees.Import.{Import}
 use Rattle.bdl_parser.specs.declared.trees.Module.{Module}
@@ -79,7 +79,7 @@ number_small (sign byte) spot said small e = absurd (cc e)
 -- ---- forms
 
 -- Of small tokens the form says only what is so, and small ones are left.
-record Keeps {A : Type 0} (form : Form Lexeme A) (IsSo : A → Type 0) : Type 0 where
+record Keeps {A : Type 0} (form : Grammar Lexeme A) (IsSo : A → Type 0) : Type 0 where
   keeps : (ts : List Lexeme) (a : A) (rest : List Lexeme) → AreSmall ts → form.reads ts a rest → AreSmall rest × IsSo a
 
 -- Nothing is wanted of what is said.
@@ -96,7 +96,7 @@ keeps_token meant IsSo so = record {
 keeps_any : {A : Type 0} (meant : Lexeme → Option A) → Keeps (token meant) Any
 keeps_any meant = keeps_token meant Any (λ t a small means. tt)
 
-keeps_two : {A B : Type 0} {f : Form Lexeme A} {g : Form Lexeme B} {P : A → Type 0} {Q : B → Type 0} → Keeps f P → Keeps g Q → Keeps (two f g) (λ (p : A × B). P p.0 × Q p.1)
+keeps_two : {A B : Type 0} {f : Grammar Lexeme A} {g : Grammar Lexeme B} {P : A → Type 0} {Q : B → Type 0} → Keeps f P → Keeps g Q → Keeps (two f g) (λ (p : A × B). P p.0 × Q p.1)
 keeps_two kf kg = record {
   keeps = λ ts p rest small read.
       let first = kf.keeps ts p.0 read.between small read.first in
@@ -104,7 +104,7 @@ keeps_two kf kg = record {
       (second.0, (first.1, second.1));
 }
 
-keeps_either : {A : Type 0} {f g : Form Lexeme A} {P : A → Type 0} → Keeps f P → Keeps g P → Keeps (either f g) P
+keeps_either : {A : Type 0} {f g : Grammar Lexeme A} {P : A → Type 0} → Keeps f P → Keeps g P → Keeps (either f g) P
 keeps_either kf kg = record {
   keeps = λ ts a rest small read. elim read [
     | inl first ↦ kf.keeps ts a rest small first
@@ -112,14 +112,14 @@ keeps_either kf kg = record {
   ];
 }
 
-keeps_made : {A B : Type 0} {f : Form Lexeme A} {P : A → Type 0} (make : A → B) (Q : B → Type 0) → ((a : A) → P a → Q (make a)) → Keeps f P → Keeps (made make f) Q
+keeps_made : {A B : Type 0} {f : Grammar Lexeme A} {P : A → Type 0} (make : A → B) (Q : B → Type 0) → ((a : A) → P a → Q (make a)) → Keeps f P → Keeps (made make f) Q
 keeps_made make Q so kf = record {
   keeps = λ ts b rest small read.
       let kept = kf.keeps ts read.said rest small read.reads in
       (kept.0, subst Q (sym read.is) (so read.said kept.1));
 }
 
-module _ {A B : Type 0} {f : Form Lexeme A} {g : Form Lexeme B} {P : A → Type 0} {Q : B → Type 0} (kf : Keeps f P) (kg : Keeps g Q) where
+module _ {A B : Type 0} {f : Grammar Lexeme A} {g : Grammar Lexeme B} {P : A → Type 0} {Q : B → Type 0} (kf : Keeps f P) (kg : Keeps g Q) where
   keeps_items : (items : List A) (ts rest : List Lexeme) → AreSmall ts → Repeats f ts items rest → AreSmall rest × AllByRecursion P items
   keeps_items [] ts rest small same = (subst AreSmall same small, tt)
   keeps_items (a ∷ items) ts rest small (between, read, more) =
@@ -149,11 +149,11 @@ keeps_name = keeps_token a_name (λ p. is_name p.0 ≡ true) (λ t p small means
 keeps_number : Keeps (token a_number) (λ (p : ℕ × Spot). p.0 < 2 ^ 16)
 keeps_number = keeps_token a_number (λ p. p.0 < 2 ^ 16) (λ t p small means. number_small t.what t.spot p small means)
 
-keeps_held : (inner : Form Lexeme TypeTree) → Keeps inner Any → Keeps (held_of inner) Any
+keeps_held : (inner : Grammar Lexeme TypeTree) → Keeps inner Any → Keeps (held_of inner) Any
 keeps_held inner k =
     keeps_made (λ p. trees.held p.0.0 p.1.1.0 p.0.1) Any (λ p so. tt) (keeps_two (keeps_any a_holding) (keeps_two (keeps_any (this_sign 60)) (keeps_two k (keeps_any (this_sign 62)))))
 
-keeps_map : (inner : Form Lexeme TypeTree) → Keeps inner Any → Keeps (map_of inner) Any
+keeps_map : (inner : Grammar Lexeme TypeTree) → Keeps inner Any → Keeps (map_of inner) Any
 keeps_map inner k =
     keeps_made (λ p. trees.map p.1.1.0 p.1.1.1.1.0 p.0) Any (λ p so. tt)
     (keeps_two (keeps_any (this_word (codes "map"))) (keeps_two (keeps_any (this_sign 60)) (keeps_two k (keeps_two (keeps_any (this_sign 44)) (keeps_two k (keeps_any (this_sign 62)))))))
@@ -203,7 +203,7 @@ keeps_module n =
 -- What a source says is spelled.
 says_spelled : (source : List ℕ) (m : Module) → SaysModule source m → AreSpelledDecls m.decls
 says_spelled source m says =
-    ((keeps_module MAX_NESTING).keeps (lexemes_of source says.tokens) m [] (small_tokens source says.tokens (tokens_lie source says.tokens says.are)) says.says).1
+    ((keeps_module NESTING_MAX).keeps (lexemes_of source says.tokens) m [] (small_tokens source says.tokens (tokens_lie source says.tokens says.are)) says.says).1
 
 -- ---- files
 

@@ -30,7 +30,8 @@ use Rattle.bdl_check.proofs.BagSizes.{or_first, or_second, not_so}
 use Rattle.bdl_check.proofs.Insertions.{all_moved}
 use Rattle.bdl_check.proofs.OneLayout.{Precedes, Rising, numbers, rises, same_some}
 use Rattle.bdl_check.proofs.PassedTypes.{number_of, key_kind, map_key, map_value}
-use Rattle.bag_model.specs.declared.TheConstants.{MAX_LEVELS, MAX_FIELDS}
+use Rattle.context_model.specs.declared.TheConstants.{LEVELS_MAX}
+use Rattle.bag_model.specs.declared.TheConstants.{FIELDS_MAX}
 use Rattle.bdl_check.proofs.Soundness.{faultless_passes, numbered_passes}
 use Rattle.bdl_check.proofs.Lists.{both_first, both_second, and_then_is}
 
@@ -216,6 +217,6 @@ module _ (ds : List Placed) (good : AllGood ds) where
   within_good (suc room) list nodes g a = order_good (IsLaidOutWithin room ds) (within_good room) list nodes g a
 
   -- A bag in few levels with few fields makes a table.
-  pub is_table : (list : List BagFieldTree) (nodes : Nodes) → AreGood ds list → IsLaidOut ds list nodes → levels nodes ≤ MAX_LEVELS
-      → node_count nodes ≤ MAX_FIELDS → IsTable nodes
+  pub is_table : (list : List BagFieldTree) (nodes : Nodes) → AreGood ds list → IsLaidOut ds list nodes → levels nodes ≤ LEVELS_MAX
+      → node_count nodes ≤ FIELDS_MAX → IsTable nodes
   is_table list nodes g l shallow small = record { well_formed = within_good l.0 list nodes g l.1; shallow = shallow; small = small }

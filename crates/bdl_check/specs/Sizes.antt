@@ -1,7 +1,8 @@
 -- The levels of headers and the number of fields of a bag, as far as they matter.
 use Rattle.std.specs.Prelude.{◌≡◌, ℕ, ◌<◌, ◌≤◌, min, Option, None, Some, List, length, slice_get}
 use Rattle.std.specs.List.{AllByRecursion}
-use Rattle.bag_model.specs.declared.TheConstants.{MAX_LEVELS, MAX_FIELDS}
+use Rattle.context_model.specs.declared.TheConstants.{LEVELS_MAX}
+use Rattle.bag_model.specs.declared.TheConstants.{FIELDS_MAX}
 use Rattle.bag_model.specs.Shapes.{Shape, Nodes}
 use Rattle.bag_model.specs.Tables.{levels_under, levels, nodes_under, node_count}
 use Rattle.bdl_check.specs.declared.sizes.Size.{Size}
@@ -51,7 +52,7 @@ pub record AreSizes (ds : List Placed) (sizes : List Size) : Type 0 where
 
 -- What is wrong with a bag of this size: it takes too many levels, or else it has too many fields.
 abbrev pub IsExcess : Size → Option DefCode → Type 0
-IsExcess size None = (size.levels ≤ MAX_LEVELS) × (size.fields ≤ MAX_FIELDS)
-IsExcess size (Some TooDeep) = MAX_LEVELS < size.levels
-IsExcess size (Some TooManySlots) = (size.levels ≤ MAX_LEVELS) × (MAX_FIELDS < size.fields)
+IsExcess size None = (size.levels ≤ LEVELS_MAX) × (size.fields ≤ FIELDS_MAX)
+IsExcess size (Some TooDeep) = LEVELS_MAX < size.levels
+IsExcess size (Some TooManySlots) = (size.levels ≤ LEVELS_MAX) × (FIELDS_MAX < size.fields)
 IsExcess size (Some _) = ⊥

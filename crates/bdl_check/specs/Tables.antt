@@ -1,7 +1,8 @@
 -- The table of a bag among declarations, or why they have none.
 use Rattle.std.specs.Prelude.{◌≡◌, ℕ, ◌<◌, ◌≤◌, Option, None, Some, List}
 use Rattle.std.specs.Option.{option_and_then}
-use Rattle.bag_model.specs.declared.TheConstants.{MAX_LEVELS, MAX_FIELDS}
+use Rattle.context_model.specs.declared.TheConstants.{LEVELS_MAX}
+use Rattle.bag_model.specs.declared.TheConstants.{FIELDS_MAX}
 use Rattle.bdl_load.specs.declared.faults.TheConstants.{FIRST_SPOT}
 use Rattle.bag_model.specs.Shapes.{Nodes}
 use Rattle.bag_model.specs.Tables.{levels, node_count}
@@ -33,15 +34,15 @@ bag_named ds name = option_and_then (λ d. bag_in d.file d.decl) (decl_named ds 
 -- The fields laid out, in no more than 16 levels of headers and 16,384 fields.
 pub record FitsTable (ds : List Placed) (list : List BagFieldTree) (nodes : Nodes) : Type 0 where
   pub laid_out : IsLaidOut ds list nodes
-  pub shallow : levels nodes ≤ MAX_LEVELS
-  pub small : node_count nodes ≤ MAX_FIELDS
+  pub shallow : levels nodes ≤ LEVELS_MAX
+  pub small : node_count nodes ≤ FIELDS_MAX
 
 -- The fault of a bag whose fields take more levels, or no more but are more fields.
 pub data IsUnfit (ds : List Placed) (bag : BagTree) (fault : Fault) : Type 0 where
-  deep : (nodes : Nodes) → IsLaidOut ds bag.list nodes → MAX_LEVELS < levels nodes
+  deep : (nodes : Nodes) → IsLaidOut ds bag.list nodes → LEVELS_MAX < levels nodes
       → fault ≡ fault_in bag.file (found bag.spot TooDeep) → IsUnfit ds bag fault
-  large : (nodes : Nodes) → IsLaidOut ds bag.list nodes → levels nodes ≤ MAX_LEVELS
-      → MAX_FIELDS < node_count nodes → fault ≡ fault_in bag.file (found bag.spot TooManySlots)
+  large : (nodes : Nodes) → IsLaidOut ds bag.list nodes → levels nodes ≤ LEVELS_MAX
+      → FIELDS_MAX < node_count nodes → fault ≡ fault_in bag.file (found bag.spot TooManySlots)
       → IsUnfit ds bag fault
 
 -- The bag of this name among the declarations, laid out within the limits.

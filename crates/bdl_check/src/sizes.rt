@@ -14,17 +14,17 @@ ghost use Rattle.bdl_parser.specs.Views.{tree_of};
 ghost use Rattle.topological_order.specs.Orders.{IsOrder};
 
 use crate::declarations::Declarations;
-use bag_model::{MAX_FIELDS, MAX_LEVELS};
+use bag_model::{FIELDS_MAX, LEVELS_MAX};
 use bdl_load::DefCode;
 use bdl_parser::{BagFields, Decl, TypeForm, TypeNode};
 use outside::Memory;
 use std::alloc::Global;
 
 /// Levels are counted up to one more than the most.
-const LEVELS_CAP: usize = MAX_LEVELS + 1;
+const LEVELS_CAP: usize = LEVELS_MAX + 1;
 
 /// Fields are counted up to one more than the most.
-const FIELDS_CAP: usize = MAX_FIELDS + 1;
+const FIELDS_CAP: usize = FIELDS_MAX + 1;
 
 /// The levels of headers that the fields of a bag take, at most `LEVELS_CAP`, and the fields with those inside them, at most
 /// `FIELDS_CAP`.
@@ -143,10 +143,10 @@ pub(crate) fn sizes_of(
 pub(crate) fn excess(size: Size) -> Option<DefCode>
     ensures { IsExcess size result }
 {
-    if size.levels > MAX_LEVELS {
+    if size.levels > LEVELS_MAX {
         return Some(DefCode::TooDeep);
     }
-    if size.fields > MAX_FIELDS {
+    if size.fields > FIELDS_MAX {
         return Some(DefCode::TooManySlots);
     }
     None

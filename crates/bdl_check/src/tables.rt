@@ -14,7 +14,7 @@ use crate::layouts::lay_out;
 use crate::refusals::{Refusal, fault_in};
 use crate::sizes::{excess, sizes_of};
 use crate::struct_kinds::StructKinds;
-use bag_model::MAX_LEVELS;
+use bag_model::LEVELS_MAX;
 use bdl_load::{DefCode, FIRST_SPOT, Finding};
 use bdl_parser::{BagFields, Decl, Spot};
 use field_table::Table;
@@ -83,6 +83,6 @@ pub(crate) fn table_of(
         return Err(Refusal::At(fault_in(chosen.file.copy()?, found)));
     }
     let kinds = StructKinds::of(alloc, declarations)?;
-    let fields = lay_out(alloc, &kinds, chosen.fields, MAX_LEVELS)?;
+    let fields = lay_out(alloc, &kinds, chosen.fields, LEVELS_MAX)?;
     Ok(Table::of(fields))
 }

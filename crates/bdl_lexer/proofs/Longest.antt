@@ -6,7 +6,7 @@ use Rattle.std.proofs.lemmas.List.Elements.{All-head, All-cons, All-same}
 use Rattle.bdl_lexer.specs.declared.TokenClass.{TokenClass}
 use Rattle.bdl_lexer.specs.declared.TokenClass.TheVariants.{Word, Number, Text, Sign}
 use Rattle.bdl_lexer.specs.Bytes.{is_letter, is_word_byte, is_text_byte}
-use Rattle.bdl_lexer.specs.Scan.{IsWord, IsNumberToken, IsText, IsSign, HasTokenForm, IsLongest}
+use Rattle.bdl_lexer.specs.Scan.{IsWordToken, IsNumberToken, IsText, IsSign, HasTokenForm, IsLongest}
 use Rattle.bdl_lexer.proofs.Runs.{StopsAt, run_longest}
 use Rattle.bdl_lexer.proofs.FirstBytes.{kind_of, kind_letter, kind_digit, kind_sign}
 
@@ -49,12 +49,12 @@ apart k l a b x y p q e differ = absurd (differ (same_kind k l a b x y p q e))
 pub letter_in_word : (b : ℕ) → is_letter b ≡ true → is_word_byte b ≡ true
 letter_in_word b e = ap (λ v. v || is_ascii_digit b) e
 
-pub word_bytes : (text : List ℕ) → IsWord text → AllPass is_word_byte text
+pub word_bytes : (text : List ℕ) → IsWordToken text → AllPass is_word_byte text
 word_bytes text form =
     All-same (λ b. is_word_byte b ≡ true) text (form.first ∷ form.more) form.is
     (All-cons (λ b. is_word_byte b ≡ true) form.first form.more (letter_in_word form.first form.letter) form.each)
 
-word_no_longer : (text rest : List ℕ) → IsWord text → StopsAt is_word_byte rest → (other : TokenClass) (longer after : List ℕ) → text ++ rest ≡ longer ++ after → HasTokenForm other longer → length longer ≤ length text
+word_no_longer : (text rest : List ℕ) → IsWordToken text → StopsAt is_word_byte rest → (other : TokenClass) (longer after : List ℕ) → text ++ rest ≡ longer ++ after → HasTokenForm other longer → length longer ≤ length text
 word_no_longer text rest form stops Word longer after e it = run_longest is_word_byte text longer rest after e stops (word_bytes longer it)
 word_no_longer text rest form stops (Number v) longer after e it =
     apart 1 2 text longer rest after (form_starts Word text form) (form_starts (Number v) longer it) e (λ (q : 1 ≡ 2). omega arith)
@@ -99,7 +99,7 @@ sign_no_longer byte text rest form Text longer after e it =
     apart 4 3 text longer rest after (form_starts (Sign byte) text form) (form_starts Text longer it) e (λ (q : 4 ≡ 3). omega arith)
 sign_no_longer byte text rest form (Sign b) longer after e it = omega (arith, ap length form.is, ap length it.is)
 
-pub word_longest : (text rest : List ℕ) → IsWord text → StopsAt is_word_byte rest → IsLongest Word text rest
+pub word_longest : (text rest : List ℕ) → IsWordToken text → StopsAt is_word_byte rest → IsLongest Word text rest
 word_longest text rest form stops = record { form = form; longest = word_no_longer text rest form stops }
 
 pub number_longest : (value : ℕ) (text rest : List ℕ) → IsNumberToken value text → StopsAt is_ascii_digit rest → IsLongest (Number value) text rest

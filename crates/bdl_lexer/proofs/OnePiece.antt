@@ -4,7 +4,7 @@ use Rattle.std.specs.Char.{is_ascii_digit}
 use Rattle.std.proofs.lemmas.Bool.Decides.{nat_tests}
 use Rattle.std.proofs.lemmas.List.{get_or_append_left, get_or_at}
 use Rattle.std.proofs.str.Laws.{order}
-use Rattle.bdl_lexer.specs.declared.TheConstants.{MAX_NUMBER}
+use Rattle.bdl_lexer.specs.declared.TheConstants.{NUMBER_MAX}
 use Rattle.bdl_lexer.specs.declared.LexCode.{LexCode}
 use Rattle.bdl_lexer.specs.declared.LexCode.TheVariants.{NotUtf8, BadByte, OpenComment, OpenString, NumberRange}
 use Rattle.bdl_lexer.specs.declared.TokenClass.{TokenClass}
@@ -300,7 +300,7 @@ abbrev number_in : Option TokenClass → ℕ
 number_in (Some (Number v)) = v
 number_in _ = 0
 
-number_small : (c : Option TokenClass) (a x : List ℕ) → IsPiece c a x → number_in c ≤ MAX_NUMBER
+number_small : (c : Option TokenClass) (a x : List ℕ) → IsPiece c a x → number_in c ≤ NUMBER_MAX
 number_small None a x p = omega arith
 number_small (Some Word) a x p = omega arith
 number_small (Some (Number v)) a x p = p.in_range

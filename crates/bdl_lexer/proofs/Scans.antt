@@ -7,7 +7,7 @@ use Rattle.std.proofs.lemmas.Bool.Decides.{nat_tests}
 use Rattle.std.proofs.lemmas.List.{get_or-take, get_or-drop, length-take-le, length-drop, take-append-drop}
 use Rattle.std.proofs.lemmas.List.Elements.{All-tail}
 use Rattle.std.proofs.lemmas.List.Sums.{fold-append, fold_more}
-use Rattle.bdl_lexer.specs.declared.TheConstants.{MAX_NUMBER}
+use Rattle.bdl_lexer.specs.declared.TheConstants.{NUMBER_MAX}
 use Rattle.bdl_lexer.specs.declared.TokenClass.TheVariants.{Word, Number, Text, Sign}
 use Rattle.bdl_lexer.specs.Bytes.{is_letter, is_word_byte, is_text_byte, is_line_byte, is_sign}
 use Rattle.bdl_lexer.specs.Faults.{IsOpenString, IsLargeNumber}
@@ -60,7 +60,7 @@ digits_of (first ∷ more) n some e len =
     let full = length-take-le n (first ∷ more) run.within in
     record { some = positive; within = run.within; number = record { nonempty = omega arith; each = run.each; value_is = refl }; stops = run.stops }
 
-pub number_stands : (s : List ℕ) (n value : ℕ) → 0 < length s → is_ascii_digit (get_or s 0 0) ≡ true → n ≡ length (take_while is_ascii_digit s) → value ≡ decimal_value (take n s) → value ≤ MAX_NUMBER → StandsFirst (Some (Number value)) n s
+pub number_stands : (s : List ℕ) (n value : ℕ) → 0 < length s → is_ascii_digit (get_or s 0 0) ≡ true → n ≡ length (take_while is_ascii_digit s) → value ≡ decimal_value (take n s) → value ≤ NUMBER_MAX → StandsFirst (Some (Number value)) n s
 number_stands s n value some e len is small =
     let digits = digits_of s n some e len in
     record {
@@ -72,7 +72,7 @@ number_stands s n value some e len is small =
       };
     }
 
-pub number_large : (s : List ℕ) (n : ℕ) → 0 < length s → is_ascii_digit (get_or s 0 0) ≡ true → n ≡ length (take_while is_ascii_digit s) → MAX_NUMBER < decimal_value (take n s) → IsLargeNumber s
+pub number_large : (s : List ℕ) (n : ℕ) → 0 < length s → is_ascii_digit (get_or s 0 0) ≡ true → n ≡ length (take_while is_ascii_digit s) → NUMBER_MAX < decimal_value (take n s) → IsLargeNumber s
 number_large s n some e len large =
     let digits = digits_of s n some e len in
     record {
@@ -97,7 +97,7 @@ front_no_more xs i =
     let more = grows (decimal_value (take i xs)) (drop i xs) in
     omega arith
 
-pub one_more_digit : (xs : List ℕ) (i value : ℕ) → i < length xs → value ≡ decimal_value (take i xs) → MAX_NUMBER < 10 * value + (get_or xs i 0 - 48) → MAX_NUMBER < decimal_value xs
+pub one_more_digit : (xs : List ℕ) (i value : ℕ) → i < length xs → value ≡ decimal_value (take i xs) → NUMBER_MAX < 10 * value + (get_or xs i 0 - 48) → NUMBER_MAX < decimal_value xs
 one_more_digit xs i value short is large =
     let next = fold_more (λ value digit. 10 * value + (digit - 48)) 0 xs i 0 short in
     let most = front_no_more xs (i + 1) in

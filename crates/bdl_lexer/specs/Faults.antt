@@ -7,7 +7,7 @@ use Rattle.bdl_lexer.specs.declared.LexCode.{LexCode}
 use Rattle.bdl_lexer.specs.declared.LexCode.TheVariants.{NotUtf8, BadByte, OpenComment, OpenString, NumberRange}
 use Rattle.bdl_lexer.specs.declared.LexFault.{LexFault}
 use Rattle.bdl_lexer.specs.declared.LexFault.TheVariants.{At, Memory}
-use Rattle.bdl_lexer.specs.declared.TheConstants.{MAX_NUMBER}
+use Rattle.bdl_lexer.specs.declared.TheConstants.{NUMBER_MAX}
 use Rattle.bdl_lexer.specs.declared.TokenClass.TheVariants.{Number}
 use Rattle.bdl_lexer.specs.Bytes.{quote, star, slash, is_blank, is_letter, is_text_byte, is_sign}
 use Rattle.bdl_lexer.specs.Scan.{IsLongest, EndsLine, HasNoClose}
@@ -45,14 +45,14 @@ pub record IsOpenString (rest : List ℕ) : Type 0 where
   pub each : AllPass is_text_byte inner
   pub ends : EndsLine after
 
--- The longest token here is a number above `MAX_NUMBER`.
+-- The longest token here is a number above `NUMBER_MAX`.
 pub record IsLargeNumber (rest : List ℕ) : Type 0 where
   pub value : ℕ
   pub digits : List ℕ
   pub after : List ℕ
   pub is : rest ≡ digits ++ after
   pub longest : IsLongest (Number value) digits after
-  pub large : MAX_NUMBER < value
+  pub large : NUMBER_MAX < value
 
 -- A fault that stands where no further piece is whole.
 abbrev pub IsFault : LexCode → List ℕ → Type 0

@@ -8,3 +8,4 @@ pub mod Faults
 pub mod Spans
 -- What the crate's own functions say of one step.
 pub mod Lexer
+pub mod FaultTexts

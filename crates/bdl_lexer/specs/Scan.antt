@@ -2,7 +2,7 @@
 use Rattle.std.specs.Prelude.{◌≡◌, ℕ, ◌+◌, ◌*◌, ◌-◌, ◌<◌, ◌≤◌, true, Option, None, Some, List, [], ◌∷◌, ◌++◌, length, slice_index, ◌⊎◌}
 use Rattle.std.specs.Char.{is_ascii_digit}
 use Rattle.std.specs.List.{AllPass, fold}
-use Rattle.bdl_lexer.specs.declared.TheConstants.{MAX_NUMBER}
+use Rattle.bdl_lexer.specs.declared.TheConstants.{NUMBER_MAX}
 use Rattle.bdl_lexer.specs.declared.TokenClass.{TokenClass}
 use Rattle.bdl_lexer.specs.declared.TokenClass.TheVariants.{Word, Number, Text, Sign}
 use Rattle.bdl_lexer.specs.Bytes.{line_feed, quote, star, slash, is_blank, is_letter, is_word_byte, is_text_byte, is_line_byte, is_sign}
@@ -12,7 +12,7 @@ abbrev pub decimal_value : List ℕ → ℕ
 decimal_value digits = fold (λ value digit. 10 * value + (digit - 48)) 0 digits
 
 -- A Word is a letter, and then letters and digits.
-pub record IsWord (text : List ℕ) : Type 0 where
+pub record IsWordToken (text : List ℕ) : Type 0 where
   pub first : ℕ
   pub more : List ℕ
   pub is : text ≡ first ∷ more
@@ -38,7 +38,7 @@ pub record IsSign (byte : ℕ) (text : List ℕ) : Type 0 where
 
 -- The text has the form of such a token, whatever its number.
 abbrev pub HasTokenForm : TokenClass → List ℕ → Type 0
-HasTokenForm Word text = IsWord text
+HasTokenForm Word text = IsWordToken text
 HasTokenForm (Number value) text = IsNumberToken value text
 HasTokenForm Text text = IsText text
 HasTokenForm (Sign byte) text = IsSign byte text
@@ -48,9 +48,9 @@ pub record IsLongest (class : TokenClass) (text rest : List ℕ) : Type 0 where
   pub form : HasTokenForm class text
   pub longest : (other : TokenClass) (longer after : List ℕ) → text ++ rest ≡ longer ++ after → HasTokenForm other longer → length longer ≤ length text
 
--- A number is at most `MAX_NUMBER`.
+-- A number is at most `NUMBER_MAX`.
 abbrev pub IsNumberInRange : TokenClass → Type 0
-IsNumberInRange (Number value) = value ≤ MAX_NUMBER
+IsNumberInRange (Number value) = value ≤ NUMBER_MAX
 IsNumberInRange _ = Unit {0}
 
 -- A token is the longest one at its place, its number in range.

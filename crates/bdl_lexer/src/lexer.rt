@@ -1,7 +1,7 @@
 //! A walk over the pieces of a source.
 
 ghost use Rattle.std.specs.Prelude.{◌≡◌, ℕ, ◌+◌, ◌<◌, ◌≤◌, ◌↔◌, IsTrue, length, take, drop, IfOk, IfErr};
-ghost use Rattle.bdl_lexer.specs.declared.TheConstants.{MAX_SOURCE};
+ghost use Rattle.bdl_lexer.specs.declared.TheConstants.{SOURCE_MAX};
 
 use crate::scan::{Found, scan};
 use crate::{LexCode, LexFault, Token};
@@ -38,7 +38,7 @@ impl Place {
 pub(crate) struct Lexer<'a> {
     pub rest: &'a [u8],
     pub place: Place,
-    ghost small: { place.at + length rest.now ≤ MAX_SOURCE },
+    ghost small: { place.at + length rest.now ≤ SOURCE_MAX },
     ghost line_small: { place.line ≤ place.at + 1 },
     ghost column_small: { place.column ≤ place.at + 1 },
 }
@@ -49,7 +49,7 @@ impl<'a> Lexer<'a> {
     ghost use Rattle.bdl_lexer.specs.declared.LexFault.TheVariants.{At};
 
     pub fn new(source: &'a [u8]) -> Self
-        requires { length source.now ≤ MAX_SOURCE }
+        requires { length source.now ≤ SOURCE_MAX }
         ensures rest { result.rest.now ≡ source.now }
         ensures place { result.place ≡ first_place }
     {

@@ -16,7 +16,8 @@ mod scan;
 
 use lexer::Lexer;
 use std::alloc::{AllocFailed, Global};
-use std::str;
+use std::error::Error;
+use std::{fmt, str};
 
 /// What a token is.
 #[derive(Clone, Copy, Debug, PartialEq, Eq)]
@@ -56,7 +57,7 @@ pub enum LexCode {
     OpenComment,
     /// A `"` without another on its line.
     OpenString,
-    /// A number above [`MAX_NUMBER`].
+    /// A number above [`NUMBER_MAX`].
     NumberRange,
 }
 
@@ -72,6 +73,41 @@ pub enum LexFault {
     Memory,
 }
 
+impl fmt::Display for LexCode {
+    ghost use Rattle.std.specs.Prelude.{Some};
+    ghost use Rattle.bdl_lexer.specs.FaultTexts.{lex_name};
+
+    ghost output = { λ fault. Some (lex_name fault) };
+
+    fn fmt<W: fmt::Write>(&self, f: &mut fmt::Formatter<W>) -> fmt::Result {
+        match self {
+            LexCode::NotUtf8 => write!(f, "NotUtf8"),
+            LexCode::BadByte => write!(f, "BadByte"),
+            LexCode::OpenComment => write!(f, "OpenComment"),
+            LexCode::OpenString => write!(f, "OpenString"),
+            LexCode::NumberRange => write!(f, "NumberRange"),
+        }
+    }
+}
+
+impl Error for LexCode {}
+
+impl fmt::Display for LexFault {
+    ghost use Rattle.std.specs.Prelude.{Some};
+    ghost use Rattle.bdl_lexer.specs.FaultTexts.{lex_fault_text};
+
+    ghost output = { λ fault. Some (lex_fault_text fault) };
+
+    fn fmt<W: fmt::Write>(&self, f: &mut fmt::Formatter<W>) -> fmt::Result {
+        match self {
+            LexFault::At { line, column, code } => write!(f, "{line}:{column} {code}"),
+            LexFault::Memory => write!(f, "out of memory"),
+        }
+    }
+}
+
+impl Error for LexFault {}
+
 impl From<AllocFailed<Token>> for LexFault {
     ghost use Rattle.std.specs.Prelude.{◌≡◌};
     ghost use Rattle.bdl_lexer.specs.declared.LexFault.TheVariants.{Memory};
@@ -84,14 +120,14 @@ impl From<AllocFailed<Token>> for LexFault {
 }
 
 /// The longest source that is read, in bytes.
-pub const MAX_SOURCE: usize = 1_048_576;
+pub const SOURCE_MAX: usize = 1_048_576;
 
 /// The largest number that a token may spell.
-pub const MAX_NUMBER: u32 = 65_535;
+pub const NUMBER_MAX: u32 = 65_535;
 
 /// Reads a source once, from its first byte to its last or to its first fault.
 pub fn lex(alloc: Global, source: &[u8]) -> Result<Vec<Token>, LexFault>
-    requires { length source.now ≤ MAX_SOURCE }
+    requires { length source.now ≤ SOURCE_MAX }
     ensures tokens { IfOk result (λ tokens. AreTokensOf source.now tokens.items) }
     ensures lie { IfOk result (λ tokens. All (LiesIn source.now) tokens.items) }
     ensures order { IfOk result (λ tokens. AreInOrder 0 tokens.items) }

@@ -8,7 +8,7 @@ ghost use Rattle.bdl_lexer.specs.Scan.{decimal_value, HasNoClose};
 ghost use Rattle.bdl_lexer.specs.Faults.{IsFault};
 ghost use Rattle.bdl_lexer.specs.Lexer.{StandsFirst, ClosesAt};
 
-use crate::{LexCode, MAX_NUMBER, TokenClass};
+use crate::{LexCode, NUMBER_MAX, TokenClass};
 
 /// A piece at the front of some bytes: its class where it is a token, and its length.
 #[derive(Clone, Copy)]
@@ -77,12 +77,12 @@ fn line_len(bytes: &[u8]) -> usize
 /// The number that decimal digits spell, if it is in range.
 fn number_of(digits: &[u8]) -> Option<u16>
     requires { AllPass is_ascii_digit digits.now }
-    ensures { MatchOption result (MAX_NUMBER < decimal_value digits.now) (λ value. value ≡ decimal_value digits.now) }
+    ensures { MatchOption result (NUMBER_MAX < decimal_value digits.now) (λ value. value ≡ decimal_value digits.now) }
 {
     let mut value: u32 = 0;
     for digit in digits {
         value = 10 * value + u32::from(*digit - b'0');
-        if value > MAX_NUMBER {
+        if value > NUMBER_MAX {
             return None;
         }
     }

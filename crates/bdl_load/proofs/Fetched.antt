@@ -4,7 +4,7 @@ use Rattle.std.specs.Option.{option_map}
 use Rattle.std.proofs.lemmas.Bool.{cases_lt}
 use Rattle.std.proofs.lemmas.List.{take_all, length-take-le}
 use Rattle.outside.specs.declared.TheConstants.{FETCH_MAX}
-use Rattle.bdl_lexer.specs.declared.TheConstants.{MAX_SOURCE}
+use Rattle.bdl_lexer.specs.declared.TheConstants.{SOURCE_MAX}
 use Rattle.bdl_parser.specs.declared.trees.Module.{Module}
 use Rattle.outside.specs.Transfers.{Files, Fetches, fetched}
 use Rattle.bdl_load.specs.declared.faults.Finding.{Finding}
@@ -12,11 +12,11 @@ use Rattle.bdl_load.specs.Loader.{IsHeld}
 use Rattle.bdl_load.specs.Source.{SaysModule, IsSourceFault, too_long, lexical, syntactic}
 
 -- all of a file was fetched, or one byte too many
-whole_or : (file : List ℕ) → (fetched file ≡ file) ⊎ ((MAX_SOURCE < length (fetched file)) × (MAX_SOURCE < length file))
+whole_or : (file : List ℕ) → (fetched file ≡ file) ⊎ ((SOURCE_MAX < length (fetched file)) × (SOURCE_MAX < length file))
 unfolding fetched
 whole_or file = by (cases_lt FETCH_MAX (length file))
   where
-    by : (FETCH_MAX < length file) ⊎ (length file ≤ FETCH_MAX) → (take FETCH_MAX file ≡ file) ⊎ ((MAX_SOURCE < length (take FETCH_MAX file)) × (MAX_SOURCE < length file))
+    by : (FETCH_MAX < length file) ⊎ (length file ≤ FETCH_MAX) → (take FETCH_MAX file ≡ file) ⊎ ((SOURCE_MAX < length (take FETCH_MAX file)) × (SOURCE_MAX < length file))
     by (inl long) = inr (omega (arith, length-take-le FETCH_MAX file (omega (arith, long))), omega (arith, long))
     by (inr short) = inl (take_all FETCH_MAX file short)
 
@@ -27,11 +27,11 @@ whole source short = sym (take_all FETCH_MAX source short)
 module_of_file : (file : List ℕ) (m : Module) → SaysModule (fetched file) m → SaysModule file m
 module_of_file file m s = by (whole_or file)
   where
-    by : (fetched file ≡ file) ⊎ ((MAX_SOURCE < length (fetched file)) × (MAX_SOURCE < length file)) → SaysModule file m
+    by : (fetched file ≡ file) ⊎ ((SOURCE_MAX < length (fetched file)) × (SOURCE_MAX < length file)) → SaysModule file m
     by (inl e) = subst (λ (source : List ℕ). SaysModule source m) e s
     by (inr h) = absurd (omega (arith, h.0, s.fits))
 
-long_source : (file source : List ℕ) (f : Finding) → MAX_SOURCE < length source → MAX_SOURCE < length file → IsSourceFault source f → IsSourceFault file f
+long_source : (file source : List ℕ) (f : Finding) → SOURCE_MAX < length source → SOURCE_MAX < length file → IsSourceFault source f → IsSourceFault file f
 long_source file source f h k (too_long l e) = too_long k e
 long_source file source f h k (lexical r) = absurd (omega (arith, h, r.fits))
 long_source file source f h k (syntactic r) = absurd (omega (arith, h, r.fits))
@@ -39,7 +39,7 @@ long_source file source f h k (syntactic r) = absurd (omega (arith, h, r.fits))
 fault_of_file : (file : List ℕ) (f : Finding) → IsSourceFault (fetched file) f → IsSourceFault file f
 fault_of_file file f s = by (whole_or file)
   where
-    by : (fetched file ≡ file) ⊎ ((MAX_SOURCE < length (fetched file)) × (MAX_SOURCE < length file)) → IsSourceFault file f
+    by : (fetched file ≡ file) ⊎ ((SOURCE_MAX < length (fetched file)) × (SOURCE_MAX < length file)) → IsSourceFault file f
     by (inl e) = subst (λ (source : List ℕ). IsSourceFault source f) e s
     by (inr h) = long_source file (fetched file) f h.0 h.1 s
 

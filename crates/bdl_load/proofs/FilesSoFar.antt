@@ -5,7 +5,7 @@ use Rattle.std.specs.Str.{bytes_eq}
 use Rattle.std.proofs.lemmas.List.{map-append, get_or_append_left, get_or_default, get_or-map, length-append, length-map}
 use Rattle.std.proofs.lemmas.List.Elements.{All-append, All-head, All-tail}
 use Rattle.std.proofs.Math.Seq.{get_or-append_seam, take-append_seam}
-use Rattle.bdl_load.specs.declared.loader.TheConstants.{MAX_FILES}
+use Rattle.bdl_load.specs.declared.loader.TheConstants.{FILES_MAX}
 use Rattle.bdl_load.specs.declared.files.LoadedFile.{LoadedFile}
 use Rattle.bdl_load.specs.Loading.{is_among, file_names}
 use Rattle.bdl_load.specs.Loader.{no_file, file_at, names_at, IsSpelledFile, AreSound}
@@ -43,7 +43,7 @@ names_added files file numbers all =
 pub taken_kept : (files more : List LoadedFile) (numbers : List ℕ) → All (λ number. number < length files) numbers → All (λ number. number < length (files ++ more)) numbers
 taken_kept files more numbers all k d within = let one = all k d within in omega (arith, length-append files more)
 
-pub sound_added : (files : List LoadedFile) (file : LoadedFile) (taking : List ℕ) → AreSound files taking → is_among file.name (file_names files) ≡ false → length files < MAX_FILES → IsSpelledFile file
+pub sound_added : (files : List LoadedFile) (file : LoadedFile) (taking : List ℕ) → AreSound files taking → is_among file.name (file_names files) ≡ false → length files < FILES_MAX → IsSpelledFile file
     → AreSound (files ++ file ∷ []) (taking ++ length files ∷ [])
 sound_added files file taking sound fresh room spelled = record {
   taken = All-append (λ number. number < length (files ++ file ∷ [])) taking (length files ∷ []) (taken_kept files (file ∷ []) taking sound.taken)
@@ -68,7 +68,7 @@ last_taken taking now last count is counts =
     ap (λ n. take n now) fewer ∙ ap (take (length taking)) is ∙ take-append_seam taking (last ∷ [])
 
 -- the same of lists that are equal to these
-pub sound_begun : (files begun : List LoadedFile) (file : LoadedFile) (taking now : List ℕ) → AreSound files taking → is_among file.name (file_names files) ≡ false → length files < MAX_FILES → IsSpelledFile file
+pub sound_begun : (files begun : List LoadedFile) (file : LoadedFile) (taking now : List ℕ) → AreSound files taking → is_among file.name (file_names files) ≡ false → length files < FILES_MAX → IsSpelledFile file
     → begun ≡ files ++ file ∷ [] → now ≡ taking ++ length files ∷ [] → AreSound begun now
 sound_begun files begun file taking now sound fresh room spelled is numbers =
     subst (λ begun. AreSound begun now) (sym is) (subst (AreSound (files ++ file ∷ [])) (sym numbers) (sound_added files file taking sound fresh room spelled))

@@ -1,6 +1,6 @@
 -- Files and the name of the root come to one outcome.
 use Rattle.std.proofs.Common.{◌≡◌, ℕ, ◌≤◌, true, false, None, Some, List, [], ◌∷◌, ◌++◌, length, refl, sym, ◌∙◌, ap, subst, arith}
-use Rattle.bdl_load.specs.declared.loader.TheConstants.{MAX_FILES}
+use Rattle.bdl_load.specs.declared.loader.TheConstants.{FILES_MAX}
 use Rattle.bdl_parser.specs.declared.trees.Import.{Import}
 use Rattle.bdl_load.specs.declared.faults.Fault.{Fault}
 use Rattle.bdl_load.specs.declared.faults.Finding.{Finding}
@@ -29,7 +29,7 @@ of_known held taking files from import rest _ h i (Takes.within _ _ _ source _ _
 of_known held taking files from import rest _ h i (Takes.fetched _ _ more _ source _ _ _ f e t v) = absurd (let no = f.fresh in cc)
 
 -- an import of one file more than there may be
-of_many : (held : Holding) (taking : List (List ℕ)) (files : List LoadedFile) (from : List ℕ) (import : Import) (rest : List Import) (b : Loading) → is_among import.file taking ≡ false → is_among import.file (file_names files) ≡ false → MAX_FILES ≤ length files → Takes held taking files from (import ∷ rest) b → b ≡ stopped (file_names files) (fault_in from (found import.at TooManyFiles))
+of_many : (held : Holding) (taking : List (List ℕ)) (files : List LoadedFile) (from : List ℕ) (import : Import) (rest : List Import) (b : Loading) → is_among import.file taking ≡ false → is_among import.file (file_names files) ≡ false → FILES_MAX ≤ length files → Takes held taking files from (import ∷ rest) b → b ≡ stopped (file_names files) (fault_in from (found import.at TooManyFiles))
 of_many held taking files from import rest _ h i j (Takes.cycle _ _ _ _ _ c) = absurd (cc)
 of_many held taking files from import rest _ h i j (Takes.known _ _ _ _ _ _ c k t) = absurd (cc)
 of_many held taking files from import rest _ h i j (Takes.too_many _ _ _ _ _ c k l) = refl

@@ -5,3 +5,4 @@ pub mod Source
 pub mod Loading
 -- What the crate's own functions say.
 pub mod Loader
+pub mod FaultTexts

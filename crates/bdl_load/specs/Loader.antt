@@ -2,7 +2,7 @@
 use Rattle.std.specs.Prelude.{◌≡◌, ℕ, ◌+◌, ◌-◌, ◌<◌, ◌≤◌, true, false, Bool, Option, None, Some, IfSome, List, [], ◌∷◌, ◌++◌, length, take, drop, map}
 use Rattle.std.specs.List.{All, AllByRecursion, IsDistinct, slice_index_or}
 use Rattle.std.specs.Str.{bytes_eq}
-use Rattle.bdl_load.specs.declared.loader.TheConstants.{MAX_FILES}
+use Rattle.bdl_load.specs.declared.loader.TheConstants.{FILES_MAX}
 use Rattle.outside.specs.Transfers.{Files, Asked, Asks}
 use Rattle.bdl_parser.specs.declared.trees.Import.{Import}
 use Rattle.bdl_parser.specs.declared.trees.Module.{Module}
@@ -63,10 +63,10 @@ names_at files numbers = map (λ number. (file_at files number).name) numbers
 abbrev pub IsSpelledFile : LoadedFile → Type 0
 IsSpelledFile file = AreSpelledDecls file.«module».decls
 
--- At most `MAX_FILES` files of different names, with the numbers of those whose imports are being taken.
+-- At most `FILES_MAX` files of different names, with the numbers of those whose imports are being taken.
 pub record AreSound (files : List LoadedFile) (taking : List ℕ) : Type 0 where
   pub taken : All (λ number. number < length files) taking
-  pub room : length files ≤ MAX_FILES
+  pub room : length files ≤ FILES_MAX
   pub distinct : IsDistinct bytes_eq (file_names files)
   pub spelled : All IsSpelledFile files
 

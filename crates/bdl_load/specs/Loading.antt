@@ -3,7 +3,7 @@ use Rattle.std.specs.Prelude.{◌≡◌, ℕ, ◌<◌, ◌≤◌, Bool, true, fa
 use Rattle.std.specs.List.{AllByRecursion, list_any}
 use Rattle.std.specs.Str.{bytes_eq}
 use Rattle.bdl_load.specs.declared.faults.TheConstants.{FIRST_SPOT}
-use Rattle.bdl_load.specs.declared.loader.TheConstants.{MAX_FILES}
+use Rattle.bdl_load.specs.declared.loader.TheConstants.{FILES_MAX}
 use Rattle.outside.specs.Transfers.{Files, Asked, Asks}
 use Rattle.bdl_parser.specs.declared.trees.Import.{Import}
 use Rattle.bdl_parser.specs.declared.trees.Module.{Module}
@@ -35,11 +35,11 @@ pub data Loading : Type 0 where
   all_loaded : List LoadedFile → Loading
   stopped : List (List ℕ) → Fault → Loading
 
--- The file is fetched: its imports aren't being taken, it wasn't loaded before, and fewer than `MAX_FILES` files were.
+-- The file is fetched: its imports aren't being taken, it wasn't loaded before, and fewer than `FILES_MAX` files were.
 pub record IsFetched (taking : List (List ℕ)) (files : List LoadedFile) (name : List ℕ) : Type 0 where
   pub closed : is_among name taking ≡ false
   pub fresh : is_among name (file_names files) ≡ false
-  pub room : length files < MAX_FILES
+  pub room : length files < FILES_MAX
 
 -- Below, `taking` are the names of the files whose imports are being taken, and `files` are those that were fetched so far.
 mutual
@@ -61,7 +61,7 @@ mutual
         → is_among import.file taking ≡ false → is_among import.file (file_names files) ≡ true → Takes held taking files from rest outcome
         → Takes held taking files from (import ∷ rest) outcome
     too_many : (taking : List (List ℕ)) (files : List LoadedFile) (from : List ℕ) (import : Import) (rest : List Import)
-        → is_among import.file taking ≡ false → is_among import.file (file_names files) ≡ false → MAX_FILES ≤ length files
+        → is_among import.file taking ≡ false → is_among import.file (file_names files) ≡ false → FILES_MAX ≤ length files
         → Takes held taking files from (import ∷ rest) (stopped (file_names files) (fault_in from (found import.at TooManyFiles)))
     missing : (taking : List (List ℕ)) (files : List LoadedFile) (from : List ℕ) (import : Import) (rest : List Import)
         → IsFetched taking files import.file → held import.file ≡ None

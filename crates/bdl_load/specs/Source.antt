@@ -3,7 +3,7 @@ use Rattle.std.specs.Prelude.{◌≡◌, ℕ, ◌-◌, ◌<◌, ◌≤◌, List,
 use Rattle.std.specs.List.{slice_get}
 use Rattle.std.specs.Option.{option_map_or}
 use Rattle.bdl_load.specs.declared.faults.TheConstants.{FIRST_SPOT}
-use Rattle.bdl_lexer.specs.declared.TheConstants.{MAX_SOURCE}
+use Rattle.bdl_lexer.specs.declared.TheConstants.{SOURCE_MAX}
 use Rattle.bdl_lexer.specs.declared.LexCode.{LexCode}
 use Rattle.bdl_lexer.specs.declared.LexCode.TheVariants.{NotUtf8 as LexNotUtf8, BadByte as LexBadByte, OpenComment as LexOpenComment, OpenString as LexOpenString, NumberRange as LexNumberRange}
 use Rattle.bdl_lexer.specs.declared.Token.{Token}
@@ -41,14 +41,14 @@ spot_at ts k = option_map_or (λ t. t.spot) (slice_get ts (min k (length ts - 1)
 -- The source says this module, by its tokens.
 pub record SaysModule (source : List ℕ) (module_ : Module) : Type 0 where
   pub tokens : List Token
-  pub fits : length source ≤ MAX_SOURCE
+  pub fits : length source ≤ SOURCE_MAX
   pub are : AreTokensOf source tokens
   pub says : IsModuleOf (lexemes_of source tokens) module_
 
 -- The first lexical fault of the source.
 pub record IsLexical (source : List ℕ) (finding : Finding) : Type 0 where
   pub code : LexCode
-  pub fits : length source ≤ MAX_SOURCE
+  pub fits : length source ≤ SOURCE_MAX
   pub first : FirstLexicalFault source finding.at.line finding.at.column code
   pub code_is : finding.code ≡ of_lexer code
 
@@ -57,14 +57,14 @@ pub record IsSyntactic (source : List ℕ) (finding : Finding) : Type 0 where
   pub tokens : List Token
   pub number : ℕ
   pub code : ParseCode
-  pub fits : length source ≤ MAX_SOURCE
+  pub fits : length source ≤ SOURCE_MAX
   pub are : AreTokensOf source tokens
   pub first : FaultAt (lexemes_of source tokens) number code
   pub finding_is : finding ≡ found (spot_at (lexemes_of source tokens) number) (of_parser code)
 
 -- The first fault of a file's bytes: their length, or else a lexical fault, or else a parse fault.
 pub data IsSourceFault (source : List ℕ) (finding : Finding) : Type 0 where
-  too_long : MAX_SOURCE < length source → finding ≡ found FIRST_SPOT DefTooLong → IsSourceFault source finding
+  too_long : SOURCE_MAX < length source → finding ≡ found FIRST_SPOT DefTooLong → IsSourceFault source finding
   lexical : IsLexical source finding → IsSourceFault source finding
   syntactic : IsSyntactic source finding → IsSourceFault source finding
 

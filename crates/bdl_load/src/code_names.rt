@@ -1,6 +1,7 @@
 //! The names of the codes of definitions, as they are printed.
 
-use crate::faults::DefCode;
+use crate::faults::{DefCode, DefFault, Fault};
+use std::error::Error;
 use std::fmt;
 
 impl fmt::Display for DefCode {
@@ -38,3 +39,47 @@ impl fmt::Display for DefCode {
         }
     }
 }
+
+impl Error for DefCode {}
+
+impl fmt::Display for Fault {
+    ghost use Rattle.std.specs.Prelude.{Some};
+    ghost use Rattle.bdl_load.specs.FaultTexts.{place_text};
+
+    ghost output = { λ fault. Some (place_text fault.file fault.line fault.column fault.code) };
+
+    fn fmt<W: fmt::Write>(&self, f: &mut fmt::Formatter<W>) -> fmt::Result {
+        write!(
+            f,
+            "{} {}:{} {}",
+            self.file.as_str(),
+            self.line,
+            self.column,
+            self.code
+        )
+    }
+}
+
+impl Error for Fault {}
+
+impl fmt::Display for DefFault {
+    ghost use Rattle.std.specs.Prelude.{Some};
+    ghost use Rattle.bdl_load.specs.FaultTexts.{def_fault_text};
+
+    ghost output = { λ fault. Some (def_fault_text fault) };
+
+    fn fmt<W: fmt::Write>(&self, f: &mut fmt::Formatter<W>) -> fmt::Result {
+        match self {
+            DefFault::At {
+                file,
+                line,
+                column,
+                code,
+            } => write!(f, "{} {line}:{column} {code}", file.as_str()),
+            DefFault::Failed => write!(f, "failed outside"),
+            DefFault::Memory => write!(f, "out of memory"),
+        }
+    }
+}
+
+impl Error for DefFault {}

@@ -18,11 +18,11 @@ pub enum DefCode {
     OpenComment,
     /// A `"` without another on its line.
     OpenString,
-    /// A number above [`MAX_NUMBER`](bdl_lexer::MAX_NUMBER).
+    /// A number above [`NUMBER_MAX`](bdl_lexer::NUMBER_MAX).
     NumberRange,
     /// No module goes on with this token, or none ends here.
     Expected,
-    /// Here a type begins inside [`MAX_NESTING`](bdl_parser::MAX_NESTING) others.
+    /// Here a type begins inside [`NESTING_MAX`](bdl_parser::NESTING_MAX) others.
     TypeNesting,
     /// There is no file of the definition's name.
     NoFile,
@@ -30,9 +30,9 @@ pub enum DefCode {
     ImportMissing,
     /// A file imports itself, perhaps by way of others.
     ImportCycle,
-    /// A definition of more than [`MAX_FILES`](crate::MAX_FILES) files.
+    /// A definition of more than [`FILES_MAX`](crate::FILES_MAX) files.
     TooManyFiles,
-    /// A file of more than [`MAX_SOURCE`](bdl_lexer::MAX_SOURCE) bytes.
+    /// A file of more than [`SOURCE_MAX`](bdl_lexer::SOURCE_MAX) bytes.
     DefTooLong,
     /// An earlier declaration has this name.
     DuplicateName,
@@ -68,7 +68,7 @@ pub struct Finding {
 }
 
 /// A fault with its file, its line and its byte of that line, both from 1 on.
-#[derive(Drop)]
+#[derive(Debug, Drop)]
 pub struct Fault {
     pub file: Text,
     pub line: u32,
@@ -77,7 +77,7 @@ pub struct Fault {
 }
 
 /// Why there is no table.
-#[derive(Drop)]
+#[derive(Debug, Drop)]
 pub enum DefFault {
     /// The first fault, with its file, its line and its byte of that line, both from 1 on.
     At {

@@ -14,4 +14,4 @@ mod source;
 
 pub use faults::{DefCode, DefFault, FIRST_SPOT, Fault, Finding};
 pub use files::LoadedFile;
-pub use loader::{MAX_FILES, load};
+pub use loader::{FILES_MAX, load};

@@ -16,7 +16,7 @@ use outside::{Library, Memory, Text};
 use std::alloc::Global;
 
 /// The most files of a definition.
-pub const MAX_FILES: usize = 64;
+pub const FILES_MAX: usize = 64;
 
 /// The file of that name, fetched and read, or `None` where the library holds no such file.
 fn fetch_file<L: Library>(
@@ -88,7 +88,7 @@ impl Loader {
         if self.is_loaded(name) {
             return Ok(false);
         }
-        if self.files.len() >= MAX_FILES {
+        if self.files.len() >= FILES_MAX {
             return Err(blame(self.alloc, from, import.at, DefCode::TooManyFiles));
         }
         Ok(true)

@@ -11,7 +11,7 @@ ghost use Rattle.bdl_load.specs.Source.{of_lexer, of_parser, spot_at, SaysModule
 ghost use Rattle.bdl_parser.specs.Decls.{AreSpelledDecls};
 
 use crate::faults::{DefCode, DefFault, FIRST_SPOT, blame};
-use bdl_lexer::{LexCode, LexFault, MAX_SOURCE, Token, lex};
+use bdl_lexer::{LexCode, LexFault, SOURCE_MAX, Token, lex};
 use bdl_parser::{Module, ParseCode, ParseFault, Spot, parse};
 use std::alloc::Global;
 
@@ -51,7 +51,7 @@ fn spot_of(source: &[u8], tokens: &[Token], number: usize) -> Spot
 
 /// The refusal for a lexical fault of the file of this name.
 fn lexical(alloc: Global, name: &str, source: &[u8], fault: LexFault) -> DefFault
-    requires fits { length source.now ≤ MAX_SOURCE }
+    requires fits { length source.now ≤ SOURCE_MAX }
     requires fault { IsLexicalRefusalOf source.now fault }
     ensures says { Blames (IsFaultOfSource name.now source.now) result }
     ensures inside { result ≡ DefFault.Failed → ⊥ }
@@ -72,7 +72,7 @@ fn syntactic(
     tokens: &[Token],
     fault: ParseFault,
 ) -> DefFault
-    requires fits { length source.now ≤ MAX_SOURCE }
+    requires fits { length source.now ≤ SOURCE_MAX }
     requires are { AreTokensOf source.now tokens.now }
     requires fault { IsParseRefusalOf (lexemes_of source.now tokens.now) fault }
     ensures says { Blames (IsFaultOfSource name.now source.now) result }
@@ -94,7 +94,7 @@ pub(crate) fn read_source(alloc: Global, name: &str, source: &[u8]) -> Result<Mo
     ensures fault { IfErr result (Blames (IsFaultOfSource name.now source.now)) }
     ensures inside { IsErrOf result DefFault.Failed → ⊥ }
 {
-    if source.len() > MAX_SOURCE {
+    if source.len() > SOURCE_MAX {
         return Err(blame(alloc, name, FIRST_SPOT, DefCode::DefTooLong));
     }
     let tokens = match lex(alloc, source) {

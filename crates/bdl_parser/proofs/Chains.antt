@@ -7,7 +7,7 @@ use Rattle.bdl_parser.specs.Grammar.{a_type}
 use Rattle.bdl_parser.specs.Lexemes.{Lexeme}
 use Rattle.bdl_parser.specs.Refusals.{IsTokenRefused, IsFormRefused, is_type_first}
 use Rattle.bdl_parser.specs.Trees.{TypeTree}
-use Rattle.grammar_model.specs.Forms.{IsOne}
+use Rattle.grammar_model.specs.Grammars.{IsOne}
 use Rattle.grammar_model.specs.Stops.{Taken}
 use Rattle.bdl_parser.proofs.Families.{Family, one, pair, make_each, taken_token, refused_token, taken_made, refused_made, taken_two, refused_first, refused_second}
 use Rattle.bdl_parser.proofs.GrammarLaws.{law_token, lawful_type}

@@ -1,7 +1,7 @@
 -- Fields up to their brace, declarations up to the end, and a module.
 use Rattle.std.proofs.Common.{◌≡◌, ℕ, suc, ◌+◌, ◌<◌, Bool, true, false, ◌||◌, List, [], ◌∷◌, ◌++◌, length, codes, refl, sym, ap, subst, arith, length-append}
 use Rattle.std.specs.Option.{is_some}
-use Rattle.bdl_parser.specs.declared.TheConstants.{MAX_NESTING}
+use Rattle.bdl_parser.specs.declared.TheConstants.{NESTING_MAX}
 use Rattle.bdl_parser.specs.declared.parser.FormFault.{FormFault}
 use Rattle.bdl_parser.specs.declared.ParseCode.TheVariants.{Expected, TypeNesting}
 use Rattle.bdl_parser.specs.declared.parser.FormFault.TheVariants.{Wrong, Memory}
@@ -12,7 +12,7 @@ use Rattle.bdl_parser.specs.declared.trees.Spot.{Spot}
 use Rattle.bdl_parser.specs.Grammar.{this_word, this_sign, a_type, a_bag, a_struct, a_decl, an_import, the_decls, a_module}
 use Rattle.bdl_parser.specs.Lexemes.{Lexeme}
 use Rattle.bdl_parser.specs.Refusals.{meets, IsFormRefused, is_type_first}
-use Rattle.grammar_model.specs.Forms.{Form, IsOne, token, made, Repeats, many, at_end}
+use Rattle.grammar_model.specs.Grammars.{Grammar, IsOne, token, made, Repeats, many, at_end}
 use Rattle.grammar_model.specs.Stops.{first_passes, Taken}
 use Rattle.grammar_model.proofs.FormLaws.{IsLawful, IsEnder, ender_of}
 use Rattle.grammar_model.proofs.ChoiceLaws.{ender_ended}
@@ -22,7 +22,7 @@ use Rattle.bdl_parser.proofs.Families.{Family, one, repeat_until, AreLawful, Are
 use Rattle.bdl_parser.proofs.GrammarLaws.{law_token, type_or_mark, lawful_bag, lawful_struct, bag_apart, is_decl_first, lawful_decl, lawful_import, never, decl_apart, ender_decls, is_decl_or_never, import_apart, grows_type, grows_decl}
 
 -- what is read is shorter than where it was read
-pub read_shorter : {A : Type 0} (f : Form Lexeme A) (first : Lexeme → Bool) → IsLawful f first → (ts : List Lexeme) (a : A) (rest : List Lexeme) → f.reads ts a rest → length rest < length ts
+pub read_shorter : {A : Type 0} (f : Grammar Lexeme A) (first : Lexeme → Bool) → IsLawful f first → (ts : List Lexeme) (a : A) (rest : List Lexeme) → f.reads ts a rest → length rest < length ts
 read_shorter f first law ts a rest r =
     let it = law.framed ts a rest r in
     let start = law.read_starts (it.front ++ []) a [] (it.again []) in
@@ -136,15 +136,15 @@ imports_more items ts mid rest a e r = repeats_more items ts mid rest a e (r 0 (
 abbrev module_make : List Import × List Decl → Module
 module_make p = record { imports = p.0; decls = p.1 }
 
-pub module_imports : (e : FormFault) (ts bad : List Lexeme) → IsFormRefused (λ n. many an_import (the_decls n)) MAX_NESTING e ts bad → IsFormRefused a_module MAX_NESTING e ts bad
-module_imports e ts bad r = refused_made module_make (repeat_until the_import the_decls) MAX_NESTING e ts bad r
+pub module_imports : (e : FormFault) (ts bad : List Lexeme) → IsFormRefused (λ n. many an_import (the_decls n)) NESTING_MAX e ts bad → IsFormRefused a_module NESTING_MAX e ts bad
+module_imports e ts bad r = refused_made module_make (repeat_until the_import the_decls) NESTING_MAX e ts bad r
 
-pub module_decls : (items : List Import) (e : FormFault) (ts mid bad : List Lexeme) → Repeats an_import ts items mid → meets (this_word (codes "import")) mid ≡ false → IsFormRefused the_decls MAX_NESTING e mid bad → IsFormRefused a_module MAX_NESTING e ts bad
+pub module_decls : (items : List Import) (e : FormFault) (ts mid bad : List Lexeme) → Repeats an_import ts items mid → meets (this_word (codes "import")) mid ≡ false → IsFormRefused the_decls NESTING_MAX e mid bad → IsFormRefused a_module NESTING_MAX e ts bad
 module_decls items e ts mid bad so_far none r =
-    refused_made module_make (repeat_until the_import the_decls) MAX_NESTING e ts bad
-    (last_refused the_import the_decls MAX_NESTING import_test is_decl_or_never (λ n. lawful_import) ender_decls import_apart (grows_same an_import) items e ts mid bad (λ n le. so_far) (no_import mid none) r)
+    refused_made module_make (repeat_until the_import the_decls) NESTING_MAX e ts bad
+    (last_refused the_import the_decls NESTING_MAX import_test is_decl_or_never (λ n. lawful_import) ender_decls import_apart (grows_same an_import) items e ts mid bad (λ n le. so_far) (no_import mid none) r)
 
-pub module_taken : (items : List Import) (decls : List Decl) (ts mid : List Lexeme) → Repeats an_import ts items mid → Taken the_decls MAX_NESTING mid decls [] → Taken a_module MAX_NESTING ts (record { imports = items; decls = decls }) []
+pub module_taken : (items : List Import) (decls : List Decl) (ts mid : List Lexeme) → Repeats an_import ts items mid → Taken the_decls NESTING_MAX mid decls [] → Taken a_module NESTING_MAX ts (record { imports = items; decls = decls }) []
 module_taken items decls ts mid so_far t =
-    taken_made module_make (repeat_until the_import the_decls) MAX_NESTING ts (items, decls) []
-    (taken_many the_import the_decls MAX_NESTING items ts mid decls [] (λ n le. so_far) t)
+    taken_made module_make (repeat_until the_import the_decls) NESTING_MAX ts (items, decls) []
+    (taken_many the_import the_decls NESTING_MAX items ts mid decls [] (λ n le. so_far) t)

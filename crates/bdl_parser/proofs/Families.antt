@@ -7,7 +7,7 @@ use Rattle.bdl_parser.specs.declared.ParseCode.TheVariants.{Expected, TypeNestin
 use Rattle.bdl_parser.specs.declared.parser.FormFault.TheVariants.{Wrong, Memory}
 use Rattle.bdl_parser.specs.Lexemes.{Lexeme}
 use Rattle.bdl_parser.specs.Refusals.{IsTokenRefused, IsFormRefused}
-use Rattle.grammar_model.specs.Forms.{Form, IsOne, token, two, either, made, Repeats, many}
+use Rattle.grammar_model.specs.Grammars.{Grammar, IsOne, token, two, either, made, Repeats, many}
 use Rattle.grammar_model.specs.Stops.{Stops, Taken}
 use Rattle.grammar_model.proofs.FormLaws.{IsLawful, IsEnder, Apart, lawful_token}
 use Rattle.grammar_model.proofs.GoOnLaws.{goes_made, goes_first, goes_second, goes_left, goes_right, goes_item, goes_last, goes_after}
@@ -15,7 +15,7 @@ use Rattle.grammar_model.proofs.Growth.{Grows}
 use Rattle.grammar_model.proofs.StopLaws.{IsNotHere, stops_here, stops_made, stops_first, stops_second, stops_left, stops_right, stops_item, stops_last, stops_after}
 
 abbrev pub Family : Type 0 → Type 1
-Family A = ℕ → Form Lexeme A
+Family A = ℕ → Grammar Lexeme A
 
 -- one token, whatever the room
 abbrev pub one : {A : Type 0} → (Lexeme → Option A) → Family A
@@ -93,7 +93,7 @@ abbrev pub TakenItems : {A : Type 0} → Family A → ℕ → List Lexeme → Li
 TakenItems F room ts items rest = (n : ℕ) → room ≤ n → Repeats (F n) ts items rest
 
 module _ {A : Type 0} (F : Family A) (room : ℕ) where
-  repeats_more : (f : Form Lexeme A) (items : List A) (ts mid rest : List Lexeme) (a : A) → Repeats f ts items mid → f.reads mid a rest → Repeats f ts (items ++ a ∷ []) rest
+  repeats_more : (f : Grammar Lexeme A) (items : List A) (ts mid rest : List Lexeme) (a : A) → Repeats f ts items mid → f.reads mid a rest → Repeats f ts (items ++ a ∷ []) rest
   repeats_more f [] ts mid rest a e r = (rest, subst (λ xs. f.reads xs a rest) (sym e) r, refl)
   repeats_more f (x ∷ items) ts mid rest a e r = (e.0, e.1, repeats_more f items e.0 mid rest a e.2 r)
 

@@ -13,7 +13,7 @@ use Rattle.bdl_parser.specs.Lexemes.{What, Lexeme, word, number, quoted, sign}
 use Rattle.bdl_parser.specs.Refusals.{is_type_first}
 use Rattle.bdl_parser.specs.Trees.{Leaf, TypeTree}
 use Rattle.bdl_parser.specs.Words.{leaf_of}
-use Rattle.grammar_model.specs.Forms.{Form, token, two, either, made, nothing, at_end}
+use Rattle.grammar_model.specs.Grammars.{Grammar, token, two, either, made, nothing, at_end}
 use Rattle.grammar_model.proofs.ChoiceLaws.{lawful_either, lawful_many, ender_ended, ender_many}
 use Rattle.grammar_model.proofs.FormLaws.{IsLawful, IsEnder, Apart, lawful_token, lawful_nothing, lawful_made, lawful_two}
 use Rattle.grammar_model.proofs.Growth.{Grows, grows_same, grows_made, grows_two, grows_many, grows_either}
@@ -22,10 +22,10 @@ use Rattle.grammar_model.proofs.Growth.{Grows, grows_same, grows_made, grows_two
 pub law_token : {A : Type 0} (meant : Lexeme → Option A) → IsLawful (token meant) (λ t. is_some (meant t))
 law_token meant = lawful_token meant
 
-pub law_two : {A B : Type 0} {f : Form Lexeme A} {g : Form Lexeme B} {first then_ : Lexeme → Bool} → IsLawful f first → IsLawful g then_ → IsLawful (two f g) first
+pub law_two : {A B : Type 0} {f : Grammar Lexeme A} {g : Grammar Lexeme B} {first then_ : Lexeme → Bool} → IsLawful f first → IsLawful g then_ → IsLawful (two f g) first
 law_two {f = f} {g = g} {first = first} {then_ = then_} lf lg = lawful_two f g first then_ lf lg
 
-pub law_made : {A B : Type 0} (make : A → B) {f : Form Lexeme A} {first : Lexeme → Bool} → IsLawful f first → IsLawful (made make f) first
+pub law_made : {A B : Type 0} (make : A → B) {f : Grammar Lexeme A} {first : Lexeme → Bool} → IsLawful f first → IsLawful (made make f) first
 law_made make {f = f} {first = first} lf = lawful_made make f first lf
 
 some_is : {A : Type 0} (b : Bool) (a : A) → is_some (cond b (Some a) None) ≡ b
@@ -128,11 +128,11 @@ held_is_map t q (inr is) =
 pub held_apart : Apart (λ t. is_some (a_holding t)) (λ t. is_some (this_word (codes "map") t))
 held_apart t p q = held_is_map t q (holding_says t p)
 
-pub lawful_held : (inner : Form Lexeme TypeTree) → IsLawful inner is_type_first → IsLawful (held_of inner) (λ t. is_some (a_holding t))
+pub lawful_held : (inner : Grammar Lexeme TypeTree) → IsLawful inner is_type_first → IsLawful (held_of inner) (λ t. is_some (a_holding t))
 lawful_held inner law =
     law_made (λ p. Rattle.bdl_parser.specs.Trees.held p.0.0 p.1.1.0 p.0.1) (law_two (law_token a_holding) (law_two (law_token (this_sign 60)) (law_two law (law_token (this_sign 62)))))
 
-pub lawful_map : (inner : Form Lexeme TypeTree) → IsLawful inner is_type_first → IsLawful (map_of inner) (λ t. is_some (this_word (codes "map") t))
+pub lawful_map : (inner : Grammar Lexeme TypeTree) → IsLawful inner is_type_first → IsLawful (map_of inner) (λ t. is_some (this_word (codes "map") t))
 lawful_map inner law =
     law_made (λ p. Rattle.bdl_parser.specs.Trees.map p.1.1.0 p.1.1.1.1.0 p.0) (law_two (law_token (this_word (codes "map"))) (law_two (law_token (this_sign 60)) (law_two law (law_two (law_token (this_sign 44)) (law_two law (law_token (this_sign 62)))))))
 
@@ -219,7 +219,7 @@ never t = false
 pub decl_apart : Apart is_decl_first never
 decl_apart t p q = let w : false ≡ true = q in cc
 
-ender_made : {A B : Type 0} (make : A → B) {f : Form Lexeme A} {first : Lexeme → Bool} → IsEnder f first → IsEnder (made make f) first
+ender_made : {A B : Type 0} (make : A → B) {f : Grammar Lexeme A} {first : Lexeme → Bool} → IsEnder f first → IsEnder (made make f) first
 ender_made make law = record {
   one = λ ts a b rest left r s.
       let same = law.one ts r.said s.said rest left r.reads s.reads in
@@ -252,24 +252,24 @@ ender_module n =
 
 -- more room reads and begins more
 
-g_two : {A B : Type 0} {f wide : Form Lexeme A} {g broad : Form Lexeme B} → Grows f wide → Grows g broad → Grows (two f g) (two wide broad)
+g_two : {A B : Type 0} {f wide : Grammar Lexeme A} {g broad : Grammar Lexeme B} → Grows f wide → Grows g broad → Grows (two f g) (two wide broad)
 g_two {f = f} {wide = wide} {g = g} {broad = broad} gf gg = grows_two f wide g broad gf gg
 
 g_same : {A : Type 0} (meant : Lexeme → Option A) → Grows (token meant) (token meant)
 g_same meant = grows_same (token meant)
 
-g_made : {A B : Type 0} (make : A → B) {f wide : Form Lexeme A} → Grows f wide → Grows (made make f) (made make wide)
+g_made : {A B : Type 0} (make : A → B) {f wide : Grammar Lexeme A} → Grows f wide → Grows (made make f) (made make wide)
 g_made make {f = f} {wide = wide} gf = grows_made make f wide gf
 
-grows_held : (f wide : Form Lexeme TypeTree) → Grows f wide → Grows (held_of f) (held_of wide)
+grows_held : (f wide : Grammar Lexeme TypeTree) → Grows f wide → Grows (held_of f) (held_of wide)
 grows_held f wide g =
     g_made (λ p. Rattle.bdl_parser.specs.Trees.held p.0.0 p.1.1.0 p.0.1) (g_two (g_same a_holding) (g_two (g_same (this_sign 60)) (g_two g (g_same (this_sign 62)))))
 
-grows_map : (f wide : Form Lexeme TypeTree) → Grows f wide → Grows (map_of f) (map_of wide)
+grows_map : (f wide : Grammar Lexeme TypeTree) → Grows f wide → Grows (map_of f) (map_of wide)
 grows_map f wide g =
     g_made (λ p. Rattle.bdl_parser.specs.Trees.map p.1.1.0 p.1.1.1.1.0 p.0) (g_two (g_same (this_word (codes "map"))) (g_two (g_same (this_sign 60)) (g_two g (g_two (g_same (this_sign 44)) (g_two g (g_same (this_sign 62)))))))
 
-grows_nothing : (wide : Form Lexeme TypeTree) → wide.begins [] → Grows nothing wide
+grows_nothing : (wide : Grammar Lexeme TypeTree) → wide.begins [] → Grows nothing wide
 grows_nothing wide empty = record { read = λ ts a rest r. absurd r; begun = λ ts b. subst wide.begins (sym b) empty }
 
 pub grows_type : (n : ℕ) → Grows (a_type n) (a_type (suc n))

@@ -7,7 +7,7 @@ use Rattle.std.proofs.lemmas.List.Sums.{list_all-from_AllPass}
 use Rattle.bag_model.specs.Words.{Reserved, reserved_words, reserved_of, is_word, is_name}
 use Rattle.bag_model.proofs.WordLaws.{reserved_found}
 use Rattle.bdl_lexer.specs.Bytes.{is_letter, is_word_byte}
-use Rattle.bdl_lexer.specs.Scan.{IsWord}
+use Rattle.bdl_lexer.specs.Scan.{IsWordToken}
 use Rattle.bdl_parser.specs.declared.words.Reserved.{Reserved as Seen}
 use Rattle.bdl_parser.specs.ReservedWords.{in_code}
 use Rattle.bdl_parser.specs.Trees.{name}
@@ -17,7 +17,7 @@ both_hold : (a b : Bool) → a ≡ true → b ≡ true → (a && b) ≡ true
 both_hold a b e f = (cc)
 
 -- the bytes of a word token are a word
-pub token_is_word : (text : List ℕ) → IsWord text → is_word text ≡ true
+pub token_is_word : (text : List ℕ) → IsWordToken text → is_word text ≡ true
 token_is_word text w =
     subst (λ (bytes : List ℕ). is_word bytes ≡ true) (sym w.is)
     (both_hold (is_letter w.first) (list_all is_word_byte w.more) w.letter (list_all-from_AllPass is_word_byte w.more w.each))

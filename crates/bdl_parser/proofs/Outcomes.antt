@@ -3,7 +3,7 @@ use Rattle.std.proofs.Common.{◌≡◌, ℕ, zero, suc, ◌+◌, ◌≤◌, Boo
 use Rattle.std.proofs.lemmas.List.{take-append-drop, take-take}
 use Rattle.std.proofs.str.Laws.{order}
 use Rattle.std.specs.Option.{is_some}
-use Rattle.bdl_parser.specs.declared.TheConstants.{MAX_NESTING}
+use Rattle.bdl_parser.specs.declared.TheConstants.{NESTING_MAX}
 use Rattle.bdl_parser.specs.declared.ParseCode.{ParseCode}
 use Rattle.bdl_parser.specs.declared.ParseCode.TheVariants.{Expected, TypeNesting}
 use Rattle.bdl_parser.specs.declared.trees.Module.{Module}
@@ -12,7 +12,7 @@ use Rattle.bdl_parser.specs.Grammar.{this_word, this_sign, a_name, a_number, a_t
 use Rattle.bdl_parser.specs.Lexemes.{Lexeme}
 use Rattle.bdl_parser.specs.Refusals.{is_type_first}
 use Rattle.bdl_parser.specs.Trees.{TypeTree}
-use Rattle.grammar_model.specs.Forms.{Form, token, two, either, made, at_end}
+use Rattle.grammar_model.specs.Grammars.{Grammar, token, two, either, made, at_end}
 use Rattle.grammar_model.proofs.FormLaws.{IsLawful}
 use Rattle.grammar_model.proofs.Fronts.{IsFronted, fronted_token, fronted_nothing, fronted_ended, fronted_made, fronted_either, fronted_two, fronted_many}
 use Rattle.bdl_parser.proofs.GrammarLaws.{law_token, lawful_type, lawful_bag_field, lawful_struct_field, is_decl_first, lawful_decl, lawful_import}
@@ -20,20 +20,20 @@ use Rattle.bdl_parser.proofs.GrammarLaws.{law_token, lawful_type, lawful_bag_fie
 f_token : {A : Type 0} (meant : Lexeme → Option A) → IsFronted (token meant)
 f_token meant = fronted_token meant
 
-f_two : {A B : Type 0} {f : Form Lexeme A} {g : Form Lexeme B} {first : Lexeme → Bool} → IsLawful f first → IsFronted f → IsFronted g → IsFronted (two f g)
+f_two : {A B : Type 0} {f : Grammar Lexeme A} {g : Grammar Lexeme B} {first : Lexeme → Bool} → IsLawful f first → IsFronted f → IsFronted g → IsFronted (two f g)
 f_two {f = f} {g = g} {first = first} law ff gg = fronted_two f g first law ff gg
 
-f_key : {B : Type 0} {A : Type 0} (meant : Lexeme → Option A) {g : Form Lexeme B} → IsFronted g → IsFronted (two (token meant) g)
+f_key : {B : Type 0} {A : Type 0} (meant : Lexeme → Option A) {g : Grammar Lexeme B} → IsFronted g → IsFronted (two (token meant) g)
 f_key meant {g = g} gg = fronted_two (token meant) g (λ t. is_some (meant t)) (law_token meant) (f_token meant) gg
 
-f_made : {A B : Type 0} (make : A → B) {f : Form Lexeme A} → IsFronted f → IsFronted (made make f)
+f_made : {A B : Type 0} (make : A → B) {f : Grammar Lexeme A} → IsFronted f → IsFronted (made make f)
 f_made make {f = f} ff = fronted_made make f ff
 
-fronted_held : (inner : Form Lexeme TypeTree) → IsLawful inner is_type_first → IsFronted inner → IsFronted (held_of inner)
+fronted_held : (inner : Grammar Lexeme TypeTree) → IsLawful inner is_type_first → IsFronted inner → IsFronted (held_of inner)
 fronted_held inner law ff =
     f_made (λ p. Rattle.bdl_parser.specs.Trees.held p.0.0 p.1.1.0 p.0.1) (f_key a_holding (f_key (this_sign 60) (f_two law ff (f_token (this_sign 62)))))
 
-fronted_map : (inner : Form Lexeme TypeTree) → IsLawful inner is_type_first → IsFronted inner → IsFronted (map_of inner)
+fronted_map : (inner : Grammar Lexeme TypeTree) → IsLawful inner is_type_first → IsFronted inner → IsFronted (map_of inner)
 fronted_map inner law ff =
     f_made (λ p. Rattle.bdl_parser.specs.Trees.map p.1.1.0 p.1.1.1.1.0 p.0) (f_key (this_word (codes "map")) (f_key (this_sign 60) (f_two law ff (f_key (this_sign 44) (f_two law ff (f_token (this_sign 62)))))))
 
@@ -73,15 +73,15 @@ fronted_module n =
 -- a module is too deep nowhere
 pub module_or_nesting : (ts : List Lexeme) (module_ : Module) (k : ℕ) → IsModuleOf ts module_ → NestsAt ts k → ⊥
 module_or_nesting ts module_ k m f =
-    f.deep ((fronted_module MAX_NESTING).read ts module_ [] (take (k + 1) ts) (drop (k + 1) ts) m (sym (take-append-drop (k + 1) ts)) (omega arith))
+    f.deep ((fronted_module NESTING_MAX).read ts module_ [] (take (k + 1) ts) (drop (k + 1) ts) m (sym (take-append-drop (k + 1) ts)) (omega arith))
 
 -- a front of a front
-shorter : (ts : List Lexeme) (j k : ℕ) → j ≤ k → (a_module MAX_NESTING).begins (take k ts) → (a_module MAX_NESTING).begins (take j ts)
+shorter : (ts : List Lexeme) (j k : ℕ) → j ≤ k → (a_module NESTING_MAX).begins (take k ts) → (a_module NESTING_MAX).begins (take j ts)
 shorter ts j k le b =
-    (fronted_module MAX_NESTING).begun (take k ts) (take j ts) (drop j (take k ts)) b
+    (fronted_module NESTING_MAX).begun (take k ts) (take j ts) (drop j (take k ts)) b
     (sym (take-append-drop j (take k ts)) ∙ ap (λ xs. xs ++ drop j (take k ts)) (take-take j k ts le))
 
-nests_no_later : (ts : List Lexeme) (j k : ℕ) → NestsAt ts j → (a_module MAX_NESTING).begins (take k ts) → k ≤ j
+nests_no_later : (ts : List Lexeme) (j k : ℕ) → NestsAt ts j → (a_module NESTING_MAX).begins (take k ts) → k ≤ j
 nests_no_later ts j k f b =
     ⊎_elim (λ past. absurd (f.deep (shorter ts (j + 1) k (omega arith) b))) (λ fine. fine) (order j k)
 
@@ -109,5 +109,5 @@ pub one_fault : (ts : List Lexeme) (j k : ℕ) (code other : ParseCode) → Faul
 one_fault = fault_same
 
 pub module_or_fault : (ts : List Lexeme) (module_ : Module) (k : ℕ) (code : ParseCode) → IsModuleOf ts module_ → FaultAt ts k code → ⊥
-module_or_fault ts module_ k Expected m f = f.none MAX_NESTING module_ m
+module_or_fault ts module_ k Expected m f = f.none NESTING_MAX module_ m
 module_or_fault ts module_ k TypeNesting m f = module_or_nesting ts module_ k m f

@@ -12,7 +12,7 @@ use Rattle.bdl_parser.specs.Refusals.{meets, IsTokenRefused, IsFormRefused, is_t
 use Rattle.bdl_parser.specs.Trees.{TypeTree, leaf}
 use Rattle.bdl_parser.specs.Views.{tree_at}
 use Rattle.bdl_parser.specs.Words.{leaf_of}
-use Rattle.grammar_model.specs.Forms.{Form, IsOne, token, either}
+use Rattle.grammar_model.specs.Grammars.{Grammar, IsOne, token, either}
 use Rattle.grammar_model.specs.Stops.{first_passes, Stops, GoesOn, Taken}
 use Rattle.grammar_model.proofs.FormLaws.{Apart, ender_of}
 use Rattle.grammar_model.proofs.GoOnLaws.{goes_left, goes_right}
@@ -80,7 +80,7 @@ no_held : (n : ℕ) (ts : List Lexeme) → first_passes map_test ts ≡ true →
 no_held n ts e =
     not_here_apart (held_of (a_type n)) map_test held_test (ender_of (held_of (a_type n)) held_test (lawful_held (a_type n) (lawful_type n))) map_not_held ts e
 
-abbrev held_or_map : ℕ → Form Lexeme TypeTree
+abbrev held_or_map : ℕ → Grammar Lexeme TypeTree
 held_or_map n = either (held_of (a_type n)) (map_of (a_type n))
 
 held_stops : (room inner : ℕ) (ts bad : List Lexeme) → room ≡ inner + 1 → first_passes held_test ts ≡ true → ((n : ℕ) → inner ≤ n → Stops (held_of (a_type n)) ts bad) → (n : ℕ) → room ≤ n → Stops (a_type n) ts bad

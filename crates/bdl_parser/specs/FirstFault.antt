@@ -1,6 +1,6 @@
 -- The module that tokens say, or the token at which they first go wrong.
 use Rattle.std.specs.Prelude.{ℕ, ◌+◌, ◌<◌, ◌≤◌, List, [], length, take}
-use Rattle.bdl_parser.specs.declared.TheConstants.{MAX_NESTING}
+use Rattle.bdl_parser.specs.declared.TheConstants.{NESTING_MAX}
 use Rattle.bdl_parser.specs.declared.trees.Module.{Module}
 use Rattle.bdl_parser.specs.declared.ParseCode.{ParseCode}
 use Rattle.bdl_parser.specs.declared.ParseCode.TheVariants.{Expected, TypeNesting}
@@ -9,9 +9,9 @@ use Rattle.bdl_parser.specs.declared.ParseFault.TheVariants.{At, Memory}
 use Rattle.bdl_parser.specs.Grammar.{a_module}
 use Rattle.bdl_parser.specs.Lexemes.{Lexeme}
 
--- The tokens say this module, in which at most `MAX_NESTING` types stand inside one another.
+-- The tokens say this module, in which at most `NESTING_MAX` types stand inside one another.
 abbrev pub IsModuleOf : List Lexeme → Module → Type 0
-IsModuleOf ts module_ = (a_module MAX_NESTING).reads ts module_ []
+IsModuleOf ts module_ = (a_module NESTING_MAX).reads ts module_ []
 
 -- The tokens begin some module, however deep its types.
 abbrev pub BeginsModule : List Lexeme → Type 0
@@ -22,15 +22,15 @@ pub record ExpectedAt (ts : List Lexeme) (k : ℕ) : Type 0 where
   pub within : k ≤ length ts
   pub begins : BeginsModule (take k ts)
   pub longest : (j : ℕ) → j ≤ length ts → BeginsModule (take j ts) → j ≤ k
-  pub shallow : (a_module MAX_NESTING).begins (take k ts)
+  pub shallow : (a_module NESTING_MAX).begins (take k ts)
   pub none : (n : ℕ) (module_ : Module) → (a_module n).reads ts module_ [] → ⊥
 
--- With the token k the front begins some module, but none in which at most `MAX_NESTING` types stand inside one another.
+-- With the token k the front begins some module, but none in which at most `NESTING_MAX` types stand inside one another.
 pub record NestsAt (ts : List Lexeme) (k : ℕ) : Type 0 where
   pub within : k < length ts
-  pub shallow : (a_module MAX_NESTING).begins (take k ts)
+  pub shallow : (a_module NESTING_MAX).begins (take k ts)
   pub begins : BeginsModule (take (k + 1) ts)
-  pub deep : (a_module MAX_NESTING).begins (take (k + 1) ts) → ⊥
+  pub deep : (a_module NESTING_MAX).begins (take (k + 1) ts) → ⊥
 
 -- The first fault of the tokens.
 abbrev pub FaultAt : List Lexeme → ℕ → ParseCode → Type 0

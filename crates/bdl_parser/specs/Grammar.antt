@@ -11,7 +11,7 @@ use Rattle.bdl_parser.specs.declared.trees.Spot.{Spot}
 use Rattle.bdl_parser.specs.Lexemes.{What, Lexeme, word, number, quoted, sign}
 use Rattle.bdl_parser.specs.Trees.{Leaf, TypeTree, BagFieldTree, StructFieldTree, leaf, held, map}
 use Rattle.bdl_parser.specs.Words.{name_of_word, leaf_of, holding_of}
-use Rattle.grammar_model.specs.Forms.{Form, token, two, either, made, many, nothing, at_end}
+use Rattle.grammar_model.specs.Grammars.{Grammar, token, two, either, made, many, nothing, at_end}
 
 -- Whether it is this word.
 abbrev pub is_this_word : List ℕ → What → Bool
@@ -74,62 +74,62 @@ abbrev pub a_holding : Lexeme → Option (Holding × Spot)
 a_holding lexeme = option_map (λ found. (found, lexeme.spot)) (holding_in lexeme.what)
 
 -- ( "set" | "greatest" ) "<" type ">".
-abbrev pub held_of : Form Lexeme TypeTree → Form Lexeme TypeTree
+abbrev pub held_of : Grammar Lexeme TypeTree → Grammar Lexeme TypeTree
 held_of inner =
     made (λ p. held p.0.0 p.1.1.0 p.0.1) (two (token a_holding) (two (token (this_sign 60)) (two inner (token (this_sign 62)))))
 
 -- "map" "<" type "," type ">".
-abbrev pub map_of : Form Lexeme TypeTree → Form Lexeme TypeTree
+abbrev pub map_of : Grammar Lexeme TypeTree → Grammar Lexeme TypeTree
 map_of inner =
     made (λ p. map p.1.1.0 p.1.1.1.1.0 p.0) (two (token (this_word (codes "map"))) (two (token (this_sign 60)) (two inner (two (token (this_sign 44)) (two inner (token (this_sign 62)))))))
 
 -- A type in which at most so many types stand inside one another, itself among them.
-unfoldable pub a_type : ℕ → Form Lexeme TypeTree
+unfoldable pub a_type : ℕ → Grammar Lexeme TypeTree
 a_type zero = nothing
 a_type (suc n) = either (token a_leaf) (either (held_of (a_type n)) (map_of (a_type n)))
 
 -- Type NAME "=" Number ";".
-abbrev pub a_bag_field : ℕ → Form Lexeme BagFieldTree
+abbrev pub a_bag_field : ℕ → Grammar Lexeme BagFieldTree
 a_bag_field n =
     made (λ p. record { kind = p.0; name = p.1.0.0; name_at = p.1.0.1; number = p.1.1.1.0.0; number_at = p.1.1.1.0.1 })
     (two (a_type n) (two (token a_name) (two (token (this_sign 61)) (two (token a_number) (token (this_sign 59))))))
 
 -- Type NAME ";".
-abbrev pub a_struct_field : ℕ → Form Lexeme StructFieldTree
+abbrev pub a_struct_field : ℕ → Grammar Lexeme StructFieldTree
 a_struct_field n =
     made (λ p. record { kind = p.0; name = p.1.0.0; name_at = p.1.0.1 }) (two (a_type n) (two (token a_name) (token (this_sign 59))))
 
 -- { type NAME "=" Number ";" } "}".
-abbrev pub bag_fields : ℕ → Form Lexeme (List BagFieldTree)
+abbrev pub bag_fields : ℕ → Grammar Lexeme (List BagFieldTree)
 bag_fields n = made (λ p. p.0) (many (a_bag_field n) (token (this_sign 125)))
 
 -- { type NAME ";" } "}".
-abbrev pub struct_fields : ℕ → Form Lexeme (List StructFieldTree)
+abbrev pub struct_fields : ℕ → Grammar Lexeme (List StructFieldTree)
 struct_fields n = made (λ p. p.0) (many (a_struct_field n) (token (this_sign 125)))
 
 -- "bag" NAME "{" fields.
-abbrev pub a_bag : ℕ → Form Lexeme Decl
+abbrev pub a_bag : ℕ → Grammar Lexeme Decl
 a_bag n =
     made (λ p. Bag p.1.0.0 p.1.0.1 p.1.1.1) (two (token (this_word (codes "bag"))) (two (token a_name) (two (token (this_sign 123)) (bag_fields n))))
 
 -- "struct" NAME "{" fields.
-abbrev pub a_struct : ℕ → Form Lexeme Decl
+abbrev pub a_struct : ℕ → Grammar Lexeme Decl
 a_struct n =
     made (λ p. Struct p.1.0.0 p.1.0.1 p.1.1.1) (two (token (this_word (codes "struct"))) (two (token a_name) (two (token (this_sign 123)) (struct_fields n))))
 
 -- Bag | struct.
-abbrev pub a_decl : ℕ → Form Lexeme Decl
+abbrev pub a_decl : ℕ → Grammar Lexeme Decl
 a_decl n = either (a_bag n) (a_struct n)
 
 -- "import" Text ";".
-abbrev pub an_import : Form Lexeme Import
+abbrev pub an_import : Grammar Lexeme Import
 an_import =
     made (λ p. record { file = p.1.0.0; at = p.1.0.1 }) (two (token (this_word (codes "import"))) (two (token a_text) (token (this_sign 59))))
 
 -- { bag | struct }, to the end.
-abbrev pub the_decls : ℕ → Form Lexeme (List Decl)
+abbrev pub the_decls : ℕ → Grammar Lexeme (List Decl)
 the_decls n = made (λ p. p.0) (many (a_decl n) at_end)
 
 -- { import } { bag | struct }, to the end.
-abbrev pub a_module : ℕ → Form Lexeme Module
+abbrev pub a_module : ℕ → Grammar Lexeme Module
 a_module n = made (λ p. record { imports = p.0; decls = p.1 }) (many an_import (the_decls n))

@@ -14,3 +14,4 @@ pub mod Refusals
 -- Codes by which proofs tell values apart.
 pub mod TreeCode
 pub mod DeclCode
+pub mod FaultTexts

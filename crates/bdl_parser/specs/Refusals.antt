@@ -11,7 +11,7 @@ use Rattle.bdl_parser.specs.declared.parser.Meaning.TheVariants.{Word, Number, Q
 use Rattle.bdl_parser.specs.declared.trees.Spot.{Spot}
 use Rattle.bdl_parser.specs.Grammar.{a_leaf, a_holding, this_word}
 use Rattle.bdl_parser.specs.Lexemes.{What, Lexeme, word, number, quoted, sign}
-use Rattle.grammar_model.specs.Forms.{Form}
+use Rattle.grammar_model.specs.Grammars.{Grammar}
 use Rattle.grammar_model.specs.Stops.{first_passes, StopsFrom, GoesOn}
 
 -- Whether the first token says something.
@@ -30,7 +30,7 @@ IsTokenRefused meant Memory ts left = Unit {0}
 
 -- Expected: with this room or more it stops at what is left. TypeNesting: with this room it stops there, and with one
 -- more it goes on.
-abbrev pub IsFormRefused : {A : Type 0} → (ℕ → Form Lexeme A) → ℕ → FormFault → List Lexeme → List Lexeme → Type 0
+abbrev pub IsFormRefused : {A : Type 0} → (ℕ → Grammar Lexeme A) → ℕ → FormFault → List Lexeme → List Lexeme → Type 0
 IsFormRefused family room (Wrong Expected) ts left = StopsFrom family room ts left
 IsFormRefused family room (Wrong TypeNesting) ts left = GoesOn (family room) (family (room + 1)) ts left
 IsFormRefused family room Memory ts left = Unit {0}

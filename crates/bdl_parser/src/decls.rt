@@ -6,22 +6,22 @@ ghost use Rattle.bdl_parser.specs.Grammar.{this_word, a_bag_field, a_struct_fiel
 ghost use Rattle.bdl_parser.specs.Refusals.{meets, IsFormRefused};
 ghost use Rattle.bdl_parser.specs.Decls.{IsSpelledField, IsSpelledDecl, AreSpelledDecls};
 ghost use Rattle.bdl_parser.specs.Views.{bag_field_of, struct_field_of};
-ghost use Rattle.grammar_model.specs.Forms.{Repeats, many};
+ghost use Rattle.grammar_model.specs.Grammars.{Repeats, many};
 ghost use Rattle.grammar_model.specs.Stops.{Taken};
 
 use crate::lists::{BagFields, Decls, Imports, StructFields};
 use crate::parser::{FormFault, Parser};
 use crate::trees::{BagField, Decl, Import, Module, StructField};
-use crate::{MAX_NESTING, ParseCode};
+use crate::{NESTING_MAX, ParseCode};
 use std::alloc::Global;
 
 impl<'a> Parser<'a> {
     fn bag_field(&mut self, alloc: Global) -> Result<BagField, FormFault>
-        ensures ok { IfOk result (λ field. Taken a_bag_field MAX_NESTING self.old (bag_field_of field) self.new) }
+        ensures ok { IfOk result (λ field. Taken a_bag_field NESTING_MAX self.old (bag_field_of field) self.new) }
         ensures spelled { IfOk result (λ field. IsSpelledField (bag_field_of field)) }
-        ensures err { IfErr result (λ fault. IsFormRefused a_bag_field MAX_NESTING fault self.old self.new) }
+        ensures err { IfErr result (λ fault. IsFormRefused a_bag_field NESTING_MAX fault self.old self.new) }
     {
-        let kind = self.type_node(alloc, MAX_NESTING)?;
+        let kind = self.type_node(alloc, NESTING_MAX)?;
         let (name, name_at) = self.name(alloc)?;
         self.sign(b'=')?;
         let (number, number_at) = self.number()?;
@@ -36,10 +36,10 @@ impl<'a> Parser<'a> {
     }
 
     fn struct_field(&mut self, alloc: Global) -> Result<StructField, FormFault>
-        ensures ok { IfOk result (λ field. Taken a_struct_field MAX_NESTING self.old (struct_field_of field) self.new) }
-        ensures err { IfErr result (λ fault. IsFormRefused a_struct_field MAX_NESTING fault self.old self.new) }
+        ensures ok { IfOk result (λ field. Taken a_struct_field NESTING_MAX self.old (struct_field_of field) self.new) }
+        ensures err { IfErr result (λ fault. IsFormRefused a_struct_field NESTING_MAX fault self.old self.new) }
     {
-        let kind = self.type_node(alloc, MAX_NESTING)?;
+        let kind = self.type_node(alloc, NESTING_MAX)?;
         let (name, name_at) = self.name(alloc)?;
         self.sign(b';')?;
         Ok(StructField {
@@ -50,9 +50,9 @@ impl<'a> Parser<'a> {
     }
 
     fn bag_fields(&mut self, alloc: Global) -> Result<BagFields, FormFault>
-        ensures ok { IfOk result (λ fields. Taken bag_fields MAX_NESTING self.old fields self.new) }
+        ensures ok { IfOk result (λ fields. Taken bag_fields NESTING_MAX self.old fields self.new) }
         ensures spelled { IfOk result (λ fields. AllByRecursion IsSpelledField fields) }
-        ensures err { IfErr result (λ fault. IsFormRefused bag_fields MAX_NESTING fault self.old self.new) }
+        ensures err { IfErr result (λ fault. IsFormRefused bag_fields NESTING_MAX fault self.old self.new) }
     {
         let mut fields = BagFields::new(alloc);
         'fields: while !self.is_at_sign(b'}') {
@@ -64,8 +64,8 @@ impl<'a> Parser<'a> {
     }
 
     fn struct_fields(&mut self, alloc: Global) -> Result<StructFields, FormFault>
-        ensures ok { IfOk result (λ fields. Taken struct_fields MAX_NESTING self.old fields self.new) }
-        ensures err { IfErr result (λ fault. IsFormRefused struct_fields MAX_NESTING fault self.old self.new) }
+        ensures ok { IfOk result (λ fields. Taken struct_fields NESTING_MAX self.old fields self.new) }
+        ensures err { IfErr result (λ fault. IsFormRefused struct_fields NESTING_MAX fault self.old self.new) }
     {
         let mut fields = StructFields::new(alloc);
         'fields: while !self.is_at_sign(b'}') {
@@ -77,9 +77,9 @@ impl<'a> Parser<'a> {
     }
 
     fn bag(&mut self, alloc: Global) -> Result<Decl, FormFault>
-        ensures ok { IfOk result (λ decl. Taken a_bag MAX_NESTING self.old decl self.new) }
+        ensures ok { IfOk result (λ decl. Taken a_bag NESTING_MAX self.old decl self.new) }
         ensures spelled { IfOk result IsSpelledDecl }
-        ensures err { IfErr result (λ fault. IsFormRefused a_bag MAX_NESTING fault self.old self.new) }
+        ensures err { IfErr result (λ fault. IsFormRefused a_bag NESTING_MAX fault self.old self.new) }
     {
         self.key("bag")?;
         let (name, at) = self.name(alloc)?;
@@ -89,9 +89,9 @@ impl<'a> Parser<'a> {
     }
 
     fn structure(&mut self, alloc: Global) -> Result<Decl, FormFault>
-        ensures ok { IfOk result (λ decl. Taken a_struct MAX_NESTING self.old decl self.new) }
+        ensures ok { IfOk result (λ decl. Taken a_struct NESTING_MAX self.old decl self.new) }
         ensures spelled { IfOk result IsSpelledDecl }
-        ensures err { IfErr result (λ fault. IsFormRefused a_struct MAX_NESTING fault self.old self.new) }
+        ensures err { IfErr result (λ fault. IsFormRefused a_struct NESTING_MAX fault self.old self.new) }
     {
         self.key("struct")?;
         let (name, at) = self.name(alloc)?;
@@ -101,9 +101,9 @@ impl<'a> Parser<'a> {
     }
 
     fn decl(&mut self, alloc: Global) -> Result<Decl, FormFault>
-        ensures ok { IfOk result (λ decl. Taken a_decl MAX_NESTING self.old decl self.new) }
+        ensures ok { IfOk result (λ decl. Taken a_decl NESTING_MAX self.old decl self.new) }
         ensures spelled { IfOk result IsSpelledDecl }
-        ensures err { IfErr result (λ fault. IsFormRefused a_decl MAX_NESTING fault self.old self.new) }
+        ensures err { IfErr result (λ fault. IsFormRefused a_decl NESTING_MAX fault self.old self.new) }
     {
         if self.is_at_key("bag") {
             return self.bag(alloc);
@@ -127,7 +127,7 @@ impl<'a> Parser<'a> {
     fn imports(&mut self, alloc: Global) -> Result<Imports, FormFault>
         ensures ok { IfOk result (λ imports. Repeats an_import self.old imports self.new) }
         ensures end { OnOk result (meets (this_word (codes "import")) self.new ≡ false) }
-        ensures err { IfErr result (λ fault. IsFormRefused (λ n. many an_import (the_decls n)) MAX_NESTING fault self.old self.new) }
+        ensures err { IfErr result (λ fault. IsFormRefused (λ n. many an_import (the_decls n)) NESTING_MAX fault self.old self.new) }
     {
         let mut imports = Imports::new(alloc);
         'imports: while self.is_at_key("import") {
@@ -138,10 +138,10 @@ impl<'a> Parser<'a> {
     }
 
     fn decls(&mut self, alloc: Global) -> Result<Decls, FormFault>
-        ensures ok { IfOk result (λ decls. Taken the_decls MAX_NESTING self.old decls []) }
+        ensures ok { IfOk result (λ decls. Taken the_decls NESTING_MAX self.old decls []) }
         ensures spelled { IfOk result AreSpelledDecls }
         ensures end { OnOk result (self.new ≡ []) }
-        ensures err { IfErr result (λ fault. IsFormRefused the_decls MAX_NESTING fault self.old self.new) }
+        ensures err { IfErr result (λ fault. IsFormRefused the_decls NESTING_MAX fault self.old self.new) }
     {
         let mut decls = Decls::new(alloc);
         'decls: while self.left() > 0 {
@@ -153,9 +153,9 @@ impl<'a> Parser<'a> {
 
     /// Reads a module to the last token.
     pub fn module(&mut self, alloc: Global) -> Result<Module, FormFault>
-        ensures ok { IfOk result (λ module_. Taken a_module MAX_NESTING self.old module_ []) }
+        ensures ok { IfOk result (λ module_. Taken a_module NESTING_MAX self.old module_ []) }
         ensures spelled { IfOk result (λ module_. AreSpelledDecls module_.decls) }
-        ensures err { IfErr result (λ fault. IsFormRefused a_module MAX_NESTING fault self.old self.new) }
+        ensures err { IfErr result (λ fault. IsFormRefused a_module NESTING_MAX fault self.old self.new) }
     {
         let imports = self.imports(alloc)?;
         let decls = self.decls(alloc)?;

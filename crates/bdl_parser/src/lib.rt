@@ -23,19 +23,21 @@ use bdl_lexer::Token;
 pub use lists::{BagFields, Decls, Imports, StructFields};
 use parser::{FormFault, Parser};
 use std::alloc::Global;
+use std::error::Error;
+use std::fmt;
 pub use trees::{
     BagField, Decl, Holding, Import, Module, ScalarWord, Spot, StructField, TypeForm, TypeNode,
 };
 
 /// How many types may stand inside one another.
-pub const MAX_NESTING: u32 = 32;
+pub const NESTING_MAX: u32 = 32;
 
 /// Why tokens are no module.
 #[derive(Clone, Copy, Debug, PartialEq, Eq)]
 pub enum ParseCode {
     /// No module goes on with this token, or none ends here.
     Expected,
-    /// Here a type begins inside [`MAX_NESTING`] others.
+    /// Here a type begins inside [`NESTING_MAX`] others.
     TypeNesting,
 }
 
@@ -47,6 +49,38 @@ pub enum ParseFault {
     /// There is no memory for the module.
     Memory,
 }
+
+impl fmt::Display for ParseCode {
+    ghost use Rattle.std.specs.Prelude.{Some};
+    ghost use Rattle.bdl_parser.specs.FaultTexts.{parse_name};
+
+    ghost output = { λ fault. Some (parse_name fault) };
+
+    fn fmt<W: fmt::Write>(&self, f: &mut fmt::Formatter<W>) -> fmt::Result {
+        match self {
+            ParseCode::Expected => write!(f, "Expected"),
+            ParseCode::TypeNesting => write!(f, "TypeNesting"),
+        }
+    }
+}
+
+impl Error for ParseCode {}
+
+impl fmt::Display for ParseFault {
+    ghost use Rattle.std.specs.Prelude.{Some};
+    ghost use Rattle.bdl_parser.specs.FaultTexts.{parse_fault_text};
+
+    ghost output = { λ fault. Some (parse_fault_text fault) };
+
+    fn fmt<W: fmt::Write>(&self, f: &mut fmt::Formatter<W>) -> fmt::Result {
+        match self {
+            ParseFault::At { token, code } => write!(f, "token {token} {code}"),
+            ParseFault::Memory => write!(f, "out of memory"),
+        }
+    }
+}
+
+impl Error for ParseFault {}
 
 /// Reads the tokens of a source once, from the first to the last or to the first fault. The condition is what `lex`
 /// ensures of its tokens.

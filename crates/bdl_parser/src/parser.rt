@@ -4,7 +4,7 @@ ghost use Rattle.std.specs.Prelude.{◌≡◌, ◌<◌, true, [], length, drop, 
 ghost use Rattle.bag_model.specs.Words.{is_name};
 ghost use Rattle.bdl_parser.specs.Grammar.{this_word, this_sign, a_name, a_number, a_text};
 ghost use Rattle.bdl_parser.specs.Refusals.{meets, IsTokenRefused, meant_by, IsWellSpelled, HasFirst};
-ghost use Rattle.grammar_model.specs.Forms.{IsOne};
+ghost use Rattle.grammar_model.specs.Grammars.{IsOne};
 
 use crate::ParseCode;
 use crate::trees::Spot;

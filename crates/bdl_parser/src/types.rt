@@ -6,7 +6,7 @@ ghost use Rattle.bdl_parser.specs.Grammar.{a_leaf, a_holding, a_type, held_of, m
 ghost use Rattle.bdl_parser.specs.Refusals.{meets, IsTokenRefused, IsFormRefused, is_type_first};
 ghost use Rattle.bdl_parser.specs.Trees.{held};
 ghost use Rattle.bdl_parser.specs.Views.{tree_at, tree_of};
-ghost use Rattle.grammar_model.specs.Forms.{IsOne};
+ghost use Rattle.grammar_model.specs.Grammars.{IsOne};
 ghost use Rattle.grammar_model.specs.Stops.{Taken, first_passes};
 
 use crate::ParseCode;

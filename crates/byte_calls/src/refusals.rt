@@ -2,6 +2,8 @@
 
 use crate::room::TooShort;
 use outside::Memory;
+use std::error::Error;
+use std::fmt;
 use wire_bytes::ByteCode;
 
 /// Why a call wrote nothing into the room that it was handed. The first of these counts, but for want of memory, which may come before
@@ -22,6 +24,27 @@ pub enum Refusal {
         size: usize,
     },
 }
+
+impl fmt::Display for Refusal {
+    ghost use Rattle.std.specs.Prelude.{Some};
+    ghost use Rattle.byte_calls.specs.FaultTexts.{refusal_text};
+
+    ghost output = { λ fault. Some (refusal_text fault) };
+
+    fn fmt<W: fmt::Write>(&self, f: &mut fmt::Formatter<W>) -> fmt::Result {
+        match self {
+            Refusal::Fault {
+                context,
+                offset,
+                code,
+            } => write!(f, "context {context} offset {offset} {code}"),
+            Refusal::Memory => write!(f, "out of memory"),
+            Refusal::Room { size } => write!(f, "size {size}"),
+        }
+    }
+}
+
+impl Error for Refusal {}
 
 impl From<Memory> for Refusal {
     ghost use Rattle.std.specs.Prelude.{◌≡◌};

@@ -6,6 +6,8 @@ ghost use Rattle.byte_calls.specs.Room.{HoldsBytes, IsTooShortFor, WritesList};
 use crate::refusals::Refusal;
 use atom_list::AtomList;
 use std::alloc::Global;
+use std::error::Error;
+use std::fmt;
 use wire_bytes::{Form, size, write};
 
 /// The room is shorter than what is to be written, which has `size` bytes.
@@ -13,6 +15,19 @@ use wire_bytes::{Form, size, write};
 pub struct TooShort {
     pub size: usize,
 }
+
+impl fmt::Display for TooShort {
+    ghost use Rattle.std.specs.Prelude.{Some};
+    ghost use Rattle.byte_calls.specs.FaultTexts.{size_text};
+
+    ghost output = { λ short. Some (size_text short.size) };
+
+    fn fmt<W: fmt::Write>(&self, f: &mut fmt::Formatter<W>) -> fmt::Result {
+        write!(f, "size {}", self.size)
+    }
+}
+
+impl Error for TooShort {}
 
 /// Writes bytes at the front of the room, and answers how many they are. The rest of the room stays. Where the room is shorter than they
 /// are, all of it stays.

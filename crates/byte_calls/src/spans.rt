@@ -2,7 +2,7 @@
 
 /// The bytes of one of several inputs. C sees it as a pointer and a length.
 #[repr(C)]
-#[derive(Clone, Copy)]
+#[derive(Clone, Copy, Debug)]
 pub struct Span<'a> {
     pub bytes: &'a [u8],
 }

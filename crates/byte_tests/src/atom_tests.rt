@@ -4,12 +4,12 @@ use atom_kinds::{
     FieldHeader, Kind, KindFault, compare, datum, header_level, indexed, indexed_prefix, is_key,
     keyed, keyed_prefix, kind_of, rest,
 };
+use fixture_bytes::{bytes_of, expect_bytes};
 use lex_varint::{VarintFault, put_i64, put_u64, take_i64, take_u64};
 use std::alloc::Global;
 use std::cmp::Ordering;
 use std::process::Abort;
 use std::test::Fail;
-use test_texts::{bytes_of, expect_bytes};
 
 /// Unsigned numbers and their codes.
 static UNSIGNED: [(u64, &str); 8] = [

@@ -2,11 +2,11 @@
 
 use crate::unchanged::expect_unchanged;
 use field_calls::{FieldRefusal, State, read_field_into, write_field_into};
+use fixture_bytes::{bytes_of, expect_bytes};
 use std::alloc::Global;
 use std::process::Abort;
 use std::test::Fail;
 use table_text::TableCode;
-use test_texts::{bytes_of, expect_bytes};
 use wire_bytes::{ByteCode, Form};
 
 const TABLE: &str =

@@ -2,10 +2,10 @@
 
 use crate::unchanged::expect_unchanged;
 use byte_calls::{Refusal, Span, check, forward_into, merge_into, merge_many_into, trim_into};
+use fixture_bytes::{bytes_of, expect_bytes};
 use std::alloc::Global;
 use std::process::Abort;
 use std::test::Fail;
-use test_texts::{bytes_of, expect_bytes};
 use wire_bytes::{ByteCode, Form};
 
 const SEVEN: &str = "02f800050000000007";

@@ -8,7 +8,7 @@ use Rattle.bag_model.specs.Shapes.{Nodes}
 use Rattle.bag_model.specs.Slots.{SlotAt, name_path}
 use Rattle.bag_model.specs.SlotValues.{HasSlot, only}
 use Rattle.bag_model.specs.Values.{Value}
-use Rattle.write_text.specs.Writes.{IsWrite}
+use Rattle.field_writes.specs.Writes.{IsWrite}
 
 -- The table has a slot with this name path, the text is a write of a value to it in form one, and the bytes are those, in
 -- form one, of the context that says this value of the slot and nothing else.

@@ -18,11 +18,11 @@ use accessor_gen::laws::values_fit_at_slots;
 use accessor_gen::{Reading, accessor};
 use bag_codec::check_typed;
 use field_table::Table;
+use field_writes::laws::writes_are_of_their_shape;
+use field_writes::read_write;
 use outside::Memory;
 use std::alloc::Global;
 use wire_bytes::{ByteCode, ContextFault, Form, read_context, write};
-use write_text::laws::writes_are_of_their_shape;
-use write_text::read_write;
 
 /// Why a field wasn't read.
 #[derive(Clone, Copy, Debug, PartialEq, Eq)]

@@ -1,14 +1,11 @@
 //! The whole way, from a definition to what is read behind services that know no type.
 
-use bag_codec::{State, Val};
 use checkout_client::{FieldFault, read_field, write_field};
-use field_table::Table;
+use fixture_tables::table_of;
 use forwarding::forward;
-use scalar_types::Scalar;
 use std::alloc::Global;
 use std::test::Fail;
-use test_tables::table_of;
-use wire_bytes::Form;
+use terncommode::{Form, Scalar, State, Table, Val};
 
 const DEFINITION: &str = "bag Req { uint64 order = 0; set<string> coupons = 1; }";
 

@@ -9,17 +9,17 @@ use bag_codec::{
     Entries, Entry, Val, Vals, bottom, can_encode, check_typed, decode, decode_slot,
     encode_and_read,
 };
-use bag_texts::{encoded, expect_fields, join_of, slots_of, typed};
 use counter_type::Counts;
 use field_table::{Shape, Table};
+use fixture_bags::{encoded, expect_fields, join_of, slots_of, typed};
+use fixture_bytes::{context_of, expect_atoms};
+use fixture_tables::table_of;
 use outside::{Memory, Text};
 use report_text::put_value;
 use scalar_types::Scalar;
 use std::alloc::Global;
 use std::process::Abort;
 use std::test::Fail;
-use test_tables::table_of;
-use test_texts::{context_of, expect_atoms};
 
 const REQ: &str =
     "bag Req { fixed32 id = 0; set<string> tags = 1; counter hops = 2; taint debug = 3; map<string, uint32> load = 4; }";

@@ -5,7 +5,7 @@ use Rattle.std.proofs.lemmas.Bool.Decides.{nat_tests}
 use Rattle.text_carrier.specs.declared.TheConstants.{WIDTH_MIN, WIDTH_MAX}
 use Rattle.load_maker.specs.declared.TheConstants.{ROUNDS_MAX}
 use Rattle.command_line.specs.declared.commands.Command.{Command}
-use Rattle.command_line.specs.Commands.{Task, IsWithinLimits, carry, check, collect, command_of, decode, evolve, load, merge, positive_number_of, print, rounds_of, run, run_json, run_table, step_of_word, task_of, trim, verify, why, width_of}
+use Rattle.command_line.specs.Commands.{Task, IsWithinLimits, carry, check, collect, command_of, decode, evolve, load, merge, positive_number_of, table, rounds_of, run, run_json, run_table, step_of_word, task_of, trim, verify, why, width_of}
 use Rattle.command_line.proofs.Numbers.{positive}
 
 -- What is asked for, if anything, is within its limits.
@@ -48,7 +48,7 @@ limited (name ∷ word ∷ []) =
     (either (bytes_eq name (codes "load")) (option_map load (rounds_of word)) _ (loaded (positive_number_of word) (positive word))
     (either (bytes_eq name (codes "runtable")) (Some (run_table word)) None tt tt)))
 limited (name ∷ file ∷ bag ∷ []) =
-    either (bytes_eq name (codes "check")) (Some (check file bag)) _ tt (either (bytes_eq name (codes "table")) (Some (print file bag)) _ tt
+    either (bytes_eq name (codes "check")) (Some (check file bag)) _ tt (either (bytes_eq name (codes "table")) (Some (table file bag)) _ tt
     (either (bytes_eq name (codes "decode")) (Some (decode file bag)) _ tt (either (bytes_eq name (codes "run")) (Some (run file bag)) _ tt
     (either (bytes_eq name (codes "runjson")) (Some (run_json file bag)) None tt tt))))
 limited (name ∷ file ∷ second ∷ third ∷ []) =

@@ -5,140 +5,48 @@ use Rattle.std.specs.Option.{option_map}
 use Rattle.std.specs.Int.NonZero.{non_zero_u32_get}
 use Rattle.std.specs.Str.Parse.{digits_value}
 use Rattle.text_carrier.specs.declared.TheConstants.{WIDTH_MIN, WIDTH_MAX}
-use Rattle.command_line.specs.declared.commands.Command as code_commands
+use Rattle.command_line.specs.declared.commands.Command.{Command}
 use Rattle.command_line.specs.declared.commands.Command.TheVariants as code
-use Rattle.command_line.specs.declared.commands.Filter.{Filter as CodeFilter}
-use Rattle.command_line.specs.declared.commands.Filter.TheVariants.{Trim, Merge, Carry, Collect}
-use Rattle.command_line.specs.declared.commands.Origin as code_origins
-use Rattle.command_line.specs.declared.commands.Origin.TheVariants.{Bag, Printed}
-use Rattle.command_line.specs.declared.commands.Product.{Product as CodeProduct}
-use Rattle.command_line.specs.declared.commands.Product.TheVariants.{SlotLine, WholeText}
-use Rattle.command_line.specs.declared.commands.ReportForm.{ReportForm as CodeForm}
-use Rattle.command_line.specs.declared.commands.ReportForm.TheVariants.{Text, Json}
-use Rattle.command_line.specs.declared.commands.Purpose as code_purposes
-use Rattle.command_line.specs.declared.commands.Purpose.TheVariants.{Decode, Run, Explain}
 use Rattle.load_maker.specs.declared.TheConstants.{ROUNDS_MAX}
 
--- Where a table comes from: it is that of the bag of this name, in the definition whose root is this file, or the one whose
--- text this file holds.
-pub data Origin : Type 0 where
-  compiled : List ℕ → List ℕ → Origin
-  printed : List ℕ → Origin
-
--- What is made of a table by itself: the line that says how many slots it has, or its text.
-pub data Product : Type 0 where
-  slot_line : Product
-  whole_text : Product
-
--- How a report is printed: as lines, or as JSON.
-pub data ReportForm : Type 0 where
-  as_lines : ReportForm
-  as_json : ReportForm
-
--- What is made of an input under a table: the block of a context, the report of a graph, or the certificate for the value that the
--- slot of this name path has at the step of this number of a graph.
-pub data Purpose : Type 0 where
-  decoding : Purpose
-  running : ReportForm → Purpose
-  explaining : ℕ → List ℕ → Purpose
-
--- What is made of an input by itself: a list is cut to a budget, contexts are merged, or the bytes of a context become lines of
--- pieces of so many bytes, or are put together from such lines.
-pub data Filter : Type 0 where
-  trimming : ℕ → Filter
-  merging : Filter
-  carrying : ℕ → Filter
-  collecting : Filter
-
--- What is to be done: something is made of an input by itself, the load of so many rounds is run, something is made of a table, or
--- of an input under one, a table is compared with the one that may take its place, and the certificate that a file holds is
--- verified for the graph that an input says under a table.
+-- What is to be done, by the name of its command. A list is cut to a budget, contexts are merged, and a context goes into lines of
+-- pieces of so many bytes and comes back from them. The slots of a bag's table are counted, the table is printed, and a context
+-- is decoded under it. A graph is run under the table of a bag, or under the one that a file prints, and its report is printed as
+-- lines or as JSON; or the load of so many rounds is run. The table of a bag is compared with the one that a newer definition
+-- gives it. The value that the slot of a name path has at a step of a graph is explained by a certificate, and a certificate
+-- is verified, which a file holds.
 pub data Task : Type 0 where
-  alone : Filter → Task
+  trim : ℕ → Task
+  merge : Task
+  carry : ℕ → Task
+  collect : Task
+  check : List ℕ → List ℕ → Task
+  table : List ℕ → List ℕ → Task
+  decode : List ℕ → List ℕ → Task
+  run : List ℕ → List ℕ → Task
+  run_table : List ℕ → Task
+  run_json : List ℕ → List ℕ → Task
   load : ℕ → Task
-  build : Product → Origin → Task
-  under : Purpose → Origin → Task
-  compare : Origin → Origin → Task
-  checking : Origin → List ℕ → Task
-
--- A list is cut to a budget, contexts are merged, and a context goes into lines of text and comes back from them.
-abbrev pub trim : ℕ → Task
-trim budget = alone (trimming budget)
-
-abbrev pub merge : Task
-merge = alone merging
-
-abbrev pub carry : ℕ → Task
-carry width = alone (carrying width)
-
-abbrev pub collect : Task
-collect = alone collecting
-
--- The slots of a bag are counted, its table is printed, a context is decoded under the table, or a graph is run under it and
--- its report printed as lines or as JSON; or a graph is run under a printed table.
-abbrev pub check : List ℕ → List ℕ → Task
-check file bag = build slot_line (compiled file bag)
-
-abbrev pub print : List ℕ → List ℕ → Task
-print file bag = build whole_text (compiled file bag)
-
-abbrev pub decode : List ℕ → List ℕ → Task
-decode file bag = under decoding (compiled file bag)
-
-abbrev pub run : List ℕ → List ℕ → Task
-run file bag = under (running as_lines) (compiled file bag)
-
-abbrev pub run_json : List ℕ → List ℕ → Task
-run_json file bag = under (running as_json) (compiled file bag)
-
-abbrev pub run_table : List ℕ → Task
-run_table file = under (running as_lines) (printed file)
-
--- The table of a bag is compared with the one that a newer definition gives it.
-abbrev pub evolve : List ℕ → List ℕ → List ℕ → Task
-evolve old new bag = compare (compiled old bag) (compiled new bag)
-
--- The value of a slot at a step is explained by a certificate, and a certificate is verified.
-abbrev pub why : List ℕ → List ℕ → ℕ → List ℕ → Task
-why file bag step path = under (explaining step path) (compiled file bag)
-
-abbrev pub verify : List ℕ → List ℕ → List ℕ → Task
-verify file bag certificate = checking (compiled file bag) certificate
-
--- ---- the commands of the code
-
-abbrev pub filter_of : CodeFilter → Filter
-filter_of (Trim budget) = trimming (non_zero_u32_get budget)
-filter_of Merge = merging
-filter_of (Carry width) = carrying width
-filter_of Collect = collecting
-
-abbrev pub origin_of : code_origins.Origin → Origin
-origin_of (Bag file bag) = compiled file.now bag.now
-origin_of (Printed file) = printed file.now
-
-abbrev pub product_of : CodeProduct → Product
-product_of SlotLine = slot_line
-product_of WholeText = whole_text
-
--- How a report is printed.
-abbrev pub report_form_of : CodeForm → ReportForm
-report_form_of Text = as_lines
-report_form_of Json = as_json
-
-abbrev pub purpose_of : code_purposes.Purpose → Purpose
-purpose_of Decode = decoding
-purpose_of (Run form) = running (report_form_of form)
-purpose_of (Explain step path) = explaining step path.now
+  evolve : List ℕ → List ℕ → List ℕ → Task
+  why : List ℕ → List ℕ → ℕ → List ℕ → Task
+  verify : List ℕ → List ℕ → List ℕ → Task
 
 -- What the code's command asks for.
-abbrev pub task_of : code_commands.Command → Task
-task_of (code.Alone filter) = alone (filter_of filter)
+abbrev pub task_of : Command → Task
+task_of (code.Trim budget) = trim (non_zero_u32_get budget)
+task_of code.Merge = merge
+task_of (code.Carry width) = carry width
+task_of code.Collect = collect
+task_of (code.Check file bag) = check file.now bag.now
+task_of (code.Table file bag) = table file.now bag.now
+task_of (code.Decode file bag) = decode file.now bag.now
+task_of (code.Run file bag) = run file.now bag.now
+task_of (code.RunTable file) = run_table file.now
+task_of (code.RunJson file bag) = run_json file.now bag.now
 task_of (code.Load rounds) = load rounds
-task_of (code.Build product origin) = build (product_of product) (origin_of origin)
-task_of (code.Read purpose origin) = under (purpose_of purpose) (origin_of origin)
-task_of (code.Compare old new) = compare (origin_of old) (origin_of new)
-task_of (code.Verify origin certificate) = checking (origin_of origin) certificate.now
+task_of (code.Evolve old new bag) = evolve old.now new.now bag.now
+task_of (code.Why file bag step path) = why file.now bag.now step path.now
+task_of (code.Verify file bag certificate) = verify file.now bag.now certificate.now
 
 -- ---- words
 
@@ -174,7 +82,7 @@ command_of (name ∷ file ∷ second ∷ third ∷ []) =
     else None
 command_of (name ∷ file ∷ bag ∷ []) =
     if bytes_eq name (codes "check") then Some (check file bag)
-    else if bytes_eq name (codes "table") then Some (print file bag)
+    else if bytes_eq name (codes "table") then Some (table file bag)
     else if bytes_eq name (codes "decode") then Some (decode file bag)
     else if bytes_eq name (codes "run") then Some (run file bag)
     else if bytes_eq name (codes "runjson") then Some (run_json file bag)
@@ -191,38 +99,11 @@ command_of (name ∷ []) =
     else None
 command_of words = None
 
--- ---- what a task needs
+-- ---- limits
 
--- The task reads the source.
-abbrev pub ReadsSource : Task → Type 0
-ReadsSource (alone filter) = Unit {0}
-ReadsSource (load rounds) = ⊥
-ReadsSource (build product origin) = ⊥
-ReadsSource (under purpose origin) = Unit {0}
-ReadsSource (compare old new) = ⊥
-ReadsSource (checking origin certificate) = Unit {0}
-
--- The task fetches files of the library.
-abbrev pub FetchesFiles : Task → Type 0
-FetchesFiles (alone filter) = ⊥
-FetchesFiles (load rounds) = ⊥
-FetchesFiles (build product origin) = Unit {0}
-FetchesFiles (under purpose origin) = Unit {0}
-FetchesFiles (compare old new) = Unit {0}
-FetchesFiles (checking origin certificate) = Unit {0}
-
--- A piece has at least so many bytes, and not too many.
-abbrev pub HasWidth : Filter → Type 0
-HasWidth (trimming budget) = Unit {0}
-HasWidth merging = Unit {0}
-HasWidth (carrying width) = (WIDTH_MIN ≤ width) × (width ≤ WIDTH_MAX)
-HasWidth collecting = Unit {0}
-
--- The numbers of a task are within their limits: a load has at least one round, and not too many.
+-- The numbers of a task are within their limits: a piece has at least so many bytes, and not too many, and a load has at least one
+-- round, and not too many.
 abbrev pub IsWithinLimits : Task → Type 0
-IsWithinLimits (alone filter) = HasWidth filter
+IsWithinLimits (carry width) = (WIDTH_MIN ≤ width) × (width ≤ WIDTH_MAX)
 IsWithinLimits (load rounds) = (1 ≤ rounds) × (rounds ≤ ROUNDS_MAX)
-IsWithinLimits (build product origin) = Unit {0}
-IsWithinLimits (under purpose origin) = Unit {0}
-IsWithinLimits (compare old new) = Unit {0}
-IsWithinLimits (checking origin certificate) = Unit {0}
+IsWithinLimits other = Unit {0}

@@ -10,84 +10,73 @@ use outside::Words;
 use std::num::NonZeroU32;
 use text_carrier::{WIDTH_MAX, WIDTH_MIN};
 
-/// Where a table comes from.
-#[derive(Clone, Copy, Debug)]
-pub enum Origin<'a> {
-    /// It is that of a bag of the definition whose root is this file.
-    Bag { file: &'a str, bag: &'a str },
-    /// It is the one whose text this file holds.
-    Printed { file: &'a str },
-}
-
-/// What is made of a table by itself.
-#[derive(Clone, Copy, Debug)]
-pub enum Product {
-    /// The line that says how many slots it has.
-    SlotLine,
-    /// Its text.
-    WholeText,
-}
-
-/// How a report is printed.
-#[derive(Clone, Copy, Debug)]
-pub enum ReportForm {
-    /// As lines of text.
-    Text,
-    /// As JSON.
-    Json,
-}
-
-/// What is made of an input under a table.
-#[derive(Clone, Copy, Debug)]
-pub enum Purpose<'a> {
-    /// The block of the one line's context.
-    Decode,
-    /// The report of the graph that the lines say.
-    Run(ReportForm),
-    /// The certificate for the slot with this name path at the step of this number, from 0 on, in the graph that the lines say.
-    Explain { step: u64, path: &'a str },
-}
-
-/// What is made of an input by itself.
-#[derive(Clone, Copy, Debug)]
-pub enum Filter {
-    /// The one line's list of atoms, cut to a budget of bytes. The least of its form is looked at when the line is read.
-    Trim { budget: NonZeroU32 },
-    /// The merge of the contexts of all lines.
-    Merge,
-    /// The one line's context as lines of pieces of `width` bytes each, from [`WIDTH_MIN`] to [`WIDTH_MAX`].
-    Carry { width: u32 },
-    /// The context whose pieces the lines say.
-    Collect,
-}
-
 /// A command with what it is asked for. The names stay in the words, so it takes no memory.
+///
+/// A `file` is the root of a definition, and a `bag` one of its bags, whose table is meant.
 #[derive(Clone, Copy, Debug)]
 pub enum Command<'a> {
-    /// Make something of the input by itself.
-    Alone(Filter),
+    /// Cut the one line's list of atoms to a budget of bytes. The least of its form is looked at when the line is read.
+    Trim {
+        budget: NonZeroU32,
+    },
+    /// Merge the contexts of all lines.
+    Merge,
+    /// Write the one line's context as lines of pieces of `width` bytes each, from [`WIDTH_MIN`] to [`WIDTH_MAX`].
+    Carry {
+        width: u32,
+    },
+    /// Put the context together whose pieces the lines say.
+    Collect,
+    /// Say how many slots the table has.
+    Check {
+        file: &'a str,
+        bag: &'a str,
+    },
+    /// Print the table.
+    Table {
+        file: &'a str,
+        bag: &'a str,
+    },
+    /// Print the block of the one line's context under the table.
+    Decode {
+        file: &'a str,
+        bag: &'a str,
+    },
+    /// Run the graph that the lines say under the table, and print its report.
+    Run {
+        file: &'a str,
+        bag: &'a str,
+    },
+    /// Do the same with the table that this file prints.
+    RunTable {
+        file: &'a str,
+    },
+    /// Do the same as [`Command::Run`], and print the report as JSON.
+    RunJson {
+        file: &'a str,
+        bag: &'a str,
+    },
     /// Run the load of so many rounds, at most [`ROUNDS_MAX`].
     Load {
         rounds: u32,
     },
-    /// Make something of a table.
-    Build {
-        product: Product,
-        origin: Origin<'a>,
+    /// Say whether the newer definition's table of the bag may take the place of the older one's.
+    Evolve {
+        old: &'a str,
+        new: &'a str,
+        bag: &'a str,
     },
-    /// Make something of the input under a table.
-    Read {
-        purpose: Purpose<'a>,
-        origin: Origin<'a>,
+    /// Print the certificate for the slot with this name path at the step of this number, from 0 on, in the graph that the lines say.
+    Why {
+        file: &'a str,
+        bag: &'a str,
+        step: u64,
+        path: &'a str,
     },
-    /// Compare a table with the one that may take its place.
-    Compare {
-        old: Origin<'a>,
-        new: Origin<'a>,
-    },
-    /// Verify the certificate that a file holds, for the graph that the input says under a table.
+    /// Say whether the certificate that a file holds is right for the graph that the lines say.
     Verify {
-        origin: Origin<'a>,
+        file: &'a str,
+        bag: &'a str,
         certificate: &'a str,
     },
 }
@@ -116,8 +105,8 @@ fn bare_command(name: &str) -> Option<Command<'static>>
     ensures { option_map spec.task_of result ≡ spec.command_of (name.now ∷ []) }
 {
     match name {
-        "merge" => Some(Command::Alone(Filter::Merge)),
-        "collect" => Some(Command::Alone(Filter::Collect)),
+        "merge" => Some(Command::Merge),
+        "collect" => Some(Command::Collect),
         _ => None,
     }
 }
@@ -127,7 +116,7 @@ fn trim_command(word: &str) -> Option<Command<'static>>
     ensures { option_map spec.task_of result ≡ option_map spec.trim (spec.positive_number_of word.now) }
 {
     let budget = NonZeroU32::new(read_number(word)?)?;
-    Some(Command::Alone(Filter::Trim { budget }))
+    Some(Command::Trim { budget })
 }
 
 /// The command that carries a context in pieces of so many bytes as this word says.
@@ -138,7 +127,7 @@ fn carry_command(word: &str) -> Option<Command<'static>>
     if (width as usize) < WIDTH_MIN || WIDTH_MAX < width as usize {
         return None;
     }
-    Some(Command::Alone(Filter::Carry { width }))
+    Some(Command::Carry { width })
 }
 
 /// The command that runs the load of so many rounds as this word says.
@@ -161,10 +150,7 @@ fn numbered_command<'a>(name: &str, word: &'a str) -> Option<Command<'a>>
         "trim" => trim_command(word),
         "carry" => carry_command(word),
         "load" => load_command(word),
-        "runtable" => Some(Command::Read {
-            purpose: Purpose::Run(ReportForm::Text),
-            origin: Origin::Printed { file: word },
-        }),
+        "runtable" => Some(Command::RunTable { file: word }),
         _ => None,
     }
 }
@@ -174,33 +160,17 @@ fn numbered_command<'a>(name: &str, word: &'a str) -> Option<Command<'a>>
 fn definition_command<'a>(name: &str, file: &'a str, bag: &'a str) -> Option<Command<'a>>
     ensures { option_map spec.task_of result ≡ spec.command_of (name.now ∷ file.now ∷ bag.now ∷ []) }
 {
-    let origin = Origin::Bag { file, bag };
     match name {
-        "check" => Some(Command::Build {
-            product: Product::SlotLine,
-            origin,
-        }),
-        "table" => Some(Command::Build {
-            product: Product::WholeText,
-            origin,
-        }),
-        "decode" => Some(Command::Read {
-            purpose: Purpose::Decode,
-            origin,
-        }),
-        "run" => Some(Command::Read {
-            purpose: Purpose::Run(ReportForm::Text),
-            origin,
-        }),
-        "runjson" => Some(Command::Read {
-            purpose: Purpose::Run(ReportForm::Json),
-            origin,
-        }),
+        "check" => Some(Command::Check { file, bag }),
+        "table" => Some(Command::Table { file, bag }),
+        "decode" => Some(Command::Decode { file, bag }),
+        "run" => Some(Command::Run { file, bag }),
+        "runjson" => Some(Command::RunJson { file, bag }),
         _ => None,
     }
 }
 
-/// The command that a word asks for with a file and two words behind it: another file and a bag of both, or a bag and another file.
+/// The command that a word asks for with three more: two files and a bag of both, or a file, a bag and another file.
 #[tactic(auto, unfolding(crate::specs::Commands::command_of))]
 fn two_file_command<'a>(
     name: &str,
@@ -211,15 +181,14 @@ fn two_file_command<'a>(
     ensures { option_map spec.task_of result ≡ spec.command_of (name.now ∷ file.now ∷ second.now ∷ third.now ∷ []) }
 {
     match name {
-        "evolve" => Some(Command::Compare {
-            old: Origin::Bag { file, bag: third },
-            new: Origin::Bag {
-                file: second,
-                bag: third,
-            },
+        "evolve" => Some(Command::Evolve {
+            old: file,
+            new: second,
+            bag: third,
         }),
         "verify" => Some(Command::Verify {
-            origin: Origin::Bag { file, bag: second },
+            file,
+            bag: second,
             certificate: third,
         }),
         _ => None,
@@ -231,9 +200,11 @@ fn why_command<'a>(file: &'a str, bag: &'a str, word: &str, path: &'a str) -> Op
     ensures { option_map spec.task_of result ≡ option_map (λ step. spec.why file.now bag.now step path.now) (spec.step_of_word word.now) }
 {
     let step = read_step(word)?;
-    Some(Command::Read {
-        purpose: Purpose::Explain { step, path },
-        origin: Origin::Bag { file, bag },
+    Some(Command::Why {
+        file,
+        bag,
+        step,
+        path,
     })
 }
 

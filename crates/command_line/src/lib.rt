@@ -7,4 +7,4 @@
 
 mod commands;
 
-pub use commands::{Command, Filter, Origin, Product, Purpose, ReportForm, command_of};
+pub use commands::{Command, command_of};

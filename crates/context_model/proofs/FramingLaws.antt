@@ -6,10 +6,9 @@ use Rattle.std.proofs.lemmas.Grind.{flat_map-append}
 use Rattle.std.proofs.lemmas.Option.{get_or_from_slice_get, slice_get_within}
 use Rattle.std.proofs.lemmas.Bool.{ltb-false}
 use Rattle.std.proofs.lemmas.Bool.Decides.{nat_tests}
-use Rattle.context_model.specs.declared.TheConstants.{LENGTH_MAX}
+use Rattle.context_model.specs.declared.TheConstants.{ATOM_MAX, LENGTH_MAX}
 use Rattle.context_model.specs.declared.Form.{Form}
 use Rattle.context_model.specs.declared.Form.TheVariants.{One, Two}
-use Rattle.outside.specs.declared.TheConstants.{ATOM_MAX}
 use Rattle.context_model.specs.Atoms.{Atom, AreAtoms}
 use Rattle.context_model.specs.Varints.{unsigned_form, unsigned_tail, unsigned_varint}
 use Rattle.context_model.specs.Framing.{base_128, length_code, frame, frames, head, head_len, has_long, written_in, size_of}

@@ -3,8 +3,7 @@
 use Rattle.std.proofs.Common.{◌≡◌, ◌+◌, ◌<◌, ◌≤◌, true, [], List, ◌∷◌, ◌++◌, length, if◌then◌else◌, Some, refl, ap, arith}
 use Rattle.std.proofs.lemmas.Bool.Decides.{nat_tests}
 use lib.Count.{count_leading_zeros}
-use Rattle.outside.specs.declared.TheConstants.{ATOM_MAX}
-use Rattle.context_model.specs.declared.TheConstants.{LENGTH_MAX}
+use Rattle.context_model.specs.declared.TheConstants.{ATOM_MAX, LENGTH_MAX}
 use Rattle.context_model.specs.declared.Form.TheVariants.{One, Two}
 use Rattle.context_model.specs.Atoms.{Atom}
 use Rattle.context_model.specs.Varints.{big_endian, unsigned_varint, unsigned_form, unsigned_tail}

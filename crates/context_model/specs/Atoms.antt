@@ -1,7 +1,7 @@
 -- Atoms, and lists of them.
 use Rattle.std.specs.Prelude.{ℕ, ◌≤◌, List, length}
 use Rattle.std.specs.List.{AllByRecursion}
-use Rattle.outside.specs.declared.TheConstants.{ATOM_MAX}
+use Rattle.context_model.specs.declared.TheConstants.{ATOM_MAX}
 
 -- An atom is a byte string.
 abbrev pub Atom : Type 0

@@ -2,8 +2,7 @@
 use Rattle.std.specs.Prelude.{◌≡◌, ℕ, ◌+◌, ◌/◌, ◌%◌, ◌≤◌, Bool, List, [], ◌∷◌, ◌++◌, length, take, nat_lt, if◌then◌else◌}
 use Rattle.std.specs.List.{flat_map, list_any, AllByRecursion}
 use Rattle.std.specs.Str.{bytes_eq}
-use Rattle.outside.specs.declared.TheConstants.{ATOM_MAX}
-use Rattle.context_model.specs.declared.TheConstants.{LENGTH_MAX}
+use Rattle.context_model.specs.declared.TheConstants.{ATOM_MAX, HEAD_LEN, LENGTH_MAX}
 use Rattle.context_model.specs.declared.Form.{Form}
 use Rattle.context_model.specs.declared.Form.TheVariants.{One, Two}
 use Rattle.context_model.specs.Atoms.{Atom}
@@ -62,7 +61,7 @@ head Two count = mark ++ big_endian 8 count
 -- How many bytes the head has.
 abbrev pub head_len : Form → ℕ
 head_len One = 0
-head_len Two = 12
+head_len Two = HEAD_LEN
 
 -- The frames of a list behind their head.
 abbrev pub bytes_in : Form → List Atom → List ℕ

@@ -1,5 +1,6 @@
 -- The kinds of atoms, and the atom of each kind.
 use Rattle.std.specs.Prelude.{◌≡◌, ℕ, ◌-◌, ◌*◌, ◌^◌, ◌<◌, List, [], ◌∷◌}
+use Rattle.context_model.specs.declared.TheConstants.{LEVELS_MAX}
 use Rattle.context_model.specs.Atoms.{Atom}
 use Rattle.context_model.specs.Varints.{unsigned_varint}
 
@@ -17,12 +18,12 @@ atom_of (Datum payload) = 0 ∷ payload
 atom_of (Indexed level number) = (248 - 8 * level) ∷ unsigned_varint number
 atom_of (Keyed level key) = (249 - 8 * level) ∷ key
 
--- Levels go from 0 to 15, and numbers below 2 ^ 64.
+-- The level is below LEVELS_MAX, and the number below 2 ^ 64.
 abbrev pub IsKind : Kind → Type 0
 IsKind Marker = Unit {0}
 IsKind (Datum payload) = Unit {0}
-IsKind (Indexed level number) = (level < 16) × (number < 2 ^ 64)
-IsKind (Keyed level key) = level < 16
+IsKind (Indexed level number) = (level < LEVELS_MAX) × (number < 2 ^ 64)
+IsKind (Keyed level key) = level < LEVELS_MAX
 
 -- The atom is that of some kind.
 pub record HasKind (atom : Atom) : Type 0 where
@@ -34,7 +35,7 @@ pub record HasKind (atom : Atom) : Type 0 where
 pub record IsIndexLike (atom : Atom) : Type 0 where
   pub level : ℕ
   pub rest : List ℕ
-  pub fits : level < 16
+  pub fits : level < LEVELS_MAX
   pub begins : atom ≡ (248 - 8 * level) ∷ rest
 
 -- The atom has no kind, and doesn't begin as an indexed header does.

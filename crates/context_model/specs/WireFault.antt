@@ -3,8 +3,7 @@
 use Rattle.std.specs.Prelude.{◌≡◌, ◌⊎◌, ℕ, ◌+◌, ◌-◌, ◌*◌, ◌%◌, ◌<◌, ◌≤◌, Bool, ◌==◌, ◌&&◌, ◌||◌, List, [], ◌∷◌, length, take, drop, slice_index, nat_lt, nat_le, if◌then◌else◌, Option, Some, None}
 use Rattle.std.specs.List.{list_all}
 use Rattle.std.specs.Str.{bytes_eq}
-use Rattle.outside.specs.declared.TheConstants.{ATOM_MAX}
-use Rattle.context_model.specs.declared.TheConstants.{LENGTH_MAX}
+use Rattle.context_model.specs.declared.TheConstants.{ATOM_MAX, HEAD_LEN, LENGTH_MAX}
 use Rattle.context_model.specs.Atoms.{Atom, AreAtoms}
 use Rattle.context_model.specs.declared.Form.{Form}
 use Rattle.context_model.specs.declared.Form.TheVariants.{One, Two}
@@ -58,7 +57,8 @@ wire_code bytes =
 
 -- ---- form two
 
--- What is wrong with the atom of form two that begins here; at most one of these applies.
+-- What is wrong with the atom of form two that begins here. At most one of these applies, since the last two ask for a length in its
+-- shortest form.
 abbrev pub IsUnframedTwo : List ℕ → ByteCode → Type 0
 IsUnframedTwo bytes CutLength = IsUnsignedCut bytes
 IsUnframedTwo bytes LongForm = IsUnsignedLong bytes
@@ -70,8 +70,8 @@ IsUnframedTwo bytes other = ⊥
 abbrev pub head_code : Form → List ℕ → Option ByteCode
 head_code One bytes = None
 head_code Two bytes =
-    if nat_lt (length bytes) 12 then Some CutLength
-    else if bytes_eq (take 8 (drop 4 bytes)) (big_endian 8 (length bytes - 12)) then None
+    if nat_lt (length bytes) HEAD_LEN then Some CutLength
+    else if bytes_eq (take 8 (drop 4 bytes)) (big_endian 8 (length bytes - HEAD_LEN)) then None
     else Some BadCount
 
 -- ---- either form

@@ -5,6 +5,15 @@
 ghost use Rattle.std.specs.Prelude.{◌≡◌};
 ghost use Rattle.context_model.specs.Framing.{head_len, least_budget, most};
 
+/// The most bytes that an atom has.
+pub const ATOM_MAX: usize = 1_048_576;
+
+/// How many levels of headers there are: a header's level is below it, and at most so many headers are around a datum.
+pub const LEVELS_MAX: usize = 16;
+
+/// How many bytes the head of form two has: its mark, and the number of bytes that follow the head.
+pub const HEAD_LEN: usize = 12;
+
 /// The greatest length that stands before an atom in the bytes of a list of form one.
 pub const LENGTH_MAX: usize = 65_535;
 
@@ -23,7 +32,7 @@ impl Form {
     {
         match self {
             Form::One => 0,
-            Form::Two => 12,
+            Form::Two => HEAD_LEN,
         }
     }
 
@@ -33,7 +42,7 @@ impl Form {
     {
         match self {
             Form::One => 1,
-            Form::Two => 13,
+            Form::Two => HEAD_LEN as u64 + 1,
         }
     }
 }

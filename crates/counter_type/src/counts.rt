@@ -17,7 +17,7 @@ use std::marker::Model;
 
 /// The count of each of some writers. Contracts see it as the list of the writers with their counts, in the byte order
 /// of the writers, each once. A join keeps a writer's greatest count.
-#[derive(Drop)]
+#[derive(Debug, Drop)]
 pub struct Counts {
     entries: Vec<(Octets, u64)>,
 }

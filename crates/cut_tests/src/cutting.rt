@@ -1,12 +1,12 @@
 //! Cuts to budgets of bytes in either form, and the contexts that a service sends on.
 
 use atom_list::AtomList;
+use fixture_bytes::{bytes_of, context_of, expect_atoms, expect_bytes, list_of};
 use forwarding::forward;
 use overflow_trim::{kept, trim, trim_context, trimmed_copy};
 use std::alloc::Global;
 use std::process::Abort;
 use std::test::Fail;
-use test_texts::{bytes_of, context_of, expect_atoms, expect_bytes, list_of};
 use wire_bytes::{ByteCode, ContextFault, Form, write};
 
 /// A field and two data: with their lengths three bytes, six and six.

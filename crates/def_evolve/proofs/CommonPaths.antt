@@ -19,6 +19,7 @@ use Rattle.def_evolve.specs.Common.{IsSlotPath, AreCommonPaths, IsCommonCount}
 use Rattle.def_evolve.proofs.CommonSlots.{slot_of}
 use Rattle.def_evolve.proofs.FieldPlaces.{nodes_from_place, node_there, nodes_end, none_numbered, get_in}
 use Rattle.def_evolve.proofs.OneVerdict.{one_count, field_ok}
+use Rattle.def_evolve.proofs.RisingLists.{rises_append}
 
 -- ---- the list
 
@@ -212,12 +213,6 @@ mutual
 
 -- ---- they rise
 
-rises_append : (xs ys : List (List ℕ)) → Rises (slice_cmp nat_cmp) xs → Rises (slice_cmp nat_cmp) ys → ((x y : List ℕ) → IsIn x xs → IsIn y ys → slice_cmp nat_cmp x y ≡ Less) → Rises (slice_cmp nat_cmp) (xs ++ ys)
-rises_append [] ys p q f = q
-rises_append (x ∷ []) [] p q f = tt
-rises_append (x ∷ []) (y ∷ ys) p q f = (f x y (inl refl) (inl refl), q)
-rises_append (x ∷ z ∷ xs) ys p q f = (p.0, rises_append (z ∷ xs) ys p.1 q (λ a b i j. f a b (inr i) j))
-
 rises_behind : (number : ℕ) (xs : List (List ℕ)) → Rises (slice_cmp nat_cmp) xs → Rises (slice_cmp nat_cmp) (map (λ p. number ∷ p) xs)
 rises_behind number [] r = tt
 rises_behind number (x ∷ []) r = tt
@@ -256,7 +251,7 @@ mutual
   rises_of : (nodes others : Nodes) → AreFields nodes → AreFields others → Rises (slice_cmp nat_cmp) (common_of nodes others)
   rises_of no_node others ok also = tt
   rises_of (node name number shape nodes) others ok also =
-      rises_append (at_number (common_in shape) number (fields others)) (common_of nodes others)
+      rises_append (slice_cmp nat_cmp) (at_number (common_in shape) number (fields others)) (common_of nodes others)
       (at_number_rises (common_in shape) number (fields others) (λ g i. rises_in shape g.shape ok.2 (field_ok others g also i).1)) (rises_of nodes others ok.4 also) before
     where
       before : (x y : List ℕ) → IsIn x (at_number (common_in shape) number (fields others)) → IsIn y (common_of nodes others) → slice_cmp nat_cmp x y ≡ Less

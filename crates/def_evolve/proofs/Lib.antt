@@ -5,7 +5,10 @@ pub mod ForBoth
 pub mod CommonSlots
 pub mod Clean
 pub mod Safe
+pub mod OtherNormal
+pub mod TwoVersions
 pub mod OneVerdict
+pub mod RisingLists
 pub mod FieldPlaces
 pub mod ShapeViews
 pub mod BreakSteps

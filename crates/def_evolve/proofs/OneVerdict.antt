@@ -98,7 +98,7 @@ not_both : (a b : Shape) → KeysDiffer a b → KindsDiffer a b → ⊥
 not_both (Map key shape) (Map other more) d e = e
 not_both a b d e = search (d, e)
 
-one_change : (a b : Shape) (x y : Change) → Differs x a b → Differs y a b → x ≡ y
+pub one_change : (a b : Shape) (x y : Change) → Differs x a b → Differs y a b → x ≡ y
 one_change a b changes.Shape changes.Shape d e = refl
 one_change a b changes.Key changes.Key d e = refl
 one_change a b changes.Kind changes.Kind d e = refl

@@ -10,8 +10,8 @@ use Rattle.scalar_types.specs.declared.kinds.ScalarKind.{ScalarKind}
 use Rattle.scalar_types.specs.declared.kinds.ScalarKind.TheVariants.{Packed}
 use Rattle.scalar_types.specs.KindViews.{IsPlainWord, word_of, kind_of}
 use Rattle.def_evolve.specs.Widening.{AreWider, Widens}
-use Rattle.def_evolve.specs.declared.verdicts.Part.{Part}
-use Rattle.def_evolve.specs.Breaks.{part_text}
+use Rattle.bag_model.specs.Words.{word_text}
+use Rattle.def_evolve.specs.BreakLists.{spaced}
 
 -- ---- lists by places
 
@@ -64,30 +64,44 @@ pub dotted_more : (x : List ℕ) (xs : List (List ℕ)) (y : List ℕ) → dotte
 dotted_more x [] y = refl
 dotted_more x (z ∷ xs) y = ap (λ l. x ++ 46 ∷ l) (dotted_more z xs y) ∙ sym (append_assoc x (46 ∷ dotted (z ∷ xs)) (46 ∷ y))
 
--- The text of a way with one more part.
-pub text_first : (way : List Part) (part : Part) → slice_get way 0 ≡ Some part → dotted (map part_text (take 1 way)) ≡ part_text part
-text_first [] part e = absurd (cc e)
-text_first (p ∷ way) part e = let same : p ≡ part = cc e in ap part_text same
+module _ {A : Type 0} (f : A → List ℕ) where
+  -- The text of a way with one more part.
+  text_first : (way : List A) (part : A) → slice_get way 0 ≡ Some part → dotted (map f (take 1 way)) ≡ f part
+  text_first [] part e = absurd (cc e)
+  text_first (p ∷ way) part e = let same : p ≡ part = cc e in ap f same
 
-pub text_more : (way : List Part) (i : ℕ) (part : Part) → 0 < i → slice_get way i ≡ Some part → dotted (map part_text (take (i + 1) way)) ≡ dotted (map part_text (take i way)) ++ 46 ∷ part_text part
-text_more [] i part l e = absurd (cc e)
-text_more (p ∷ way) zero part l e = absurd (omega (arith, l))
-text_more (p ∷ way) (suc i) part l e =
-    ap (λ ps. dotted (map part_text ps)) (take_there (p ∷ way) (suc i) part e)
-    ∙ ap dotted (map_append (p ∷ take i way) (part ∷ []))
-    ∙ dotted_more (part_text p) (map part_text (take i way)) (part_text part)
-  where
-    map_append : (xs ys : List Part) → map part_text (xs ++ ys) ≡ map part_text xs ++ map part_text ys
-    map_append [] ys = refl
-    map_append (x ∷ xs) ys = ap (λ l. part_text x ∷ l) (map_append xs ys)
+  text_more : (way : List A) (i : ℕ) (part : A) → 0 < i → slice_get way i ≡ Some part → dotted (map f (take (i + 1) way)) ≡ dotted (map f (take i way)) ++ 46 ∷ f part
+  text_more [] i part l e = absurd (cc e)
+  text_more (p ∷ way) zero part l e = absurd (omega (arith, l))
+  text_more (p ∷ way) (suc i) part l e =
+      ap (λ ps. dotted (map f ps)) (take_there (p ∷ way) (suc i) part e)
+      ∙ ap dotted (map_append (p ∷ take i way) (part ∷ []))
+      ∙ dotted_more (f p) (map f (take i way)) (f part)
+    where
+      map_append : (xs ys : List A) → map f (xs ++ ys) ≡ map f xs ++ map f ys
+      map_append [] ys = refl
+      map_append (x ∷ xs) ys = ap (λ l. f x ∷ l) (map_append xs ys)
 
--- A step of the loop that writes a way: the first part, and each behind a dot.
-pub step_first : (way : List Part) (i : ℕ) (part : Part) (before after : List ℕ) → i ≤ 0 → slice_get way i ≡ Some part → before ≡ dotted (map part_text (take i way)) → after ≡ before ++ part_text part
-    → after ≡ dotted (map part_text (take (i + 1) way))
-step_first way zero part before after l at e f = f ∙ ap (λ l. l ++ part_text part) e ∙ sym (text_first way part at)
-step_first way (suc i) part before after l at e f = absurd (omega (arith, l))
+  -- A step of the loop that writes a way: the first part, and each behind a dot.
+  pub step_first : (way : List A) (i : ℕ) (part : A) (before after : List ℕ) → i ≤ 0 → slice_get way i ≡ Some part → before ≡ dotted (map f (take i way)) → after ≡ before ++ f part
+      → after ≡ dotted (map f (take (i + 1) way))
+  step_first way zero part before after l at e g = g ∙ ap (λ l. l ++ f part) e ∙ sym (text_first way part at)
+  step_first way (suc i) part before after l at e g = absurd (omega (arith, l))
 
-pub step_more : (way : List Part) (i : ℕ) (part : Part) (before middle after : List ℕ) → 0 < i → slice_get way i ≡ Some part → before ≡ dotted (map part_text (take i way)) → middle ≡ before ++ 46 ∷ []
-    → after ≡ middle ++ part_text part → after ≡ dotted (map part_text (take (i + 1) way))
-step_more way i part before middle after l at e f g =
-    g ∙ ap (λ l. l ++ part_text part) (f ∙ ap (λ l. l ++ 46 ∷ []) e) ∙ append_assoc (dotted (map part_text (take i way))) (46 ∷ []) (part_text part) ∙ sym (text_more way i part l at)
+  pub step_more : (way : List A) (i : ℕ) (part : A) (before middle after : List ℕ) → 0 < i → slice_get way i ≡ Some part → before ≡ dotted (map f (take i way)) → middle ≡ before ++ 46 ∷ []
+      → after ≡ middle ++ f part → after ≡ dotted (map f (take (i + 1) way))
+  step_more way i part before middle after l at e g h =
+      h ∙ ap (λ l. l ++ f part) (g ∙ ap (λ l. l ++ 46 ∷ []) e) ∙ append_assoc (dotted (map f (take i way))) (46 ∷ []) (f part) ∙ sym (text_more way i part l at)
+
+-- ---- the words of a struct
+
+-- Words behind spaces, as far as they are written.
+pub spaced_turn : (kinds : List ScalarKind) (words : List model.Word) (i : ℕ) (x : ScalarKind) (whole before middle after : List ℕ) → map word_of kinds ≡ words → i < length kinds → x ≡ get_or kinds i x
+    → before ++ spaced (drop i words) ≡ whole → middle ≡ before ++ 32 ∷ [] → after ≡ middle ++ word_text (word_of x) → after ++ spaced (drop (i + 1) words) ≡ whole
+spaced_turn kinds words i x whole before middle after same l is e g h =
+    let turn : drop i words ≡ word_of x ∷ drop (i + 1) words = subst (λ (ws : List model.Word). drop i ws ≡ word_of x ∷ drop (i + 1) ws) same (words_turn kinds i x l is) in
+    ap (λ text. text ++ spaced (drop (i + 1) words)) (h ∙ ap (λ text. text ++ word_text (word_of x)) g)
+    ∙ ap (λ text. text ++ spaced (drop (i + 1) words)) (append_assoc before (32 ∷ []) (word_text (word_of x)))
+    ∙ append_assoc before (32 ∷ word_text (word_of x)) (spaced (drop (i + 1) words))
+    ∙ sym (ap (λ ws. before ++ spaced ws) turn)
+    ∙ e

@@ -3,5 +3,6 @@ pub mod Breaks
 pub mod Common
 pub mod Agreement
 pub mod Evolution
-pub mod BreakSearches
+pub mod BreakLists
 pub mod Verdicts
+pub mod Versions

@@ -1,7 +1,7 @@
 //! How many slots two tables have in common. Nothing here takes memory.
 
 ghost use Rattle.std.specs.Prelude.{◌≤◌};
-ghost use Rattle.bag_model.specs.declared.TheConstants.{MAX_FIELDS};
+ghost use Rattle.bag_model.specs.declared.TheConstants.{FIELDS_MAX};
 ghost use Rattle.bag_model.specs.Shapes.{Bag};
 ghost use Rattle.bag_model.specs.Tables.{IsShape, AreFields, nodes_under, node_count};
 ghost use Rattle.field_table.specs.Plain.{nodes_of, shape_of};
@@ -14,7 +14,7 @@ use field_table::{Shape, Slots};
 fn common_slots(old: &Shape, new: &Shape) -> u64
     requires old { IsShape (shape_of old.now) }
     requires new { IsShape (shape_of new.now) }
-    requires small { nodes_under (shape_of old.now) ≤ MAX_FIELDS }
+    requires small { nodes_under (shape_of old.now) ≤ FIELDS_MAX }
     ensures { IsCommonCount (shape_of old.now) (shape_of new.now) result }
 {
     match old {
@@ -34,7 +34,7 @@ fn common_slots(old: &Shape, new: &Shape) -> u64
 pub(crate) fn common_fields(fields: &Slots, others: &Slots) -> u64
     requires old { AreFields (nodes_of fields.now) }
     requires new { AreFields (nodes_of others.now) }
-    requires small { node_count (nodes_of fields.now) ≤ MAX_FIELDS }
+    requires small { node_count (nodes_of fields.now) ≤ FIELDS_MAX }
     ensures { IsCommonCount (Bag (nodes_of fields.now)) (Bag (nodes_of others.now)) result }
 {
     let mut common = 0;

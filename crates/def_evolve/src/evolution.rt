@@ -5,7 +5,7 @@ ghost use Rattle.def_evolve.specs.Verdicts.{IsVerdict};
 ghost use Rattle.def_evolve.specs.Evolution.{IsSafe};
 ghost use Rattle.def_evolve.specs.declared.verdicts.Verdict.TheVariants.{Fits};
 
-use crate::breaks::first_break_in;
+use crate::all_breaks::breaks;
 use crate::common::common_fields;
 use crate::verdicts::Verdict;
 use field_table::Table;
@@ -17,12 +17,13 @@ pub fn evolve(alloc: Global, old: &Table, new: &Table) -> Result<Verdict, Memory
     ensures verdict { IfOk result (IsVerdict old.now new.now) }
     ensures safe { IfOk result (λ verdict. (common : ℕ) → verdict ≡ Fits common → IsSafe old.now new.now) }
 {
-    match first_break_in(alloc, old.nodes(), new.nodes())? {
-        Some(found) => {
-            let path = found.path(alloc)?;
+    let found = breaks(alloc, old, new)?;
+    match found.first() {
+        Some(first) => {
+            let path = first.path(alloc)?;
             Ok(Verdict::Breaks {
                 path,
-                change: found.change,
+                change: first.change,
             })
         }
         None => Ok(Verdict::Fits {

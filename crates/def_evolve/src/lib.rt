@@ -11,14 +11,20 @@
 //!     Verdict::Breaks { path, change } => ..   // the first field that may not become what the new table says
 //! }
 //! ```
+//!
+//! `breaks` gives the list of all fields that break, of which `evolve` tells the first: for each the way to it, the reason, and the
+//! names and the types that both tables have there.
 #![tactic(auto)]
 
-mod breaks;
+mod all_breaks;
 mod common;
 mod evolution;
 pub mod laws;
+mod sides;
 mod verdicts;
 mod widening;
 
+pub use all_breaks::{Break, breaks};
 pub use evolution::evolve;
+pub use sides::Side;
 pub use verdicts::{Change, Part, Verdict};

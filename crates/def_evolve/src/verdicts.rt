@@ -24,7 +24,7 @@ pub enum Part {
 }
 
 /// What comes of a comparison.
-#[derive(Drop)]
+#[derive(Debug, Drop)]
 pub enum Verdict {
     /// Each field that both tables have may become what the new one says; so many slots are in both.
     Fits { common: u64 },

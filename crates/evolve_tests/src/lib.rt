@@ -1,9 +1,7 @@
-//! Tests of what comes of a new definition in place of an old one. Nothing but tests stands here.
+//! Tests of a new definition in place of an old one, where the program doesn't show what the library tells. Nothing but tests stands here.
 #![tactic(auto)]
 
 #[cfg(test)]
-mod rows;
+mod breaks;
 #[cfg(test)]
-mod verdicts;
-#[cfg(test)]
-mod words;
+mod laws;

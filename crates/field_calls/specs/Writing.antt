@@ -9,7 +9,7 @@ use Rattle.bag_model.specs.Slots.{SlotAt}
 use Rattle.bag_model.specs.SlotValues.{only}
 use Rattle.bag_model.specs.Values.{Value}
 use Rattle.table_text.specs.Reading.{IsTableFault}
-use Rattle.write_text.specs.Writes.{IsWrite}
+use Rattle.field_writes.specs.Writes.{IsWrite}
 use Rattle.byte_calls.specs.Room.{HoldsBytes, IsTooShortFor}
 use Rattle.field_calls.specs.declared.refusals.FieldRefusal.{FieldRefusal}
 use Rattle.field_calls.specs.declared.refusals.FieldRefusal.TheVariants.{Table, NoField, NoWrite, Memory, Room}

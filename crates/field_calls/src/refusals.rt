@@ -2,6 +2,8 @@
 
 use byte_calls::TooShort;
 use outside::Memory;
+use std::error::Error;
+use std::fmt;
 use table_text::{TableCode, TableFault};
 use wire_bytes::{ByteCode, ContextFault};
 
@@ -23,6 +25,27 @@ pub enum FieldRefusal {
     /// The room is shorter than what is to be written, which has `size` bytes.
     Room { size: usize },
 }
+
+impl fmt::Display for FieldRefusal {
+    ghost use Rattle.std.specs.Prelude.{Some};
+    ghost use Rattle.field_calls.specs.FaultTexts.{field_refusal_text};
+
+    ghost output = { λ fault. Some (field_refusal_text fault) };
+
+    fn fmt<W: fmt::Write>(&self, f: &mut fmt::Formatter<W>) -> fmt::Result {
+        match self {
+            FieldRefusal::Table { line, code } => write!(f, "line {line} {code}"),
+            FieldRefusal::NoField => write!(f, "NoField"),
+            FieldRefusal::NoWrite => write!(f, "NoWrite"),
+            FieldRefusal::Fault { offset, code } => write!(f, "offset {offset} {code}"),
+            FieldRefusal::IllTyped { offset } => write!(f, "offset {offset} IllTyped"),
+            FieldRefusal::Memory => write!(f, "out of memory"),
+            FieldRefusal::Room { size } => write!(f, "size {size}"),
+        }
+    }
+}
+
+impl Error for FieldRefusal {}
 
 impl From<Memory> for FieldRefusal {
     ghost use Rattle.std.specs.Prelude.{◌≡◌};

@@ -8,11 +8,11 @@ use crate::refusals::FieldRefusal;
 use accessor_gen::laws::values_fit_at_slots;
 use byte_calls::write_front;
 use field_table::Table;
+use field_writes::laws::writes_are_of_their_shape;
+use field_writes::read_write;
 use std::alloc::Global;
 use table_text::read_table;
 use wire_bytes::{Form, write};
-use write_text::laws::writes_are_of_their_shape;
-use write_text::read_write;
 
 /// The bytes of the context that says one write of a field, and nothing else.
 fn write_bytes(

@@ -3,7 +3,7 @@ use Rattle.std.proofs.Common.{◌≡◌, ◌⊎◌, inl, inr, ℕ, ◌+◌, ◌<
 use Rattle.std.specs.List.Sorted.{IsPartitionedBy, IsPartitionPoint}
 use Rattle.std.proofs.Math.Dec.{leb}
 use Rattle.std.proofs.lemmas.Bool.{leb-true, leb-false, le-leb, cases_lt}
-use Rattle.bag_model.specs.declared.TheConstants.{MAX_FIELDS}
+use Rattle.bag_model.specs.declared.TheConstants.{FIELDS_MAX}
 use Rattle.bag_model.specs.Shapes.{Field, fields, Nodes}
 use Rattle.bag_model.specs.Slots.{slots_of, slot_count, starts}
 use Rattle.bag_model.proofs.SlotLaws.{slots_list, slots_of-list, starts-zero, starts-bound, starts-all}
@@ -19,7 +19,7 @@ end_at b [] i d h = absurd (omega (arith, h))
 end_at b (f ∷ fs) zero d h = ap capped (omega (arith, starts-zero fs))
 end_at b (f ∷ fs) (suc i) d h = end_at (b + slot_count f.shape) fs i d (omega (arith, h)) ∙ ap capped (omega arith)
 
-capped_small : (n : ℕ) → n ≤ MAX_FIELDS → capped n ≡ n
+capped_small : (n : ℕ) → n ≤ FIELDS_MAX → capped n ≡ n
 capped_small n h = omega (arith, h)
 
 starts-rise : (fs : List Field) (i j : ℕ) → i ≤ j → starts fs i ≤ starts fs j
@@ -28,9 +28,9 @@ starts-rise (f ∷ fs) zero j h = omega arith
 starts-rise (f ∷ fs) (suc i) zero h = absurd (omega (arith, h))
 starts-rise (f ∷ fs) (suc i) (suc j) h = omega (arith, starts-rise fs i j (omega (arith, h)))
 
-module _ (nodes : Nodes) (small : length (slots_of nodes) ≤ MAX_FIELDS) where
-  total : length (slots_list (fields nodes)) ≤ MAX_FIELDS
-  total = subst (λ (l : List _). length l ≤ MAX_FIELDS) (slots_of-list nodes) small
+module _ (nodes : Nodes) (small : length (slots_of nodes) ≤ FIELDS_MAX) where
+  total : length (slots_list (fields nodes)) ≤ FIELDS_MAX
+  total = subst (λ (l : List _). length l ≤ FIELDS_MAX) (slots_of-list nodes) small
 
   pub end_is : (i d : ℕ) → i < length (fields nodes) → get_or (ends_after 0 (fields nodes)) i d ≡ starts (fields nodes) (suc i)
   end_is i d h = end_at 0 (fields nodes) i d h ∙ capped_small (0 + starts (fields nodes) (suc i)) (omega (arith, starts-bound (fields nodes) (suc i), total)) ∙ omega arith

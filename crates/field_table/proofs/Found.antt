@@ -5,7 +5,7 @@ use Rattle.std.specs.List.{slice_get}
 use Rattle.std.specs.Option.{option_map}
 use Rattle.std.proofs.lemmas.List.{length-map}
 use Rattle.std.proofs.lemmas.Option.{slice_get-map, slice_get_within}
-use Rattle.bag_model.specs.declared.TheConstants.{MAX_FIELDS}
+use Rattle.bag_model.specs.declared.TheConstants.{FIELDS_MAX}
 use Rattle.bag_model.specs.Shapes as model
 use Rattle.bag_model.specs.Slots.{slots_of, slot_count, FindsField}
 use Rattle.field_table.specs.Shapes.{IsSplit}
@@ -65,5 +65,5 @@ pub count_of : (s : Slots) → IsTable (nodes_of s) → capped (length (slots_of
 count_of s table = omega (arith, slots_few (nodes_of s), table.small)
 
 -- The count of the slots of a field that is found.
-pub counted : (nodes : model.Nodes) (path : List ℕ) (before : ℕ) (shape : model.Shape) → length (slots_of nodes) ≤ MAX_FIELDS → FindsField nodes path (Some (before, shape)) → capped (slot_count shape) ≡ slot_count shape
+pub counted : (nodes : model.Nodes) (path : List ℕ) (before : ℕ) (shape : model.Shape) → length (slots_of nodes) ≤ FIELDS_MAX → FindsField nodes path (Some (before, shape)) → capped (slot_count shape) ≡ slot_count shape
 counted nodes path before shape small found = omega (arith, small, reached_bound nodes found.0 found.1 before shape found.3)

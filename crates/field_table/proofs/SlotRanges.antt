@@ -1,13 +1,14 @@
 -- Slots in ranges.
-use Rattle.std.proofs.Common.{◌≡◌, ◌⊎◌, ◌↔◌, inl, inr, ℕ, ◌+◌, ◌-◌, ◌<◌, ◌≤◌, zero, suc, true, false, eqb, List, [], ◌∷◌, ◌++◌, length, get_or, All, refl, sym, ap, ◌∙◌, append_assoc, subst, arith}
-use Rattle.std.specs.List.{range_with_len}
+use Rattle.std.proofs.Common.{◌≡◌, ◌⊎◌, ◌↔◌, inl, inr, ℕ, ◌+◌, ◌-◌, ◌<◌, ◌≤◌, zero, suc, true, false, eqb, List, [], ◌∷◌, ◌++◌, length, get_or, take, drop, take-suc, drop-cons, Some, All, refl, sym, ap, ◌∙◌, append_assoc, subst, arith}
+use Rattle.std.specs.List.{range_with_len, slice_get}
 use Rattle.std.specs.List.Sorted.{IsNonDecreasingBy, IsPartitionPoint}
 use Rattle.std.specs.Ordering.{nat_cmp}
 use Rattle.std.specs.declared.cmp.Ordering.TheVariants.{Less}
 use Rattle.std.proofs.Math.Dec.{leb}
 use Rattle.std.proofs.lemmas.Bool.{eqb-true, eq-eqb, leb-false, leb-true, cases_lt}
 use Rattle.std.proofs.lemmas.Bool.Decides.{nat_tests}
-use Rattle.std.proofs.lemmas.List.{append-nil}
+use Rattle.std.proofs.lemmas.List.{append-nil, length-append}
+use Rattle.std.proofs.lemmas.List.FromFn.{length-range_with_len}
 use Rattle.std.proofs.lemmas.List.Elements.{All-head, All-tail, All-push}
 use Rattle.context_model.specs.Orders.{IsIn, Rises}
 use Rattle.bag_model.proofs.Finite.{in_append_first, in_append_second, in_append}
@@ -148,3 +149,69 @@ at_point ranges slot place d are point at =
 pub in_point : (ranges : List (ℕ × ℕ)) (slot place : ℕ) (d : ℕ × ℕ) → IsPartitionPoint (λ range. leb range.1 slot ≡ true) (λ range. leb range.1 slot ≡ false) ranges place
     → place < length ranges → (get_or ranges place d).0 ≤ slot → IsIn slot (slots_in_ranges ranges)
 in_point ranges slot place d point within low = in_ranges ranges place d slot within low (leb-false (get_or ranges place d).1 slot (point.1 place d (omega arith) within))
+
+-- ---- how many slots there are
+
+length_between : (first end : ℕ) → length (slots_between first end) ≡ end - first
+length_between first end = length-range_with_len first (end - first)
+
+count_below : (ranges : List (ℕ × ℕ)) (i low : ℕ) (d : ℕ × ℕ) → Rises nat_cmp (slots_in_ranges ranges) → All (λ range. range.0 < range.1) ranges
+    → i < length ranges → low ≤ (get_or ranges 0 d).0 → low + length (slots_in_ranges (take i ranges)) ≤ (get_or ranges i d).0
+count_below [] i low d rises filled within from = absurd (omega arith)
+count_below (range ∷ ranges) zero low d rises filled within from = omega (arith, from)
+count_below (range ∷ ranges) (suc i) low d rises filled within from =
+    let some : range.0 < range.1 = All-head (λ range. range.0 < range.1) range ranges filled in
+    let next = apart (range ∷ ranges) 0 1 d rises filled (omega arith) (omega arith) in
+    let later = count_below ranges i range.1 d (behind_rises (slots_between range.0 range.1) (slots_in_ranges ranges) rises)
+    (All-tail (λ range. range.0 < range.1) range ranges filled) (omega arith) next in
+    let both = length-append (slots_between range.0 range.1) (slots_in_ranges (take i ranges)) in
+    let here = length_between range.0 range.1 in
+    omega (arith, later, some, both, here, from)
+
+-- There are no more slots before a range than its first slot says.
+pub slots_before_range : (ranges : List (ℕ × ℕ)) (i : ℕ) (d : ℕ × ℕ) → AreSlotRanges ranges → i < length ranges
+    → length (slots_in_ranges (take i ranges)) ≤ (get_or ranges i d).0
+slots_before_range ranges i d are within = let both = count_below ranges i 0 d are.rises are.filled within (omega arith) in omega (arith, both)
+
+-- The slots up to the end of a range.
+pub slots_upto_range : (ranges : List (ℕ × ℕ)) (i : ℕ) (d : ℕ × ℕ) → i < length ranges
+    → length (slots_in_ranges (take (suc i) ranges)) ≡ length (slots_in_ranges (take i ranges)) + ((get_or ranges i d).1 - (get_or ranges i d).0)
+slots_upto_range ranges i d within =
+    let range = get_or ranges i d in
+    let more : length (slots_in_ranges (take (suc i) ranges)) ≡ length (slots_in_ranges (take i ranges) ++ slots_between range.0 range.1) =
+    ap (λ taken. length (slots_in_ranges taken)) (take-suc ranges i d within) ∙ ap length (slots_push (take i ranges) range.0 range.1) in
+    let both = length-append (slots_in_ranges (take i ranges)) (slots_between range.0 range.1) in
+    let here = length_between range.0 range.1 in
+    omega (arith, more, both, here)
+
+-- ---- the slot at a place
+
+at_with_len : (first n at : ℕ) (slots : List ℕ) → at < n → slice_get (range_with_len first n ++ slots) at ≡ Some (first + at)
+at_with_len first zero at slots within = absurd (omega arith)
+at_with_len first (suc n) zero slots within = let same : first ≡ first + 0 = omega arith in ap Some same
+at_with_len first (suc n) (suc at) slots within =
+    let same : (first + 1) + at ≡ first + suc at = omega arith in
+    at_with_len (first + 1) n at slots (omega arith) ∙ ap Some same
+
+after_with_len : (first n at : ℕ) (slots : List ℕ) → n ≤ at → slice_get (range_with_len first n ++ slots) at ≡ slice_get slots (at - n)
+after_with_len first zero at slots beyond = let same : at ≡ at - 0 = omega arith in ap (slice_get slots) same
+after_with_len first (suc n) zero slots beyond = absurd (omega arith)
+after_with_len first (suc n) (suc at) slots beyond =
+    let same : at - n ≡ suc at - suc n = omega arith in
+    after_with_len (first + 1) n at slots (omega arith) ∙ ap (slice_get slots) same
+
+-- A place in the first of the ranges that are left.
+pub at_in_range : (ranges : List (ℕ × ℕ)) (i at : ℕ) (d : ℕ × ℕ) → i < length ranges → at < (get_or ranges i d).1 - (get_or ranges i d).0
+    → slice_get (slots_in_ranges (drop i ranges)) at ≡ Some ((get_or ranges i d).0 + at)
+at_in_range ranges i at d within here =
+    let range = get_or ranges i d in
+    ap (λ left. slice_get (slots_in_ranges left) at) (drop-cons ranges i d within)
+    ∙ at_with_len range.0 (range.1 - range.0) at (slots_in_ranges (drop (suc i) ranges)) here
+
+-- A place after it.
+pub at_after_range : (ranges : List (ℕ × ℕ)) (i at : ℕ) (d : ℕ × ℕ) → i < length ranges → (get_or ranges i d).1 - (get_or ranges i d).0 ≤ at
+    → slice_get (slots_in_ranges (drop i ranges)) at ≡ slice_get (slots_in_ranges (drop (suc i) ranges)) (at - ((get_or ranges i d).1 - (get_or ranges i d).0))
+at_after_range ranges i at d within beyond =
+    let range = get_or ranges i d in
+    ap (λ left. slice_get (slots_in_ranges left) at) (drop-cons ranges i d within)
+    ∙ after_with_len range.0 (range.1 - range.0) at (slots_in_ranges (drop (suc i) ranges)) beyond

@@ -5,7 +5,7 @@ use Rattle.std.specs.Cmp.Lexicographic.{slice_cmp}
 use Rattle.std.specs.Ordering.{nat_cmp}
 use Rattle.std.specs.declared.cmp.Ordering.TheVariants.{Less, Greater}
 use Rattle.context_model.specs.Orders.{IsIn}
-use Rattle.bag_model.specs.declared.TheConstants.{MAX_FIELDS}
+use Rattle.bag_model.specs.declared.TheConstants.{FIELDS_MAX}
 use Rattle.bag_model.specs.declared.Pick.{Pick}
 use Rattle.bag_model.specs.Scalars as scalars
 use Rattle.bag_model.specs.Shapes as model
@@ -134,7 +134,7 @@ pub record IsReady (bag : KeptBag) : Type 0 where
   pub fields : AreFields (plain_bag bag)
   pub indexed : IsKeptBag bag
   pub in_order : IsInOrder bag
-  pub small : length (slots_of (plain_bag bag)) ≤ MAX_FIELDS
+  pub small : length (slots_of (plain_bag bag)) ≤ FIELDS_MAX
 
 -- How many slots there are before the field at this place, as the ends say.
 abbrev pub start_at : List ℕ → ℕ → ℕ

@@ -16,7 +16,7 @@ ghost use Rattle.field_table.specs.Tables.{capped, Bag, KeptBag, FindsNumber, Ha
 ghost use Rattle.field_table.specs.Plain.{shape_of, kept_shape, field_name, field_number, field_of, nodes_of, kept_bag, IsIndexed, IsIndexedShape, IsIndexedField, IsOrdered};
 
 use crate::slot_paths::SlotPath;
-use bag_model::MAX_LEVELS;
+use bag_model::LEVELS_MAX;
 use outside::{Memory, Text};
 use scalar_types::ScalarKind;
 use std::alloc::Global;
@@ -234,7 +234,7 @@ impl Slots {
     pub(crate) fn put_numbers(&self, slot: usize, path: &mut SlotPath)
         requires ready { IsReady (kept_bag self.now) }
         requires slot { slot < length (slots_of (nodes_of self.now)) }
-        requires room { length path.old + levels (nodes_of self.now) ≤ MAX_LEVELS }
+        requires room { length path.old + levels (nodes_of self.now) ≤ LEVELS_MAX }
         ensures { Some path.new ≡ option_map (λ found. path.old ++ found.numbers) (slice_get (slots_of (nodes_of self.now)) slot) }
     {
         let place = self.place_holding(slot);

@@ -2,13 +2,13 @@
 
 ghost use Rattle.std.specs.Prelude.{◌≡◌, ◌<◌, ◌≤◌, [], ◌∷◌, ◌++◌, length};
 
-use bag_model::MAX_LEVELS;
+use bag_model::LEVELS_MAX;
 use std::marker::Model;
 
-/// The numbers of the fields on the way to a slot, from the outermost bag on: at most `MAX_LEVELS`. It takes no memory.
-#[derive(Drop)]
+/// The numbers of the fields on the way to a slot, from the outermost bag on: at most `LEVELS_MAX`. It takes no memory.
+#[derive(Debug, Drop)]
 pub struct SlotPath {
-    numbers: [u64; MAX_LEVELS],
+    numbers: [u64; LEVELS_MAX],
     len: usize,
 }
 
@@ -17,11 +17,11 @@ impl Model for SlotPath {
 
     ghost Value = { List ℕ };
 
-    ghost use Rattle.bag_model.specs.declared.TheConstants.{MAX_LEVELS};
+    ghost use Rattle.context_model.specs.declared.TheConstants.{LEVELS_MAX};
 
     ghost view = { λ path. take path.len path.numbers };
 
-    ghost invariant = { λ path. path.len ≤ MAX_LEVELS };
+    ghost invariant = { λ path. path.len ≤ LEVELS_MAX };
 }
 
 impl SlotPath {
@@ -30,14 +30,14 @@ impl SlotPath {
         ensures { result ≡ [] }
     {
         SlotPath {
-            numbers: [0; MAX_LEVELS],
+            numbers: [0; LEVELS_MAX],
             len: 0,
         }
     }
 
     /// Adds a number at the end.
     pub(crate) fn push(&mut self, number: u64)
-        requires { length self.old < MAX_LEVELS }
+        requires { length self.old < LEVELS_MAX }
         ensures { self.new ≡ self.old ++ number ∷ [] }
     {
         self.numbers[self.len] = number;
@@ -47,7 +47,7 @@ impl SlotPath {
     /// The numbers, that of the outermost field first.
     pub fn as_slice(&self) -> &[u64]
         ensures numbers { result.now ≡ self.now }
-        ensures few { length self.now ≤ MAX_LEVELS }
+        ensures few { length self.now ≤ LEVELS_MAX }
     {
         &self.numbers[..self.len]
     }

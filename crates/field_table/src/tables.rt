@@ -92,7 +92,7 @@ impl Table {
         self.nodes.shape_at(slot)
     }
 
-    /// The numbers of the fields on the way to a slot, that of the outermost field first: at most `MAX_LEVELS`. It takes
+    /// The numbers of the fields on the way to a slot, that of the outermost field first: at most `LEVELS_MAX`. It takes
     /// no memory.
     pub fn numbers(&self, slot: usize) -> SlotPath
         requires { slot < length (slots_of self.now) }

@@ -1,17 +1,18 @@
 //! The slots that a service knows.
 
-ghost use Rattle.std.specs.Prelude.{◌≡◌, ◌<◌, ◌↔◌, [], ◌++◌, IsTrue, OnOk, OnErr, All};
+ghost use Rattle.std.specs.Prelude.{◌≡◌, ◌<◌, ◌↔◌, [], ◌∷◌, ◌++◌, length, slice_get, IsTrue, OnOk, OnErr, All};
 ghost use Rattle.context_model.specs.Orders.{IsIn};
 ghost use Rattle.bag_model.specs.Views.{Knows};
 ghost use Rattle.field_table.specs.Ranges.{slots_between};
 ghost use Rattle.field_table.specs.Views.{plain_view_of};
 
+use bag_model::FIELDS_MAX;
 use outside::Memory;
 use std::alloc::Global;
 use std::marker::Model;
 
 /// The slots that a service knows.
-#[derive(Drop)]
+#[derive(Debug, Drop)]
 pub enum View {
     All,
     Nothing,
@@ -19,7 +20,7 @@ pub enum View {
 }
 
 /// Slot numbers, each greater than the one before. They are kept as ranges, so that many slots in a row take as little room as one.
-#[derive(Drop)]
+#[derive(Debug, Drop)]
 pub struct SlotSet {
     /// Each as its first slot and the number behind its last.
     ranges: Vec<(usize, usize)>,
@@ -51,6 +52,44 @@ impl SlotSet {
         ensures { IsTrue result ↔ (self.now ≡ []) }
     {
         self.ranges.is_empty()
+    }
+
+    /// How many slots there are. It takes as long as there are ranges.
+    pub fn len(&self) -> usize
+        ensures { result ≡ length self.now }
+    {
+        let mut count = 0;
+        for range in &self.ranges {
+            // The numbers before the range that are no slots of the set.
+            let absent = range.0 - count;
+            count = range.1 - absent;
+        }
+        count
+    }
+
+    /// The slot that has `place` slots before it; `None` where there are not so many. It takes as long as there are ranges.
+    pub fn get(&self, place: usize) -> Option<usize>
+        ensures { result ≡ slice_get self.now place }
+    {
+        let mut rest = place;
+        for range in &self.ranges {
+            let count = range.1 - range.0;
+            if rest < count {
+                return Some(range.0 + rest);
+            }
+            rest -= count;
+        }
+        None
+    }
+
+    /// Adds one slot at the end. Want of memory leaves the set as it was.
+    pub fn push(&mut self, slot: usize) -> Result<(), Memory>
+        requires greater { All (λ held. held < slot) self.old }
+        requires few { slot < FIELDS_MAX }
+        ensures ok { OnOk result (self.new ≡ self.old ++ slot ∷ []) }
+        ensures err { OnErr result (self.new ≡ self.old) }
+    {
+        self.push_range(slot, slot + 1)
     }
 
     /// Adds the slots from `first` on, up to but not `end`, at the end. Want of memory leaves the set as it was.

@@ -1,6 +1,6 @@
 -- The laws of a form for choices and repetitions, whose parts no token begins both.
 use Rattle.std.proofs.Common.{◌≡◌, Bool, true, false, ◌||◌, List, [], ◌∷◌, ◌++◌, ◌⊎◌, inl, inr, refl, sym, ap, ◌∙◌, subst, append_assoc}
-use Rattle.grammar_model.specs.Forms.{Form, either, Repeats, AreMany, many, at_end}
+use Rattle.grammar_model.specs.Grammars.{Grammar, either, Repeats, AreMany, many, at_end}
 use Rattle.grammar_model.proofs.FormLaws.{Framed, Starts, IsLawful, IsEnder, Apart, starts_at, starts_not_empty, ender_of}
 
 or_left : (a b : Bool) → a ≡ true → (a || b) ≡ true
@@ -23,7 +23,7 @@ module _ {T : Type 0} (first then_ : T → Bool) where
       let same : p.it ≡ q.it = cc in
       apart q.it (ap first (sym same) ∙ p.passes) q.passes
 
-module _ {T A : Type 0} (f g : Form T A) (first then_ : T → Bool) (lf : IsLawful f first) (lg : IsLawful g then_) (apart : Apart first then_) where
+module _ {T A : Type 0} (f g : Grammar T A) (first then_ : T → Bool) (lf : IsLawful f first) (lg : IsLawful g then_) (apart : Apart first then_) where
   either_framed : (ts : List T) (a : A) (rest : List T) → f.reads ts a rest ⊎ g.reads ts a rest → Framed (either f g) ts a rest
   either_framed ts a rest (inl r) =
       let it = lf.framed ts a rest r in record { front = it.front; cut = it.cut; again = λ more. inl (it.again more) }
@@ -79,7 +79,7 @@ module _ {T : Type 0} where
   }
 
 -- a repetition, behind which an ender stands
-module _ {T A B : Type 0} (f : Form T A) (g : Form T B) (first then_ : T → Bool) (lf : IsLawful f first) (lg : IsEnder g then_) (apart : Apart first then_) where
+module _ {T A B : Type 0} (f : Grammar T A) (g : Grammar T B) (first then_ : T → Bool) (lf : IsLawful f first) (lg : IsEnder g then_) (apart : Apart first then_) where
   pub item_or_end : (ts : List T) (a : A) (b : B) (rest left : List T) → f.reads ts a rest → g.reads ts b left → ⊥
   item_or_end ts a b rest left r s =
       let it = lf.read_starts ts a rest r in
@@ -129,7 +129,7 @@ module _ {T A B : Type 0} (f : Form T A) (g : Form T B) (first then_ : T → Boo
   }
 
 -- a repetition that a sentence of a lawful form ends
-module _ {T A B : Type 0} (f : Form T A) (g : Form T B) (first then_ : T → Bool) (lf : IsLawful f first) (lg : IsLawful g then_) (apart : Apart first then_) where
+module _ {T A B : Type 0} (f : Grammar T A) (g : Grammar T B) (first then_ : T → Bool) (lf : IsLawful f first) (lg : IsLawful g then_) (apart : Apart first then_) where
   repeats_framed : (items : List A) (ts mid : List T) → Repeats f ts items mid → (front : List T) × (ts ≡ front ++ mid) × ((more : List T) → Repeats f (front ++ more) items more)
   repeats_framed [] ts mid p = ([], p, λ more. refl)
   repeats_framed (x ∷ items) ts mid p =

@@ -1,10 +1,10 @@
 -- The laws that a form keeps, and that each way to build forms keeps.
 use Rattle.std.proofs.Common.{◌≡◌, Bool, true, Option, Some, List, [], ◌∷◌, ◌++◌, ◌⊎◌, inl, inr, refl, sym, ap, ◌∙◌, subst, append_assoc}
 use Rattle.std.specs.Option.{is_some}
-use Rattle.grammar_model.specs.Forms.{Form, BeginsOne, token, AreTwo, BeginsSecond, two, IsMade, made, nothing}
+use Rattle.grammar_model.specs.Grammars.{Grammar, BeginsOne, token, AreTwo, BeginsSecond, two, IsMade, made, nothing}
 
 -- a sentence is a front of the list, and is one before any other rest
-pub record Framed {T A : Type 0} (f : Form T A) (ts : List T) (a : A) (rest : List T) : Type 0 where
+pub record Framed {T A : Type 0} (f : Grammar T A) (ts : List T) (a : A) (rest : List T) : Type 0 where
   pub front : List T
   pub cut : ts ≡ front ++ rest
   pub again : (more : List T) → f.reads (front ++ more) a more
@@ -16,7 +16,7 @@ pub record Starts {T : Type 0} (first : T → Bool) (ts : List T) : Type 0 where
   pub is : ts ≡ it ∷ more
   pub passes : first it ≡ true
 
-pub record IsLawful {T A : Type 0} (f : Form T A) (first : T → Bool) : Type 0 where
+pub record IsLawful {T A : Type 0} (f : Grammar T A) (first : T → Bool) : Type 0 where
   pub framed : (ts : List T) (a : A) (rest : List T) → f.reads ts a rest → Framed f ts a rest
   pub one : (ts : List T) (a b : A) (rest left : List T) → f.reads ts a rest → f.reads ts b left → (a ≡ b) × (rest ≡ left)
   pub whole : (ts : List T) (a : A) (rest : List T) → f.begins ts → f.reads ts a rest → rest ≡ []
@@ -25,7 +25,7 @@ pub record IsLawful {T A : Type 0} (f : Form T A) (first : T → Bool) : Type 0 
   pub empty : f.begins []
 
 -- what may end a repetition, also the end of the list
-pub record IsEnder {T A : Type 0} (f : Form T A) (first : T → Bool) : Type 0 where
+pub record IsEnder {T A : Type 0} (f : Grammar T A) (first : T → Bool) : Type 0 where
   pub one : (ts : List T) (a b : A) (rest left : List T) → f.reads ts a rest → f.reads ts b left → (a ≡ b) × (rest ≡ left)
   pub read_first : (t : T) (more : List T) (a : A) (rest : List T) → f.reads (t ∷ more) a rest → first t ≡ true
   pub begun_starts : (t : T) (more : List T) → f.begins (t ∷ more) → first t ≡ true
@@ -42,7 +42,7 @@ starts_at first t more s = let same : t ≡ s.it = let e = s.is in cc in ap firs
 pub starts_not_empty : {T : Type 0} (first : T → Bool) → Starts first [] → ⊥
 starts_not_empty first s = let e = s.is in cc
 
-pub ender_of : {T A : Type 0} (f : Form T A) (first : T → Bool) → IsLawful f first → IsEnder f first
+pub ender_of : {T A : Type 0} (f : Grammar T A) (first : T → Bool) → IsLawful f first → IsEnder f first
 ender_of f first law = record {
   one = law.one;
   read_first = λ t more a rest reads. starts_at first t more (law.read_starts (t ∷ more) a rest reads);
@@ -86,7 +86,7 @@ module _ {T A : Type 0} where
     empty = refl;
   }
 
-module _ {T A B : Type 0} (make : A → B) (f : Form T A) (first : T → Bool) (law : IsLawful f first) where
+module _ {T A B : Type 0} (make : A → B) (f : Grammar T A) (first : T → Bool) (law : IsLawful f first) where
   made_framed : (ts : List T) (b : B) (rest : List T) → IsMade make f ts b rest → Framed (made make f) ts b rest
   made_framed ts b rest r =
       let it = law.framed ts r.said rest r.reads in
@@ -104,7 +104,7 @@ module _ {T A B : Type 0} (make : A → B) (f : Form T A) (first : T → Bool) (
     empty = law.empty;
   }
 
-module _ {T A B : Type 0} (f : Form T A) (g : Form T B) (first then_ : T → Bool) (lf : IsLawful f first) (lg : IsLawful g then_) where
+module _ {T A B : Type 0} (f : Grammar T A) (g : Grammar T B) (first then_ : T → Bool) (lf : IsLawful f first) (lg : IsLawful g then_) where
   two_framed : (ts : List T) (both : A × B) (rest : List T) → AreTwo f g ts both rest → Framed (two f g) ts both rest
   two_framed ts both rest r =
       let a = lf.framed ts both.0 r.between r.first in

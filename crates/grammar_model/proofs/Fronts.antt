@@ -2,10 +2,10 @@
 use Rattle.std.proofs.Common.{◌≡◌, ◌+◌, ◌<◌, ◌≤◌, Bool, true, Option, List, [], ◌∷◌, ◌++◌, ◌⊎◌, length, inl, inr, refl, sym, ap, ◌∙◌, subst, ⊎_elim, arith, length-append}
 use Rattle.std.specs.Option.{is_some}
 use Rattle.std.proofs.str.Laws.{order}
-use Rattle.grammar_model.specs.Forms.{Form, BeginsOne, token, BeginsSecond, two, either, made, Repeats, BeginsMany, many, nothing, at_end}
+use Rattle.grammar_model.specs.Grammars.{Grammar, BeginsOne, token, BeginsSecond, two, either, made, Repeats, BeginsMany, many, nothing, at_end}
 use Rattle.grammar_model.proofs.FormLaws.{IsLawful}
 
-pub record IsFronted {T A : Type 0} (f : Form T A) : Type 0 where
+pub record IsFronted {T A : Type 0} (f : Grammar T A) : Type 0 where
   pub read : (ts : List T) (a : A) (rest p q : List T) → f.reads ts a rest → ts ≡ p ++ q → length rest ≤ length q → f.begins p
   pub begun : (ts p q : List T) → f.begins ts → ts ≡ p ++ q → f.begins p
 
@@ -57,11 +57,11 @@ module _ {T : Type 0} where
   pub fronted_ended : IsFronted (at_end {T = T})
   fronted_ended = record { read = λ ts a rest p q r e short. empty_front p q (sym r.0 ∙ e); begun = λ ts p q b e. empty_front p q (sym b ∙ e) }
 
-module _ {T A B : Type 0} (make : A → B) (f : Form T A) (ff : IsFronted f) where
+module _ {T A B : Type 0} (make : A → B) (f : Grammar T A) (ff : IsFronted f) where
   pub fronted_made : IsFronted (made make f)
   fronted_made = record { read = λ ts a rest p q r e short. ff.read ts r.said rest p q r.reads e short; begun = ff.begun }
 
-module _ {T A : Type 0} (f g : Form T A) (ff : IsFronted f) (gg : IsFronted g) where
+module _ {T A : Type 0} (f g : Grammar T A) (ff : IsFronted f) (gg : IsFronted g) where
   either_read : (ts : List T) (a : A) (rest p q : List T) → f.reads ts a rest ⊎ g.reads ts a rest → ts ≡ p ++ q → length rest ≤ length q → f.begins p ⊎ g.begins p
   either_read ts a rest p q (inl r) e short = inl (ff.read ts a rest p q r e short)
   either_read ts a rest p q (inr r) e short = inr (gg.read ts a rest p q r e short)
@@ -73,7 +73,7 @@ module _ {T A : Type 0} (f g : Form T A) (ff : IsFronted f) (gg : IsFronted g) w
   pub fronted_either : IsFronted (either f g)
   fronted_either = record { read = either_read; begun = either_begun }
 
-module _ {T A B : Type 0} (f : Form T A) (g : Form T B) (first : T → Bool) (lf : IsLawful f first) (ff : IsFronted f) (gg : IsFronted g) where
+module _ {T A B : Type 0} (f : Grammar T A) (g : Grammar T B) (first : T → Bool) (lf : IsLawful f first) (ff : IsFronted f) (gg : IsFronted g) where
   -- behind a sentence of f, whatever g does with the front that is left
   behind_first : (ts : List T) (a : A) (mid p q : List T) → f.reads ts a mid → ts ≡ p ++ q → ((more : List T) → mid ≡ more ++ q → g.begins more) → f.begins p ⊎ BeginsSecond f g p
   behind_first ts a mid p q r e next =

@@ -1,12 +1,12 @@
 -- A form that stops and, with one more token, goes on in another form: what is built from the two does so too.
 use Rattle.std.proofs.Common.{Bool, List, [], ◌∷◌, ◌++◌, inl, inr, refl, sym, ap, ◌∙◌, subst, append_assoc}
-use Rattle.grammar_model.specs.Forms.{Form, two, either, made, Repeats, many}
+use Rattle.grammar_model.specs.Grammars.{Grammar, two, either, made, Repeats, many}
 use Rattle.grammar_model.specs.Stops.{GoesOn}
 use Rattle.grammar_model.proofs.FormLaws.{IsLawful, IsEnder, Apart}
 use Rattle.grammar_model.proofs.Growth.{Grows}
 use Rattle.grammar_model.proofs.StopLaws.{IsNotHere, stops_made, stops_first, stops_second, stops_left, stops_right, stops_item, stops_last, stops_later}
 
-module _ {T A B : Type 0} (make : A → B) (f wide : Form T A) where
+module _ {T A B : Type 0} (make : A → B) (f wide : Grammar T A) where
   pub goes_made : (ts bad : List T) → GoesOn f wide ts bad → GoesOn (made make f) (made make wide) ts bad
   goes_made ts bad s = record {
     stops = stops_made make f ts bad s.stops;
@@ -18,7 +18,7 @@ module _ {T A B : Type 0} (make : A → B) (f wide : Form T A) where
     on = s.on;
   }
 
-module _ {T A B : Type 0} (f wide : Form T A) (g broad : Form T B) where
+module _ {T A B : Type 0} (f wide : Grammar T A) (g broad : Grammar T B) where
   pub goes_first : (ts bad : List T) → GoesOn f wide ts bad → GoesOn (two f g) (two wide broad) ts bad
   goes_first ts bad s = record {
     stops = stops_first f g ts bad s.stops;
@@ -30,7 +30,7 @@ module _ {T A B : Type 0} (f wide : Form T A) (g broad : Form T B) where
     on = inl s.on;
   }
 
-module _ {T A B : Type 0} (f wide : Form T A) (g broad : Form T B) (first wide_first : T → Bool) (lf : IsLawful f first) (lw : IsLawful wide wide_first) where
+module _ {T A B : Type 0} (f wide : Grammar T A) (g broad : Grammar T B) (first wide_first : T → Bool) (lf : IsLawful f first) (lw : IsLawful wide wide_first) where
   pub goes_second : (ts mid bad : List T) (a : A) → f.reads ts a mid → wide.reads ts a mid → GoesOn g broad mid bad → GoesOn (two f g) (two wide broad) ts bad
   goes_second ts mid bad a r w s =
       let it = lw.framed ts a mid w in
@@ -49,7 +49,7 @@ module _ {T A B : Type 0} (f wide : Form T A) (g broad : Form T B) (first wide_f
         });
       }
 
-module _ {T A : Type 0} (f g wide broad : Form T A) where
+module _ {T A : Type 0} (f g wide broad : Grammar T A) where
   pub goes_left : (ts bad : List T) → IsNotHere g ts → GoesOn f wide ts bad → GoesOn (either f g) (either wide broad) ts bad
   goes_left ts bad absent s = record {
     stops = stops_left f g ts bad absent s.stops;
@@ -72,7 +72,7 @@ module _ {T A : Type 0} (f g wide broad : Form T A) where
     on = inr s.on;
   }
 
-module _ {T A B : Type 0} (f wide : Form T A) (g broad : Form T B) where
+module _ {T A B : Type 0} (f wide : Grammar T A) (g broad : Grammar T B) where
   pub goes_item : (ts bad : List T) → IsNotHere g ts → GoesOn f wide ts bad → GoesOn (many f g) (many wide broad) ts bad
   goes_item ts bad absent s = record {
     stops = stops_item f g ts bad absent s.stops;
@@ -95,7 +95,7 @@ module _ {T A B : Type 0} (f wide : Form T A) (g broad : Form T B) where
     on = record { said = []; between = s.front ++ s.next ∷ []; items = refl; next = inr s.on };
   }
 
-module _ {T A B : Type 0} (f wide : Form T A) (g broad : Form T B) (first wide_first then_ : T → Bool) (lf : IsLawful f first) (lw : IsLawful wide wide_first) (lg : IsEnder g then_) (apart : Apart first then_) where
+module _ {T A B : Type 0} (f wide : Grammar T A) (g broad : Grammar T B) (first wide_first then_ : T → Bool) (lf : IsLawful f first) (lw : IsLawful wide wide_first) (lg : IsEnder g then_) (apart : Apart first then_) where
   pub goes_later : (ts mid bad : List T) (a : A) → f.reads ts a mid → wide.reads ts a mid → GoesOn (many f g) (many wide broad) mid bad → GoesOn (many f g) (many wide broad) ts bad
   goes_later ts mid bad a r w s =
       let it = lw.framed ts a mid w in

@@ -1,23 +1,23 @@
 -- A form that reads and begins all that another does: what is built from it does so too.
 use Rattle.std.proofs.Common.{List, [], ◌∷◌, ◌⊎◌, inl, inr}
-use Rattle.grammar_model.specs.Forms.{Form, BeginsSecond, two, either, made, Repeats, many}
+use Rattle.grammar_model.specs.Grammars.{Grammar, BeginsSecond, two, either, made, Repeats, many}
 
-pub record Grows {T A : Type 0} (f wide : Form T A) : Type 0 where
+pub record Grows {T A : Type 0} (f wide : Grammar T A) : Type 0 where
   pub read : (ts : List T) (a : A) (rest : List T) → f.reads ts a rest → wide.reads ts a rest
   pub begun : (ts : List T) → f.begins ts → wide.begins ts
 
-module _ {T A : Type 0} (f : Form T A) where
+module _ {T A : Type 0} (f : Grammar T A) where
   pub grows_same : Grows f f
   grows_same = record { read = λ ts a rest r. r; begun = λ ts b. b }
 
-module _ {T A B : Type 0} (make : A → B) (f wide : Form T A) (grows : Grows f wide) where
+module _ {T A B : Type 0} (make : A → B) (f wide : Grammar T A) (grows : Grows f wide) where
   pub grows_made : Grows (made make f) (made make wide)
   grows_made = record {
     read = λ ts a rest r. record { said = r.said; reads = grows.read ts r.said rest r.reads; is = r.is };
     begun = grows.begun;
   }
 
-module _ {T A B : Type 0} (f wide : Form T A) (g broad : Form T B) (gf : Grows f wide) (gg : Grows g broad) where
+module _ {T A B : Type 0} (f wide : Grammar T A) (g broad : Grammar T B) (gf : Grows f wide) (gg : Grows g broad) where
   two_begun : (ts : List T) → f.begins ts ⊎ BeginsSecond f g ts → wide.begins ts ⊎ BeginsSecond wide broad ts
   two_begun ts (inl b) = inl (gf.begun ts b)
   two_begun ts (inr b) =
@@ -43,7 +43,7 @@ module _ {T A B : Type 0} (f wide : Form T A) (g broad : Form T B) (gf : Grows f
     begun = λ ts b. record { said = b.said; between = b.between; items = repeats_grow b.said ts b.between b.items; next = next_grows b.between b.next };
   }
 
-module _ {T A : Type 0} (f g wide broad : Form T A) (gf : Grows f wide) (gg : Grows g broad) where
+module _ {T A : Type 0} (f g wide broad : Grammar T A) (gf : Grows f wide) (gg : Grows g broad) where
   either_read : (ts : List T) (a : A) (rest : List T) → f.reads ts a rest ⊎ g.reads ts a rest → wide.reads ts a rest ⊎ broad.reads ts a rest
   either_read ts a rest (inl r) = inl (gf.read ts a rest r)
   either_read ts a rest (inr r) = inr (gg.read ts a rest r)

@@ -1,6 +1,6 @@
 -- Where a form that is built from others stops.
 use Rattle.std.proofs.Common.{◌≡◌, Bool, true, false, List, [], ◌∷◌, ◌++◌, ◌⊎◌, inl, inr, refl, sym, ap, ◌∙◌, subst, append_assoc}
-use Rattle.grammar_model.specs.Forms.{Form, AreTwo, BeginsSecond, two, either, made, Repeats, many}
+use Rattle.grammar_model.specs.Grammars.{Grammar, AreTwo, BeginsSecond, two, either, made, Repeats, many}
 use Rattle.grammar_model.specs.Stops.{behind, first_passes, Stops}
 use Rattle.grammar_model.proofs.FormLaws.{Framed, IsLawful, IsEnder, Apart, starts_at, starts_not_empty}
 
@@ -21,11 +21,11 @@ module _ {T : Type 0} where
       let it = same_start front bad more in (it.0, it.1 ∙ ap (λ xs. behind xs it.0) (sym e))
 
 -- a form that neither reads nor begins with the first token of this list, nor reads the empty list if this is empty
-pub record IsNotHere {T A : Type 0} (f : Form T A) (ts : List T) : Type 0 where
+pub record IsNotHere {T A : Type 0} (f : Grammar T A) (ts : List T) : Type 0 where
   pub begun : (t : T) (rest more : List T) → ts ≡ t ∷ rest → f.begins (t ∷ more) → ⊥
   pub read : (more : List T) (a : A) (rest : List T) → f.reads (behind ts more) a rest → ⊥
 
-module _ {T A : Type 0} (f : Form T A) (first : T → Bool) (law : IsLawful f first) where
+module _ {T A : Type 0} (f : Grammar T A) (first : T → Bool) (law : IsLawful f first) where
   not_read : (ts more : List T) (a : A) (rest : List T) → first_passes first ts ≡ false → f.reads (behind ts more) a rest → ⊥
   not_read [] more a rest e r = starts_not_empty first (law.read_starts [] a rest r)
   not_read (t ∷ ts) more a rest e r = true_or_false (first t) (starts_at first t more (law.read_starts (t ∷ more) a rest r)) e
@@ -41,7 +41,7 @@ module _ {T A : Type 0} (f : Form T A) (first : T → Bool) (law : IsLawful f fi
       let it = not_here ts e in
       record { front = []; cut = refl; begun = law.empty; ends = it.begun; none = it.read }
 
-module _ {T A : Type 0} (g : Form T A) (first then_ : T → Bool) (law : IsEnder g then_) (apart : Apart first then_) where
+module _ {T A : Type 0} (g : Grammar T A) (first then_ : T → Bool) (law : IsEnder g then_) (apart : Apart first then_) where
   apart_read : (ts more : List T) (a : A) (rest : List T) → first_passes first ts ≡ true → g.reads (behind ts more) a rest → ⊥
   apart_read [] more a rest e r = true_or_false false e refl
   apart_read (t ∷ ts) more a rest e r = apart t e (law.read_first t more a rest r)
@@ -53,7 +53,7 @@ module _ {T A : Type 0} (g : Form T A) (first then_ : T → Bool) (law : IsEnder
   }
 
 -- what isn't here isn't behind a front of the list either
-module _ {T A : Type 0} (f : Form T A) (ts : List T) (absent : IsNotHere f ts) where
+module _ {T A : Type 0} (f : Grammar T A) (ts : List T) (absent : IsNotHere f ts) where
   first_of : (front bad : List T) (t : T) (rest more : List T) → ts ≡ front ++ bad → bad ≡ t ∷ rest → (u : T) × (left tail : List T) × (ts ≡ u ∷ tail) × (front ++ t ∷ more ≡ u ∷ left)
   first_of [] bad t rest more e is = (t, more, rest, e ∙ is, refl)
   first_of (u ∷ front) bad t rest more e is = (u, front ++ t ∷ more, front ++ bad, e, refl)
@@ -68,7 +68,7 @@ module _ {T A : Type 0} (f : Form T A) (ts : List T) (absent : IsNotHere f ts) w
       let it = starts_as ts front bad more e in
       absent.read it.0 a rest (subst (λ xs. f.reads xs a rest) it.1 r)
 
-module _ {T A B : Type 0} (make : A → B) (f : Form T A) where
+module _ {T A B : Type 0} (make : A → B) (f : Grammar T A) where
   pub stops_made : (ts bad : List T) → Stops f ts bad → Stops (made make f) ts bad
   stops_made ts bad s = record {
     front = s.front;
@@ -78,7 +78,7 @@ module _ {T A B : Type 0} (make : A → B) (f : Form T A) where
     none = λ more b rest r. s.none more r.said rest r.reads;
   }
 
-module _ {T A B : Type 0} (f : Form T A) (g : Form T B) where
+module _ {T A B : Type 0} (f : Grammar T A) (g : Grammar T B) where
   first_ends : (ts bad : List T) (s : Stops f ts bad) (t : T) (rest more : List T) → bad ≡ t ∷ rest → f.begins (s.front ++ t ∷ more) ⊎ BeginsSecond f g (s.front ++ t ∷ more) → ⊥
   first_ends ts bad s t rest more is (inl b) = s.ends t rest more is b
   first_ends ts bad s t rest more is (inr b) =
@@ -93,7 +93,7 @@ module _ {T A B : Type 0} (f : Form T A) (g : Form T B) where
     none = λ more both rest r. s.none more both.0 r.between r.first;
   }
 
-module _ {T A B : Type 0} (f : Form T A) (g : Form T B) (first : T → Bool) (law : IsLawful f first) where
+module _ {T A B : Type 0} (f : Grammar T A) (g : Grammar T B) (first : T → Bool) (law : IsLawful f first) where
   -- a front that is read can't go on being begun
   pub read_not_begun : (front more : List T) (a : A) (t : T) (rest : List T) → f.reads (front ++ more) a more → more ≡ t ∷ rest → f.begins (front ++ more) → ⊥
   read_not_begun front more a t rest r is b =
@@ -131,7 +131,7 @@ module _ {T A B : Type 0} (f : Form T A) (g : Form T B) (first : T → Bool) (la
         none = λ more both rest q. second_none ts mid bad a it s more both rest (subst (λ xs. AreTwo f g xs both rest) (append_assoc it.front s.front (behind bad more)) q);
       }
 
-module _ {T A : Type 0} (f g : Form T A) where
+module _ {T A : Type 0} (f g : Grammar T A) where
   left_ends : (ts bad : List T) (s : Stops f ts bad) → IsNotHere g ts → (t : T) (rest more : List T) → bad ≡ t ∷ rest → f.begins (s.front ++ t ∷ more) ⊎ g.begins (s.front ++ t ∷ more) → ⊥
   left_ends ts bad s absent t rest more is (inl b) = s.ends t rest more is b
   left_ends ts bad s absent t rest more is (inr b) = not_begun g ts absent s.front bad t rest more s.cut is b
@@ -166,7 +166,7 @@ module _ {T A : Type 0} (f g : Form T A) where
     none = right_none ts bad s absent;
   }
 
-module _ {T A B : Type 0} (f : Form T A) (g : Form T B) where
+module _ {T A B : Type 0} (f : Grammar T A) (g : Grammar T B) where
   -- an item stops, and no end is here
   item_ends : (ts bad : List T) (s : Stops f ts bad) → IsNotHere g ts → (t : T) (rest more : List T) → bad ≡ t ∷ rest → (said : List A) (between : List T) → Repeats f (s.front ++ t ∷ more) said between → f.begins between ⊎ g.begins between → ⊥
   item_ends ts bad s absent t rest more is [] between e (inl b) = s.ends t rest more is (subst f.begins (sym e) b)
@@ -207,7 +207,7 @@ module _ {T A B : Type 0} (f : Form T A) (g : Form T B) where
     none = λ more all rest r. last_none ts bad s absent more all.0 all.1 r.between rest r.items r.last;
   }
 
-module _ {T A B : Type 0} (f : Form T A) (g : Form T B) (first then_ : T → Bool) (lf : IsLawful f first) (lg : IsEnder g then_) (apart : Apart first then_) where
+module _ {T A B : Type 0} (f : Grammar T A) (g : Grammar T B) (first then_ : T → Bool) (lf : IsLawful f first) (lg : IsEnder g then_) (apart : Apart first then_) where
   read_or_end_begun : (xs : List T) (a : A) (rest : List T) → f.reads xs a rest → g.begins xs → ⊥
   read_or_end_begun xs a rest r b =
       let it = lf.read_starts xs a rest r in

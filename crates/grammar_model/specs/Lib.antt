@@ -1,4 +1,4 @@
 -- The rule: forms, and the ways to build them.
-pub mod Forms
+pub mod Grammars
 -- What the functions of a parser say of where a form stops.
 pub mod Stops

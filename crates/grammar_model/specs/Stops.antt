@@ -1,6 +1,6 @@
 -- Where a form stops in a list of tokens.
 use Rattle.std.specs.Prelude.{◌≡◌, ℕ, ◌≤◌, Bool, false, List, [], ◌∷◌, ◌++◌}
-use Rattle.grammar_model.specs.Forms.{Form}
+use Rattle.grammar_model.specs.Grammars.{Grammar}
 
 -- The token at which a list goes wrong, if there is one, and then any others.
 abbrev pub behind : {T : Type 0} → List T → List T → List T
@@ -13,7 +13,7 @@ first_passes test [] = false
 first_passes test (t ∷ more) = test t
 
 -- The list begins the form up to its bad part, no list with the next token behind does, and no sentence is such a list.
-pub record Stops {T A : Type 0} (f : Form T A) (ts bad : List T) : Type 0 where
+pub record Stops {T A : Type 0} (f : Grammar T A) (ts bad : List T) : Type 0 where
   pub front : List T
   pub cut : ts ≡ front ++ bad
   pub begun : f.begins front
@@ -21,7 +21,7 @@ pub record Stops {T A : Type 0} (f : Form T A) (ts bad : List T) : Type 0 where
   pub none : (more : List T) (a : A) (rest : List T) → f.reads (front ++ behind bad more) a rest → ⊥
 
 -- It stops in one form, and with the next token it goes on in another.
-pub record GoesOn {T A B : Type 0} (f : Form T A) (g : Form T B) (ts bad : List T) : Type 0 where
+pub record GoesOn {T A B : Type 0} (f : Grammar T A) (g : Grammar T B) (ts bad : List T) : Type 0 where
   pub stops : Stops f ts bad
   pub front : List T
   pub next : T
@@ -31,9 +31,9 @@ pub record GoesOn {T A B : Type 0} (f : Form T A) (g : Form T B) (ts bad : List 
   pub on : g.begins (front ++ next ∷ [])
 
 -- A family has a form for each number. From this number on all read the same.
-abbrev pub Taken : {T A : Type 0} → (ℕ → Form T A) → ℕ → List T → A → List T → Type 0
+abbrev pub Taken : {T A : Type 0} → (ℕ → Grammar T A) → ℕ → List T → A → List T → Type 0
 Taken family room ts a rest = (n : ℕ) → room ≤ n → (family n).reads ts a rest
 
 -- From this number on all stop at the same token.
-abbrev pub StopsFrom : {T A : Type 0} → (ℕ → Form T A) → ℕ → List T → List T → Type 0
+abbrev pub StopsFrom : {T A : Type 0} → (ℕ → Grammar T A) → ℕ → List T → List T → Type 0
 StopsFrom family room ts bad = (n : ℕ) → room ≤ n → Stops (family n) ts bad

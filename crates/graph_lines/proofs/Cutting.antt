@@ -1,7 +1,7 @@
 -- What is taken from the front of a text up to its first space.
 use Rattle.std.proofs.Common.{◌≡◌, ℕ, List, sym, ◌∙◌}
 use Rattle.std.specs.Fmt.{decimal}
-use Rattle.graph_lines.specs.Forms.{IsName, IsPath, IsNumber, HasNoSpace}
+use Rattle.graph_lines.specs.Forms.{IsWord, IsPath, IsNumber, HasNoSpace}
 use Rattle.graph_lines.specs.Reading.{IsCut, NameThen, PathThen, NumberThen, IsNumberText}
 use Rattle.graph_lines.proofs.Separated.{same_cut}
 use Rattle.graph_lines.proofs.Names.{name_no_space, path_no_space}
@@ -23,7 +23,7 @@ one_front spell fits free inj text a rest p b other q =
     let cut = same_cut 32 (spell b) (spell a) other rest (free b q.0) (free a p.0) (sym q.1 ∙ p.1) in
     (inj b a q.0 p.0 cut.0, cut.1)
 
-pub other_name : (text word more : List ℕ) → HasNoSpace word → IsCut text word more → (IsName word → ⊥) → (name rest : List ℕ) → NameThen text name rest → ⊥
+pub other_name : (text word more : List ℕ) → HasNoSpace word → IsCut text word more → (IsWord word → ⊥) → (name rest : List ℕ) → NameThen text name rest → ⊥
 other_name text word more none is bad name rest h =
     let same : word ≡ name = (same_cut 32 word name more rest none (name_no_space name h.0) (sym is ∙ h.1)).0 in
     bad (rw same h.0)
@@ -34,7 +34,7 @@ other_path text word more none is bad path rest h =
     bad (rw same h.0)
 
 pub one_name : (text name rest : List ℕ) → NameThen text name rest → (b other : List ℕ) → NameThen text b other → (b ≡ name) × (other ≡ rest)
-one_name = one_front (λ (n : List ℕ). n) IsName name_no_space (λ a b p q e. e)
+one_name = one_front (λ (n : List ℕ). n) IsWord name_no_space (λ a b p q e. e)
 
 pub one_path : (text path rest : List ℕ) → PathThen text path rest → (b other : List ℕ) → PathThen text b other → (b ≡ path) × (other ≡ rest)
 one_path = one_front (λ (n : List ℕ). n) IsPath path_no_space (λ a b p q e. e)

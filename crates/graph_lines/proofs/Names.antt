@@ -5,7 +5,7 @@ use Rattle.std.specs.List.{AllByRecursion, list_all, list_any, join_with_byte}
 use Rattle.std.proofs.lemmas.Bool.{eqb-true, and_parts}
 use Rattle.bag_model.specs.Slots.{dotted}
 use Rattle.bag_model.specs.Words.{is_letter}
-use Rattle.graph_lines.specs.Forms.{IsName, IsPath, HasNoSpace}
+use Rattle.graph_lines.specs.Forms.{IsWord, IsPath, HasNoSpace}
 use Rattle.graph_lines.proofs.Separated.{IsFree, or_false, free_append}
 
 -- A letter or a digit.
@@ -30,17 +30,17 @@ letter_more true b h = refl
 letter_more false b h = absurd (cc h)
 
 -- A name has no byte that is neither a letter nor a digit.
-pub name_free : (sep : ℕ) (bytes : List ℕ) → is_more sep ≡ false → IsName bytes → IsFree sep bytes
+pub name_free : (sep : ℕ) (bytes : List ℕ) → is_more sep ≡ false → IsWord bytes → IsFree sep bytes
 name_free sep [] apart h = refl
 name_free sep (b ∷ bs) apart h =
     let parts = and_parts (is_letter b) (list_all is_more bs) h in
     or_false (b == sep) (list_any (λ byte. byte == sep) bs) (byte_free sep b apart (letter_more (is_letter b) (is_ascii_digit b) parts.0)) (bytes_free sep bs apart parts.1)
 
-pub names_free : (sep : ℕ) (names : List (List ℕ)) → is_more sep ≡ false → AllByRecursion IsName names → AllByRecursion (IsFree sep) names
+pub names_free : (sep : ℕ) (names : List (List ℕ)) → is_more sep ≡ false → AllByRecursion IsWord names → AllByRecursion (IsFree sep) names
 names_free sep [] apart h = tt
 names_free sep (name ∷ names) apart h = (name_free sep name apart h.0, names_free sep names apart h.1)
 
-pub name_no_space : (bytes : List ℕ) → IsName bytes → HasNoSpace bytes
+pub name_no_space : (bytes : List ℕ) → IsWord bytes → HasNoSpace bytes
 name_no_space bytes h = name_free 32 bytes refl h
 
 pub dotted-joined : (names : List (List ℕ)) → dotted names ≡ join_with_byte 46 names
@@ -48,7 +48,7 @@ dotted-joined [] = refl
 dotted-joined (a ∷ []) = refl
 dotted-joined (a ∷ b ∷ names) = ap (λ (l : List ℕ). a ++ 46 ∷ l) (dotted-joined (b ∷ names))
 
-dotted_free : (names : List (List ℕ)) → AllByRecursion IsName names → HasNoSpace (dotted names)
+dotted_free : (names : List (List ℕ)) → AllByRecursion IsWord names → HasNoSpace (dotted names)
 dotted_free [] h = refl
 dotted_free (a ∷ []) h = name_no_space a h.0
 dotted_free (a ∷ b ∷ names) h = free_append 32 a (46 ∷ dotted (b ∷ names)) (name_no_space a h.0) (dotted_free (b ∷ names) h.1)

@@ -4,15 +4,15 @@ use Rattle.std.specs.List.{AllByRecursion, list_all}
 use Rattle.std.proofs.lemmas.Bool.{and_parts, and_from}
 use Rattle.std.proofs.lemmas.List.Splits.{length-slice_split, join_with_byte-slice_split}
 use Rattle.bag_model.specs.Words.{is_word}
-use Rattle.graph_lines.specs.Forms.{IsName, IsPath}
+use Rattle.graph_lines.specs.Forms.{IsWord, IsPath}
 use Rattle.graph_lines.proofs.Separated.{pieces, pieces_joined}
 use Rattle.graph_lines.proofs.Names.{names_free, dotted-joined}
 
-are_names : (names : List (List ℕ)) → list_all is_word names ≡ true → AllByRecursion IsName names
+are_names : (names : List (List ℕ)) → list_all is_word names ≡ true → AllByRecursion IsWord names
 are_names [] h = tt
 are_names (name ∷ names) h = let parts = and_parts (is_word name) (list_all is_word names) h in (parts.0, are_names names parts.1)
 
-all_words : (names : List (List ℕ)) → AllByRecursion IsName names → list_all is_word names ≡ true
+all_words : (names : List (List ℕ)) → AllByRecursion IsWord names → list_all is_word names ≡ true
 all_words [] h = refl
 all_words (name ∷ names) h = and_from (is_word name) (list_all is_word names) h.0 (all_words names h.1)
 

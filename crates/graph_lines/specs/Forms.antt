@@ -51,12 +51,12 @@ abbrev pub IsNumber : ℕ → Type 0
 IsNumber number = number < 10 ^ 10
 
 -- A name is a letter, and then letters and digits; it may be a reserved word of the definition language.
-abbrev pub IsName : List ℕ → Type 0
-IsName text = is_word text ≡ true
+abbrev pub IsWord : List ℕ → Type 0
+IsWord text = is_word text ≡ true
 
 -- A path is one name, or several with dots between them.
 abbrev pub IsPath : List ℕ → Type 0
-IsPath text = (names : List (List ℕ)) × (0 < length names) × AllByRecursion IsName names × (text ≡ dotted names)
+IsPath text = (names : List (List ℕ)) × (0 < length names) × AllByRecursion IsWord names × (text ≡ dotted names)
 
 -- No byte is a space.
 abbrev pub HasNoSpace : List ℕ → Type 0
@@ -74,17 +74,17 @@ IsSoundView (Only paths) = (0 < length paths) × AllByRecursion IsPath paths
 
 -- The parts of an act are numbers, names, paths and words as their kind wants it; a write isn't empty, but may hold spaces.
 abbrev pub IsSoundNamedAct : NamedAct → Type 0
-IsSoundNamedAct (Start service) = IsName service
-IsSoundNamedAct (Recv service hex) = IsName service × IsOneWord hex
+IsSoundNamedAct (Start service) = IsWord service
+IsSoundNamedAct (Recv service hex) = IsWord service × IsOneWord hex
 IsSoundNamedAct (Set parent path write) = IsNumber parent × IsPath path × (0 < length write)
 IsSoundNamedAct (Branch parent) = IsNumber parent
-IsSoundNamedAct (Forward parent service) = IsNumber parent × IsName service
+IsSoundNamedAct (Forward parent service) = IsNumber parent × IsWord service
 IsSoundNamedAct (Trim parent budget) = IsNumber parent × IsNumber budget
 IsSoundNamedAct (Join parents) = (0 < length parents) × AllByRecursion IsNumber parents
 
 -- Each part of what a line says is as its kind wants it.
 abbrev pub IsSoundStatement : Statement → Type 0
-IsSoundStatement (Service form name view) = IsName name × IsSoundView view
+IsSoundStatement (Service form name view) = IsWord name × IsSoundView view
 IsSoundStatement (Step number act) = IsNumber number × IsSoundNamedAct act
 IsSoundStatement (Show step) = IsNumber step
 

@@ -3,7 +3,7 @@ use Rattle.std.specs.Prelude.{◌≡◌, ℕ, ◌<◌, List, [], ◌∷◌, ◌+
 use Rattle.std.specs.Fmt.{decimal}
 use Rattle.std.specs.List.{AllByRecursion, join_with_byte}
 use Rattle.graph_lines.specs.Statements.{NamedView, NamedAct, Statement, Service, Step, Show}
-use Rattle.graph_lines.specs.Forms.{IsNumber, IsName, IsPath, IsSoundView, IsSoundNamedAct, IsSoundStatement, view_words, service_word, act_name, act_words, statement_words}
+use Rattle.graph_lines.specs.Forms.{IsNumber, IsWord, IsPath, IsSoundView, IsSoundNamedAct, IsSoundStatement, view_words, service_word, act_name, act_words, statement_words}
 
 -- What was taken from the front of a text, with the rest of the text, is the one pair of which the fact holds; nothing was
 -- taken where it holds of none.
@@ -22,7 +22,7 @@ NumberThen text number rest = IsNumber number × IsCut text (decimal number) res
 
 -- The text begins with a name and a space.
 abbrev pub NameThen : List ℕ → List ℕ → List ℕ → Type 0
-NameThen text name rest = IsName name × IsCut text name rest
+NameThen text name rest = IsWord name × IsCut text name rest
 
 -- The text begins with a path and a space.
 abbrev pub PathThen : List ℕ → List ℕ → List ℕ → Type 0

@@ -8,7 +8,7 @@ ghost use Rattle.graph_lines.specs.Acts.{named_act_of};
 
 use crate::NamedAct;
 use crate::numbers::{read_number, read_numbers, take_number};
-use crate::words::{is_name, is_one_word, take_name, take_path};
+use crate::words::{is_one_word, is_word, take_name, take_path};
 use outside::Memory;
 use std::alloc::Global;
 
@@ -16,7 +16,7 @@ use std::alloc::Global;
 fn read_start(text: &str) -> Option<NamedAct<'_>>
     ensures { IsSomeOf (IsActText (codes "start") text.now) (option_map named_act_of result) }
 {
-    if is_name(text.as_bytes()) {
+    if is_word(text.as_bytes()) {
         Some(NamedAct::Start { service: text })
     } else {
         None
@@ -65,7 +65,7 @@ fn read_forward(text: &str) -> Option<NamedAct<'_>>
     ensures { IsSomeOf (IsActText (codes "forward") text.now) (option_map named_act_of result) }
 {
     let (parent, service) = take_number(text)?;
-    if is_name(service.as_bytes()) {
+    if is_word(service.as_bytes()) {
         Some(NamedAct::Forward { parent, service })
     } else {
         None

@@ -53,7 +53,7 @@ fn are_of_words(bytes: &[u8]) -> bool
 }
 
 /// Whether the text is a name.
-pub(crate) fn is_name(text: &[u8]) -> bool
+pub(crate) fn is_word(text: &[u8]) -> bool
     ensures { result ≡ is_word text.now }
 {
     match text {
@@ -66,7 +66,7 @@ pub(crate) fn is_name(text: &[u8]) -> bool
 pub fn is_path(text: &[u8]) -> bool
     ensures { IsTrue result ↔ IsPath text.now }
 {
-    text.split(|byte| *byte == b'.').all(is_name)
+    text.split(|byte| *byte == b'.').all(is_word)
 }
 
 /// Whether no byte of a text, which may be long, is a space.
@@ -88,7 +88,7 @@ pub(crate) fn take_name(text: &str) -> Option<(&str, &str)>
     ensures { TakesOnly (NameThen text.now) (option_map (λ cut. (cut.0.now, cut.1.now)) result) }
 {
     let (name, rest) = cut_word(text)?;
-    if is_name(name.as_bytes()) {
+    if is_word(name.as_bytes()) {
         Some((name, rest))
     } else {
         None

@@ -1,9 +1,9 @@
 //! Lines of graphs: what each says, and lines that have no form.
 
+use fixture_graphs::with_words;
 use graph_lines::{NamedAct, Statement, lines_have_one_form, read_statement};
 use std::alloc::Global;
 use std::test::Fail;
-use test_graphs::with_words;
 
 /// Lines that have a form, and what they say.
 const GOOD: &str = r#"service a all => Service { form: One, name: "a", view: All }

@@ -1,7 +1,7 @@
 -- What a good line adds belongs to the table.
 use Rattle.std.proofs.Common.{◌≡◌, ◌⊎◌, inl, inr, ℕ, ◌<◌, ◌≤◌, List, [], ◌∷◌, ◌++◌, length, Some, None, refl, sym, subst, append_assoc, append-nil, arith}
 use Rattle.std.proofs.lemmas.Bool.{cases_lt}
-use Rattle.outside.specs.declared.TheConstants.{ATOM_MAX}
+use Rattle.context_model.specs.declared.TheConstants.{ATOM_MAX}
 use Rattle.context_model.specs.declared.Form.{Form as WireForm}
 use Rattle.context_model.specs.Merged.{last_atom}
 use Rattle.context_model.specs.Orders.{Path, IsIn}
@@ -18,7 +18,7 @@ use Rattle.trace_model.specs.Graphs as graphs
 use Rattle.trace_model.specs.Graphs.{Act, Graph, form_at, view_at, IsViewOf, IsActOf, IsRecorded}
 use Rattle.text_lines.specs.Lines.{Line, lines_of}
 use Rattle.text_lines.specs.Readings.{AllSay}
-use Rattle.write_text.specs.Writes.{IsWrite}
+use Rattle.field_writes.specs.Writes.{IsWrite}
 use Rattle.recorded_graph.proofs.Growing.{empty_sound, service_sound, step_sound, show_sound, graphs_grow}
 use Rattle.graph_lines.specs.Forms.{IsSoundStatement}
 use Rattle.graph_lines.specs.Statements as lines

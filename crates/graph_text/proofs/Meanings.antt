@@ -19,7 +19,7 @@ use Rattle.bag_model.proofs.NamePathLaws.{name_paths_differ}
 use Rattle.bag_walks.proofs.SlotShapes.{slot_shape}
 use Rattle.trace_model.specs.Graphs as graphs
 use Rattle.trace_model.specs.Graphs.{Act, Graph, form_at}
-use Rattle.write_text.specs.Writes.{IsWrite}
+use Rattle.field_writes.specs.Writes.{IsWrite}
 use Rattle.graph_lines.specs.Statements as lines
 use Rattle.graph_lines.specs.Statements.{NamedView, NamedAct, Statement}
 use Rattle.graph_text.specs.Additions.{Addition, AddService, MeansView, SaysTypedContext, SaysWriteAt, MeansAct, StandsAtService, LineAdds}

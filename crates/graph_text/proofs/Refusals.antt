@@ -13,7 +13,7 @@ use Rattle.text_lines.specs.Readings.{IsFirstOf, NoneOf}
 use Rattle.trace_model.specs.Graphs as graphs
 use Rattle.trace_model.specs.Graphs.{Graph, form_at, view_at}
 use Rattle.recorded_graph.specs.declared.graphs.TheConstants.{STEPS_MAX}
-use Rattle.write_text.specs.Writes.{IsWrite}
+use Rattle.field_writes.specs.Writes.{IsWrite}
 use Rattle.recorded_graph.specs.Graphs.{with_service}
 use Rattle.graph_lines.specs.Statements.{NamedView, NamedAct, Statement, Set, Join, Step, Service}
 use Rattle.graph_text.specs.declared.TheConstants.{PARENTS_MAX}

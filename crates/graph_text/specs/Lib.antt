@@ -3,3 +3,4 @@ pub mod Rules
 pub mod Additions
 pub mod Reading
 pub mod Faults
+pub mod FaultTexts

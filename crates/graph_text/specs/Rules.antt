@@ -10,7 +10,7 @@ use Rattle.bag_model.specs.Views.{Knows}
 use Rattle.text_lines.specs.HexLines.{hex_bytes}
 use Rattle.text_lines.specs.declared.TheConstants.{DIGITS_MAX}
 use Rattle.trace_model.specs.Graphs.{Graph, form_at, view_at}
-use Rattle.write_text.specs.Writes.{IsWrite}
+use Rattle.field_writes.specs.Writes.{IsWrite}
 use Rattle.recorded_graph.specs.declared.graphs.TheConstants.{STEPS_MAX}
 use Rattle.graph_lines.specs.Statements.{NamedView, Statement, Only, Recv, Set, Trim, Join, Service, Step}
 use Rattle.graph_text.specs.declared.TheConstants.{BUDGET_MAX, PARENTS_MAX}

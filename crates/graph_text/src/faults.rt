@@ -5,6 +5,7 @@ ghost use Rattle.graph_text.specs.Reading.{graph_fault_at};
 
 use outside::Memory;
 use std::alloc::AllocFailed;
+use std::error::Error;
 use std::fmt;
 use wire_bytes::ByteCode;
 
@@ -133,6 +134,49 @@ impl<T: Drop> From<AllocFailed<T>> for Refusal {
         Refusal::Memory
     }
 }
+
+impl fmt::Display for LineFault {
+    ghost use Rattle.std.specs.Prelude.{Some};
+    ghost use Rattle.graph_text.specs.FaultTexts.{line_fault_text};
+
+    ghost output = { λ fault. Some (line_fault_text fault) };
+
+    fn fmt<W: fmt::Write>(&self, f: &mut fmt::Formatter<W>) -> fmt::Result {
+        match self {
+            LineFault::Code(code) => write!(f, "{code}"),
+            LineFault::Bytes { offset, code } => write!(f, "offset {offset} {code}"),
+            LineFault::IllTyped { offset } => write!(f, "offset {offset} IllTyped"),
+        }
+    }
+}
+
+impl Error for LineFault {}
+
+impl fmt::Display for GraphFault {
+    ghost use Rattle.std.specs.Prelude.{Some};
+    ghost use Rattle.graph_text.specs.FaultTexts.{graph_fault_text};
+
+    ghost output = { λ fault. Some (graph_fault_text fault) };
+
+    fn fmt<W: fmt::Write>(&self, f: &mut fmt::Formatter<W>) -> fmt::Result {
+        match self {
+            GraphFault::At { line, code } => write!(f, "line {line} {code}"),
+            GraphFault::Bytes { line, offset, code } => write!(
+                f,
+                "line {line} offset {offset} {code}"
+            ),
+            GraphFault::IllTyped { line, offset } => write!(
+                f,
+                "line {line} offset {offset} IllTyped"
+            ),
+            GraphFault::Memory => write!(f, "out of memory"),
+        }
+    }
+}
+
+impl Error for GraphFault {}
+
+impl Error for GraphCode {}
 
 impl fmt::Display for GraphCode {
     ghost use Rattle.std.specs.Prelude.{Some};

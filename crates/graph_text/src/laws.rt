@@ -7,8 +7,8 @@ ghost use Rattle.trace_model.specs.Graphs.{Graph, IsRecorded};
 ghost use Rattle.graph_text.specs.declared.faults.LineFault.{LineFault};
 ghost use Rattle.graph_text.specs.Reading.{LinesAreDefinite, IsGraphOf, IsFirstFault};
 
+use field_writes::laws::{texts_are_one_write, writes_are_of_their_shape};
 use graph_lines::lines_have_one_form;
-use write_text::laws::{texts_are_one_write, writes_are_of_their_shape};
 
 /// Under a table a line says one thing or has one fault, never both.
 pub fn lines_are_definite()

@@ -19,11 +19,11 @@ use crate::{BUDGET_MAX, PARENTS_MAX};
 use bag_value::Val;
 use context_model::Form;
 use field_table::Table;
+use field_writes::read_write;
 use graph_lines::NamedAct;
 use outside::Memory;
 use recorded_graph::{Act, Places, Step};
 use std::alloc::Global;
-use write_text::read_write;
 
 /// The numbers of steps as those of places.
 fn places_of(alloc: Global, numbers: &[u64]) -> Result<Places, Memory>

@@ -1,6 +1,6 @@
 //! Random graphs, each shown step against plain values that are joined over the steps that reach it.
 
-use program_calls::output_of;
+use fixture_program::output_of;
 use random_bags::Dice;
 use std::alloc::Global;
 use std::fmt::Write;

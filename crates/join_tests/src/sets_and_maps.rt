@@ -3,7 +3,10 @@
 use counter_type::{Counts, Lattice, join_repeats, joins_commute, joins_regroup, keeps_join_laws};
 use outside::{Memory, Text};
 use scalar_types::{LexU, Utf8};
-use set_map_types::{Greatest, Least, MapOf, SetOf, map_join_is_union, set_join_is_union};
+use set_map_types::{
+    Greatest, Least, MapOf, SetOf, greatest_join_is_last, least_join_is_first, map_join_is_union,
+    set_join_is_union,
+};
 use std::alloc::Global;
 use std::process::Abort;
 use std::test::Fail;
@@ -46,6 +49,7 @@ fn least_of_three(rt: HostRuntime) -> Result<(), Fail> {
     assert_eq!(rt; *first.get().expect(&rt, "a value"), 7);
     assert_eq!(rt; *join_repeats(&second)?.get().expect(&rt, "a value"), 7);
     keeps_join_laws::<Least<LexU>>();
+    least_join_is_first::<LexU>();
     Ok(())
 }
 
@@ -71,6 +75,7 @@ fn greatest_of_three(rt: HostRuntime) -> Result<(), Fail> {
     assert_eq!(rt; *first.get().expect(&rt, "a value"), 9);
     assert_eq!(rt; *join_repeats(&second)?.get().expect(&rt, "a value"), 9);
     keeps_join_laws::<Greatest<LexU>>();
+    greatest_join_is_last::<LexU>();
     Ok(())
 }
 

@@ -1,49 +1,12 @@
-//! Definitions with their tables and their first faults.
+//! Long definitions and files, with their tables and their first faults, and libraries that fail.
 
-use crate::one_file::FAULTS;
 use crate::pieces::{Piece, joined};
-use crate::several_files::ANSWERS;
 use crate::tables::{answer_of, compiled};
 use field_table::{Shape, Table};
 use outside::{MemoryLibrary, SureLibrary};
 use scalar_types::ScalarKind;
 use std::alloc::Global;
-use std::fmt::Write;
 use std::test::Fail;
-
-#[test]
-fn faults_of_one_file(rt: HostRuntime) -> Result<(), Fail> {
-    let alloc = rt.alloc();
-    for (source, fault) in &FAULTS {
-        let mut library = SureLibrary::new(alloc);
-        library.add("f.bdl", source.as_bytes())?;
-        let wanted = format!(in alloc; "f.bdl {fault}")?;
-        let answer = answer_of(alloc, &mut library, "f.bdl", "B")?;
-        assert_eq!(rt; answer.as_str(), wanted.as_str(), "{source}");
-    }
-    Ok(())
-}
-
-/// The answer for files in lines, each with its name, a bar, and what it holds. The first is the root.
-fn answer(alloc: Global, files: &str, bag: &str) -> Result<String, Fail> {
-    let mut library = SureLibrary::new(alloc);
-    for line in files.lines() {
-        let (name, source) = line.split_once('|').ok_or("a file")?;
-        library.add(name, source.as_bytes())?;
-    }
-    let (root, _) = files.split_once('|').ok_or("a root")?;
-    answer_of(alloc, &mut library, root, bag)
-}
-
-#[test]
-fn answers_of_several_files(rt: HostRuntime) -> Result<(), Fail> {
-    let alloc = rt.alloc();
-    for (files, bag, wanted) in &ANSWERS {
-        let answer = answer(alloc, files, bag)?;
-        assert_eq!(rt; answer.as_str(), *wanted, "{files}");
-    }
-    Ok(())
-}
 
 /// The answers of two calls for the bag `Z`.
 fn answers_of_two(alloc: Global, library: &mut MemoryLibrary) -> Result<String, Fail> {
@@ -205,64 +168,5 @@ fn long_files(rt: HostRuntime) -> Result<(), Fail> {
     library.add("long", &long)?;
     let answer = answer_of(alloc, &mut library, "f", "A")?;
     assert_eq!(rt; answer.as_str(), "long 1:1 DefTooLong");
-    Ok(())
-}
-
-// What a file holds, and its fault.
-static NO_TEXT: [(&[u8], &str); 2] = [
-    (b"bag B { } // \xff\n", "f 1:14 NotUtf8"),
-    // It counts before all other faults.
-    (b"?\nbag B { } // \xc3\n", "f 2:14 NotUtf8"),
-];
-
-#[test]
-fn files_that_are_no_text(rt: HostRuntime) -> Result<(), Fail> {
-    let alloc = rt.alloc();
-    for (source, fault) in &NO_TEXT {
-        let mut library = SureLibrary::new(alloc);
-        library.add("f", source)?;
-        let answer = answer_of(alloc, &mut library, "f", "B")?;
-        assert_eq!(rt; answer.as_str(), *fault);
-    }
-    Ok(())
-}
-
-// How many layers of bags there are, how many fields of the next each has, and the answer for the first.
-static LAYERS: [(u32, u32, &str); 4] = [
-    (
-        15,
-        1,
-        "ok f0.f0.f0.f0.f0.f0.f0.f0.f0.f0.f0.f0.f0.f0.f0.b:0.0.0.0.0.0.0.0.0.0.0.0.0.0.0.0:scalar",
-    ),
-    (16, 1, "f 1:5 TooDeep"),
-    (14, 30, "f 1:5 TooManySlots"),
-    (17, 30, "f 1:5 TooDeep"),
-];
-
-/// A file with bags `B0` to the one before `count`, each with as many fields of the next as `width`, and a last one with a field
-/// of one bool.
-fn layers(alloc: Global, count: u32, width: u32) -> Result<String, Fail> {
-    let mut text = String::new(alloc);
-    for layer in 0..count {
-        let inner = u64::from(layer) + 1;
-        write!(text, "bag B{layer} {{ ")?;
-        for number in 0..width {
-            write!(text, "B{inner} f{number} = {number}; ")?;
-        }
-        text.push_str("}\n")?;
-    }
-    write!(text, "bag B{count} {{ bool b = 0; }}")?;
-    Ok(text)
-}
-
-#[test]
-fn bags_in_layers(rt: HostRuntime) -> Result<(), Fail> {
-    let alloc = rt.alloc();
-    for (count, width, wanted) in &LAYERS {
-        let mut library = SureLibrary::new(alloc);
-        library.add("f", layers(alloc, *count, *width)?.as_bytes())?;
-        let answer = answer_of(alloc, &mut library, "f", "B0")?;
-        assert_eq!(rt; answer.as_str(), *wanted);
-    }
     Ok(())
 }

@@ -2,16 +2,10 @@
 #![tactic(auto)]
 
 #[cfg(test)]
-mod compiled;
-#[cfg(test)]
 mod definitions;
 #[cfg(test)]
 mod laws;
 #[cfg(test)]
-mod one_file;
-#[cfg(test)]
 mod pieces;
-#[cfg(test)]
-mod several_files;
 #[cfg(test)]
 mod tables;

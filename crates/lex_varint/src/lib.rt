@@ -33,7 +33,7 @@ pub enum VarintFault {
 }
 
 /// The code of one number: one to nine bytes, held in place.
-#[derive(Drop)]
+#[derive(Debug, Drop)]
 pub struct Spelled {
     bytes: [u8; 9],
     len: usize,

@@ -1,7 +1,7 @@
 //! Gates that the steps of a graph pass.
 
+use fixture_program::{FILES, Objects, RUN, call};
 use outside::{Gate, MeetingGate};
-use program_calls::{FILES, Objects, RUN, call};
 use std::alloc::Global;
 use std::fmt::Write;
 use std::process::Abort;

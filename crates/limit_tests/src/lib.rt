@@ -1,4 +1,4 @@
-//! Tests of the program at its limits: long inputs and files, objects that fail, and gates that steps pass. Nothing but tests
+//! Tests of the program at its limits: long inputs and files, the longest load, objects that fail, and gates that steps pass. Nothing but tests
 //! stands here.
 #![tactic(auto)]
 
@@ -8,3 +8,5 @@ mod failures;
 mod gates;
 #[cfg(test)]
 mod limits;
+#[cfg(test)]
+mod loads;

@@ -1,6 +1,6 @@
 //! Inputs and files at the edge of what is read.
 
-use program_calls::{FILES, Objects, RUN, answer_of_line, expect_row};
+use fixture_program::{FILES, Objects, RUN, answer_of_line, expect_row};
 use std::alloc::Global;
 use std::fmt::Write;
 use std::test::Fail;

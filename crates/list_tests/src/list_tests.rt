@@ -3,11 +3,11 @@
 ghost use Rattle.std.specs.Prelude.{◌≡◌, ◌<◌, ℕ, List, ◌∷◌, IsTrue, Some, slice_get};
 
 use atom_list::{AtomList, Builder, Context, ShapeFault};
+use fixture_bytes::{context_of, expect_atoms, expect_bytes, list_of};
 use outside::Memory;
 use std::alloc::Global;
 use std::process::Abort;
 use std::test::Fail;
-use test_texts::{context_of, expect_atoms, expect_bytes, list_of};
 
 /// Cuts a list to so many atoms and a marker.
 fn cut(rt: &impl Abort, list: &mut AtomList, keep: usize) {

@@ -11,10 +11,10 @@ use Rattle.bag_model.specs.Views as views
 use Rattle.bag_model.specs.Views.{View, Knows}
 use Rattle.trace_model.specs.Graphs as graphs
 use Rattle.trace_model.specs.Graphs.{Graph, form_at, form_of_service, view_at, view_of}
-use Rattle.write_text.specs.Writes.{IsWrite}
+use Rattle.field_writes.specs.Writes.{IsWrite}
 use Rattle.recorded_graph.specs.declared.graphs.TheConstants.{STEPS_MAX}
 use Rattle.graph_lines.specs.Statements.{NamedAct, Statement, Set, Branch, Forward, Join, Step}
-use Rattle.graph_lines.specs.Forms.{IsNumber, IsName, IsPath, IsSoundStatement}
+use Rattle.graph_lines.specs.Forms.{IsNumber, IsWord, IsPath, IsSoundStatement}
 use Rattle.graph_text.specs.declared.TheConstants.{PARENTS_MAX}
 use Rattle.graph_text.specs.Additions.{Addition, AddStep, IsGoodStatement, with_addition}
 use Rattle.graph_text.specs.Names.{service_named}
@@ -95,7 +95,7 @@ pub goes_there : (graph : Graph) (name : List ℕ) (service : ℕ) → service_n
 goes_there graph name service named other same none =
     let one : name ≡ other = cc same in let clash : Some service ≡ None = sym named ∙ ap (service_named graph) one ∙ none in cc clash
 
-pub forward_follows : (graph : Graph) (n p from service : ℕ) (name : List ℕ) → IsStage graph n → IsFew n → Stands graph p from → IsName name → AreClean name → service_named graph name ≡ Some service
+pub forward_follows : (graph : Graph) (n p from service : ℕ) (name : List ℕ) → IsStage graph n → IsFew n → Stands graph p from → IsWord name → AreClean name → service_named graph name ≡ Some service
     → MayFollow graph n (Forward p name) service
 forward_follows graph n p from service name stage few stands is clean named =
     let earlier = parent_few graph n p from stage few stands in

@@ -15,8 +15,8 @@ use Rattle.bag_model.specs.Shapes as shapes
 use Rattle.bag_model.specs.Values as values
 use Rattle.bag_model.specs.Values.{Value}
 use Rattle.text_model.specs.ScalarTexts.{is_marked}
-use Rattle.write_text.specs.Literals.{SaysByte, IsWriter}
-use Rattle.write_text.specs.Writes.{IsWrite}
+use Rattle.field_writes.specs.Literals.{SaysByte, IsWriter}
+use Rattle.field_writes.specs.Writes.{IsWrite}
 use Rattle.load_maker.specs.Loads.{hit}
 use Rattle.load_maker.proofs.CleanLines.{AreClean, clean_number, clean_utf8}
 

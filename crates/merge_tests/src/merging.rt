@@ -4,6 +4,7 @@ ghost use Rattle.std.specs.Prelude.{◌<◌};
 
 use atom_list::{AtomList, Context};
 use fan_in::{merge_all, merge_alone};
+use fixture_bytes::{context_of, expect_atoms, list_of};
 use lex_merge::{merge, merge_lists, merge_many};
 use outside::{Gate, MeetingGate, Memory, Open};
 use std::alloc::Global;
@@ -11,7 +12,6 @@ use std::process::Abort;
 use std::sync::atomic::{AtomicUsize, Ordering};
 use std::test::Fail;
 use std::thread::Threads;
-use test_texts::{context_of, expect_atoms, list_of};
 
 /// Two lists that aren't contexts, and their merge.
 static LISTS: [(&str, &str, &str); 2] = [("62 61", "61", "61 62 61"), ("62 61", "62 61", "62 61")];

@@ -1,14 +1,14 @@
 //! Rows under one definition: what is read of merges and of normal forms, and which slots of these are exact.
 
 use bag_codec::{State, merge_and_read, normal, normal_and_read, normal_and_states};
-use bag_texts::{expect_fields, typed};
 use field_table::{SlotSet, Table, View};
+use fixture_bags::{expect_fields, typed};
+use fixture_bytes::{context_of, expect_atoms};
+use fixture_tables::table_of;
 use outside::Memory;
 use std::alloc::Global;
 use std::process::Abort;
 use std::test::Fail;
-use test_tables::table_of;
-use test_texts::{context_of, expect_atoms};
 
 const REQ: &str =
     "bag Req { fixed32 id = 0; set<string> tags = 1; counter hops = 2; taint debug = 3; map<string, uint32> load = 4; }";
@@ -100,6 +100,33 @@ fn normal_forms(rt: HostRuntime) -> Result<(), Fail> {
     for (known, atoms) in &NORMAL {
         let view = view_of(alloc, *known)?;
         has_normal(alloc, &table, &view, atoms)?;
+    }
+    Ok(())
+}
+
+// The atoms of a context where data stand below a map's key that is no text, and those of its normal form.
+static NO_KEY: [(&str, &str); 2] = [
+    (
+        "f804 f16b 0002 0004 f1ff 0002 0004",
+        "f804 f16b 0002 f1ff 0002 0004",
+    ),
+    (
+        "f804 f180 0002 0004 f1c3a9 0002 0004",
+        "f804 f180 0002 0004 f1c3a9 0002",
+    ),
+];
+
+#[test]
+fn data_below_no_key_stay(rt: HostRuntime) -> Result<(), Fail> {
+    let alloc = rt.alloc();
+    let table = table_of(alloc, REQ, "Req")?;
+    for (atoms, kept) in &NO_KEY {
+        let context = context_of(alloc, atoms)?;
+        expect_atoms(
+            alloc,
+            normal(alloc, &table, &View::All, context)?.list(),
+            kept,
+        )?;
     }
     Ok(())
 }

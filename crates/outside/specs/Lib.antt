@@ -4,3 +4,4 @@ pub mod Faults
 pub mod InMemory
 pub mod Libraries
 pub mod Transfers
+pub mod FaultTexts

@@ -32,6 +32,16 @@ pub enum ReadFault {
     Memory,
 }
 
+/// A fault, or no memory to find out. Functions inside a crate answer it, where the public answer has more to say of the fault, such as
+/// its line.
+#[derive(Clone, Copy, Debug, PartialEq, Eq)]
+pub enum OrMemory<E> {
+    /// The fault.
+    Fault(E),
+    /// There is no memory for the work.
+    Memory,
+}
+
 impl fmt::Display for Memory {
     ghost use Rattle.std.specs.Prelude.{Some, codes};
 
@@ -67,6 +77,61 @@ impl fmt::Display for Failed {
 }
 
 impl Error for Failed {}
+
+impl fmt::Display for LibraryFault {
+    ghost use Rattle.std.specs.Prelude.{Some};
+    ghost use Rattle.outside.specs.FaultTexts.{library_fault_text};
+
+    ghost output = { λ fault. Some (library_fault_text fault) };
+
+    fn fmt<W: fmt::Write>(&self, f: &mut fmt::Formatter<W>) -> fmt::Result {
+        match self {
+            LibraryFault::Failed => write!(f, "failed outside"),
+            LibraryFault::Memory => write!(f, "out of memory"),
+        }
+    }
+}
+
+impl Error for LibraryFault {}
+
+impl fmt::Display for ReadFault {
+    ghost use Rattle.std.specs.Prelude.{Some};
+    ghost use Rattle.outside.specs.FaultTexts.{read_fault_text};
+
+    ghost output = { λ fault. Some (read_fault_text fault) };
+
+    fn fmt<W: fmt::Write>(&self, f: &mut fmt::Formatter<W>) -> fmt::Result {
+        match self {
+            ReadFault::Failed => write!(f, "failed outside"),
+            ReadFault::TooLong => write!(f, "TooLong"),
+            ReadFault::Memory => write!(f, "out of memory"),
+        }
+    }
+}
+
+impl Error for ReadFault {}
+
+impl<E> From<Memory> for OrMemory<E> {
+    ghost use Rattle.std.specs.Prelude.{◌≡◌};
+    ghost use Rattle.outside.specs.declared.answers.OrMemory.TheVariants.{Memory};
+
+    ghost from_gives = { λ _ answer. answer ≡ Memory };
+
+    fn from(_want: Memory) -> OrMemory<E> {
+        OrMemory::Memory
+    }
+}
+
+impl<T: Drop, E> From<AllocFailed<T>> for OrMemory<E> {
+    ghost use Rattle.std.specs.Prelude.{◌≡◌};
+    ghost use Rattle.outside.specs.declared.answers.OrMemory.TheVariants.{Memory};
+
+    ghost from_gives = { λ _ answer. answer ≡ Memory };
+
+    fn from(_error: AllocFailed<T>) -> OrMemory<E> {
+        OrMemory::Memory
+    }
+}
 
 impl From<AllocError> for LibraryFault {
     ghost use Rattle.std.specs.Prelude.{◌≡◌};

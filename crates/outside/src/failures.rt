@@ -8,7 +8,7 @@ use crate::faults::FaultCount;
 
 /// The numbers of the calls that fail, from 0, and the counts of calls and faults so far. The count of calls stays at
 /// its last value once it has reached it.
-#[derive(Drop)]
+#[derive(Debug, Drop)]
 pub(crate) struct Failures {
     failing: Vec<u64>,
     calls: u64,

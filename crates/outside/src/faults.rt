@@ -4,7 +4,7 @@ ghost use Rattle.std.specs.Prelude.{◌≡◌, ◌+◌, ◌-◌, ◌^◌, ◌≤
 
 /// How many of its calls an object outside has failed. The count never falls, and stays at `u64::MAX` once it has
 /// reached it.
-#[derive(Drop)]
+#[derive(Debug, Drop)]
 pub struct FaultCount {
     count: u64,
     ghost in_range: { count ≤ 2 ^ 64 - 1 },

@@ -10,7 +10,7 @@ pub trait Gate: Sync {
 }
 
 /// The gate that holds nothing back.
-#[derive(Clone, Copy)]
+#[derive(Clone, Copy, Debug)]
 pub struct Open;
 
 impl Gate for Open {
@@ -21,7 +21,7 @@ impl Gate for Open {
 const LOOKS: u32 = 100_000_000;
 
 /// One of two pieces that meet: its number, whether it has come, and whether it saw the other.
-#[derive(Drop)]
+#[derive(Debug, Drop)]
 struct Guest {
     piece: usize,
     came: AtomicBool,
@@ -52,7 +52,7 @@ impl Guest {
 
 /// A gate for tests, where two pieces meet: each looks for the other for a while, and both see one another only where they
 /// run at the same time. No other piece is held back.
-#[derive(Drop)]
+#[derive(Debug, Drop)]
 pub struct MeetingGate {
     first: Guest,
     second: Guest,

@@ -12,7 +12,7 @@ use crate::streams::{Sink, Source};
 use std::alloc::Global;
 
 /// A source over bytes in memory that never fails.
-#[derive(Drop)]
+#[derive(Debug, Drop)]
 pub struct SureSource {
     content: Vec<u8>,
     at: usize,
@@ -64,7 +64,7 @@ impl Source for SureSource {
 }
 
 /// A source over bytes in memory, some of whose reads fail.
-#[derive(Drop)]
+#[derive(Debug, Drop)]
 pub struct MemorySource {
     inner: SureSource,
     failures: Failures,
@@ -101,7 +101,7 @@ impl Source for MemorySource {
 }
 
 /// A sink that never fails, keeps nothing and doesn't tell what was written.
-#[derive(Drop)]
+#[derive(Debug, Drop)]
 pub struct SureSink;
 
 impl SureSink {
@@ -129,7 +129,7 @@ impl Sink for SureSink {
 }
 
 /// A sink in memory with room for a fixed number of bytes, some of whose writes fail.
-#[derive(Drop)]
+#[derive(Debug, Drop)]
 pub struct MemorySink {
     bytes: Vec<u8>,
     room: usize,

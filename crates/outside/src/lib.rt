@@ -12,7 +12,8 @@ mod streams;
 mod texts;
 mod transfers;
 
-pub use answers::{Failed, LibraryFault, Memory, ReadFault};
+pub use answers::{Failed, LibraryFault, Memory, OrMemory, ReadFault};
+pub use context_model::ATOM_MAX;
 pub use faults::FaultCount;
 pub use gates::{Gate, MeetingGate, Open};
 pub use in_memory::{MemorySink, MemorySource, SureSink, SureSource};
@@ -20,9 +21,6 @@ pub use libraries::{Library, MemoryLibrary, SureLibrary};
 pub use streams::{Sink, Source};
 pub use texts::{Octets, Text, WordIter, Words};
 pub use transfers::{read_all, write_all};
-
-/// The most bytes that an atom has.
-pub const ATOM_MAX: usize = 1_048_576;
 
 /// The most bytes that are fetched of a file: one more than a definition or a table may have, so that one that is too
 /// long is known.

@@ -42,7 +42,7 @@ pub trait Library {
 }
 
 /// A library in memory that never fails.
-#[derive(Drop)]
+#[derive(Debug, Drop)]
 pub struct SureLibrary {
     alloc: Global,
     contents: BTreeMap<String, Vec<u8>>,
@@ -93,7 +93,7 @@ impl Library for SureLibrary {
 }
 
 /// A library in memory, some of whose fetches fail. It keeps the names that it was asked for.
-#[derive(Drop)]
+#[derive(Debug, Drop)]
 pub struct MemoryLibrary {
     inner: SureLibrary,
     failures: Failures,

@@ -12,7 +12,7 @@ use std::sync::Arc;
 
 /// A text, which shares its characters with its copies. Contracts see it as the list of its bytes, which are valid
 /// UTF-8.
-#[derive(Drop)]
+#[derive(Debug, Drop)]
 pub struct Text {
     string: Arc<String>,
 }
@@ -65,7 +65,7 @@ impl Text {
 }
 
 /// A byte string. Contracts see it as the list of its bytes.
-#[derive(Drop)]
+#[derive(Debug, Drop)]
 pub struct Octets {
     bytes: Vec<u8>,
 }
@@ -120,7 +120,7 @@ impl Octets {
 }
 
 /// A list of texts, as the words of a command line.
-#[derive(Drop)]
+#[derive(Debug, Drop)]
 pub struct Words {
     words: Vec<Text>,
 }
@@ -184,7 +184,7 @@ impl Words {
 }
 
 /// The words that are left to go through. Contracts see it as their list.
-#[derive(Drop)]
+#[derive(Debug, Drop)]
 pub struct WordIter<'a> {
     rest: slice::Iter<'a, Text>,
 }

@@ -1,136 +1,11 @@
 //! The files that are loaded from a root, and the first faults of loading.
 
-use bdl_lexer::MAX_SOURCE;
+use bdl_lexer::SOURCE_MAX;
 use bdl_load::{DefFault, load};
 use outside::MemoryLibrary;
 use std::alloc::Global;
 use std::fmt::Write;
 use std::test::Fail;
-
-// Files in lines, each with its name, a bar, and what it holds; the root; the names that are asked for; and the answer, where it
-// isn't that these were loaded.
-static FILES: [(&str, &str, &str, &str); 27] = [
-    ("a|\nb|", "a", "a", ""),
-    (
-        "a|import \"b\"; import \"c\";\nb|import \"d\";\nc|import \"d\";\nd|bag D { bool a = 1; }",
-        "a",
-        "a b d c",
-        "",
-    ),
-    (
-        "a|import \"b\"; import \"b\"; bag A { }\nb|bag B { }",
-        "a",
-        "a b",
-        "",
-    ),
-    (
-        "a|import \"b\"; import \"e\";\nb|import \"c\"; import \"d\";\nc|\nd|\ne|",
-        "a",
-        "a b c d e",
-        "",
-    ),
-    (
-        "a|import \"c\"; import \"b\";\nb|\nc|import \"b\";\nd|",
-        "a",
-        "a c b",
-        "",
-    ),
-    ("a|import \"\";\n|import \"a.\";\na.|", "a", "a  a.", ""),
-    // A file that isn't there.
-    ("", "a", "a", "a 1:1 NoFile"),
-    ("b|?\nc|", "a", "a", "a 1:1 NoFile"),
-    ("b|?\nc|", "b", "b", "b 1:1 BadByte"),
-    ("b|?\nc|", "c ", "c ", "c  1:1 NoFile"),
-    ("b|?\nc|", "c", "c", ""),
-    // Files that import themselves.
-    (
-        "a|import \"a\"; import \"b\";\nb|",
-        "a",
-        "a",
-        "a 1:8 ImportCycle",
-    ),
-    ("a|import \"a\";", "a", "a", "a 1:8 ImportCycle"),
-    (
-        "a|import \"b\";\nb|import \"c\";\nc|import \"a\";",
-        "a",
-        "a b c",
-        "c 1:8 ImportCycle",
-    ),
-    (
-        "a|import \"d\"; import \"b\";\nb|import \"d\"; import \"a\";\nd|",
-        "a",
-        "a d b",
-        "b 1:20 ImportCycle",
-    ),
-    (
-        "a|import \"b\";\nb|import \"c\"; import \"b\";\nc|import \"b\"; import \"x\";",
-        "a",
-        "a b c",
-        "c 1:8 ImportCycle",
-    ),
-    (
-        "a|import \"b\"; import \"c\";\nb|import \"c\"; import \"a\";\nc|",
-        "a",
-        "a b c",
-        "b 1:20 ImportCycle",
-    ),
-    // What a file says comes before its imports, and an import before the ones behind it.
-    ("a|import \"x\"; ?", "a", "a", "a 1:13 BadByte"),
-    (
-        "a|import \"x\"; import \"b\";\nb|?",
-        "a",
-        "a x",
-        "a 1:8 ImportMissing",
-    ),
-    (
-        "a|import \"b\"; import \"x\";\nb|?",
-        "a",
-        "a b",
-        "b 1:1 BadByte",
-    ),
-    (
-        "a|import \"b\";\nb|import \"x\";",
-        "a",
-        "a b x",
-        "b 1:8 ImportMissing",
-    ),
-    (
-        "a|import \"b\"; import \"c\"; import \"x\";\nb|\nc|import \"b\"; bag",
-        "a",
-        "a b c",
-        "c 1:13 Expected",
-    ),
-    (
-        "a|import \"b\"; import \"a\"; bag",
-        "a",
-        "a",
-        "a 1:25 Expected",
-    ),
-    (
-        "a|import \"b\"; import \"c\";\nb|import \"c\";\nc|bag C { bool c = 65536; }",
-        "a",
-        "a b c",
-        "c 1:18 NumberRange",
-    ),
-    (
-        "a|import \"b\"; import \"x\";\nb|",
-        "a",
-        "a b x",
-        "a 1:20 ImportMissing",
-    ),
-    (
-        "a|import \"b\"; import \"c\"; import \"d\";\nb|import \"c\";\nc|\nd|?",
-        "a",
-        "a b c d",
-        "d 1:1 BadByte",
-    ),
-    (
-        "a|import \"b\"; import \"x\"; import \"c\";\nb|\nc|",
-        "a",
-        "a b x",
-        "a 1:20 ImportMissing",
-    ),
-];
 
 // How many files import the next one, from `f0` on; what the last says; the root; and how many are loaded, or the fault.
 static CHAINS: [(u32, &str, &str, &str); 6] = [
@@ -195,23 +70,6 @@ fn asked(alloc: Global, library: &MemoryLibrary) -> Result<String, Fail> {
         text.push_str(names.get(at).ok_or("a name")?.as_str())?;
     }
     Ok(text)
-}
-
-#[test]
-fn files_are_loaded_in_order(rt: HostRuntime) -> Result<(), Fail> {
-    let alloc = rt.alloc();
-    for (files, root, names, fault) in &FILES {
-        let mut library = library_of(alloc, files)?;
-        let answer = loaded(alloc, &mut library, root)?;
-        if fault.is_empty() {
-            let (_, loaded) = answer.as_str().split_once(": ").ok_or("files")?;
-            assert_eq!(rt; loaded, *names, "{files}");
-        } else {
-            assert_eq!(rt; answer.as_str(), *fault, "{files}");
-        }
-        assert_eq!(rt; asked(alloc, &library)?.as_str(), *names, "{files}");
-    }
-    Ok(())
 }
 
 /// A library of the files from `f0` to the one of this number, each of which imports the next; the last says this.
@@ -282,7 +140,7 @@ fn fetches_fail(rt: HostRuntime) -> Result<(), Fail> {
 fn files_are_not_too_long(rt: HostRuntime) -> Result<(), Fail> {
     let alloc = rt.alloc();
     let mut library = library_of(alloc, "a|import \"b\";")?;
-    let mut long = vec![in alloc; b' '; MAX_SOURCE]?;
+    let mut long = vec![in alloc; b' '; SOURCE_MAX]?;
     library.add("b", &long)?;
     let answer = loaded(alloc, &mut library, "a")?;
     assert_eq!(rt; answer.as_str(), "2 files: a b");

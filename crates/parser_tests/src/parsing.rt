@@ -1,55 +1,14 @@
 //! The modules of texts, and their first faults.
 
-use bdl_lexer::{MAX_SOURCE, lex};
+use bdl_lexer::{SOURCE_MAX, lex};
 use bdl_parser::{BagField, Decl, Module, ParseFault, StructField, TypeForm, TypeNode, parse};
 use outside::Memory;
 use std::alloc::Global;
 use std::fmt::Write;
 use std::test::Fail;
 
-// Each text with the number of the token at fault and the code.
-static TEXTS: [(&str, &str); 52] = [
-    ("bag B {", "3 Expected"),
-    ("bag", "1 Expected"),
-    ("bag B", "2 Expected"),
-    ("x", "0 Expected"),
-    ("bag bag { }", "1 Expected"),
-    ("bag B < }", "2 Expected"),
-    ("bag B { bool", "4 Expected"),
-    ("bag B { bool a", "5 Expected"),
-    ("bag B { bool a =", "6 Expected"),
-    ("bag B { bool a = 1", "7 Expected"),
-    ("bag B { bool a = 1;", "8 Expected"),
-    ("bag B { bool a = 1 }", "7 Expected"),
-    ("bag B { bool a, 1; }", "5 Expected"),
-    ("bag B { bool = 1; }", "4 Expected"),
-    ("bag B { 7 a = 1; }", "3 Expected"),
-    ("bag B { bool a = b; }", "6 Expected"),
-    ("bag B { bool bool = 1; }", "4 Expected"),
-    ("bag B { bool a = 1; } }", "9 Expected"),
-    ("bag B { } import \"f\";", "4 Expected"),
-    ("import", "1 Expected"),
-    ("import f;", "1 Expected"),
-    ("import \"f\"", "2 Expected"),
-    ("import \"f\" bag", "2 Expected"),
-    ("struct S { bool a = 1; }", "5 Expected"),
-    ("struct S { bool a }", "5 Expected"),
-    ("struct set { }", "1 Expected"),
-    ("bag B { set a = 1; }", "4 Expected"),
-    ("bag B { set<> a = 1; }", "5 Expected"),
-    ("bag B { set<bool a = 1; }", "6 Expected"),
-    ("struct greatest { }", "1 Expected"),
-    ("bag B { greatest a = 1; }", "4 Expected"),
-    ("bag B { greatest<> a = 1; }", "5 Expected"),
-    ("bag B { greatest<bool a = 1; }", "6 Expected"),
-    ("bag B { map<bool> a = 1; }", "6 Expected"),
-    ("bag B { map<bool,> a = 1; }", "7 Expected"),
-    ("bag B { map<bool, bool a = 1; }", "8 Expected"),
-    ("bag B { set<bag> a = 1; }", "5 Expected"),
-    ("bag B { import a = 1; }", "3 Expected"),
-    (";", "0 Expected"),
-    ("bag B { \"t\" a = 1; }", "3 Expected"),
-    // What is a module, with its parts and their places.
+// Each text that is a module, with its parts and their places.
+static TEXTS: [(&str, &str); 12] = [
     ("", "ok"),
     ("import \"f\";", "ok import \"f\" 1:8;"),
     (
@@ -321,7 +280,7 @@ fn module_text(alloc: Global, module: &Module) -> Result<String, Fail> {
 /// The module of a text, or its first fault.
 fn answer_of(alloc: Global, text: &str) -> Result<String, Fail> {
     let source = text.as_bytes();
-    if source.len() > MAX_SOURCE {
+    if source.len() > SOURCE_MAX {
         return Err(Fail::from("a longer text than any source"));
     }
     let tokens = lex(alloc, source)?;
@@ -333,7 +292,7 @@ fn answer_of(alloc: Global, text: &str) -> Result<String, Fail> {
 }
 
 #[test]
-fn texts_are_modules_or_have_faults(rt: HostRuntime) -> Result<(), Fail> {
+fn texts_are_modules(rt: HostRuntime) -> Result<(), Fail> {
     let alloc = rt.alloc();
     for (text, wanted) in &TEXTS {
         let answer = answer_of(alloc, text)?;

@@ -1,6 +1,6 @@
 //! The tokens of sources, and their first faults.
 
-use bdl_lexer::{LexFault, MAX_SOURCE, lex};
+use bdl_lexer::{LexFault, SOURCE_MAX, lex};
 use std::alloc::Global;
 use std::fmt::Write;
 use std::test::Fail;
@@ -102,7 +102,7 @@ static SOURCES: [(&[u8], &str); 85] = [
 
 /// The tokens of a source, or its first fault.
 fn answer_of(alloc: Global, source: &[u8]) -> Result<String, Fail> {
-    if source.len() > MAX_SOURCE {
+    if source.len() > SOURCE_MAX {
         return Err(Fail::from("a longer text than any source"));
     }
     let tokens = match lex(alloc, source) {

@@ -20,11 +20,11 @@ pub fn verdict_on(
     alloc: Global,
     table: &Table,
     graph: &Graph,
-    certificate: &str,
+    certificate: &[u8],
 ) -> Result<String, Fail>
     requires { IsOfTable table.now graph.now }
 {
-    let text = match verify(alloc, table, graph, certificate.as_bytes())? {
+    let text = match verify(alloc, table, graph, certificate)? {
         Verified::Yes => String::from_str(alloc, "yes")?,
         Verified::No { line, code } => format!(in alloc; "no {line} {code}")?,
     };

@@ -1,11 +1,11 @@
 //! A certificate that uses many steps.
 
 use crate::fixtures::{DEFINITION, certificate_of, verdict_on};
+use fixture_graphs::graph_of;
+use fixture_tables::table_of;
 use std::alloc::Global;
 use std::fmt::Write;
 use std::test::Fail;
-use test_graphs::graph_of;
-use test_tables::table_of;
 
 /// How many steps write, each an element of its own.
 const WRITES: usize = 2000;
@@ -42,7 +42,7 @@ fn certificates_of_growing_values(rt: HostRuntime) -> Result<(), Fail> {
     let expected = certificate(alloc)?;
     let own = certificate_of(&rt, alloc, &table, &graph, WRITES, "tags")?;
     assert_eq!(rt; own.as_slice(), expected.as_str().as_bytes());
-    let verdict = verdict_on(alloc, &table, &graph, expected.as_str())?;
+    let verdict = verdict_on(alloc, &table, &graph, expected.as_str().as_bytes())?;
     assert_eq!(rt; verdict.as_str(), "yes");
     Ok(())
 }

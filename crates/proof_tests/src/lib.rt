@@ -1,11 +1,9 @@
-//! Tests of certificates and of the verdicts on them. Nothing but tests stands here.
+//! A test of a certificate that uses many steps, and of the verdict on it. Nothing but tests stands here.
 #![tactic(auto)]
 
-#[cfg(test)]
-mod certificates;
 #[cfg(test)]
 mod fixtures;
 #[cfg(test)]
 mod growing;
 #[cfg(test)]
-mod verdicts;
+mod laws;

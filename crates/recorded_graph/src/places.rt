@@ -7,7 +7,7 @@ use std::alloc::Global;
 use std::marker::Model;
 
 /// The numbers of steps, in the order in which they are named.
-#[derive(Drop)]
+#[derive(Debug, Drop)]
 pub struct Places {
     items: Vec<usize>,
 }

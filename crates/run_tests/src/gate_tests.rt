@@ -3,6 +3,8 @@
 use crate::fixtures::DEFINITIONS;
 use crate::graph_tables::{joins_text, mixed_text};
 use field_table::Table;
+use fixture_graphs::{graph_of, star_text};
+use fixture_tables::table_of;
 use graph_runner::run_gated;
 use outside::{Gate, MeetingGate};
 use par_ranks::run_ranks;
@@ -11,8 +13,6 @@ use std::process::Abort;
 use std::sync::atomic::{AtomicUsize, Ordering};
 use std::test::Fail;
 use std::thread::Threads;
-use test_graphs::{graph_of, star_text};
-use test_tables::table_of;
 
 /// Runs a graph through a gate where two steps have to meet, of which one is the last step. Each list has so many atoms.
 fn meets<R: Abort + Threads + Sync>(

@@ -6,6 +6,8 @@ use crate::graph_tables::{
 };
 use atom_list::Context;
 use field_table::Table;
+use fixture_graphs::{graph_of, star_text, with_words};
+use fixture_tables::table_of;
 use graph_report::report;
 use graph_runner::run_all;
 use graph_text::PARENTS_MAX;
@@ -17,8 +19,6 @@ use std::alloc::Global;
 use std::process::Abort;
 use std::test::Fail;
 use std::thread::Threads;
-use test_graphs::{graph_of, star_text, with_words};
-use test_tables::table_of;
 
 /// Compares lists as bytes.
 fn are_alike(

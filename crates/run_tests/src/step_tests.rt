@@ -7,14 +7,14 @@ ghost use Rattle.step_rules.specs.Parents.{AreWithinLists};
 use crate::fixtures::{DEFINITIONS, digits_of};
 use atom_list::Context;
 use field_table::Table;
+use fixture_graphs::{contexts_of_bytes, graph_of, with_words};
+use fixture_tables::table_of;
 use graph_text::{Graph, PARENTS_MAX};
 use std::alloc::Global;
 use std::process::Abort;
 use std::test::Fail;
 use std::thread::Threads;
 use step_rules::{run_step, run_step_alone};
-use test_graphs::{contexts_of_bytes, graph_of, with_words};
-use test_tables::table_of;
 
 /// Steps of each kind, at services that know all, nothing and one slot, and at one that writes in form two.
 const STEPS: &str = "service a all

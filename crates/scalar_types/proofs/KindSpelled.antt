@@ -2,6 +2,7 @@
 use Rattle.std.proofs.Common.{◌≡◌, ◌↔◌, ℕ, List, Result, Ok, Err, IfOk, sym, refl, subst}
 use Rattle.bag_model.specs.Scalars as model
 use Rattle.bag_model.specs.Scalars.{Word, SpellingForm, spelling_form_of, IsOfForm, ArePlainsOf, IsScalarOf, plain_spelling, packed_spelling, spelling}
+use Rattle.bag_model.specs.Typed.{IsSpelling}
 use Rattle.scalar_types.specs.declared.kinds.ScalarKind.{ScalarKind}
 use Rattle.scalar_types.specs.declared.kinds.ScalarKind.TheVariants.{Packed}
 use Rattle.scalar_types.specs.declared.scalars.Scalar.{Scalar}
@@ -32,6 +33,13 @@ with_scalar : (kind : model.ScalarKind) (bytes : List ℕ) (x : model.ScalarValu
 with_scalar kind bytes x s =
     let back : Spells (IsScalarOf kind) (spelling kind) bytes (value_of (scalar_of x)) = subst (Spells (IsScalarOf kind) (spelling kind) bytes) (sym (value_back x)) s in
     (scalar_of x, record { fit = back.fit; same = back.same })
+
+-- So is what the kind spells.
+pub spelling_told : (kind : model.ScalarKind) (bytes : List ℕ) → KindSpelled kind bytes ↔ IsSpelling kind bytes
+spelling_told kind bytes = (
+  λ s. (value_of s.0, s.1.fit, sym s.1.same),
+  λ (x, fits, is). with_scalar kind bytes x record { fit = fits; same = sym is },
+)
 
 -- ---- a word
 

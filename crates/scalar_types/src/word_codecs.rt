@@ -20,7 +20,7 @@ use outside::{Memory, Octets};
 use std::alloc::Global;
 
 /// The codec that a word's values go by.
-#[derive(Clone, Copy)]
+#[derive(Clone, Copy, Debug)]
 pub enum WordCodec {
     Flag(Flag),
     LexU(LexU),

@@ -1,6 +1,7 @@
-use Rattle.std.specs.Prelude.{◌≡◌, ℕ, List, Option, Some, None}
+use Rattle.std.specs.Prelude.{◌≡◌, ◌⊎◌, ℕ, List, Option, Some, None}
 use Rattle.std.specs.Ordering.{flip_args}
 use Rattle.std.specs.declared.cmp.Ordering.{Ordering}
+use Rattle.std.specs.declared.cmp.Ordering.TheVariants.{Less}
 use Rattle.context_model.specs.GreedyMerge.{first_of}
 use Rattle.set_map_types.specs.SetsAndMaps.{value_cmp}
 
@@ -36,3 +37,15 @@ by_spelling spelling c = value_cmp (spelling c)
 -- the same order, turned round
 abbrev pub against_spelling : {C V : Type 0} → (C → V → List ℕ) → C → V → V → Ordering
 against_spelling spelling c = flip_args (by_spelling spelling c)
+
+-- Of two values the first: it is one of both, and none of both comes before it. It is absent where both are.
+abbrev pub IsFirstOfBoth : {V : Type 0} → (V → V → Ordering) → Option V → Option V → Option V → Type 0
+IsFirstOfBoth R a b None = (a ≡ None) × (b ≡ None)
+IsFirstOfBoth {V} R a b (Some v) =
+    ((a ≡ Some v) ⊎ (b ≡ Some v)) × ((w : V) → (a ≡ Some w) ⊎ (b ≡ Some w) → R w v ≡ Less → ⊥)
+
+-- Of two values the last: it is one of both, and it comes before none of both. It is absent where both are.
+abbrev pub IsLastOfBoth : {V : Type 0} → (V → V → Ordering) → Option V → Option V → Option V → Type 0
+IsLastOfBoth R a b None = (a ≡ None) × (b ≡ None)
+IsLastOfBoth {V} R a b (Some v) =
+    ((a ≡ Some v) ⊎ (b ≡ Some v)) × ((w : V) → (a ≡ Some w) ⊎ (b ≡ Some w) → R v w ≡ Less → ⊥)

@@ -2,6 +2,7 @@
 
 ghost use Rattle.std.specs.Prelude.{◌≡◌, Some, None, IfOk};
 ghost use Rattle.std.specs.Option.{option_copied};
+ghost use Rattle.set_map_types.specs.Picks.{HeldOne, IsFirstOfBoth, by_spelling, one_joined};
 
 use counter_type::Lattice;
 use outside::Memory;
@@ -96,3 +97,9 @@ impl<C: Codec> Lattice for Least<C> {
         Ok(Least { codec, value })
     }
 }
+
+/// A join keeps the least of both values: it is one of them, and none of them is less. It has none where neither has one.
+pub fn least_join_is_first<C: Codec>()
+    ensures { (s t : HeldOne C C.Value)
+        → IsFirstOfBoth (by_spelling C.spelling s.codec) s.value t.value (one_joined (by_spelling C.spelling) s t).value }
+{}

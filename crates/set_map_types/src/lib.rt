@@ -14,7 +14,7 @@ mod map_of;
 mod set_of;
 mod sharing;
 
-pub use greatest::Greatest;
-pub use least::Least;
+pub use greatest::{Greatest, greatest_join_is_last};
+pub use least::{Least, least_join_is_first};
 pub use map_of::{MapOf, map_join_is_union};
 pub use set_of::{SetOf, set_join_is_union};

@@ -4,7 +4,8 @@ use Rattle.std.specs.List.{list_any}
 use Rattle.std.specs.Str.{bytes_eq}
 use Rattle.std.proofs.lemmas.List.{length-reverse}
 use Rattle.context_model.specs.Orders.{IsIn}
-use Rattle.bag_model.specs.declared.TheConstants.{MAX_LEVELS, MAX_FIELDS}
+use Rattle.context_model.specs.declared.TheConstants.{LEVELS_MAX}
+use Rattle.bag_model.specs.declared.TheConstants.{FIELDS_MAX}
 use Rattle.bag_model.specs.Shapes.{Field, fields}
 use Rattle.bag_model.specs.Tables.{levels_under}
 use Rattle.field_table.specs.Plain.{nodes_of}
@@ -57,31 +58,31 @@ module _ (before : List Row) (level : ℕ) (fs : List Field) (count : ℕ) (row 
   pub new_name : (RowBreaks before row DuplicateField → ⊥) → IsIn row.name (map head_name fs) → ⊥
   new_name kept i = kept (subst (λ (l : List Row). IsIn row.name (map row_name l)) (sym is.siblings_are) (named_line row.depth fs row.name i))
 
-  pub breaks_levels : MAX_LEVELS ≤ level + levels_under row.shape → RowBreaks before row TooDeep
+  pub breaks_levels : LEVELS_MAX ≤ level + levels_under row.shape → RowBreaks before row TooDeep
   breaks_levels deep = omega (arith, deep, is.level_is)
 
-  pub keeps_levels : level + levels_under row.shape < MAX_LEVELS → RowBreaks before row TooDeep → ⊥
+  pub keeps_levels : level + levels_under row.shape < LEVELS_MAX → RowBreaks before row TooDeep → ⊥
   keeps_levels few broken = omega (arith, few, broken, is.level_is)
 
-  pub breaks_count : MAX_FIELDS ≤ count → RowBreaks before row TooManySlots
+  pub breaks_count : FIELDS_MAX ≤ count → RowBreaks before row TooManySlots
   breaks_count many = omega (arith, many, is.count_is)
 
-  pub keeps_count : count < MAX_FIELDS → RowBreaks before row TooManySlots → ⊥
+  pub keeps_count : count < FIELDS_MAX → RowBreaks before row TooManySlots → ⊥
   keeps_count few broken = omega (arith, few, broken, is.count_is)
 
   -- What a field that breaks no rule is.
   pub record MayStand : Type 0 where
     pub number : least_behind fs ≤ row.number
     pub name : IsIn row.name (map head_name fs) → ⊥
-    pub levels : level + levels_under row.shape < MAX_LEVELS
-    pub fewer : count < MAX_FIELDS
+    pub levels : level + levels_under row.shape < LEVELS_MAX
+    pub fewer : count < FIELDS_MAX
 
   pub may_stand_here : NoneOf (RowBreaks before row) rules_of_bag → MayStand
   may_stand_here none = record {
     number = not_less (least_behind fs) row.number (λ less. none.0 (breaks_order less));
     name = new_name none.1.0;
-    levels = not_most MAX_LEVELS (level + levels_under row.shape) (λ deep. none.1.1.0 (breaks_levels deep));
-    fewer = not_most MAX_FIELDS count (λ many. none.1.1.1.0 (breaks_count many));
+    levels = not_most LEVELS_MAX (level + levels_under row.shape) (λ deep. none.1.1.0 (breaks_levels deep));
+    fewer = not_most FIELDS_MAX count (λ many. none.1.1.1.0 (breaks_count many));
   }
     where
       not_less : (a b : ℕ) → (b < a → ⊥) → a ≤ b
@@ -98,14 +99,14 @@ module _ (before : List Row) (level : ℕ) (fs : List Field) (count : ℕ) (row 
   pub name_first : least_behind fs ≤ row.number → list_any (bytes_eq row.name) (map head_name fs) ≡ true → IsFirstOf (RowBreaks before row) rules_of_bag DuplicateField
   name_first most found = inr (keeps_order most, inl (refl, breaks_name found))
 
-  pub levels_first : least_behind fs ≤ row.number → list_any (bytes_eq row.name) (map head_name fs) ≡ false → MAX_LEVELS ≤ level + levels_under row.shape
+  pub levels_first : least_behind fs ≤ row.number → list_any (bytes_eq row.name) (map head_name fs) ≡ false → LEVELS_MAX ≤ level + levels_under row.shape
       → IsFirstOf (RowBreaks before row) rules_of_bag TooDeep
   levels_first most none deep = inr (keeps_order most, inr (keeps_name none, inl (refl, breaks_levels deep)))
 
-  pub count_first : least_behind fs ≤ row.number → list_any (bytes_eq row.name) (map head_name fs) ≡ false → level + levels_under row.shape < MAX_LEVELS → MAX_FIELDS ≤ count
+  pub count_first : least_behind fs ≤ row.number → list_any (bytes_eq row.name) (map head_name fs) ≡ false → level + levels_under row.shape < LEVELS_MAX → FIELDS_MAX ≤ count
       → IsFirstOf (RowBreaks before row) rules_of_bag TooManySlots
   count_first most none few many = inr (keeps_order most, inr (keeps_name none, inr (keeps_levels few, inl (refl, breaks_count many))))
 
-  pub none_broken : least_behind fs ≤ row.number → list_any (bytes_eq row.name) (map head_name fs) ≡ false → level + levels_under row.shape < MAX_LEVELS → count < MAX_FIELDS
+  pub none_broken : least_behind fs ≤ row.number → list_any (bytes_eq row.name) (map head_name fs) ≡ false → level + levels_under row.shape < LEVELS_MAX → count < FIELDS_MAX
       → NoneOf (RowBreaks before row) rules_of_bag
   none_broken most none few fewer = (keeps_order most, (keeps_name none, (keeps_levels few, (keeps_count fewer, tt))))

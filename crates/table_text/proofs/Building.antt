@@ -3,7 +3,7 @@ use Rattle.std.proofs.Common.{◌≡◌, ℕ, ◌+◌, ◌^◌, ◌<◌, ◌≤�
 use Rattle.std.specs.List.{AllByRecursion, list_any}
 use Rattle.std.specs.Str.{bytes_eq}
 use Rattle.std.proofs.lemmas.List.{map-append}
-use Rattle.bag_model.specs.declared.TheConstants.{MAX_LEVELS}
+use Rattle.context_model.specs.declared.TheConstants.{LEVELS_MAX}
 use Rattle.bag_model.specs.Shapes.{Field, fields, no_node}
 use Rattle.bag_model.specs.Tables.{IsShape, AreFields, is_name, levels, levels_under}
 use Rattle.field_table.specs.Plain.{nodes_of, IsIndexed}
@@ -21,7 +21,7 @@ use Rattle.table_text.proofs.Siblings.{IsStart, bag_start}
 -- ---- bags
 
 pub no_fields : (bag : OpenBag) (level : ℕ) → nodes_of bag.fields ≡ no_node → IsIndexed bag.fields → bag.names ≡ [] → bag.least ≡ 0 → bag.level ≡ level
-    → level ≤ MAX_LEVELS → IsBag bag level (fields (nodes_of bag.fields))
+    → level ≤ LEVELS_MAX → IsBag bag level (fields (nodes_of bag.fields))
 no_fields bag level empty indexed names least own few = record {
   at_level = own;
   indexed = indexed;
@@ -53,7 +53,7 @@ noted bag next level head is same names least own =
 pub whole : (bag next : OpenBag) (level : ℕ) (head field : Field) → IsBag bag level (fields (nodes_of bag.fields) ++ head ∷ []) → head.name ≡ field.name → head.number ≡ field.number
     → fields (nodes_of next.fields) ≡ fields (nodes_of bag.fields) ++ field ∷ [] → IsIndexed next.fields → next.names ≡ bag.names → next.least ≡ bag.least → next.level ≡ bag.level
     → is_name field.name ≡ true → field.number < 2 ^ 16 → IsShape field.shape → AllByRecursion (IsFieldBehind field.name field.number) (fields (nodes_of bag.fields))
-    → level + (1 + levels_under field.shape) ≤ MAX_LEVELS → IsBag next level (fields (nodes_of next.fields))
+    → level + (1 + levels_under field.shape) ≤ LEVELS_MAX → IsBag next level (fields (nodes_of next.fields))
 whole bag next level head field is name number more indexed names least own named numbered shaped behind deep =
     let nodes = nodes_of bag.fields in
     let heads = fields nodes in

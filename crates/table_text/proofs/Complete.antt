@@ -5,7 +5,8 @@ use Rattle.std.specs.List.{AllByRecursion, list_any}
 use Rattle.std.specs.Str.{bytes_eq}
 use Rattle.std.proofs.lemmas.List.{length-reverse}
 use Rattle.context_model.specs.Orders.{IsIn}
-use Rattle.bag_model.specs.declared.TheConstants.{MAX_LEVELS, MAX_FIELDS}
+use Rattle.context_model.specs.declared.TheConstants.{LEVELS_MAX}
+use Rattle.bag_model.specs.declared.TheConstants.{FIELDS_MAX}
 use Rattle.bag_model.specs.Shapes.{Shape, Nodes, Field, fields, Taint, Scalar, Set, Counter, Map, Bag, no_node, node}
 use Rattle.bag_model.specs.Tables.{IsShape, AreFields, IsTable, is_name, levels, levels_under, node_count, nodes_under}
 use Rattle.text_lines.specs.Lines.{numbered}
@@ -121,7 +122,7 @@ split_levels (Bag nodes) = omega arith
 -- ---- fields
 
 -- The line of a field says it.
-says_line : (depth : ℕ) (name : List ℕ) (number : ℕ) (shape : Shape) → depth < MAX_LEVELS → is_name name ≡ true → number < 2 ^ 16 → IsShape shape → levels_under shape ≤ MAX_LEVELS
+says_line : (depth : ℕ) (name : List ℕ) (number : ℕ) (shape : Shape) → depth < LEVELS_MAX → is_name name ≡ true → number < 2 ^ 16 → IsShape shape → levels_under shape ≤ LEVELS_MAX
     → SaysRow (row_line (told_row depth name number shape)) (told_row depth name number shape)
 says_line depth name number shape low named numbered shaped few = record {
   named = named;
@@ -140,7 +141,7 @@ pub record IsPoint (base : List Row) (depth level : ℕ) : Type 0 where
 
 one_good : (base : List Row) (depth level : ℕ) (front : Nodes) (first : Field) → IsPoint base depth level → depth ≤ deepest (reverse (base ++ rows_of depth front))
     → is_name first.name ≡ true → first.number < 2 ^ 16 → IsShape first.shape → AllByRecursion (IsFieldBehind first.name first.number) (fields front)
-    → level + (1 + levels_under first.shape) ≤ MAX_LEVELS → length (base ++ rows_of depth front) < MAX_FIELDS
+    → level + (1 + levels_under first.shape) ≤ LEVELS_MAX → length (base ++ rows_of depth front) < FIELDS_MAX
     → IsGoodRow (reverse (base ++ rows_of depth front)) (row_line (row_at depth first)) (row_at depth first)
 one_good base depth level front first point deep named numbered shaped behind few room =
     let earlier = base ++ rows_of depth front in
@@ -160,7 +161,7 @@ one_good base depth level front first point deep named numbered shaped behind fe
 mutual
   -- The lines of the fields behind those in front.
   pub good_fields : (base : List Row) (depth level : ℕ) (front nodes : Nodes) → IsPoint base depth level → depth ≤ deepest (reverse (base ++ rows_of depth front))
-      → AreFields nodes → StandBehind front (fields nodes) → level + levels nodes ≤ MAX_LEVELS → length (base ++ rows_of depth front) + node_count nodes ≤ MAX_FIELDS
+      → AreFields nodes → StandBehind front (fields nodes) → level + levels nodes ≤ LEVELS_MAX → length (base ++ rows_of depth front) + node_count nodes ≤ FIELDS_MAX
       → AllGood (base ++ rows_of depth front) (rows_of depth nodes)
   good_fields base depth level front no_node point deep sound behind few small = tt
   good_fields base depth level front (node name number shape nodes) point deep sound behind few small =
@@ -188,7 +189,7 @@ mutual
 
   -- The lines of the fields of the bag that a shape ends in.
   good_inside : (base : List Row) (depth level : ℕ) (shape : Shape) → IsPoint base depth level → (ends_in_bag shape ≡ true → depth ≤ deepest (reverse base))
-      → IsShape shape → level + levels_inside shape ≤ MAX_LEVELS → length base + nodes_under shape ≤ MAX_FIELDS → AllGood base (rows_in depth shape)
+      → IsShape shape → level + levels_inside shape ≤ LEVELS_MAX → length base + nodes_under shape ≤ FIELDS_MAX → AllGood base (rows_in depth shape)
   good_inside base depth level Taint point deep shaped few small = tt
   good_inside base depth level (Scalar pick kind) point deep shaped few small = tt
   good_inside base depth level (Set kind) point deep shaped few small = tt

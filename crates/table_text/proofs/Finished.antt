@@ -1,6 +1,6 @@
 -- The table of the fields that all lines said.
 use Rattle.std.proofs.Common.{◌≡◌, ℕ, ◌+◌, ◌≤◌, List, [], ◌∷◌, ◌++◌, length, refl, ap, arith}
-use Rattle.bag_model.specs.declared.TheConstants.{MAX_LEVELS}
+use Rattle.context_model.specs.declared.TheConstants.{LEVELS_MAX}
 use Rattle.bag_model.specs.Shapes.{Nodes}
 use Rattle.bag_model.specs.Tables.{IsTable}
 use Rattle.field_table.specs.Plain.{nodes_of}
@@ -34,5 +34,5 @@ open_levels level [] last are = omega (arith, are)
 open_levels level (field ∷ outer) last are = omega (arith, open_levels (level_inside level field) outer last are.1)
 
 -- So there are no more than levels.
-pub few_open : (builder : Builder) → IsSoundBuilder builder → depth_of builder ≤ MAX_LEVELS
+pub few_open : (builder : Builder) → IsSoundBuilder builder → depth_of builder ≤ LEVELS_MAX
 few_open builder sound = omega (arith, open_levels 0 builder.outer.items builder.bag.level sound.outer, sound.bag.shallow)

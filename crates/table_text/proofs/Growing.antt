@@ -3,7 +3,8 @@ use Rattle.std.proofs.Common.{◌≡◌, ◌+◌, ◌<◌, ◌≤◌, true, fals
 use Rattle.std.specs.List.{AllByRecursion}
 use Rattle.text_lines.specs.Readings.{NoneOf}
 use Rattle.context_model.specs.Orders.{IsIn}
-use Rattle.bag_model.specs.declared.TheConstants.{MAX_LEVELS, MAX_FIELDS}
+use Rattle.context_model.specs.declared.TheConstants.{LEVELS_MAX}
+use Rattle.bag_model.specs.declared.TheConstants.{FIELDS_MAX}
 use Rattle.bag_model.specs.Shapes.{Shape, Nodes, Field, fields, no_node}
 use Rattle.bag_model.specs.Tables.{levels_under}
 use Rattle.field_table.specs.Plain.{shape_of, nodes_of, IsIndexed, IsIndexedShape}
@@ -81,7 +82,7 @@ closing builder next field sound outer rows more indexed names least own =
     let same = closed_rows next.outer.items field inner (nodes_of next.bag.fields) with is.row.told is.ends
     ∙ ap (λ (l : List OpenField). rows_around 0 l ++ rows_of (length l) inner) (sym outer) in
     let level : last.around ≡ next.bag.level = sym (own ∙ is.bag.at_level) in
-    let deep : last.around + (1 + levels_under (filled inner shape)) ≤ MAX_LEVELS = omega (arith, levels_filled inner shape is.row.told is.ends, sound.bag.shallow, last.inside) in
+    let deep : last.around + (1 + levels_under (filled inner shape)) ≤ LEVELS_MAX = omega (arith, levels_filled inner shape is.row.told is.ends, sound.bag.shallow, last.inside) in
     record {
       rows = same;
       sound = record {
@@ -120,8 +121,8 @@ pub record IsNext (builder : Builder) (row : CodeRow) : Type 0 where
   pub depth : row.depth ≡ depth_of builder
   pub number : least_behind (fields (nodes_of builder.bag.fields)) ≤ row.number
   pub name : IsIn row.name.now (map head_name (fields (nodes_of builder.bag.fields))) → ⊥
-  pub levels_fit : builder.bag.level + levels_under (shape_of row.shape) < MAX_LEVELS
-  pub fewer : builder.rows < MAX_FIELDS
+  pub levels_fit : builder.bag.level + levels_under (shape_of row.shape) < LEVELS_MAX
+  pub fewer : builder.rows < FIELDS_MAX
 
 -- The bag with the line noted.
 pub record IsNoted (builder : Builder) (row : CodeRow) (bag : OpenBag) : Type 0 where

@@ -5,8 +5,9 @@ use Rattle.text_lines.specs.Lines.{Line, numbered}
 use Rattle.text_lines.specs.Readings.{AllSay}
 use Rattle.text_lines.proofs.ReadingLaws.{all_say_more, next_bad}
 use Rattle.table_text.specs.declared.faults.TableCode.TheVariants.{Head, Form, Depth, Order, DuplicateField, TooDeep, TooManySlots}
-use Rattle.table_text.specs.declared.faults.Refusal.{Refusal}
-use Rattle.table_text.specs.declared.faults.Refusal.TheVariants as refusals
+use Rattle.table_text.specs.declared.faults.TableCode.{TableCode}
+use Rattle.outside.specs.declared.answers.OrMemory.{OrMemory}
+use Rattle.outside.specs.declared.answers.OrMemory.TheVariants as refusals
 use Rattle.table_text.specs.declared.rows.Row.{Row as CodeRow}
 use Rattle.table_text.specs.Faults.{table_fault_at}
 use Rattle.table_text.specs.Builder.{IsSoundRow}
@@ -20,14 +21,14 @@ pub sound_row : (text : List ℕ) (row : CodeRow) → SaysRow text (plain_row_of
 sound_row text row says indexed = record { named = says.named; numbered = says.numbered; told = says.told; flat = says.flat; indexed = indexed }
 
 -- A line that isn't read is refused: a depth of more than 64 bits is one too great.
-pub unread_refused : (before : List Row) (text : List ℕ) → deepest before < 2 ^ 64 → (refusal : Refusal) → HasNoRow text refusal → IsRefusedRowLine before text refusal
-unread_refused before text small (refusals.Code Form) none = inl (none, refl)
-unread_refused before text small (refusals.Code Depth) (row, says, great) = inr (row, says, inl (refl, omega (arith, small, great)))
-unread_refused before text small (refusals.Code Head) none = absurd none
-unread_refused before text small (refusals.Code Order) none = absurd none
-unread_refused before text small (refusals.Code DuplicateField) none = absurd none
-unread_refused before text small (refusals.Code TooDeep) none = absurd none
-unread_refused before text small (refusals.Code TooManySlots) none = absurd none
+pub unread_refused : (before : List Row) (text : List ℕ) → deepest before < 2 ^ 64 → (refusal : OrMemory TableCode) → HasNoRow text refusal → IsRefusedRowLine before text refusal
+unread_refused before text small (refusals.Fault Form) none = inl (none, refl)
+unread_refused before text small (refusals.Fault Depth) (row, says, great) = inr (row, says, inl (refl, omega (arith, small, great)))
+unread_refused before text small (refusals.Fault Head) none = absurd none
+unread_refused before text small (refusals.Fault Order) none = absurd none
+unread_refused before text small (refusals.Fault DuplicateField) none = absurd none
+unread_refused before text small (refusals.Fault TooDeep) none = absurd none
+unread_refused before text small (refusals.Fault TooManySlots) none = absurd none
 unread_refused before text small refusals.Memory none = tt
 
 -- The lines so far said these rows, and the rest begins at this number.
@@ -47,8 +48,8 @@ said_more text number rest line behind rows next said cut (row, good, grown) = r
 }
 
 pub said_bad : (text : List ℕ) (number : ℕ) (rest line behind : List ℕ) (rows : List Row) → HasSaid text number rest rows → fed_lines rest ≡ line ∷ fed_lines behind
-    → (refusal : Refusal) → IsRefusedRowLine (reverse rows) line refusal → IsRefusalBehind text (table_fault_at number refusal)
-said_bad text number rest line behind rows said cut (refusals.Code code) bad =
+    → (refusal : OrMemory TableCode) → IsRefusedRowLine (reverse rows) line refusal → IsRefusalBehind text (table_fault_at number refusal)
+said_bad text number rest line behind rows said cut (refusals.Fault code) bad =
     next_bad field_lines (lines_behind text) said.before (number, line) (numbered (number + 1) (fed_lines behind)) (numbered number (fed_lines rest)) rows code said.split
     (ap (numbered number) cut) said.all bad
 said_bad text number rest line behind rows said cut refusals.Memory bad = tt

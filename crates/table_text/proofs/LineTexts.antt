@@ -2,7 +2,7 @@
 use Rattle.std.proofs.Common.{◌≡◌, ℕ, ◌+◌, ◌^◌, ◌<◌, ◌≤◌, Bool, true, false, if◌then◌else◌, List, [], ◌∷◌, ◌++◌, length, reverse, refl, sym, ◌∙◌, ap, subst, append_assoc, length-append, arith}
 use Rattle.std.specs.Fmt.{decimal}
 use Rattle.std.proofs.lemmas.List.{length-reverse}
-use Rattle.bag_model.specs.declared.TheConstants.{MAX_FIELDS}
+use Rattle.bag_model.specs.declared.TheConstants.{FIELDS_MAX}
 use Rattle.bag_model.specs.Shapes.{Shape, Nodes, Taint, Scalar, Set, Counter, Map, Bag, no_node, node}
 use Rattle.text_lines.specs.Lines.{numbered}
 use Rattle.text_lines.specs.Readings.{AllSay}
@@ -71,7 +71,7 @@ deep_more before row n few kept = by (ends_in_bag row.shape)
     by false = omega (arith, few, kept)
 
 -- The text of the lines is that of what they say.
-pub said_text : (number : ℕ) (earlier : List Row) (lines : List (List ℕ)) (rows : List Row) → deepest (reverse earlier) ≤ length earlier → length earlier ≤ MAX_FIELDS
+pub said_text : (number : ℕ) (earlier : List Row) (lines : List (List ℕ)) (rows : List Row) → deepest (reverse earlier) ≤ length earlier → length earlier ≤ FIELDS_MAX
     → AllSay field_lines earlier (numbered number lines) rows → whole lines ≡ rows_text rows
 said_text number earlier [] [] shallow few all = refl
 said_text number earlier [] (row ∷ rows) shallow few all = absurd all
@@ -81,7 +81,7 @@ said_text number earlier (line ∷ lines) (row ∷ rows) shallow few all =
     let broken = all.0.1 in
     let kept = broken.0 in
     let more = broken.1.1.1.1.0 in
-    let room : length earlier < MAX_FIELDS = omega (arith, more, length-reverse earlier) in
+    let room : length earlier < FIELDS_MAX = omega (arith, more, length-reverse earlier) in
     let low : row.depth < 2 ^ 64 = omega (arith, shallow, few, kept) in
     let grown = length-append earlier (row ∷ []) in
     let rest = said_text (number + 1) (earlier ++ row ∷ []) lines rows

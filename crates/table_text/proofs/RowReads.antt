@@ -6,7 +6,7 @@ use Rattle.bag_model.specs.Shapes.{Shape}
 use Rattle.table_text.specs.declared.TheConstants.{MAPS_MAX}
 use Rattle.table_text.specs.declared.faults.TableCode.{TableCode}
 use Rattle.table_text.specs.declared.faults.TableCode.TheVariants.{Head, Form, Depth, Order, DuplicateField, TooDeep, TooManySlots}
-use Rattle.table_text.specs.declared.faults.Refusal.TheVariants.{Code}
+use Rattle.outside.specs.declared.answers.OrMemory.TheVariants.{Fault}
 use Rattle.table_text.specs.Rows.{Row, IsDepth, SaysRow}
 use Rattle.table_text.specs.TableTexts.{shape_text}
 use Rattle.table_text.specs.Words.{IsFree, IsFieldNumberText, IsNoDepth, IsShapeText, HasNoParts, parts_line}
@@ -41,7 +41,7 @@ no_told line d n m s h none row says = none row.shape (says.told, says.flat, (pa
 
 -- A line whose other parts are well is refused as its depth is.
 pub no_depth : (line d n m s : List ℕ) → HasParts line d n m s → (number : ℕ) (shape : Shape) → IsFieldNumberText n number → is_name m ≡ true → IsShapeText MAPS_MAX s shape
-    → (code : TableCode) → IsNoDepth d code → HasNoRow line (Code code)
+    → (code : TableCode) → IsNoDepth d code → HasNoRow line (Fault code)
 no_depth line d n m s h number shape numbered named told Form none = λ row says.
     none row.depth (subst (λ (text : List ℕ). IsDepth text row.depth) (sym (parts_said line d n m s h row says).depth) says.deep)
 no_depth line d n m s h number shape numbered named told Depth (depth, deep, great) = (

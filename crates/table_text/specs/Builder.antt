@@ -1,7 +1,8 @@
 -- The bags whose fields are being read, with what was read of them.
 use Rattle.std.specs.Prelude.{◌≡◌, ◌≢◌, ℕ, ◌+◌, ◌^◌, ◌<◌, ◌≤◌, true, List, [], ◌∷◌, ◌++◌, map, length, reverse}
 use Rattle.std.specs.List.{AllByRecursion}
-use Rattle.bag_model.specs.declared.TheConstants.{MAX_LEVELS, MAX_FIELDS}
+use Rattle.context_model.specs.declared.TheConstants.{LEVELS_MAX}
+use Rattle.bag_model.specs.declared.TheConstants.{FIELDS_MAX}
 use Rattle.bag_model.specs.Shapes.{Field, fields}
 use Rattle.bag_model.specs.Tables.{AreFields, is_name, levels, levels_under}
 use Rattle.field_table.specs.Plain.{shape_of, nodes_of, IsIndexed, IsIndexedShape}
@@ -42,7 +43,7 @@ pub record IsBag (bag : OpenBag) (level : ℕ) (heads : List Field) : Type 0 whe
   pub at_level : bag.level ≡ level
   pub indexed : IsIndexed bag.fields
   pub sound : AreFields (nodes_of bag.fields)
-  pub shallow : level + levels (nodes_of bag.fields) ≤ MAX_LEVELS
+  pub shallow : level + levels (nodes_of bag.fields) ≤ LEVELS_MAX
   pub names : HaveNames bag.names (map head_name heads)
   pub least : bag.least ≡ least_behind heads
 
@@ -56,7 +57,7 @@ pub record IsOpenField (level : ℕ) (field : OpenField) : Type 0 where
   pub row : IsSoundRow field.row
   pub ends : ends_in_bag (shape_of field.row.shape) ≡ true
   pub behind : AllByRecursion (IsFieldBehind field.row.name.now field.row.number) (fields (nodes_of field.bag.fields))
-  pub deep : level + levels_under (shape_of field.row.shape) < MAX_LEVELS
+  pub deep : level + levels_under (shape_of field.row.shape) < LEVELS_MAX
 
 -- The level of the bag in a field that is open in a bag at this level.
 abbrev pub level_inside : ℕ → OpenField → ℕ
@@ -89,7 +90,7 @@ pub record IsSoundBuilder (builder : Builder) : Type 0 where
   pub outer : AreOpen 0 builder.outer.items builder.bag.level
   pub bag : IsBag builder.bag builder.bag.level (fields (nodes_of builder.bag.fields))
   pub count : builder.rows ≡ length (rows_so_far builder)
-  pub few : builder.rows ≤ MAX_FIELDS
+  pub few : builder.rows ≤ FIELDS_MAX
 
 -- The innermost bag is the one that the next line may go to at the deepest.
 abbrev pub IsFresh : Builder → Type 0

@@ -2,8 +2,8 @@
 use Rattle.std.specs.Prelude.{ℕ, List, codes}
 use Rattle.table_text.specs.declared.faults.TableCode.{TableCode}
 use Rattle.table_text.specs.declared.faults.TableCode.TheVariants.{Head, Form, Depth, Order, DuplicateField, TooDeep, TooManySlots}
-use Rattle.table_text.specs.declared.faults.Refusal.{Refusal}
-use Rattle.table_text.specs.declared.faults.Refusal.TheVariants as refusals
+use Rattle.outside.specs.declared.answers.OrMemory.{OrMemory}
+use Rattle.outside.specs.declared.answers.OrMemory.TheVariants as refusals
 use Rattle.table_text.specs.declared.faults.TableFault.{TableFault}
 use Rattle.table_text.specs.declared.faults.TableFault.TheVariants.{At, Memory}
 
@@ -17,6 +17,6 @@ table_code_name TooDeep = codes "TooDeep"
 table_code_name TooManySlots = codes "TooManySlots"
 
 -- The refusal of a text, by that of its line with this number.
-abbrev pub table_fault_at : ℕ → Refusal → TableFault
-table_fault_at line (refusals.Code code) = At line code
+abbrev pub table_fault_at : ℕ → OrMemory TableCode → TableFault
+table_fault_at line (refusals.Fault code) = At line code
 table_fault_at line refusals.Memory = Memory

@@ -9,3 +9,4 @@ pub mod Rules
 pub mod Reading
 pub mod Faults
 pub mod Views
+pub mod FaultTexts

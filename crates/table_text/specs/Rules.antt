@@ -1,7 +1,8 @@
 -- The rules for a line that has the form, by the lines before it, of which the latest stands first.
 use Rattle.std.specs.Prelude.{◌≡◌, ◌⊎◌, ℕ, ◌+◌, ◌<◌, ◌≤◌, ◌==◌, nat_lt, Bool, true, false, if◌then◌else◌, List, [], ◌∷◌, map, length, reverse}
 use Rattle.context_model.specs.Orders.{IsIn}
-use Rattle.bag_model.specs.declared.TheConstants.{MAX_LEVELS, MAX_FIELDS}
+use Rattle.context_model.specs.declared.TheConstants.{LEVELS_MAX}
+use Rattle.bag_model.specs.declared.TheConstants.{FIELDS_MAX}
 use Rattle.bag_model.specs.Shapes.{Shape, Map, Bag}
 use Rattle.bag_model.specs.Tables.{levels_under}
 use Rattle.text_lines.specs.Readings.{Reading, IsFirstOf, NoneOf}
@@ -49,8 +50,8 @@ RowBreaks before row Form = ⊥
 RowBreaks before row Depth = deepest before < row.depth
 RowBreaks before row Order = IsOutOfOrder (siblings row.depth before) row
 RowBreaks before row DuplicateField = IsIn row.name (map (λ other. other.name) (siblings row.depth before))
-RowBreaks before row TooDeep = MAX_LEVELS ≤ level_at row.depth before + levels_under row.shape
-RowBreaks before row TooManySlots = MAX_FIELDS ≤ length before
+RowBreaks before row TooDeep = LEVELS_MAX ≤ level_at row.depth before + levels_under row.shape
+RowBreaks before row TooManySlots = FIELDS_MAX ≤ length before
 
 -- The rules for a line whose depth may be, in the order in which they count.
 abbrev pub rules_of_bag : List TableCode

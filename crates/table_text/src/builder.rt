@@ -1,7 +1,8 @@
 //! The bags of a table, while lines say their fields one after another.
 
 ghost use Rattle.std.specs.Prelude.{◌≡◌, ◌≢◌, ◌+◌, ◌<◌, ◌≤◌, ◌++◌, [], ◌∷◌, length, reverse, IfOk, IfErr, OnOk};
-ghost use Rattle.bag_model.specs.declared.TheConstants.{MAX_LEVELS, MAX_FIELDS};
+ghost use Rattle.context_model.specs.declared.TheConstants.{LEVELS_MAX};
+ghost use Rattle.bag_model.specs.declared.TheConstants.{FIELDS_MAX};
 ghost use Rattle.bag_model.specs.Shapes.{fields, no_node};
 ghost use Rattle.bag_model.specs.Tables.{levels_under};
 ghost use Rattle.field_table.specs.Plain.{shape_of, nodes_of, IsIndexed, IsIndexedShape};
@@ -15,12 +16,12 @@ ghost use Rattle.table_text.specs.Views.{plain_row_of, IsAddRefused};
 ghost use Rattle.table_text.specs.Builder.{IsSoundRow, IsSoundBuilder, IsFresh, depth_of, rows_so_far};
 
 use crate::MAPS_MAX;
-use crate::faults::{Refusal, TableCode};
+use crate::faults::TableCode;
 use crate::names::FieldNames;
 use crate::rows::Row;
-use bag_model::{MAX_FIELDS, MAX_LEVELS};
+use bag_model::{FIELDS_MAX, LEVELS_MAX};
 use field_table::{Shape, Slots, Table};
-use outside::Memory;
+use outside::{Memory, OrMemory};
 use std::alloc::Global;
 
 /// Whether a shape ends in a bag, whose fields the next lines say.
@@ -124,7 +125,7 @@ struct OpenField<'a> {
     row: Row<'a>,
 }
 
-/// The fields that lines have said so far. There are at most [`MAX_LEVELS`] open bags.
+/// The fields that lines have said so far. There are at most [`LEVELS_MAX`] open bags.
 #[derive(Drop)]
 pub(crate) struct Builder<'a> {
     /// The fields that are open, each in the bag of the one before it.
@@ -203,10 +204,10 @@ impl<'a> Builder<'a> {
         if self.bag.names.contains(row.name) {
             return Err(TableCode::DuplicateField);
         }
-        if self.bag.level + levels_under(&row.shape) >= MAX_LEVELS {
+        if self.bag.level + levels_under(&row.shape) >= LEVELS_MAX {
             return Err(TableCode::TooDeep);
         }
-        if self.rows >= MAX_FIELDS {
+        if self.rows >= FIELDS_MAX {
             return Err(TableCode::TooManySlots);
         }
         Ok(())
@@ -247,7 +248,7 @@ impl<'a> Builder<'a> {
     }
 
     /// The same with the field that the next line says.
-    pub(crate) fn add(self, alloc: Global, row: Row<'a>) -> Result<Builder<'a>, Refusal>
+    pub(crate) fn add(self, alloc: Global, row: Row<'a>) -> Result<Builder<'a>, OrMemory<TableCode>>
         requires sound { IsSoundBuilder self }
         requires fresh { IsFresh self }
         requires row { IsSoundRow row }
@@ -258,7 +259,7 @@ impl<'a> Builder<'a> {
         ensures err { IfErr result (IsAddRefused (reverse (rows_so_far self.entry)) (plain_row_of row.entry)) }
     {
         if row.depth > self.outer.len() as u64 {
-            return Err(Refusal::Code(TableCode::Depth));
+            return Err(OrMemory::Fault(TableCode::Depth));
         }
         let builder = self.closed_to(row.depth as usize)?;
         builder.check(&row)?;

@@ -3,7 +3,8 @@
 ghost use Rattle.std.specs.Prelude.{◌≡◌};
 ghost use Rattle.table_text.specs.Faults.{table_fault_at};
 
-use outside::Memory;
+use outside::{Memory, OrMemory};
+use std::error::Error;
 use std::fmt;
 
 /// The rule that a line breaks. At one line the first of these counts.
@@ -20,10 +21,10 @@ pub enum TableCode {
     Order,
     /// An earlier field of the same bag has the name.
     DuplicateField,
-    /// The field's own header, or one that its shape puts under it, would be at a level that [`bag_model::MAX_LEVELS`]
+    /// The field's own header, or one that its shape puts under it, would be at a level that [`bag_model::LEVELS_MAX`]
     /// levels don't reach.
     TooDeep,
-    /// The line stands behind as many fields as [`bag_model::MAX_FIELDS`].
+    /// The line stands behind as many fields as [`bag_model::FIELDS_MAX`].
     TooManySlots,
 }
 
@@ -36,46 +37,26 @@ pub enum TableFault {
     Memory,
 }
 
-/// Why a line says no field.
-#[derive(Clone, Copy, Debug)]
-pub(crate) enum Refusal {
-    /// The line breaks this rule.
-    Code(TableCode),
-    /// There is no memory for what it says.
-    Memory,
-}
-
-impl Refusal {
-    /// The refusal of a text whose line with this number is refused.
-    pub(crate) fn at(self, line: u64) -> TableFault
-        ensures { result ≡ table_fault_at line self }
+impl TableFault {
+    /// The refusal of a text whose line with this number says no field for that reason.
+    pub(crate) fn of_line(line: u64, refusal: OrMemory<TableCode>) -> TableFault
+        ensures { result ≡ table_fault_at line refusal }
     {
-        match self {
-            Refusal::Code(code) => TableFault::At { line, code },
-            Refusal::Memory => TableFault::Memory,
+        match refusal {
+            OrMemory::Fault(code) => TableFault::At { line, code },
+            OrMemory::Memory => TableFault::Memory,
         }
     }
 }
 
-impl From<TableCode> for Refusal {
+impl From<TableCode> for OrMemory<TableCode> {
     ghost use Rattle.std.specs.Prelude.{◌≡◌};
-    ghost use Rattle.table_text.specs.declared.faults.Refusal.TheVariants as refusals;
+    ghost use Rattle.outside.specs.declared.answers.OrMemory.TheVariants.{Fault};
 
-    ghost from_gives = { λ code refusal. refusal ≡ refusals.Code code };
+    ghost from_gives = { λ code refusal. refusal ≡ Fault code };
 
-    fn from(code: TableCode) -> Refusal {
-        Refusal::Code(code)
-    }
-}
-
-impl From<Memory> for Refusal {
-    ghost use Rattle.std.specs.Prelude.{◌≡◌};
-    ghost use Rattle.table_text.specs.declared.faults.Refusal.TheVariants as refusals;
-
-    ghost from_gives = { λ _ refusal. refusal ≡ refusals.Memory };
-
-    fn from(_want: Memory) -> Refusal {
-        Refusal::Memory
+    fn from(code: TableCode) -> OrMemory<TableCode> {
+        OrMemory::Fault(code)
     }
 }
 
@@ -89,6 +70,24 @@ impl From<Memory> for TableFault {
         TableFault::Memory
     }
 }
+
+impl fmt::Display for TableFault {
+    ghost use Rattle.std.specs.Prelude.{Some};
+    ghost use Rattle.table_text.specs.FaultTexts.{table_fault_text};
+
+    ghost output = { λ fault. Some (table_fault_text fault) };
+
+    fn fmt<W: fmt::Write>(&self, f: &mut fmt::Formatter<W>) -> fmt::Result {
+        match self {
+            TableFault::At { line, code } => write!(f, "line {line} {code}"),
+            TableFault::Memory => write!(f, "out of memory"),
+        }
+    }
+}
+
+impl Error for TableFault {}
+
+impl Error for TableCode {}
 
 impl fmt::Display for TableCode {
     ghost use Rattle.std.specs.Prelude.{Some};

@@ -3,7 +3,7 @@
 ghost use Rattle.std.specs.Prelude.{◌≡◌, ◌++◌, ◌≤◌, ◌+◌, codes, map, IfOk, OnOk};
 ghost use Rattle.std.specs.Fmt.{decimal};
 ghost use Rattle.std.specs.List.{join_with_byte};
-ghost use Rattle.bag_model.specs.declared.TheConstants.{MAX_LEVELS};
+ghost use Rattle.context_model.specs.declared.TheConstants.{LEVELS_MAX};
 ghost use Rattle.bag_model.specs.Tables.{levels, levels_under};
 ghost use Rattle.bag_model.specs.Words.{word_text};
 ghost use Rattle.field_table.specs.Plain.{shape_of, field_of, nodes_of};
@@ -29,7 +29,7 @@ pub fn print_table(alloc: Global, table: &Table) -> Result<Vec<u8>, Memory>
 /// Appends the lines of a bag's fields.
 #[cycle(printing)]
 fn put_fields(depth: usize, fields: &Slots, into: &mut Vec<u8>) -> Result<(), Memory>
-    requires { depth + levels (nodes_of fields.now) ≤ MAX_LEVELS }
+    requires { depth + levels (nodes_of fields.now) ≤ LEVELS_MAX }
     ensures { OnOk result (into.new.items ≡ into.old.items ++ fields_text depth (nodes_of fields.now)) }
 {
     for at in 0..fields.len() {
@@ -43,7 +43,7 @@ fn put_fields(depth: usize, fields: &Slots, into: &mut Vec<u8>) -> Result<(), Me
 /// Appends the lines of the fields of the bag that a shape ends in.
 #[cycle(printing)]
 fn put_bag(depth: usize, shape: &Shape, into: &mut Vec<u8>) -> Result<(), Memory>
-    requires { depth + levels_under (shape_of shape.now) ≤ MAX_LEVELS }
+    requires { depth + levels_under (shape_of shape.now) ≤ LEVELS_MAX }
     ensures { OnOk result (into.new.items ≡ into.old.items ++ bag_text depth (shape_of shape.now)) }
 {
     match shape {

@@ -10,9 +10,10 @@ ghost use Rattle.table_text.specs.TableTexts.{table_text};
 ghost use Rattle.table_text.specs.Views.{IsRefusedRowLine};
 
 use crate::builder::Builder;
-use crate::faults::{Refusal, TableCode, TableFault};
+use crate::faults::{TableCode, TableFault};
 use crate::rows::read_row;
 use field_table::Table;
+use outside::OrMemory;
 use std::alloc::Global;
 use text_lines::cut_fed_line;
 
@@ -30,7 +31,7 @@ fn head_code(text: &[u8]) -> TableCode
 
 impl<'a> Builder<'a> {
     /// The fields so far, with that which the next line says.
-    fn read_line(self, alloc: Global, line: &'a [u8]) -> Result<Builder<'a>, Refusal>
+    fn read_line(self, alloc: Global, line: &'a [u8]) -> Result<Builder<'a>, OrMemory<TableCode>>
         requires sound { IsSoundBuilder self }
         requires fresh { IsFresh self }
         ensures rows { IfOk result (λ next. (row : SaidRow) × IsGoodRow (reverse (rows_so_far self.entry)) line.now row
@@ -56,7 +57,7 @@ fn read_lines(alloc: Global, text: &[u8]) -> Result<Builder<'_>, TableFault>
     while let Some((line, behind)) = cut_fed_line(rest) {
         builder = match builder.read_line(alloc, line) {
             Ok(next) => next,
-            Err(refusal) => return Err(refusal.at(number)),
+            Err(refusal) => return Err(TableFault::of_line(number, refusal)),
         };
         rest = behind;
         number += 1;

@@ -7,10 +7,11 @@ ghost use Rattle.table_text.specs.Words.{IsFree, HasNoParts, parts_line};
 ghost use Rattle.table_text.specs.Views.{plain_row_of, HasNoRow};
 
 use crate::MAPS_MAX;
-use crate::faults::{Refusal, TableCode};
+use crate::faults::TableCode;
 use crate::shapes::read_shape;
 use crate::words::{cut_word, read_depth, read_name, read_number};
 use field_table::Shape;
+use outside::OrMemory;
 use std::alloc::Global;
 use text_lines::without_feed;
 
@@ -51,22 +52,22 @@ fn cut_parts(line: &[u8]) -> Option<Parts<'_>>
 }
 
 /// What a line says, with its line feed.
-pub(crate) fn read_row(alloc: Global, line: &[u8]) -> Result<Row<'_>, Refusal>
+pub(crate) fn read_row(alloc: Global, line: &[u8]) -> Result<Row<'_>, OrMemory<TableCode>>
     ensures ok { IfOk result (λ row. SaysRow line.now (plain_row_of row)) }
     ensures indexed { IfOk result (λ row. IsIndexedShape row.shape) }
     ensures err { IfErr result (HasNoRow line.now) }
 {
     let Some(parts) = cut_parts(line) else {
-        return Err(Refusal::Code(TableCode::Form));
+        return Err(OrMemory::Fault(TableCode::Form));
     };
     let Some(number) = read_number(parts.number) else {
-        return Err(Refusal::Code(TableCode::Form));
+        return Err(OrMemory::Fault(TableCode::Form));
     };
     let Some(name) = read_name(parts.name) else {
-        return Err(Refusal::Code(TableCode::Form));
+        return Err(OrMemory::Fault(TableCode::Form));
     };
     let Some(shape) = read_shape(alloc, parts.shape, MAPS_MAX)? else {
-        return Err(Refusal::Code(TableCode::Form));
+        return Err(OrMemory::Fault(TableCode::Form));
     };
     let depth = read_depth(parts.depth)?;
     Ok(Row {

@@ -13,8 +13,9 @@ use Rattle.text_lines.specs.Readings.{AllSay}
 use Rattle.text_lines.proofs.ReadingLaws.{all_say-length, next_bad}
 use Rattle.text_carrier.specs.declared.faults.CarryFault.{CarryFault}
 use Rattle.text_carrier.specs.declared.faults.CarryFault.TheVariants as faults
-use Rattle.text_carrier.specs.declared.faults.Refusal.{Refusal}
-use Rattle.text_carrier.specs.declared.faults.Refusal.TheVariants as refusals
+use Rattle.text_carrier.specs.declared.faults.CarryCode.{CarryCode}
+use Rattle.outside.specs.declared.answers.OrMemory.{OrMemory}
+use Rattle.outside.specs.declared.answers.OrMemory.TheVariants as refusals
 use Rattle.text_carrier.specs.declared.pieces.Pieces.{Pieces}
 use Rattle.text_carrier.specs.Pieces.{Piece}
 use Rattle.text_carrier.specs.Rules.{piece_lines}
@@ -80,9 +81,9 @@ pub both_ok : {T E : Type 0} (r : Result T E) (P Q R : T → Type 0) → ((x : T
 both_ok (Ok x) P Q R f p q = f x p q
 both_ok (Err e) P Q R f p q = tt
 
-pub refused_at : (lines before rest after : List Line) (line : Line) (said : List Piece) (refusal : Refusal) → lines ≡ before ++ rest → rest ≡ line ∷ after → AllSay piece_lines [] before said
+pub refused_at : (lines before rest after : List Line) (line : Line) (said : List Piece) (refusal : OrMemory CarryCode) → lines ≡ before ++ rest → rest ≡ line ∷ after → AllSay piece_lines [] before said
     → IsRefusedPieceLine said line.1 refusal → IsLineFault lines (carry_fault_at line.0 refusal)
-refused_at lines before rest after line said (refusals.Code code) split next all bad = next_bad piece_lines lines before line after rest said code split next all bad
+refused_at lines before rest after line said (refusals.Fault code) split next all bad = next_bad piece_lines lines before line after rest said code split next all bad
 refused_at lines before rest after line said refusals.Memory split next all bad = tt
 
 no_lines : (lines : List Line) (said : List Piece) → AllSay piece_lines [] lines said → said ≡ [] → lines ≡ []

@@ -3,3 +3,4 @@ pub mod Carrying
 pub mod Rules
 pub mod Collecting
 pub mod Views
+pub mod FaultTexts

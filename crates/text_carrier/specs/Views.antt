@@ -17,8 +17,8 @@ use Rattle.text_carrier.specs.declared.faults.CarryCode.TheVariants.{Form, Piece
 use Rattle.text_carrier.specs.declared.faults.CarryFault.{CarryFault}
 use Rattle.text_carrier.specs.declared.faults.CarryFault.TheVariants.{At}
 use Rattle.text_carrier.specs.declared.faults.CarryFault.TheVariants as faults
-use Rattle.text_carrier.specs.declared.faults.Refusal.{Refusal}
-use Rattle.text_carrier.specs.declared.faults.Refusal.TheVariants.{Code, Memory}
+use Rattle.outside.specs.declared.answers.OrMemory.{OrMemory}
+use Rattle.outside.specs.declared.answers.OrMemory.TheVariants.{Fault, Memory}
 use Rattle.text_carrier.specs.declared.pieces.Pieces.{Pieces}
 use Rattle.text_carrier.specs.Pieces.{Piece, data_text}
 use Rattle.text_carrier.specs.Rules.{HasNoSpace, PieceBreaks, carry_rules, IsBadPieceLine, piece_lines}
@@ -33,8 +33,8 @@ carry_code_name OtherCount = codes "OtherCount"
 carry_code_name Clash = codes "Clash"
 
 -- The refusal of a text, by that of its line with this number.
-abbrev pub carry_fault_at : ℕ → Refusal → CarryFault
-carry_fault_at line (Code code) = At line code
+abbrev pub carry_fault_at : ℕ → OrMemory CarryCode → CarryFault
+carry_fault_at line (Fault code) = At line code
 carry_fault_at line Memory = faults.Memory
 
 -- The text is p and three words behind it, one space between two of them.
@@ -58,13 +58,13 @@ abbrev pub IsPieceNumberText : List ℕ → ℕ → Type 0
 IsPieceNumberText text number = (number < 10 ^ 7) × (text ≡ decimal number)
 
 -- A line that has the form is refused behind these pieces: it breaks this rule first, or memory is wanting for it.
-abbrev pub IsPieceRefused : List Piece → ℕ → ℕ → List ℕ → Refusal → Type 0
-IsPieceRefused earlier place count word (Code code) = IsFirstOf (PieceBreaks earlier place count word) carry_rules code
+abbrev pub IsPieceRefused : List Piece → ℕ → ℕ → List ℕ → OrMemory CarryCode → Type 0
+IsPieceRefused earlier place count word (Fault code) = IsFirstOf (PieceBreaks earlier place count word) carry_rules code
 IsPieceRefused earlier place count word Memory = Unit {0}
 
 -- A line is refused behind these pieces: it is bad, or memory is wanting for it.
-abbrev pub IsRefusedPieceLine : List Piece → List ℕ → Refusal → Type 0
-IsRefusedPieceLine earlier text (Code code) = IsBadPieceLine earlier text code
+abbrev pub IsRefusedPieceLine : List Piece → List ℕ → OrMemory CarryCode → Type 0
+IsRefusedPieceLine earlier text (Fault code) = IsBadPieceLine earlier text code
 IsRefusedPieceLine earlier text Memory = Unit {0}
 
 -- The word is the text of these bytes, or of none.

@@ -24,7 +24,7 @@ fn read_lines(alloc: Global, text: &[u8]) -> Result<Pieces<'_>, CarryFault>
     let mut pieces = Pieces::new(alloc);
     for line in lines_of(text) {
         if let Err(refusal) = pieces.add(alloc, line.text) {
-            return Err(refusal.at(line.number));
+            return Err(CarryFault::of_line(line.number, refusal));
         }
     }
     Ok(pieces)

@@ -1,7 +1,8 @@
 //! Why lines give no bytes.
 
-use outside::Memory;
+use outside::{Memory, OrMemory};
 use std::alloc::AllocFailed;
+use std::error::Error;
 use std::fmt;
 
 /// The rule that a line breaks. At one line the first of these counts.
@@ -35,38 +36,18 @@ pub enum CarryFault {
     Memory,
 }
 
-/// Why a line says no piece.
-#[derive(Clone, Copy, Debug)]
-pub(crate) enum Refusal {
-    /// The line breaks this rule.
-    Code(CarryCode),
-    /// There is no memory for what it says.
-    Memory,
-}
-
-impl Refusal {
+impl CarryFault {
     ghost use Rattle.std.specs.Prelude.{◌≡◌};
     ghost use Rattle.text_carrier.specs.Views.{carry_fault_at};
 
-    /// The refusal of a text whose line with this number is refused.
-    pub(crate) fn at(self, line: u64) -> CarryFault
-        ensures { result ≡ carry_fault_at line self }
+    /// The refusal of a text whose line with this number says no piece for that reason.
+    pub(crate) fn of_line(line: u64, refusal: OrMemory<CarryCode>) -> CarryFault
+        ensures { result ≡ carry_fault_at line refusal }
     {
-        match self {
-            Refusal::Code(code) => CarryFault::At { line, code },
-            Refusal::Memory => CarryFault::Memory,
+        match refusal {
+            OrMemory::Fault(code) => CarryFault::At { line, code },
+            OrMemory::Memory => CarryFault::Memory,
         }
-    }
-}
-
-impl From<Memory> for Refusal {
-    ghost use Rattle.std.specs.Prelude.{◌≡◌};
-    ghost use Rattle.text_carrier.specs.declared.faults.Refusal.TheVariants as refusals;
-
-    ghost from_gives = { λ _ refusal. refusal ≡ refusals.Memory };
-
-    fn from(_want: Memory) -> Refusal {
-        Refusal::Memory
     }
 }
 
@@ -91,6 +72,27 @@ impl<T: Drop> From<AllocFailed<T>> for CarryFault {
         CarryFault::Memory
     }
 }
+
+impl fmt::Display for CarryFault {
+    ghost use Rattle.std.specs.Prelude.{Some};
+    ghost use Rattle.text_carrier.specs.FaultTexts.{carry_fault_text};
+
+    ghost output = { λ fault. Some (carry_fault_text fault) };
+
+    fn fmt<W: fmt::Write>(&self, f: &mut fmt::Formatter<W>) -> fmt::Result {
+        match self {
+            CarryFault::At { line, code } => write!(f, "line {line} {code}"),
+            CarryFault::NoLine => write!(f, "NoLine"),
+            CarryFault::Missing { piece } => write!(f, "Missing {piece}"),
+            CarryFault::TooManyBytes => write!(f, "TooManyBytes"),
+            CarryFault::Memory => write!(f, "out of memory"),
+        }
+    }
+}
+
+impl Error for CarryFault {}
+
+impl Error for CarryCode {}
 
 impl fmt::Display for CarryCode {
     ghost use Rattle.std.specs.Prelude.{Some};

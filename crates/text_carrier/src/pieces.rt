@@ -11,9 +11,9 @@ ghost use Rattle.text_carrier.specs.Views.{IsTextAt, Keeps, IsData, IsPieceRefus
 
 use crate::PIECES_MAX;
 use crate::data::decode;
-use crate::faults::{CarryCode, CarryFault, Refusal};
+use crate::faults::{CarryCode, CarryFault};
 use crate::lines::{PieceLine, read_line};
-use outside::Memory;
+use outside::{Memory, OrMemory};
 use std::alloc::Global;
 use std::collections::BTreeMap;
 
@@ -74,7 +74,7 @@ impl<'a> Pieces<'a> {
     }
 
     /// Whether what a line says breaks no rule.
-    fn check(&self, alloc: Global, line: &PieceLine<'_>) -> Result<(), Refusal>
+    fn check(&self, alloc: Global, line: &PieceLine<'_>) -> Result<(), OrMemory<CarryCode>>
         requires { 0 < length line.now.word.now }
         ensures data { OnOk result (IsData line.now.word.now) }
         ensures ok { OnOk result ((said : List Piece) → Keeps said self.now
@@ -83,16 +83,16 @@ impl<'a> Pieces<'a> {
             → IsPieceRefused said line.now.place line.now.count line.now.word.now refusal) }
     {
         if is_out_of_range(line.place, line.count) {
-            return Err(Refusal::Code(CarryCode::PieceRange));
+            return Err(OrMemory::Fault(CarryCode::PieceRange));
         }
         if decode(alloc, line.word)?.is_none() {
-            return Err(Refusal::Code(CarryCode::BadBase64));
+            return Err(OrMemory::Fault(CarryCode::BadBase64));
         }
         if self.has_other_count(line.count) {
-            return Err(Refusal::Code(CarryCode::OtherCount));
+            return Err(OrMemory::Fault(CarryCode::OtherCount));
         }
         if self.has_other_text(line.place, line.word) {
-            return Err(Refusal::Code(CarryCode::Clash));
+            return Err(OrMemory::Fault(CarryCode::Clash));
         }
         Ok(())
     }
@@ -110,13 +110,13 @@ impl<'a> Pieces<'a> {
     }
 
     /// Adds what the next line says.
-    pub(crate) fn add(&mut self, alloc: Global, text: &'a [u8]) -> Result<(), Refusal>
+    pub(crate) fn add(&mut self, alloc: Global, text: &'a [u8]) -> Result<(), OrMemory<CarryCode>>
         ensures ok { OnOk result ((said : List Piece) → Keeps said self.old
             → (piece : Piece) × IsGoodPiece said text.now piece × Keeps (said ++ piece ∷ []) self.new) }
         ensures err { IfErr result (λ refusal. (said : List Piece) → Keeps said self.old → IsRefusedPieceLine said text.now refusal) }
     {
         let Some(line) = read_line(text) else {
-            return Err(Refusal::Code(CarryCode::Form));
+            return Err(OrMemory::Fault(CarryCode::Form));
         };
         self.check(alloc, &line)?;
         self.keep(line)?;

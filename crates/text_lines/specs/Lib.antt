@@ -2,3 +2,4 @@ pub mod Lines
 pub mod Readings
 pub mod HexLines
 pub mod FedLines
+pub mod FaultTexts

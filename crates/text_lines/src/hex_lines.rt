@@ -8,6 +8,7 @@ use crate::DIGITS_MAX;
 use hex::FromHexError;
 use outside::Memory;
 use std::alloc::Global;
+use std::error::Error;
 use std::fmt;
 
 /// Why a text isn't one of hexadecimal digits. The first of these counts.
@@ -33,6 +34,8 @@ impl fmt::Display for HexCode {
     }
 }
 
+impl Error for HexCode {}
+
 /// Why a text gives no bytes.
 #[derive(Clone, Copy, Debug, PartialEq, Eq)]
 pub enum HexFault {
@@ -41,6 +44,22 @@ pub enum HexFault {
     /// There is no memory for the bytes.
     Memory,
 }
+
+impl fmt::Display for HexFault {
+    ghost use Rattle.std.specs.Prelude.{Some};
+    ghost use Rattle.text_lines.specs.FaultTexts.{hex_fault_text};
+
+    ghost output = { λ fault. Some (hex_fault_text fault) };
+
+    fn fmt<W: fmt::Write>(&self, f: &mut fmt::Formatter<W>) -> fmt::Result {
+        match self {
+            HexFault::Bad(code) => write!(f, "{code}"),
+            HexFault::Memory => write!(f, "out of memory"),
+        }
+    }
+}
+
+impl Error for HexFault {}
 
 /// Appends the digits of these bytes: two a byte in lower case. Want of memory leaves the buffer as it was.
 pub fn push_digits(buffer: &mut Vec<u8>, bytes: &[u8]) -> Result<(), Memory>

@@ -1,13 +1,13 @@
 //! Loads: how they look, and what the reader of graphs makes of them.
 
 use field_table::Table;
+use fixture_graphs::graph_of;
 use load_maker::laws::loads_are_accepted;
 use load_maker::{ROUNDS_MAX, make_load};
 use std::alloc::Global;
 use std::process::Abort;
 use std::test::Fail;
 use table_text::print_table;
-use test_graphs::graph_of;
 
 /// The text of the load of one round.
 const ONE_ROUND: &str = r#"service a all

@@ -2,6 +2,7 @@
 
 use crate::fixtures::{are_typed, table_of};
 use field_table::Table;
+use fixture_graphs::{contexts_of_bytes, graph_of};
 use graph_report::laws::lists_have_one_report;
 use graph_report::report;
 use report_json::laws::{blocks_have_the_same_data, lists_have_one_json_report};
@@ -9,7 +10,6 @@ use report_json::report_json;
 use std::alloc::Global;
 use std::process::Abort;
 use std::test::Fail;
-use test_graphs::{contexts_of_bytes, graph_of};
 
 /// A graph, the digits of a list for each step, joined by commas, and the report of the shown steps in its two forms.
 struct Row {

@@ -4,12 +4,12 @@ use crate::fixtures::table_of;
 use bag_typed::check_typed;
 use bag_value::Val;
 use field_table::Shape;
+use fixture_graphs::context_of_bytes;
 use report_text::{block, put_value, value_text};
 use scalar_types::{Scalar, ScalarKind, ScalarList};
 use std::alloc::Global;
 use std::process::Abort;
 use std::test::Fail;
-use test_graphs::context_of_bytes;
 use wire_bytes::Form;
 
 /// The lines of a table whose one field `a` is exact in a context, the digits of the context, and the text of its value.

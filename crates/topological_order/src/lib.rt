@@ -24,7 +24,7 @@ use outside::Memory;
 use std::alloc::Global;
 
 /// The nodes of a graph in order, or why there is no order.
-#[derive(Drop)]
+#[derive(Debug, Drop)]
 pub enum Sorted {
     /// Each node once, behind all those that its edges lead to.
     Order(Vec<usize>),

@@ -12,7 +12,7 @@ use Rattle.context_model.specs.Paths.{paths}
 use Rattle.context_model.specs.Varints.{unsigned_varint, unsigned_form, unsigned_tail}
 use Rattle.context_model.specs.WellFormed.{IsWellFormed}
 use Rattle.context_model.specs.Ended.{HasMarker, front_of, IsEnded, field_path}
-use Rattle.outside.specs.declared.TheConstants.{ATOM_MAX}
+use Rattle.context_model.specs.declared.TheConstants.{ATOM_MAX}
 use Rattle.context_model.specs.Merged.{IsMerged, last_atom}
 use Rattle.context_model.specs.Trimmed.{kept_of, trimmed}
 use Rattle.context_model.specs.WithoutData.{without_from}

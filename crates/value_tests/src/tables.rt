@@ -1,10 +1,10 @@
 //! Tables, their fields and slots, and views.
 
 use field_table::{Shape, SlotSet, Slots, Table, View, name_paths_differ, ranges_are_exact};
+use fixture_tables::table_of;
 use scalar_types::ScalarKind;
 use std::process::Abort;
 use std::test::Fail;
-use test_tables::table_of;
 
 // A field of each kind but a map and a bag.
 const MIXED: &str =
@@ -134,5 +134,17 @@ fn views_know_their_slots(rt: HostRuntime) -> Result<(), Fail> {
     for (slot, known) in "0111100010".chars().enumerate() {
         assert!(rt; view.knows(slot) == (known == '1'));
     }
+    Ok(())
+}
+
+#[test]
+fn slots_of_a_set_are_counted(rt: HostRuntime) -> Result<(), Fail> {
+    let mut slots = SlotSet::new(rt.alloc());
+    assert!(rt; slots.len() == 0);
+    slots.push_range(1, 4)?;
+    slots.push(8)?;
+    assert!(rt; slots.len() == 4);
+    assert!(rt; slots.get(0) == Some(1) && slots.get(2) == Some(3));
+    assert!(rt; slots.get(3) == Some(8) && slots.get(4).is_none());
     Ok(())
 }

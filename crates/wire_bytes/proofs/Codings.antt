@@ -1,7 +1,7 @@
 -- Lengths as varints, what they are written anew as, and bytes in either form.
 use Rattle.std.proofs.Common.{◌≡◌, ℕ, ◌+◌, ◌-◌, ◌≤◌, List, ◌++◌, length, take, drop, slice_range, sym, ◌∙◌, ap, refl, length-append, arith}
 use Rattle.std.proofs.lemmas.List.{take_at, drop_at, drop-drop, length-take-le, length-drop}
-use Rattle.outside.specs.declared.TheConstants.{ATOM_MAX}
+use Rattle.context_model.specs.declared.TheConstants.{ATOM_MAX}
 use Rattle.context_model.specs.Varints.{unsigned_varint, IsUnsignedAt}
 use Rattle.context_model.specs.declared.Form.{Form}
 use Rattle.context_model.specs.declared.Form.TheVariants.{One, Two}

@@ -2,3 +2,4 @@ mod Codings
 mod Stops
 pub mod OneCode
 mod Widths
+mod Offsets

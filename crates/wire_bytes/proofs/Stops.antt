@@ -3,13 +3,13 @@ use Rattle.std.proofs.Common.{◌≡◌, ℕ, ◌+◌, ◌-◌, ◌<◌, ◌≤�
 use Rattle.std.proofs.lemmas.List.{length-take, length-drop}
 use Rattle.std.proofs.lemmas.List.Edits.{split_between, length-between}
 use Rattle.context_model.specs.declared.Form.{Form}
-use Rattle.context_model.specs.Atoms.{Atom}
-use Rattle.context_model.specs.Framing.{length_code, frame, frames, most, form_of, head_len, AreWithin, IsBytesOf}
+use Rattle.context_model.specs.Atoms.{Atom, AreAtoms}
+use Rattle.context_model.specs.Framing.{length_code, frame, frames, most, form_of, head_len, AreWithin, IsBytesOf, bytes_of}
 use Rattle.context_model.specs.ByteCodes.{ByteCode as PlainCode}
 use Rattle.context_model.specs.WellFormed.{IsWellFormed}
 use Rattle.context_model.specs.WireFault.{IsFirstUnframed, IsFirstWireFault}
 use Rattle.context_model.specs.ShapeFault.{IsFirstShapeFault}
-use Rattle.context_model.specs.ContextFault.{IsFirstUnformed, IsFirstContextFault}
+use Rattle.context_model.specs.ContextFault.{IsContextOf, IsFirstUnformed, IsFirstContextFault}
 use Rattle.context_model.proofs.Frames.{first_unframed, frame_some}
 use Rattle.context_model.proofs.FramingLaws.{frames-append, length_code-some}
 use Rattle.context_model.proofs.Heads.{read_there}
@@ -136,8 +136,13 @@ only_err input (Ok list) is fault = absurd (cc is)
 only_err input (Err (At offset code)) is fault = λ form list short e. absurd ((reads_one_way input).either list offset (code_of code) short ((reads_one_way input).any form list short e) fault)
 only_err input (Err Memory) is fault = λ form list short e. refl
 
--- Or those of a context.
+-- The bytes of a context, in whatever form, are read as that context.
+pub context_of : (input : List ℕ) (form : Form) (list : List Atom) → AreAtoms list → IsWellFormed list → input ≡ bytes_of form list → IsContextOf list input
+context_of input form list short formed e = (short, formed, (reads_one_way input).any form list short e)
+
+-- Bytes that are refused for what is wrong with them are those of no context.
 pub only_context_err : (input : List ℕ) (answer : Result (List Atom) ContextFault) → IsErr answer → IfErr answer (IsContextRefusalOf input) → ReadsAnyContext input answer
 only_context_err input (Ok list) is fault = absurd (cc is)
-only_context_err input (Err (contexts.At offset code)) is fault = λ list of_list. absurd ((has_one_context input).either list offset (byte_code_of code) of_list fault)
-only_context_err input (Err contexts.Memory) is fault = λ list of_list. refl
+only_context_err input (Err (contexts.At offset code)) is fault = λ form list short formed e.
+    absurd ((has_one_context input).either list offset (byte_code_of code) (context_of input form list short formed e) fault)
+only_context_err input (Err contexts.Memory) is fault = λ form list short formed e. refl

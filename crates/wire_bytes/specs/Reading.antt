@@ -6,7 +6,8 @@ use Rattle.context_model.specs.Framing.{frames, form_of, head_len, bytes_of, Are
 use Rattle.context_model.specs.ByteCodes.{ByteCode as PlainCode}
 use Rattle.context_model.specs.ByteCodes as plain
 use Rattle.context_model.specs.WireFault.{head_code, IsUnframed, IsFirstWireFault}
-use Rattle.context_model.specs.ContextFault.{IsContextOf, IsFirstContextFault}
+use Rattle.context_model.specs.WellFormed.{IsWellFormed}
+use Rattle.context_model.specs.ContextFault.{IsFirstContextFault}
 use Rattle.wire_bytes.specs.declared.reading.WireCode.{WireCode}
 use Rattle.wire_bytes.specs.declared.reading.WireCode.TheVariants.{CutLength, BadCount, AtomTooLong, LongForm, CutBody}
 use Rattle.wire_bytes.specs.declared.reading.WireFault.{WireFault}
@@ -59,10 +60,10 @@ ReadsAny input answer =
     (form : Form) (list : List Atom) → AreAtoms list → input ≡ bytes_of form list
     → MatchResult answer (λ made. made ≡ list) (λ fault. fault ≡ Memory)
 
--- A context whose bytes these are is the answer, unless there was no memory.
+-- A context whose bytes these are, in whatever form, is the answer, unless there was no memory.
 abbrev pub ReadsAnyContext : List ℕ → Result (List Atom) ContextFault → Type 0
 ReadsAnyContext input answer =
-    (list : List Atom) → IsContextOf list input
+    (form : Form) (list : List Atom) → AreAtoms list → IsWellFormed list → input ≡ bytes_of form list
     → MatchResult answer (λ made. made ≡ list) (λ fault. fault ≡ contexts.Memory)
 
 -- ---- where a reader stops

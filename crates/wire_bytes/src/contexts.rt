@@ -9,6 +9,7 @@ use crate::writing::frames_before;
 use atom_list::{Context, ShapeFault};
 use outside::Memory;
 use std::alloc::Global;
+use std::error::Error;
 use std::fmt;
 
 /// What is wrong where bytes cease to be those of a context. At one place the first of these counts.
@@ -18,11 +19,11 @@ pub enum ByteCode {
     CutLength,
     /// The number in the head isn't that of the bytes behind it.
     BadCount,
+    /// A length has more bytes than it needs.
+    LongForm,
     /// A length is above the form's limit, [`crate::LENGTH_MAX`] or [`outside::ATOM_MAX`], or in form one a fourth byte of it would
     /// follow.
     AtomTooLong,
-    /// A length has more bytes than it needs.
-    LongForm,
     /// Fewer bytes follow than a length says.
     CutBody,
     /// No kind of atom begins with an atom's first byte.
@@ -38,7 +39,8 @@ pub enum ByteCode {
 /// Why bytes weren't read as a context.
 #[derive(Clone, Copy, Debug, PartialEq, Eq)]
 pub enum ContextFault {
-    /// The head is wrong at `offset`, or the bytes from there on begin with no atom that may stand there and those before are a context.
+    /// The head is wrong at `offset`, or the bytes from there on begin with no atom that may stand there, and those between the head
+    /// and there are the frames of a context.
     At { offset: usize, code: ByteCode },
     /// There is no memory for the context.
     Memory,
@@ -65,6 +67,24 @@ impl fmt::Display for ByteCode {
         }
     }
 }
+
+impl Error for ByteCode {}
+
+impl fmt::Display for ContextFault {
+    ghost use Rattle.std.specs.Prelude.{Some};
+    ghost use Rattle.wire_bytes.specs.FaultTexts.{context_fault_text};
+
+    ghost output = { λ fault. Some (context_fault_text fault) };
+
+    fn fmt<W: fmt::Write>(&self, f: &mut fmt::Formatter<W>) -> fmt::Result {
+        match self {
+            ContextFault::At { offset, code } => write!(f, "offset {offset} {code}"),
+            ContextFault::Memory => write!(f, "out of memory"),
+        }
+    }
+}
+
+impl Error for ContextFault {}
 
 impl From<WireCode> for ByteCode {
     ghost use Rattle.std.specs.Prelude.{◌≡◌};

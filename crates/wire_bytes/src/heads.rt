@@ -7,7 +7,7 @@ ghost use Rattle.context_model.specs.WireFault.{head_code};
 ghost use Rattle.wire_bytes.specs.Reading.{code_of};
 
 use crate::reading::WireCode;
-use context_model::Form;
+use context_model::{Form, HEAD_LEN};
 
 /// What form two begins with.
 pub(crate) const MARK: [u8; 4] = [0xff, 0xff, 0xff, 0x02];
@@ -38,14 +38,14 @@ pub(crate) fn check_head(form: Form, bytes: &[u8]) -> Result<(), WireCode>
 /// What is wrong with the head of bytes that are read in form two.
 fn check_count(bytes: &[u8]) -> Result<(), WireCode>
     ensures right { IfOk result (λ _. head_code Two bytes.now ≡ None) }
-    ensures long { IfOk result (λ _. 12 ≤ length bytes.now) }
+    ensures long { IfOk result (λ _. HEAD_LEN ≤ length bytes.now) }
     ensures fault { IfErr result (λ code. head_code Two bytes.now ≡ Some (code_of code)) }
 {
-    if bytes.len() < 12 {
+    if bytes.len() < HEAD_LEN {
         return Err(WireCode::CutLength);
     }
-    let count = ((bytes.len() - 12) as u64).to_be_bytes();
-    if bytes[4..12] == count[..] {
+    let count = ((bytes.len() - HEAD_LEN) as u64).to_be_bytes();
+    if bytes[MARK.len()..HEAD_LEN] == count[..] {
         Ok(())
     } else {
         Err(WireCode::BadCount)
@@ -63,12 +63,12 @@ pub(crate) fn without_head(form: Form, bytes: Vec<u8>) -> Vec<u8>
     }
 }
 
-/// The bytes from the thirteenth on.
+/// The bytes behind the head of form two.
 fn moved_forward(mut bytes: Vec<u8>) -> Vec<u8>
-    requires { 12 ≤ length bytes.items }
-    ensures { result.items ≡ drop 12 bytes.items }
+    requires { HEAD_LEN ≤ length bytes.items }
+    ensures { result.items ≡ drop HEAD_LEN bytes.items }
 {
-    bytes.copy_within(12.., 0);
-    bytes.truncate(bytes.len() - 12);
+    bytes.copy_within(HEAD_LEN.., 0);
+    bytes.truncate(bytes.len() - HEAD_LEN);
     bytes
 }

@@ -11,6 +11,7 @@
 
 mod contexts;
 mod heads;
+pub mod laws;
 mod lengths;
 mod reading;
 mod writing;

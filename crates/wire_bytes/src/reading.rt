@@ -14,6 +14,7 @@ use atom_list::{AtomList, Scan};
 use context_model::{Form, LENGTH_MAX};
 use outside::{ATOM_MAX, Memory};
 use std::alloc::Global;
+use std::error::Error;
 use std::fmt;
 
 /// What is wrong where bytes cease to be those of a list. At one place the first of these counts.
@@ -23,10 +24,10 @@ pub enum WireCode {
     CutLength,
     /// The number in the head isn't that of the bytes behind it.
     BadCount,
-    /// A length is above the form's limit, [`LENGTH_MAX`] or [`ATOM_MAX`], or in form one a fourth byte of it would follow.
-    AtomTooLong,
     /// A length has more bytes than it needs.
     LongForm,
+    /// A length is above the form's limit, [`LENGTH_MAX`] or [`ATOM_MAX`], or in form one a fourth byte of it would follow.
+    AtomTooLong,
     /// Fewer bytes follow than a length says.
     CutBody,
 }
@@ -34,7 +35,8 @@ pub enum WireCode {
 /// Why bytes weren't read.
 #[derive(Clone, Copy, Debug, PartialEq, Eq)]
 pub enum WireFault {
-    /// The head is wrong at `offset`, or the bytes from there on begin with no atom and those before are a list.
+    /// The head is wrong at `offset`, or the bytes from there on begin with no atom, and those between the head and there are the
+    /// frames of a list.
     At { offset: usize, code: WireCode },
     /// There is no memory for the list.
     Memory,
@@ -57,6 +59,24 @@ impl fmt::Display for WireCode {
         }
     }
 }
+
+impl Error for WireCode {}
+
+impl fmt::Display for WireFault {
+    ghost use Rattle.std.specs.Prelude.{Some};
+    ghost use Rattle.wire_bytes.specs.FaultTexts.{wire_fault_text};
+
+    ghost output = { λ fault. Some (wire_fault_text fault) };
+
+    fn fmt<W: fmt::Write>(&self, f: &mut fmt::Formatter<W>) -> fmt::Result {
+        match self {
+            WireFault::At { offset, code } => write!(f, "offset {offset} {code}"),
+            WireFault::Memory => write!(f, "out of memory"),
+        }
+    }
+}
+
+impl Error for WireFault {}
 
 impl From<Memory> for WireFault {
     ghost use Rattle.std.specs.Prelude.{◌≡◌};

@@ -1,11 +1,11 @@
 //! Lists and contexts as bytes, in either form.
 
 use atom_list::AtomList;
+use fixture_bytes::{bytes_of, expect_atoms, expect_bytes};
 use outside::ATOM_MAX;
 use std::alloc::Global;
 use std::process::Abort;
 use std::test::Fail;
-use test_texts::{bytes_of, expect_atoms, expect_bytes};
 use wire_bytes::{
     ByteCode, ContextFault, Form, LENGTH_MAX, WireCode, WireFault, form_of, frame_len, offset,
     read, read_context, read_context_owned, read_owned, size, write,
@@ -126,7 +126,7 @@ fn many_markers(rt: HostRuntime) -> Result<(), Fail> {
 }
 
 /// Bytes that are those of no list, where they cease to be, and why.
-static NO_LISTS: [(&str, usize, WireCode); 22] = [
+static NO_LISTS: [(&str, usize, WireCode); 27] = [
     ("03f800", 0, WireCode::CutBody),
     ("80", 0, WireCode::CutLength),
     ("8000", 0, WireCode::LongForm),
@@ -152,10 +152,24 @@ static NO_LISTS: [(&str, usize, WireCode); 22] = [
     ("ffffff020000000000000003d00000", 12, WireCode::CutBody),
     ("ffffff02000000000000000103", 12, WireCode::CutBody),
     ("ffffff02000000000000000402f80080", 15, WireCode::CutLength),
+    // where two of the codes could be meant
+    ("ffffff020000000000000004e0100001", 12, WireCode::LongForm),
+    ("ffffff0200000000000000028003", 12, WireCode::LongForm),
+    (
+        "ffffff020000000000000009ff0000000000000001",
+        12,
+        WireCode::LongForm,
+    ),
+    (
+        "ffffff020000000000000009ff0100000000000000",
+        12,
+        WireCode::AtomTooLong,
+    ),
+    ("ffffff020000000000000002e010", 12, WireCode::CutLength),
 ];
 
 /// Bytes that are those of no context, where they cease to be, and why.
-static NO_CONTEXTS: [(&str, usize, ByteCode); 23] = [
+static NO_CONTEXTS: [(&str, usize, ByteCode); 25] = [
     ("03f800", 0, ByteCode::CutBody),
     ("80", 0, ByteCode::CutLength),
     ("8000", 0, ByteCode::LongForm),
@@ -188,6 +202,13 @@ static NO_CONTEXTS: [(&str, usize, ByteCode); 23] = [
         ByteCode::OutOfOrder,
     ),
     ("ffffff02000000000000000402f80003", 15, ByteCode::CutBody),
+    // the number in the head comes before the atoms
+    ("ffffff02000000000000000102f177", 4, ByteCode::BadCount),
+    (
+        "ffffff02000000000000000902f80102f800",
+        4,
+        ByteCode::BadCount,
+    ),
 ];
 
 /// That bytes are no list for what is wrong at a place.
@@ -212,7 +233,9 @@ fn expect_no_context(rt: &impl Abort, alloc: Global, bytes: &[u8], offset: usize
 fn refused_bytes(rt: HostRuntime) -> Result<(), Fail> {
     let alloc = rt.alloc();
     for (digits, offset, code) in &NO_LISTS {
-        expect_no_list(&rt, alloc, &bytes_of(alloc, digits)?, *offset, *code);
+        let bytes = bytes_of(alloc, digits)?;
+        expect_no_list(&rt, alloc, &bytes, *offset, *code);
+        expect_no_context(&rt, alloc, &bytes, *offset, ByteCode::from(*code));
     }
     for (digits, offset, code) in &NO_CONTEXTS {
         expect_no_context(&rt, alloc, &bytes_of(alloc, digits)?, *offset, *code);

@@ -18,10 +18,9 @@ use Rattle.text_lines.specs.Lines.{numbered}
 use Rattle.text_lines.specs.Readings.{AllSay, NoneOf}
 use Rattle.text_lines.proofs.FedLines.{fed_line}
 use Rattle.trace_model.specs.Graphs.{Graph}
-use Rattle.write_proof.specs.Entries.{Entry, Why, ValueText, Reach, Uses, IsSoundEntry, entry_text, entry_line}
+use Rattle.write_proof.specs.Entries.{Entry, Why, ValueText, Reach, Uses, IsSoundEntry, entry_text, entry_line, entries_of}
 use Rattle.write_proof.specs.LineRules.{last_of, MayFollow, IsNoMore, HasParent, IsWriteStep, BreaksAlone, rules_alone, certificate_lines}
 use Rattle.write_proof.specs.WholeRules.{reached, used}
-use Rattle.write_proof.specs.Certificates.{entries_of}
 use Rattle.write_proof.proofs.Feeds.{IsFed, decimal_fed, path_fed}
 
 -- ---- lines

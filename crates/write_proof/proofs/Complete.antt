@@ -26,12 +26,12 @@ use Rattle.trace_model.specs.Truth.{Reaches, itself, through, IsTruthAt}
 use Rattle.trace_model.proofs.ContributedLaws.{least_alike, least_one, truths_are_contributed}
 use Rattle.trace_model.proofs.FaithfulLaws.{runs_are_faithful}
 use Rattle.trace_model.proofs.ReachLaws.{reaches_on}
-use Rattle.write_proof.specs.Entries.{Entry, Why, ValueText, Reach, Uses}
+use Rattle.write_proof.specs.Entries.{Entry, Why, ValueText, Reach, Uses, entries_of}
 use Rattle.write_proof.specs.LineRules.{HasParent, BringsValues}
 use Rattle.write_proof.specs.WholeRules.{used, IsListed, SpeaksOf, StepContributes, IsOfSteps, IsJoinOfUsed, Applies, AppliesSomewhere, rules_over_all}
 use Rattle.write_proof.specs.declared.verdicts.VerifyCode.TheVariants as codes
 use Rattle.write_proof.specs.Verdicts.{IsAccepted}
-use Rattle.write_proof.specs.Certificates.{IsLeastChild, IsOfEarlier, AreUsedSteps, entries_of, IsCertificate, CertificatesVerify}
+use Rattle.write_proof.specs.Certificates.{IsLeastChild, IsOfEarlier, AreUsedSteps, IsCertificate, CertificatesVerify}
 use Rattle.write_proof.proofs.Decided.{coded_same, in_or_not, same_number}
 use Rattle.write_proof.proofs.Contributing.{step_shape, join_some}
 use Rattle.write_proof.proofs.Feeds.{IsFed, value_fed}

@@ -16,7 +16,7 @@ use Rattle.bag_model.specs.Words.{is_word, is_name, reserved_words}
 use Rattle.text_model.specs.Commas.{comma_joined, in_braces}
 use Rattle.text_model.specs.ScalarTexts.{is_marked, is_control, escaped, quoted, bytes_text, plain_text, scalar_text}
 use Rattle.text_model.specs.ValueTexts.{taint_text, scalar_or_dash, count_text, counts_text, value_text, entry_texts, field_texts}
-use Rattle.graph_lines.specs.Forms.{IsName, IsPath}
+use Rattle.graph_lines.specs.Forms.{IsWord, IsPath}
 use Rattle.graph_lines.proofs.Names.{name_free}
 use Rattle.graph_lines.proofs.Separated.{IsFree, or_false, free_append}
 
@@ -157,7 +157,7 @@ counts_fed : (counts : List (List ℕ × ℕ)) → IsFed (counts_text counts)
 counts_fed counts = free_append 10 (decimal (sum_by (λ entry. entry.1) counts)) (in_braces (map count_text counts)) (decimal_fed _) (braces_fed (map count_text counts) (counts_each counts))
 
 -- A name of the definition language is a name here too.
-pub name_is : (name : List ℕ) → is_name name ≡ true → IsName name
+pub name_is : (name : List ℕ) → is_name name ≡ true → IsWord name
 name_is name h = (and_parts (is_word name) (not (list_any (bytes_eq name) reserved_words)) h).0
 
 mutual
@@ -195,7 +195,7 @@ mutual
 -- ---- name paths
 
 -- Names with dots between them.
-dotted_fed : (names : List (List ℕ)) → AllByRecursion IsName names → IsFed (dotted names)
+dotted_fed : (names : List (List ℕ)) → AllByRecursion IsWord names → IsFed (dotted names)
 dotted_fed [] h = refl
 dotted_fed (a ∷ []) h = name_free 10 a refl h.0
 dotted_fed (a ∷ b ∷ names) h = free_append 10 a (46 ∷ dotted (b ∷ names)) (name_free 10 a refl h.0) (dotted_fed (b ∷ names) h.1)

@@ -13,7 +13,7 @@ use Rattle.std.proofs.lemmas.Str.{IsUtf8-from_ascii}
 use Rattle.std.proofs.lemmas.Str.Parse.{digit_from_value}
 use Rattle.bag_model.specs.Slots.{dotted}
 use Rattle.bag_model.specs.Words.{is_letter}
-use Rattle.graph_lines.specs.Forms.{IsNumber, IsName, IsPath, HasNoSpace}
+use Rattle.graph_lines.specs.Forms.{IsNumber, IsWord, IsPath, HasNoSpace}
 use Rattle.graph_lines.specs.Reading.{IsCut}
 use Rattle.graph_lines.proofs.Decimals.{same_number, number_no_space}
 use Rattle.graph_lines.proofs.Separated.{same_cut}
@@ -122,13 +122,13 @@ small_bytes : (bytes : List ℕ) → list_all is_of_word bytes ≡ true → AreS
 small_bytes [] is = tt
 small_bytes (byte ∷ bytes) is = let parts = and_parts (is_of_word byte) (list_all is_of_word bytes) is in (small_byte byte parts.0, small_bytes bytes parts.1)
 
-small_name : (name : List ℕ) → IsName name → AreSmall name
+small_name : (name : List ℕ) → IsWord name → AreSmall name
 small_name [] is = tt
 small_name (byte ∷ bytes) is =
     let parts = and_parts (is_letter byte) (list_all is_of_word bytes) is in
     (small_byte byte (letter_of_word byte parts.0), small_bytes bytes parts.1)
 
-small_names : (names : List (List ℕ)) → AllByRecursion IsName names → AreSmall (dotted names)
+small_names : (names : List (List ℕ)) → AllByRecursion IsWord names → AreSmall (dotted names)
 small_names [] h = tt
 small_names (a ∷ []) h = small_name a h.0
 small_names (a ∷ b ∷ names) h = small_append a (46 ∷ dotted (b ∷ names)) (small_name a h.0) (omega arith, small_names (b ∷ names) h.1)

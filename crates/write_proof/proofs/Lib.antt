@@ -9,10 +9,11 @@ mod SaidTogether
 mod Parts
 mod BelowCalls
 mod Said
-mod Sound
+mod OfLines
 mod OneVerdict
 mod Feeds
 mod AsWritten
+mod Sound
 mod SlotNames
 mod Complete
 mod Reached

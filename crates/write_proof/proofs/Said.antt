@@ -5,10 +5,10 @@ use Rattle.context_model.specs.Orders.{IsIn}
 use Rattle.bag_model.specs.Shapes.{Nodes}
 use Rattle.text_lines.specs.Lines.{Line}
 use Rattle.text_lines.specs.Readings.{AllSay}
-use Rattle.trace_model.specs.Graphs.{Graph, Step, parents_of}
+use Rattle.trace_model.specs.Graphs.{Act, Start, Recv, Set, Branch, Forward, Trim, Join, Graph, Step, parents_of}
 use Rattle.trace_model.proofs.ReachLaws.{one_step}
 use Rattle.write_proof.specs.Entries.{Entry, Why, ValueText, Reach, Uses}
-use Rattle.write_proof.specs.LineRules.{certificate_step, MayFollow, HasParent, IsGoodEntry, certificate_lines}
+use Rattle.write_proof.specs.LineRules.{certificate_step, MayFollow, HasParent, BringsValues, IsWriteStep, IsGoodEntry, certificate_lines}
 use Rattle.write_proof.specs.WholeRules.{reached, used, IsListed}
 use Rattle.write_proof.proofs.Decided.{same_number, in_or_not}
 
@@ -31,6 +31,25 @@ listed_or_not said w = by (same_number w (certificate_step said)) (in_or_not w (
     by (inl e) t = inl (inl e)
     by (inr n) (inl i) = inl (inr i)
     by (inr n) (inr m) = inr (λ s. elim s [ inl e ↦ n e | inr i ↦ m i ])
+
+brings_or_not : (act : Act) → BringsValues act ⊎ (BringsValues act → ⊥)
+brings_or_not Start = inr (λ b. b)
+brings_or_not (Recv received) = inl tt
+brings_or_not (Set parent slot v) = inl tt
+brings_or_not (Branch parent) = inr (λ b. b)
+brings_or_not (Forward parent) = inr (λ b. b)
+brings_or_not (Trim parent budget) = inr (λ b. b)
+brings_or_not (Join parents) = inr (λ b. b)
+
+pub write_or_not : (graph : Graph) (w : ℕ) → IsWriteStep graph w ⊎ (IsWriteStep graph w → ⊥)
+write_or_not graph w = by (slice_get graph.steps w) refl
+  where
+    by : (found : Option Step) → slice_get graph.steps w ≡ found → IsWriteStep graph w ⊎ (IsWriteStep graph w → ⊥)
+    by None e = inr (λ p. let clash : None ≡ Some p.0 = sym e ∙ p.1 in cc)
+    by (Some step) e = elim (brings_or_not step.act) [
+      | inl b ↦ inl (step, e, b)
+      | inr n ↦ inr (λ p. n (subst (λ (s : Step). BringsValues s.act) (one_step graph w p.0 step p.1 e) p.2))
+    ]
 
 -- ---- entries by their places
 

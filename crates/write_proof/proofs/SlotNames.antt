@@ -7,12 +7,12 @@ use Rattle.bag_model.specs.SlotValues.{HasSlot}
 use Rattle.bag_model.specs.Tables.{IsShape, AreFields}
 use Rattle.bag_model.specs.Words.{is_name}
 use Rattle.bag_model.proofs.SlotPaths.{LeadsFrom, slot_leads}
-use Rattle.graph_lines.specs.Forms.{IsName, IsPath}
+use Rattle.graph_lines.specs.Forms.{IsWord, IsPath}
 use Rattle.write_proof.proofs.Feeds.{name_is}
 
 -- The slot has names, and a shape of a table.
 abbrev IsNamed : SlotAt → Type 0
-IsNamed at = AllByRecursion IsName at.names × IsShape at.shape
+IsNamed at = AllByRecursion IsWord at.names × IsShape at.shape
 
 all_within : (name : List ℕ) (number : ℕ) (ats : List SlotAt) → is_name name ≡ true → AllByRecursion IsNamed ats → AllByRecursion IsNamed (map (within name number) ats)
 all_within name number [] is all = tt

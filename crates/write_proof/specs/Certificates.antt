@@ -1,5 +1,5 @@
 -- The certificate for the value of a slot at a step.
-use Rattle.std.specs.Prelude.{◌≡◌, ◌≢◌, ◌↔◌, ℕ, ◌<◌, ◌≤◌, List, ◌∷◌, ◌++◌, length, map}
+use Rattle.std.specs.Prelude.{◌≡◌, ◌≢◌, ◌↔◌, ℕ, ◌<◌, ◌≤◌, List, ◌++◌, length}
 use Rattle.std.specs.List.{flat_map}
 use Rattle.std.specs.Ordering.{nat_cmp}
 use Rattle.context_model.specs.Atoms.{Atom}
@@ -19,7 +19,7 @@ use Rattle.trace_model.specs.Graphs.{Graph}
 use Rattle.trace_model.specs.Runs.{Lists, list_at}
 use Rattle.trace_model.specs.Truth.{Reaches}
 use Rattle.write_proof.specs.declared.verdicts.Verified.TheVariants.{Yes}
-use Rattle.write_proof.specs.Entries.{Entry, Why, ValueText, Reach, Uses, entry_line}
+use Rattle.write_proof.specs.Entries.{Why, ValueText, entry_line, entries_of}
 use Rattle.write_proof.specs.LineRules.{HasParent, IsWriteStep}
 use Rattle.write_proof.specs.WholeRules.{StepContributes}
 use Rattle.write_proof.specs.Verdicts.{IsVerdictOf}
@@ -52,10 +52,6 @@ pub record IsNews (graph : Graph) (slot : ℕ) (at : SlotAt) (steps : List ℕ) 
 pub record AreUsedSteps (graph : Graph) (n slot : ℕ) (at : SlotAt) (steps : List ℕ) : Type 0 where
   pub rises : Rises nat_cmp steps
   pub all : (w : ℕ) → IsIn w steps ↔ (Reaches graph w n × IsWriteStep graph w × IsNews graph slot at steps w)
-
--- The entries of a certificate: its step and path, the value's text, the steps that reach with their children, and the steps that are used.
-abbrev pub entries_of : ℕ → List ℕ → List ℕ → List (ℕ × ℕ) → List ℕ → List Entry
-entries_of n path text pairs steps = Why n path ∷ ValueText text ∷ (map (λ pair. Reach pair.0 pair.1) pairs ++ map Uses steps)
 
 -- The text is the certificate for what the list of step n says of a slot.
 pub record IsCertificate (table : Nodes) (graph : Graph) (lists : Lists) (n slot : ℕ) (text : List ℕ) : Type 0 where

@@ -1,5 +1,5 @@
 -- The lines of a certificate.
-use Rattle.std.specs.Prelude.{◌≡◌, ℕ, List, [], ◌∷◌, ◌++◌, codes}
+use Rattle.std.specs.Prelude.{◌≡◌, ℕ, List, [], ◌∷◌, ◌++◌, map, codes}
 use Rattle.std.specs.Fmt.{decimal}
 use Rattle.std.specs.List.{join_with_byte}
 use Rattle.text_lines.specs.FedLines.{fed_lines}
@@ -24,6 +24,10 @@ entry_text (Uses w) = join_with_byte 32 (codes "uses" ∷ decimal w ∷ [])
 -- The line of an entry, which ends with a line feed.
 abbrev pub entry_line : Entry → List ℕ
 entry_line entry = entry_text entry ++ 10 ∷ []
+
+-- The entries of a certificate: its step and path, the value's text, the steps that reach with their children, and the steps that are used.
+abbrev pub entries_of : ℕ → List ℕ → List ℕ → List (ℕ × ℕ) → List ℕ → List Entry
+entries_of n path text pairs steps = Why n path ∷ ValueText text ∷ (map (λ pair. Reach pair.0 pair.1) pairs ++ map Uses steps)
 
 -- Numbers have at most ten digits, and a path is names with dots between them; the text of a value may be any bytes.
 abbrev pub IsSoundEntry : Entry → Type 0

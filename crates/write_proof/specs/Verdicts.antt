@@ -1,6 +1,9 @@
 -- The verdict on a certificate, and what one that is accepted tells.
-use Rattle.std.specs.Prelude.{◌≡◌, ◌⊎◌, ◌↔◌, ℕ, suc, ◌<◌, ◌≤◌, List, [], ◌∷◌, length, Some}
-use Rattle.std.specs.List.{slice_get}
+use Rattle.std.specs.Prelude.{◌≡◌, ◌⊎◌, ◌↔◌, ℕ, suc, ◌<◌, ◌≤◌, List, [], length, Some}
+use Rattle.std.specs.List.{flat_map, slice_get}
+use Rattle.std.specs.Ordering.{nat_cmp}
+use Rattle.context_model.specs.KeyedMerge.{keys_of, EachPair}
+use Rattle.context_model.specs.Orders.{IsIn, Rises}
 use Rattle.bag_model.specs.Shapes.{Nodes}
 use Rattle.bag_model.specs.Slots.{SlotAt, FindsSlot}
 use Rattle.bag_model.specs.SlotValues.{HasSlot}
@@ -8,15 +11,16 @@ use Rattle.bag_model.specs.Tables.{IsTable}
 use Rattle.bag_model.specs.Values.{Value}
 use Rattle.text_model.specs.ValueTexts.{value_text}
 use Rattle.text_lines.specs.Readings.{AllSay, IsFirstBad, IsFirstOf, NoneOf}
+use Rattle.trace_model.specs.Contributions.{IsLeastAbove}
 use Rattle.trace_model.specs.Graphs.{Graph}
 use Rattle.trace_model.specs.Truth.{Reaches, IsTruthAt}
 use Rattle.write_proof.specs.declared.verdicts.VerifyCode.{VerifyCode}
 use Rattle.write_proof.specs.declared.verdicts.VerifyCode.TheVariants.{Form}
 use Rattle.write_proof.specs.declared.verdicts.Verified.{Verified}
 use Rattle.write_proof.specs.declared.verdicts.Verified.TheVariants.{Yes, No}
-use Rattle.write_proof.specs.Entries.{Entry, Why, ValueText, lines_in}
-use Rattle.write_proof.specs.LineRules.{certificate_lines}
-use Rattle.write_proof.specs.WholeRules.{IsListed, AppliesSomewhere, IsFirstLine, rules_over_all}
+use Rattle.write_proof.specs.Entries.{Entry, Why, entry_line, entries_of, lines_in}
+use Rattle.write_proof.specs.LineRules.{HasParent, IsWriteStep, certificate_lines}
+use Rattle.write_proof.specs.WholeRules.{IsOfSteps, AppliesSomewhere, IsFirstLine, rules_over_all}
 
 -- The lines of the certificate say these entries.
 abbrev pub SaysAll : Nodes → Graph → List ℕ → List Entry → Type 0
@@ -57,14 +61,17 @@ IsVerdictOf table graph certificate (No line code) =
     IsFirstBad (certificate_lines table graph) (lines_in certificate) line code
     ⊎ (IsCutShort table graph certificate line code ⊎ IsRejected table graph certificate line code)
 
--- A certificate tells the truth: the text that it has for a slot at a step is that of the truth there, and the steps that it lists are exactly those that reach
--- the step.
+-- A certificate tells the truth. It is the lines of a step n, of a slot's path and of a text, of steps with a child each, and of used steps. The text is
+-- that of the slot's truth at n. The steps that it lists are exactly those that reach n, and each of the children has its step as a parent and reaches n.
+-- The used steps reach n and write or receive, and the truth is the join of what they contribute.
 pub record TellsTruth (table : Nodes) (graph : Graph) (certificate : List ℕ) : Type 0 where
   pub n : ℕ
   pub path : List ℕ
   pub text : List ℕ
-  pub more : List Entry
-  pub says : SaysAll table graph certificate (Why n path ∷ ValueText text ∷ more)
+  pub pairs : List (ℕ × ℕ)
+  pub used : List ℕ
+  pub says : certificate ≡ flat_map entry_line (entries_of n path text pairs used)
+  pub within : n < length graph.steps
   pub slot : ℕ
   pub at : SlotAt
   pub finds : FindsSlot table path (Some slot)
@@ -72,7 +79,12 @@ pub record TellsTruth (table : Nodes) (graph : Graph) (certificate : List ℕ) :
   pub value : Value
   pub truth : IsTruthAt table graph n slot value
   pub is : text ≡ value_text at.shape value
-  pub steps : (w : ℕ) → IsListed (Why n path ∷ ValueText text ∷ more) w ↔ Reaches graph w n
+  pub rises : Rises nat_cmp (keys_of pairs)
+  pub steps : (w : ℕ) → ((w ≡ n) ⊎ IsIn w (keys_of pairs)) ↔ Reaches graph w n
+  pub ways : EachPair (λ w child. HasParent graph child w × Reaches graph child n) pairs
+  pub used_rise : Rises nat_cmp used
+  pub uses : (w : ℕ) → IsIn w used → Reaches graph w n × IsWriteStep graph w
+  pub joined : IsLeastAbove at.shape (IsOfSteps graph slot at used) value
 
 -- A certificate has one verdict.
 abbrev pub VerdictsAreOne : Type 0

@@ -139,7 +139,10 @@ fn steps_on_way(alloc: Global, reaching: &[Reach], last: usize) -> Result<Vec<us
 }
 
 /// The certificate for the value of a slot in the context of a step: the step with the slot's path, the value's text, the steps
-/// that reach the step, each with its least child on the way, and the steps whose writes and received contexts make up the value.
+/// that reach the step, each with its least child on the way, and the steps that are used.
+///
+/// Those are the writes and received contexts that, in order, said something that the used ones before them didn't. What an early
+/// one said may be superseded by a later one, and they needn't be the fewest.
 ///
 /// The contexts are those of a run of the graph, and the slot is exact in that of the step. The lines are those of
 /// `docs/FORMATS.md`, Certificates.

@@ -112,6 +112,8 @@ fn check_entries(
 ///
 /// The lines are looked at one by one first; the first that is bad by itself is told. Then come the rules over all lines, in the
 /// order of their codes, each with the first line to which it applies.
+///
+/// A certificate may be accepted that `why` wouldn't write: with another child on the way, or with other used steps, more or fewer.
 pub fn verify(
     alloc: Global,
     table: &Table,

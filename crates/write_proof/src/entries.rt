@@ -18,7 +18,7 @@ pub(crate) enum Entry<'a> {
     Why { step: u64, path: &'a str },
     /// `value TEXT`: the text of that value.
     Value { text: &'a [u8] },
-    /// `reach STEP CHILD`: the step reaches that of the certificate, and is a parent of the child.
+    /// `reach STEP CHILD`: the step reaches that of the certificate, and is a parent of the child, which reaches it too.
     Reach { step: u64, child: u64 },
     /// `uses STEP`: the value is joined from what these steps contribute.
     Uses { step: u64 },

@@ -3,7 +3,7 @@
 //! ```rust
 //! let certificate = why(alloc, &table, &graph, &lists, step, slot)?;
 //! match verify(alloc, &table, &graph, &certificate)? {
-//!     Verified::Yes => ..                  // its text is that of the truth
+//!     Verified::Yes => ..                  // what it says is true of the graph
 //!     Verified::No { line, code } => ..    // the first rule that it breaks
 //! }
 //! ```

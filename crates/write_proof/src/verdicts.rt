@@ -1,5 +1,6 @@
 //! What a verdict is: yes, or a line and the rule that it breaks.
 
+use std::error::Error;
 use std::fmt;
 
 /// The rule that a certificate breaks. The first six are for a line by itself, where the first of them counts at the first line
@@ -38,6 +39,8 @@ pub enum Verified {
     /// It breaks this rule at the line with this number, from 1, the first that counts.
     No { line: u64, code: VerifyCode },
 }
+
+impl Error for VerifyCode {}
 
 impl fmt::Display for VerifyCode {
     ghost use Rattle.std.specs.Prelude.{Some};

@@ -1,6 +1,6 @@
 use Rattle.std.proofs.Common.{◌≡◌, ◌+◌, ◌-◌, List, length, subst, ap, arith}
 use Rattle.std.proofs.lemmas.List.{length-map}
-use Rattle.bdl_parser.specs.declared.TheConstants.{MAX_NESTING}
+use Rattle.bdl_parser.specs.declared.TheConstants.{NESTING_MAX}
 use Rattle.bdl_parser.specs.FirstFault.{IsModuleOf, FaultAt}
 use Rattle.bdl_parser.specs.Lexemes.{Lexeme, lexeme_of}
 use Rattle.bdl_parser.proofs.FirstFault.{fault_within, fault_at}
@@ -13,7 +13,7 @@ overflow_sub-result c =
 
 pub returns-in-Ok-clause-module : goal.returns-in-Ok-clause-module
 returns-in-Ok-clause-module c =
-    subst (λ (ts : List Lexeme). IsModuleOf ts c.in-Ok.module) c.new-parser.ensures (c.in-Ok.ensures.ok MAX_NESTING (omega arith))
+    subst (λ (ts : List Lexeme). IsModuleOf ts c.in-Ok.module) c.new-parser.ensures (c.in-Ok.ensures.ok NESTING_MAX (omega arith))
 
 pub returns-in-Err-Wrong-clause-fault : goal.returns-in-Err-Wrong-clause-fault
 returns-in-Err-Wrong-clause-fault c =

@@ -1,9 +1,10 @@
-use Rattle.std.proofs.Common.{◌≡◌, ℕ, ◌+◌, ◌<◌, List, sym, ap, ◌∙◌, subst, arith}
+use Rattle.std.proofs.Common.{◌≡◌, ℕ, ◌+◌, ◌<◌, true, false, List, drop, sym, ap, ◌∙◌, subst, arith}
 use Rattle.context_model.specs.Atoms.{Atom}
 use Rattle.context_model.specs.Paths.{path_before}
 use Rattle.bag_model.specs.declared.Pick.TheVariants.{Least, Greatest}
 use Rattle.bag_model.specs.NormalForm.{LeastDatum, GreatestDatum}
 use Rattle.bag_model.specs.Shapes as model
+use Rattle.bag_model.specs.Typed.{IsSpelling}
 use Rattle.bag_model.proofs.PathLaws.{is_field}
 use Rattle.scalar_types.specs.KindViews.{kind_of}
 use Rattle.field_table.specs.declared.shapes.Slot.{Slot}
@@ -11,14 +12,16 @@ use Rattle.field_table.specs.Plain.{nodes_of, shape_of, field_of}
 use Rattle.field_table.proofs.Held.{levels_there, field_is}
 use Rattle.bag_model.proofs.SizeLaws.{size_at}
 use Rattle.bag_scan.proofs.FieldGets.{opened}
+use Rattle.bag_walks.proofs.Turns.{stays_none}
+use Rattle.scalar_types.proofs.KindSpelled.{spelling_told}
 use Rattle.field_table.proofs.Shown.{scalar_shown, greatest_shown, counter_shown, map_shown}
 use Rattle.bag_normal.specs.Data.{AddsPlaces}
 use Rattle.bag_normal.specs.Headers.{IsFieldFound}
 use Rattle.bag_normal.specs.Known.{GivesWayAt, IsSupersededIn, HoldsAtKey}
-use Rattle.bag_normal.proofs.Places.{rises_on, adds_same, on_ok}
-use Rattle.bag_normal.proofs.Below.{scalar_is, counter_is, map_is, bag_is, InField, key_superseded, node_superseded}
+use Rattle.bag_normal.proofs.Places.{rises_on, adds_none, adds_same, on_ok}
+use Rattle.bag_normal.proofs.Below.{scalar_is, counter_is, map_is, bag_is, InField, IsSupersededAtKey, at_spelling, at_none, key_superseded, node_superseded}
 use Rattle.bag_normal.proofs.FieldHeaders.{field_behind, field_level, field_on, fields_more, fields_all, HoldsAtField, no_field_at_end}
-use Rattle.bag_normal.proofs.Keys.{key_behind, key_level, place_on, keys_more, keys_all, stop_on, no_key_at_end}
+use Rattle.bag_normal.proofs.Keys.{key_behind, key_is, key_level, place_on, keys_more, keys_all, stop_on, no_key_at_end}
 use Rattle.bag_normal.proofs.fields.+adding.Goals as goal
 
 -- ---- a field, by its shape
@@ -73,13 +76,12 @@ add_field-returns-in-Map-clause-adds t c =
     let list = c.args.list.now in
     let q = path_before list c.args.from in
     let after = c.add_values.new.gone.items in
-    let key = c.in-Map.field-0 in
+    let key = c.in-Map.key in
     let value = shape_of c.deref.result.now in
     let shown : shape_of c.args.shape.now ≡ model.Shape.Map (kind_of key) value =
     ap shape_of c.in-Map.is ∙ map_shown key c.in-Map.value ∙ ap (λ s. model.Shape.Map (kind_of key) (shape_of s)) (sym c.deref.ensures) in
-    let added = λ (a : AddsPlaces (HoldsAtKey (IsSupersededIn value list) q) c.args.gone.now.items after).
-    subst (λ (shape : model.Shape). AddsPlaces (IsSupersededIn shape list q) c.args.gone.now.items after) (sym shown)
-    (adds_same (HoldsAtKey (IsSupersededIn value list) q) (IsSupersededIn (model.Shape.Map (kind_of key) value) list q) c.args.gone.now.items after (map_is (kind_of key) value list q) a) in
+    let added = λ (a : AddsPlaces (IsSupersededIn (model.Shape.Map (kind_of key) value) list q) c.args.gone.now.items after).
+    subst (λ (shape : model.Shape). AddsPlaces (IsSupersededIn shape list q) c.args.gone.now.items after) (sym shown) a in
     on_ok c.add_values.result added c.add_values.ensures.adds
 
 -- ---- the values of a map
@@ -88,7 +90,7 @@ pub add_values-add_field-requires : goal.add_values-add_field-requires
 add_values-add_field-requires t c =
     let list = c.args.list.now in
     let q = path_before list c.args.from in
-    let P = IsSupersededIn (shape_of c.args.shape.now) list in
+    let P = IsSupersededAtKey (kind_of c.args.kind.now) (shape_of c.args.shape.now) list (path_before list c.args.from) in
     let few : c.args.level < 16 = omega (arith, c.requires.room) in
     let on = place_on P list q c.args.level c.args.from c.keys.place c.requires.level few c.requires.behind c.args.gone.now.items c.keys.gone.items c.keys.invariant.keys c.in-Ok.key c.in-Ok.ensures.found in (
       omega (arith, c.decreases),
@@ -101,22 +103,59 @@ add_values-add_field-requires t c =
       ),
     )
 
+pub add_values-keys-preserved-then-spelled : goal.add_values-keys-preserved-then-spelled
+add_values-keys-preserved-then-spelled t c =
+    let list = c.args.list.now in
+    let q = path_before list c.args.from in
+    let here = path_before list (c.in-Ok.key + 1) in
+    let kind = kind_of c.args.kind.now in
+    let shape = shape_of c.args.shape.now in
+    let P = IsSupersededAtKey kind shape list q in
+    let few : c.args.level < 16 = omega (arith, c.requires.room) in
+    let found = c.in-Ok.ensures.found in
+    let is = key_is P list q c.args.level c.args.from c.keys.place c.requires.level few c.requires.behind c.args.gone.now.items c.keys.gone.items c.keys.invariant.keys c.in-Ok.key found in
+    let bytes : c.rest.result.now ≡ found.key = c.rest.ensures ∙ ap (λ a. drop 1 a) (c.atom.ensures ∙ found.is) in
+    let spelled = subst (IsSpelling kind) bytes ((spelling_told kind c.rest.result.now).0 (c.spelled.ensures.0 c.if-spelled.true)) in
+    let next = c.in_ok-place-in-Ok.place in
+    let after = c.add_field.new.gone.items in
+    record {
+      rises = c.in_ok-place-in-Ok.ensures.rises;
+      keys = keys_more P list q c.args.level c.args.from c.keys.place
+          c.requires.level few c.requires.behind c.args.gone.now.items c.keys.gone.items c.keys.invariant.keys c.in-Ok.key found
+          next c.in_ok-place-in-Ok.ensures.segment.part after
+          (adds_same (IsSupersededIn shape list here) (P here) c.keys.gone.items after (at_spelling kind shape list q here found.key is spelled) c.in_ok-place-in-Ok.ensures.adds);
+    }
+
 pub add_values-keys-preserved : goal.add_values-keys-preserved
 add_values-keys-preserved t c =
     let list = c.args.list.now in
-    let P = IsSupersededIn (shape_of c.args.shape.now) list in
+    let q = path_before list c.args.from in
+    let here = path_before list (c.in-Ok.key + 1) in
+    let kind = kind_of c.args.kind.now in
+    let shape = shape_of c.args.shape.now in
+    let P = IsSupersededAtKey kind shape list q in
     let few : c.args.level < 16 = omega (arith, c.requires.room) in
+    let found = c.in-Ok.ensures.found in
+    let is = key_is P list q c.args.level c.args.from c.keys.place c.requires.level few c.requires.behind c.args.gone.now.items c.keys.gone.items c.keys.invariant.keys c.in-Ok.key found in
+    let bytes : c.rest.result.now ≡ found.key = c.rest.ensures ∙ ap (λ a. drop 1 a) (c.atom.ensures ∙ found.is) in
+    let none : IsSpelling kind found.key → ⊥ = λ spelled.
+    let on = c.spelled.ensures.1 ((spelling_told kind c.rest.result.now).1 (subst (IsSpelling kind) (sym bytes) spelled)) in
+    let clash : false ≡ true = sym c.if-spelled.false ∙ on in
+    cc in
+    let on = place_on P list q c.args.level c.args.from c.keys.place c.requires.level few c.requires.behind c.args.gone.now.items c.keys.gone.items c.keys.invariant.keys c.in-Ok.key found in
+    let next = c.in-Ok.key + 1 in
     record {
-      rises = c.in_ok-place-in-Ok.ensures.rises;
-      keys = keys_more P list (path_before list c.args.from) c.args.level c.args.from c.keys.place
-          c.requires.level few c.requires.behind c.args.gone.now.items c.keys.gone.items c.keys.invariant.keys c.in-Ok.key c.in-Ok.ensures.found
-          c.in_ok-place-in-Ok.place c.in_ok-place-in-Ok.ensures.segment.part c.add_field.new.gone.items c.in_ok-place-in-Ok.ensures.adds;
+      rises = rises_on c.keys.gone.items c.keys.place next (omega (arith, on)) c.keys.invariant.rises;
+      keys = keys_more P list q c.args.level c.args.from c.keys.place
+          c.requires.level few c.requires.behind c.args.gone.now.items c.keys.gone.items c.keys.invariant.keys c.in-Ok.key found
+          next (stays_none list (c.args.level + 1) next (omega (arith, found.within))) c.keys.gone.items
+          (adds_none (P here) c.keys.gone.items (at_none kind shape list q here found.key is none));
     }
 
 pub add_values-returns-in-Err-clause-rises : goal.add_values-returns-in-Err-clause-rises
 add_values-returns-in-Err-clause-rises t c =
     let list = c.args.list.now in
-    let P = IsSupersededIn (shape_of c.args.shape.now) list in
+    let P = IsSupersededAtKey (kind_of c.args.kind.now) (shape_of c.args.shape.now) list (path_before list c.args.from) in
     let few : c.args.level < 16 = omega (arith, c.requires.room) in
     let on = stop_on P list (path_before list c.args.from) c.args.level c.args.from c.keys.place c.requires.level few c.requires.behind c.args.gone.now.items c.keys.gone.items c.keys.invariant.keys
     c.in-Err.stop c.in-Err.ensures.none in
@@ -128,8 +167,11 @@ add_values-returns-in-Err-clause-adds t c =
     let q = path_before list c.args.from in
     let shape = shape_of c.args.shape.now in
     let few : c.args.level < 16 = omega (arith, c.requires.room) in
-    keys_all (IsSupersededIn shape list) list q c.args.level c.args.from c.keys.place c.requires.level few c.requires.behind c.args.gone.now.items c.keys.gone.items c.keys.invariant.keys
-    c.in-Err.stop c.in-Err.ensures.none (λ key p s. key_superseded shape list q key p s)
+    let kind = kind_of c.args.kind.now in
+    let P = IsSupersededAtKey kind shape list q in
+    adds_same (HoldsAtKey P q) (IsSupersededIn (model.Shape.Map kind shape) list q) c.args.gone.now.items c.keys.gone.items (map_is kind shape list q)
+    (keys_all P list q c.args.level c.args.from c.keys.place c.requires.level few c.requires.behind c.args.gone.now.items c.keys.gone.items c.keys.invariant.keys
+    c.in-Err.stop c.in-Err.ensures.none (λ key p s. key_superseded shape list q key p s.holds))
 
 pub add_values-returns-clause-adds : goal.add_values-returns-clause-adds
 add_values-returns-clause-adds t c =
@@ -137,9 +179,12 @@ add_values-returns-clause-adds t c =
     let q = path_before list c.args.from in
     let shape = shape_of c.args.shape.now in
     let few : c.args.level < 16 = omega (arith, c.requires.room) in
-    keys_all (IsSupersededIn shape list) list q c.args.level c.args.from c.keys.place c.requires.level few c.requires.behind c.args.gone.now.items c.keys.gone.items c.keys.invariant.keys
+    let kind = kind_of c.args.kind.now in
+    let P = IsSupersededAtKey kind shape list q in
+    adds_same (HoldsAtKey P q) (IsSupersededIn (model.Shape.Map kind shape) list q) c.args.gone.now.items c.keys.gone.items (map_is kind shape list q)
+    (keys_all P list q c.args.level c.args.from c.keys.place c.requires.level few c.requires.behind c.args.gone.now.items c.keys.gone.items c.keys.invariant.keys
     c.keys.place (no_key_at_end list c.args.level c.keys.place c.keys.invariant.keys.stays.within (omega (arith, c.keys-test.false, c.len.ensures.len)))
-    (λ key p s. key_superseded shape list q key p s)
+    (λ key p s. key_superseded shape list q key p s.holds))
 
 -- ---- the fields of a bag
 

@@ -2,9 +2,9 @@ use Rattle.std.proofs.Common.{◌+◌, ◌-◌, length}
 use Rattle.context_model.specs.Paths.{path_before}
 use Rattle.bag_model.specs.Sizes.{shape_size, nodes_size}
 use Rattle.field_table.specs.Plain.{nodes_of, shape_of}
+use Rattle.scalar_types.specs.KindViews.{kind_of}
 use Rattle.bag_normal.specs.Data.{RisesUpTo}
-use Rattle.bag_normal.specs.Known.{IsSupersededIn}
-use Rattle.bag_normal.proofs.Below.{InField}
+use Rattle.bag_normal.proofs.Below.{InField, IsSupersededAtKey}
 use Rattle.bag_normal.proofs.FieldHeaders.{AddsFields}
 use Rattle.bag_normal.proofs.Keys.{AddsKeys}
 use Rattle.bag_normal.proofs.fields.+adding.Given as goal
@@ -22,7 +22,7 @@ decreases-add_fields l = nodes_size (nodes_of l.fields.now)
 abbrev pub invariant-add_values-keys : goal.invariant-add_values-keys
 invariant-add_values-keys l = record {
   rises : RisesUpTo l.gone.items l.place;
-  keys : AddsKeys (IsSupersededIn (shape_of l.shape) l.list) l.list (path_before l.list l.fn.from) l.fn.from l.place l.fn.gone.items l.gone.items;
+  keys : AddsKeys (IsSupersededAtKey (kind_of l.kind) (shape_of l.shape) l.list (path_before l.list l.fn.from)) l.list (path_before l.list l.fn.from) l.fn.from l.place l.fn.gone.items l.gone.items;
 }
 
 abbrev pub decreases-add_values-keys : goal.decreases-add_values-keys

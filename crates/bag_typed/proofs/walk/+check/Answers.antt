@@ -13,7 +13,7 @@ use Rattle.bag_typed.proofs.Data.{not_both}
 use Rattle.bag_typed.proofs.Fields.{ClearsFields, plain_slot, slot_there, fields_end, field_turn, field_missing}
 use Rattle.bag_typed.proofs.Keys.{OfSomeKey, key_end, key_turn}
 use Rattle.bag_typed.proofs.Shapes.{none_alike, first_alike, of_key, key_under, from_key, to_key, entry_none, entry_fault, key_fault}
-use Rattle.bag_typed.proofs.Spellings.{spelling_told}
+use Rattle.scalar_types.proofs.KindSpelled.{spelling_told}
 use Rattle.bag_typed.proofs.walk.+check.Goals as goal
 use Rattle.bag_typed.proofs.walk.+check.Goals.{check_fields-in-Ok+in_ok-place-in-Ok, check_fields-in-Err}
 

@@ -1,7 +1,6 @@
 use Rattle.std.proofs.Common.{Err, ap, subst, sym}
-use Rattle.command_line.specs.Commands.{origin_of}
 use Rattle.baggage_cli.specs.Scene.{change}
-use Rattle.baggage_cli.specs.Tables.{Obtains}
+use Rattle.baggage_cli.specs.Tables.{origin_of, Obtains}
 use Rattle.baggage_cli.proofs.Obtained.{uncompiled}
 use Rattle.baggage_cli.proofs.tables.obtain.Goals as goal
 

@@ -1,5 +1,5 @@
 use Rattle.std.proofs.Common.{◌≡◌, ◌⊎◌, ℕ, ◌≤◌, List, Some, Err, length, sym, subst}
-use Rattle.bdl_lexer.specs.declared.TheConstants.{MAX_SOURCE}
+use Rattle.bdl_lexer.specs.declared.TheConstants.{SOURCE_MAX}
 use Rattle.baggage_cli.specs.declared.refusals.Notice.TheVariants.{Memory}
 use Rattle.baggage_cli.specs.declared.refusals.Refusal.TheVariants.{Plain}
 use Rattle.baggage_cli.specs.Scene.{change}
@@ -18,7 +18,7 @@ table_in-requires g c =
     let library = change g.L.Library.files g.L.Library.faults c.args.library.now c.bring.new.library in
     let requests = change g.L.Library.asked g.L.Library.faults c.args.library.now c.bring.new.library in
     let short = brought_short c.args.file.now library requests c.in_ok-text.text.items c.in_ok-text.ensures in
-    subst (λ (text : List ℕ). length text ≤ MAX_SOURCE) (sym c.as_slice.ensures.value) short
+    subst (λ (text : List ℕ). length text ≤ SOURCE_MAX) (sym c.as_slice.ensures.value) short
 
 pub returns : goal.returns
 returns g c =

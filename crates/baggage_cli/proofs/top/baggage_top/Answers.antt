@@ -1,7 +1,6 @@
-use Rattle.command_line.specs.Commands.{compiled, printed, slot_line, whole_text, as_lines}
 use Rattle.baggage_cli.specs.Scene.{change, scene_of}
-use Rattle.baggage_cli.proofs.Calls.{files_kept, counts_kept, steady_call, library_steady_call, source_steady_call, unread_call, quiet_call, sink_call, words_call, unasked_call, untouched_call}
-use Rattle.baggage_cli.proofs.Facts.{trim_appends, merge_appends, carry_appends, collect_appends, decode_appends, run_appends, run_json_appends, load_appends, build_appends, evolve_appends, why_appends, verify_appends, has_asked, ended_source, left_told, fault_told, refusal_told, input_told, bad_told, failed_told, memory_told, completes, part_told, unfetched_files, unread_input}
+use Rattle.baggage_cli.proofs.Calls.{files_kept, counts_kept, steady_call, library_steady_call, source_steady_call, unread_call, quiet_call, sink_call, words_call, unasked_call, unasked_part, untouched_call}
+use Rattle.baggage_cli.proofs.Facts.{trim_appends, merge_appends, carry_appends, collect_appends, check_appends, table_appends, decode_appends, run_appends, run_table_appends, run_json_appends, load_appends, evolve_appends, why_appends, verify_appends, has_asked, ended_source, left_told, fault_told, refusal_told, input_told, bad_told, failed_told, memory_told, completes, part_told, unfetched_files, unread_input}
 use Rattle.baggage_cli.proofs.top.baggage_top.Goals as goal
 
 pub returns-clause-trim : goal.returns-clause-trim
@@ -24,7 +23,7 @@ returns-clause-check g c =
     (change g.S.Source.left g.S.Source.faults c.args.source.now c.answer_words.new.source)
     (change g.K.Sink.written g.K.Sink.faults c.args.out.now c.answer_words.new.out)
     (change g.E.Sink.written g.E.Sink.faults c.args.errs.now c.answer_words.new.errs) in
-    λ file bag held is told done. build_appends slot_line (compiled file bag) held scene c.answer_words.result (rw is at c.answer_words.ensures) told done
+    λ file bag held is told done. check_appends file bag held scene c.answer_words.result (rw is at c.answer_words.ensures) told done
 
 pub returns-clause-table : goal.returns-clause-table
 returns-clause-table g c =
@@ -34,7 +33,7 @@ returns-clause-table g c =
     (change g.S.Source.left g.S.Source.faults c.args.source.now c.answer_words.new.source)
     (change g.K.Sink.written g.K.Sink.faults c.args.out.now c.answer_words.new.out)
     (change g.E.Sink.written g.E.Sink.faults c.args.errs.now c.answer_words.new.errs) in
-    λ file bag held is told done. build_appends whole_text (compiled file bag) held scene c.answer_words.result (rw is at c.answer_words.ensures) told done
+    λ file bag held is told done. table_appends file bag held scene c.answer_words.result (rw is at c.answer_words.ensures) told done
 
 pub returns-clause-decode : goal.returns-clause-decode
 returns-clause-decode g c =
@@ -54,7 +53,7 @@ returns-clause-run g c =
     (change g.S.Source.left g.S.Source.faults c.args.source.now c.answer_words.new.source)
     (change g.K.Sink.written g.K.Sink.faults c.args.out.now c.answer_words.new.out)
     (change g.E.Sink.written g.E.Sink.faults c.args.errs.now c.answer_words.new.errs) in
-    λ file bag held input is told content done. run_appends c.tell_laws.ensures as_lines (compiled file bag) held input scene c.answer_words.result (rw is at c.answer_words.ensures) told content done
+    λ file bag held input is told content done. run_appends c.tell_laws.ensures file bag held input scene c.answer_words.result (rw is at c.answer_words.ensures) told content done
 
 pub returns-clause-runtable : goal.returns-clause-runtable
 returns-clause-runtable g c =
@@ -64,7 +63,7 @@ returns-clause-runtable g c =
     (change g.S.Source.left g.S.Source.faults c.args.source.now c.answer_words.new.source)
     (change g.K.Sink.written g.K.Sink.faults c.args.out.now c.answer_words.new.out)
     (change g.E.Sink.written g.E.Sink.faults c.args.errs.now c.answer_words.new.errs) in
-    λ file held input is told content done. run_appends c.tell_laws.ensures as_lines (printed file) held input scene c.answer_words.result (rw is at c.answer_words.ensures) told content done
+    λ file held input is told content done. run_table_appends c.tell_laws.ensures file held input scene c.answer_words.result (rw is at c.answer_words.ensures) told content done
 
 pub returns-clause-runjson : goal.returns-clause-runjson
 returns-clause-runjson g c =
@@ -227,3 +226,6 @@ returns-clause-part g c = λ task is five. part_told task _ c.answer_words.resul
 
 pub returns-clause-complete : goal.returns-clause-complete
 returns-clause-complete g c = λ task is tells sound sure. completes task _ c.answer_words.result (rw is at c.answer_words.ensures) tells sound sure
+
+pub returns-clause-errs_part : goal.returns-clause-errs_part
+returns-clause-errs_part g c = λ is five. unasked_part _ c.answer_words.result (rw is at c.answer_words.ensures) five

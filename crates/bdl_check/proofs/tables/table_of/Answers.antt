@@ -11,7 +11,7 @@ use Rattle.bdl_check.specs.Tables.{BagTree, IsUntabled, unfit}
 use Rattle.bdl_check.proofs.ChosenBags.{chosen_size, chosen_table, sized_layout, sized_fits, sized_unfit}
 use Rattle.bdl_check.proofs.tables.table_of.Goals as goal
 use Rattle.field_table.specs.Plain.{nodes_of}
-use Rattle.bag_model.specs.declared.TheConstants.{MAX_LEVELS}
+use Rattle.context_model.specs.declared.TheConstants.{LEVELS_MAX}
 
 pub returns-in-Some-excess-clause-fault : goal.returns-in-Some-excess-clause-fault
 returns-in-Some-excess-clause-fault c =
@@ -35,7 +35,7 @@ lay_out-requires c =
     c.in-Some.ensures.number c.in_ok-sizes.ensures) in
     let shallow = sized_layout ds bag.list c.index-size.result.now size c.in_default-excess.ensures in
     record {
-      shallow = subst (λ (ds : List Placed). (nodes : Nodes) × IsLaidOut ds bag.list nodes × (levels nodes ≤ MAX_LEVELS))
+      shallow = subst (λ (ds : List Placed). (nodes : Nodes) × IsLaidOut ds bag.list nodes × (levels nodes ≤ LEVELS_MAX))
           (sym c.in_ok-kinds.ensures) shallow;
     }
 

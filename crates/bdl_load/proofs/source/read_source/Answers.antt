@@ -6,7 +6,7 @@ use Rattle.bdl_load.specs.Source.{too_long}
 use Rattle.bdl_load.proofs.SourceFaults.{blames_source}
 use Rattle.bdl_load.proofs.source.read_source.Goals as goal
 
-pub returns-then-source-gt-MAX_SOURCE-clause-fault : goal.returns-then-source-gt-MAX_SOURCE-clause-fault
-returns-then-source-gt-MAX_SOURCE-clause-fault c =
+pub returns-then-source-gt-SOURCE_MAX-clause-fault : goal.returns-then-source-gt-SOURCE_MAX-clause-fault
+returns-then-source-gt-SOURCE_MAX-clause-fault c =
     blames_source c.args.name.now c.args.source.now (found FIRST_SPOT DefTooLong) c.blame.result
-    (too_long c.if-source-gt-MAX_SOURCE.true refl) c.blame.ensures.says
+    (too_long c.if-source-gt-SOURCE_MAX.true refl) c.blame.ensures.says

@@ -1,5 +1,5 @@
 use Rattle.std.proofs.Common.{◌≡◌, false, ℕ, ◌≤◌, ◌∷◌, length, Some, sym, ap, ◌∙◌, subst, arith}
-use Rattle.outside.specs.declared.TheConstants.{ATOM_MAX}
+use Rattle.context_model.specs.declared.TheConstants.{ATOM_MAX}
 use Rattle.context_model.specs.Atoms.{Atom}
 use Rattle.context_model.specs.Merged.{last_atom}
 use Rattle.context_model.specs.Orders.{Path}

@@ -6,7 +6,7 @@ use Rattle.table_text.proofs.reading.read_lines.Goals as goal
 
 pub returns-in-Err-clause-err : goal.returns-in-Err-clause-err
 returns-in-Err-clause-err c =
-    subst (IsRefusalBehind c.args.text.now) (sym c.at.ensures)
+    subst (IsRefusalBehind c.args.text.now) (sym c.of_line.ensures)
     (said_bad c.args.text.now c.loop-line.number c.loop-line.rest.now c.in-Some.line.now c.in-Some.behind.now (rows_so_far c.loop-line.builder) c.loop-line.invariant.said
     c.in-Some.ensures.lines c.in-Err.refusal c.in-Err.ensures.err)
 

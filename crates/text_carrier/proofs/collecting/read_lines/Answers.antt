@@ -14,7 +14,7 @@ returns-in-Err-clause-err c =
     let start : lines_of c.args.text.now ≡ c.into_iter-line-iterator.result = cc (c.lines_of-line-items.ensures, c.into_iter-line-iterator.ensures.into_iter_gives) in
     let split = start ∙ taken_before c.into_iter-line-iterator.result c.loop-line.yielded c.loop-line.line-iterator c.loop-line.yielded_by in
     let (said, all, keeps) = c.loop-line.invariant in
-    subst (IsLineFault (lines_of c.args.text.now)) (sym c.at.ensures)
+    subst (IsLineFault (lines_of c.args.text.now)) (sym c.of_line.ensures)
     (refused_at (lines_of c.args.text.now) (map line_value c.loop-line.yielded) c.loop-line.line-iterator c.next.new.self (line_value c.in-Some.line) said
     c.in-Err.refusal split c.in-Some.ensures.steps all (c.in-Err.ensures.err said keeps))
 

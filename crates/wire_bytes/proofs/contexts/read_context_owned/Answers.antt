@@ -8,7 +8,7 @@ use Rattle.context_model.proofs.Heads.{AreWithin-atoms}
 use Rattle.context_model.proofs.ContextFronts.{has_one_context}
 use Rattle.atom_list.specs.Contexts.{shape_fault_code_of}
 use Rattle.wire_bytes.specs.Reading.{byte_code_of, code_of, ReadsUpTo}
-use Rattle.wire_bytes.proofs.Stops.{wire_list, stop_within, shape_fault, context_wire_fault, only_context_err}
+use Rattle.wire_bytes.proofs.Stops.{wire_list, stop_within, shape_fault, context_wire_fault, context_of, only_context_err}
 use Rattle.wire_bytes.proofs.contexts.read_context_owned.Goals as goal
 
 pub returns-in_err-form-clause-fault : goal.returns-in_err-form-clause-fault
@@ -35,7 +35,8 @@ returns-in-Err-clause-fault c =
     answered c.args.bytes.items (c.head_len.result + c.frames_before.result) _ (byte_code_of c.from.result) _ fault (omega arith) c.from.ensures
 
 pub returns-in-Err-clause-only : goal.returns-in-Err-clause-only
-returns-in-Err-clause-only c = λ list of_list. absurd ((has_one_context c.args.bytes.items).either list _ _ of_list (returns-in-Err-clause-fault c))
+returns-in-Err-clause-only c = λ form list short formed e.
+    absurd ((has_one_context c.args.bytes.items).either list _ _ (context_of c.args.bytes.items form list short formed e) (returns-in-Err-clause-fault c))
 
 pub overflow_add-result-in-Some : goal.overflow_add-result-in-Some
 overflow_add-result-in-Some c =
@@ -52,7 +53,8 @@ returns-in-None-clause-found c =
     subst (λ v. IsContextOf v c.args.bytes.items) (sym c.in-Ok.ensures.ok) own
 
 pub returns-in-None-clause-only : goal.returns-in-None-clause-only
-returns-in-None-clause-only c = λ list of_list. (has_one_context c.args.bytes.items).list _ list (returns-in-None-clause-found c) of_list
+returns-in-None-clause-only c = λ form list short formed e.
+    (has_one_context c.args.bytes.items).list _ list (returns-in-None-clause-found c) (context_of c.args.bytes.items form list short formed e)
 
 pub returns-in-Some-clause-fault : goal.returns-in-Some-clause-fault
 returns-in-Some-clause-fault c =
@@ -63,4 +65,5 @@ returns-in-Some-clause-fault c =
     answered c.args.bytes.items (c.head_len-in-Some.result + c.in-Some.behind) _ (byte_code_of c.from-in-Some.result) (code_of c.in-Some.wire) fault (omega arith) c.from-in-Some.ensures
 
 pub returns-in-Some-clause-only : goal.returns-in-Some-clause-only
-returns-in-Some-clause-only c = λ list of_list. absurd ((has_one_context c.args.bytes.items).either list _ _ of_list (returns-in-Some-clause-fault c))
+returns-in-Some-clause-only c = λ form list short formed e.
+    absurd ((has_one_context c.args.bytes.items).either list _ _ (context_of c.args.bytes.items form list short formed e) (returns-in-Some-clause-fault c))

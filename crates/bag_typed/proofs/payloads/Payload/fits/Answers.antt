@@ -1,7 +1,7 @@
 use Rattle.std.proofs.Common.{◌↔◌, IsTrue, sym, subst}
 use Rattle.scalar_types.specs.KindViews.{kind_of}
 use Rattle.bag_typed.specs.Payloads.{IsPayload}
-use Rattle.bag_typed.proofs.Spellings.{spelling_told}
+use Rattle.scalar_types.proofs.KindSpelled.{spelling_told}
 use Rattle.bag_typed.proofs.payloads.Payload.fits.Goals as goal
 
 pub returns-in-Scalar : goal.returns-in-Scalar

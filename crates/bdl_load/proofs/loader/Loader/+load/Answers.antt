@@ -1,6 +1,6 @@
 use Rattle.std.proofs.Common.{rules, ◌≡◌, ◌<◌, ◌+◌, [], ◌∷◌, length, vec_len, refl, sym, ◌∙◌, ap, subst, arith}
 use Rattle.std.proofs.lemmas.List.{length-append}
-use Rattle.bdl_load.specs.declared.loader.TheConstants.{MAX_FILES}
+use Rattle.bdl_load.specs.declared.loader.TheConstants.{FILES_MAX}
 use Rattle.bdl_load.specs.declared.faults.DefFault.{DefFault}
 use Rattle.bdl_load.specs.declared.faults.DefFault.TheVariants.{Memory}
 use Rattle.bdl_load.specs.Loader.{IsFound, IsChosen, AreSound, names_at}
@@ -97,7 +97,7 @@ take_import-take_imports-requires g t c κs within =
     let fresh = read_fresh files loaded name import.file file read c.as_str-2.ensures.value fetched.fresh in
     let sound = sound_begun loaded begun file taking now c.requires.sound fresh fetched.room (read_spelled files name file read) grown numbers in
     let count : length begun ≡ length loaded + 1 = ap length grown ∙ length-append loaded (file ∷ []) in
-    let room : length loaded < MAX_FILES = fetched.room in
+    let room : length loaded < FILES_MAX = fetched.room in
     search rules
 
 pub take_import-returns-in_err-take_imports-in-Some-clause-fault : goal.take_import-returns-in_err-take_imports-in-Some-clause-fault

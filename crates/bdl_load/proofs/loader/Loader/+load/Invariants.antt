@@ -1,14 +1,14 @@
 use Rattle.std.proofs.Common.{◌≡◌, ◌+◌, ◌-◌, ◌*◌, ◌≤◌, length}
-use Rattle.bdl_load.specs.declared.loader.TheConstants.{MAX_FILES}
+use Rattle.bdl_load.specs.declared.loader.TheConstants.{FILES_MAX}
 use Rattle.bdl_load.specs.Loader.{AreSound, Loaded}
 use Rattle.bdl_load.proofs.Taking.{Taken}
 use Rattle.bdl_load.proofs.loader.Loader.+load.Given as goal
 
 abbrev pub decreases-take_import : goal.decreases-take_import
-decreases-take_import g l = 2 * (MAX_FILES - length l.self.now.files.items)
+decreases-take_import g l = 2 * (FILES_MAX - length l.self.now.files.items)
 
 abbrev pub decreases-take_imports : goal.decreases-take_imports
-decreases-take_imports g l = 2 * (MAX_FILES - length l.self.now.files.items) + 1
+decreases-take_imports g l = 2 * (FILES_MAX - length l.self.now.files.items) + 1
 
 abbrev pub invariant-take_imports-loop-number : goal.invariant-take_imports-loop-number
 invariant-take_imports-loop-number g l = record {

@@ -1,6 +1,6 @@
 use Rattle.std.proofs.Common.{length}
 use Rattle.std.specs.List.{AllByRecursion}
-use Rattle.bdl_parser.specs.declared.TheConstants.{MAX_NESTING}
+use Rattle.bdl_parser.specs.declared.TheConstants.{NESTING_MAX}
 use Rattle.bdl_parser.specs.Grammar.{a_bag_field}
 use Rattle.bdl_parser.specs.Decls.{IsSpelledField}
 use Rattle.bdl_parser.proofs.Families.{TakenItems}
@@ -8,7 +8,7 @@ use Rattle.bdl_parser.proofs.parser.Parser.bag_fields.Given as goal
 
 abbrev pub invariant-fields : goal.invariant-fields
 invariant-fields l = record {
-  taken : TakenItems a_bag_field MAX_NESTING l.fn.self l.fields l.self;
+  taken : TakenItems a_bag_field NESTING_MAX l.fn.self l.fields l.self;
   spelled : AllByRecursion IsSpelledField l.fields;
 }
 

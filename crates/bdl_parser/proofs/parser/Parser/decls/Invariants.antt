@@ -1,6 +1,6 @@
 use Rattle.std.proofs.Common.{length}
 use Rattle.std.specs.List.{AllByRecursion}
-use Rattle.bdl_parser.specs.declared.TheConstants.{MAX_NESTING}
+use Rattle.bdl_parser.specs.declared.TheConstants.{NESTING_MAX}
 use Rattle.bdl_parser.specs.Grammar.{a_decl}
 use Rattle.bdl_parser.specs.Decls.{IsSpelledDecl}
 use Rattle.bdl_parser.proofs.Families.{TakenItems}
@@ -8,7 +8,7 @@ use Rattle.bdl_parser.proofs.parser.Parser.decls.Given as goal
 
 abbrev pub invariant-decls : goal.invariant-decls
 invariant-decls l = record {
-  taken : TakenItems a_decl MAX_NESTING l.fn.self l.decls l.self;
+  taken : TakenItems a_decl NESTING_MAX l.fn.self l.decls l.self;
   spelled : AllByRecursion IsSpelledDecl l.decls;
 }
 

@@ -1,16 +1,16 @@
 use Rattle.std.proofs.Common.{List, sym, subst}
-use Rattle.bdl_parser.specs.declared.TheConstants.{MAX_NESTING}
+use Rattle.bdl_parser.specs.declared.TheConstants.{NESTING_MAX}
 use Rattle.bdl_parser.specs.declared.parser.FormFault.{FormFault}
 use Rattle.bdl_parser.specs.declared.trees.Import.{Import}
 use Rattle.bdl_parser.specs.Grammar.{an_import}
-use Rattle.grammar_model.specs.Forms.{Repeats}
+use Rattle.grammar_model.specs.Grammars.{Repeats}
 use Rattle.bdl_parser.proofs.DeclLaws.{imports_item, imports_more}
 use Rattle.bdl_parser.proofs.Exits.{exit_err}
 use Rattle.bdl_parser.proofs.parser.Parser.imports.Goals as goal
 
 pub returns-in_err-import-clause-err : goal.returns-in_err-import-clause-err
 returns-in_err-import-clause-err c =
-    exit_err {E = FormFault} _ _ c.in_err-import.field-0.0 c.from_residual.ensures.1 (imports_item MAX_NESTING c.imports.imports c.in_err-import.field-0.0 c.args.self.now c.imports.self c.import.new.self c.imports.invariant (sym c.imports-test.ensures) c.in_err-import.ensures.err)
+    exit_err {E = FormFault} _ _ c.in_err-import.field-0.0 c.from_residual.ensures.1 (imports_item NESTING_MAX c.imports.imports c.in_err-import.field-0.0 c.args.self.now c.imports.self c.import.new.self c.imports.invariant (sym c.imports-test.ensures) c.in_err-import.ensures.err)
 
 pub imports-preserved : goal.imports-preserved
 imports-preserved c =

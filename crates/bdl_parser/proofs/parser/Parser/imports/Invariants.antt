@@ -1,6 +1,6 @@
 use Rattle.std.proofs.Common.{length}
 use Rattle.bdl_parser.specs.Grammar.{an_import}
-use Rattle.grammar_model.specs.Forms.{Repeats}
+use Rattle.grammar_model.specs.Grammars.{Repeats}
 use Rattle.bdl_parser.proofs.parser.Parser.imports.Given as goal
 
 abbrev pub invariant-imports : goal.invariant-imports

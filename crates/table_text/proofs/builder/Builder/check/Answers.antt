@@ -25,8 +25,8 @@ returns-then-contains-clause-err c =
     name_first before builder.bag.level fs builder.rows row is (omega (arith, c.if-from-self.false, c.from.ensures, c.requires.sound.bag.least))
     (sym (c.requires.sound.bag.names row.name) ∙ sym c.contains.ensures ∙ c.if-contains.true)
 
-pub returns-then-self-levels_under-ge-MAX_LEVELS-clause-err : goal.returns-then-self-levels_under-ge-MAX_LEVELS-clause-err
-returns-then-self-levels_under-ge-MAX_LEVELS-clause-err c =
+pub returns-then-self-levels_under-ge-LEVELS_MAX-clause-err : goal.returns-then-self-levels_under-ge-LEVELS_MAX-clause-err
+returns-then-self-levels_under-ge-LEVELS_MAX-clause-err c =
     let builder = c.args.self.now in
     let before = reverse (rows_so_far builder) in
     let row = plain_row_of c.args.row.now in
@@ -34,10 +34,10 @@ returns-then-self-levels_under-ge-MAX_LEVELS-clause-err c =
     let is : IsHere before row.depth builder.bag.level fs builder.rows = subst (λ d. IsHere before d builder.bag.level fs builder.rows) (sym c.requires.depth) (here builder c.requires.sound) in
     levels_first before builder.bag.level fs builder.rows row is (omega (arith, c.if-from-self.false, c.from.ensures, c.requires.sound.bag.least))
     (sym (c.requires.sound.bag.names row.name) ∙ sym c.contains.ensures ∙ c.if-contains.false)
-    (omega (arith, c.if-self-levels_under-ge-MAX_LEVELS.true, c.levels_under.ensures.levels))
+    (omega (arith, c.if-self-levels_under-ge-LEVELS_MAX.true, c.levels_under.ensures.levels))
 
-pub returns-then-self-ge-MAX_FIELDS-clause-err : goal.returns-then-self-ge-MAX_FIELDS-clause-err
-returns-then-self-ge-MAX_FIELDS-clause-err c =
+pub returns-then-self-ge-FIELDS_MAX-clause-err : goal.returns-then-self-ge-FIELDS_MAX-clause-err
+returns-then-self-ge-FIELDS_MAX-clause-err c =
     let builder = c.args.self.now in
     let before = reverse (rows_so_far builder) in
     let row = plain_row_of c.args.row.now in
@@ -45,7 +45,7 @@ returns-then-self-ge-MAX_FIELDS-clause-err c =
     let is : IsHere before row.depth builder.bag.level fs builder.rows = subst (λ d. IsHere before d builder.bag.level fs builder.rows) (sym c.requires.depth) (here builder c.requires.sound) in
     count_first before builder.bag.level fs builder.rows row is (omega (arith, c.if-from-self.false, c.from.ensures, c.requires.sound.bag.least))
     (sym (c.requires.sound.bag.names row.name) ∙ sym c.contains.ensures ∙ c.if-contains.false)
-    (omega (arith, c.if-self-levels_under-ge-MAX_LEVELS.false, c.levels_under.ensures.levels)) c.if-self-ge-MAX_FIELDS.true
+    (omega (arith, c.if-self-levels_under-ge-LEVELS_MAX.false, c.levels_under.ensures.levels)) c.if-self-ge-FIELDS_MAX.true
 
 pub returns-clause-ok : goal.returns-clause-ok
 returns-clause-ok c =
@@ -56,4 +56,4 @@ returns-clause-ok c =
     let is : IsHere before row.depth builder.bag.level fs builder.rows = subst (λ d. IsHere before d builder.bag.level fs builder.rows) (sym c.requires.depth) (here builder c.requires.sound) in
     none_broken before builder.bag.level fs builder.rows row is (omega (arith, c.if-from-self.false, c.from.ensures, c.requires.sound.bag.least))
     (sym (c.requires.sound.bag.names row.name) ∙ sym c.contains.ensures ∙ c.if-contains.false)
-    (omega (arith, c.if-self-levels_under-ge-MAX_LEVELS.false, c.levels_under.ensures.levels)) c.if-self-ge-MAX_FIELDS.false
+    (omega (arith, c.if-self-levels_under-ge-LEVELS_MAX.false, c.levels_under.ensures.levels)) c.if-self-ge-FIELDS_MAX.false

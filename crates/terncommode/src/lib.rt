@@ -1,0 +1,50 @@
+//! What a service needs of the libraries, and a client, under one name.
+//!
+//! A service that knows no definition merges what two branches brought, and sends it on within a budget of bytes:
+//!
+//! ```rust
+//! let first = read_context(alloc, first)?;               // or the first fault, with its offset
+//! let second = read_context(alloc, second)?;
+//! let mut merged = merge(alloc, &first, &second)?;
+//! trim_context(Form::One, &mut merged, 512);             // takes no memory
+//! let sent = write(alloc, Form::One, merged.list())?;    // at most 512 bytes
+//! ```
+//!
+//! A client has a table of the fields, writes one by its name, and reads it behind such services:
+//!
+//! ```rust
+//! let table = compile(alloc, &mut library, "checkout.bdl", "Checkout")?;
+//! let field = accessor(alloc, &table, "hops")?.ok_or(NoField)?;
+//! let value = read_write(alloc, Form::One, field.shape(&table), b"0x6e:3")?.ok_or(NoWrite)?;
+//! let context = field.write(alloc, &table, &value)?;     // says this of the field, and nothing else
+//!
+//! check_typed(&table, &received)?;                       // or the place of the first atom that is ill typed
+//! let read = field.get(alloc, &table, &received)?;       // the value, and whether it is exact
+//! ```
+//!
+//! The crates `forwarding` and `checkout_client` are these examples whole, with their contracts. Who writes contracts of their own lists
+//! the crates whose definitions they cite beside this one.
+#![tactic(auto)]
+
+pub use accessor_gen::{Accessor, Reading, accessor, accessors};
+pub use atom_list::{AtomList, Context};
+pub use bag_codec::{
+    Entries, Entry, ScalarSet, Span, State, Val, Vals, can_encode, check_typed, decode,
+    decode_slot, encode, normal, spans_of, state_of,
+};
+pub use bdl_check::{DefCode, DefFault, compile};
+pub use counter_type::{Counts, Lattice};
+pub use def_evolve::{Change, Part, Verdict, evolve};
+pub use field_table::{Shape, Slot, SlotSet, Slots, Table, View};
+pub use field_writes::read_write;
+pub use lex_merge::{merge, merge_many};
+pub use outside::{Library, Memory, MemoryLibrary, Octets, Text};
+pub use overflow_trim::trim_context;
+pub use report_text::{block, value_text};
+pub use scalar_types::{Codec, Scalar, ScalarKind};
+pub use set_map_types::{Greatest, Least, MapOf, SetOf};
+pub use table_text::{TableCode, TableFault, print_table, read_table};
+pub use text_carrier::{CarryCode, CarryFault, carry, collect};
+pub use wire_bytes::{
+    ByteCode, ContextFault, Form, form_of, read_context, read_context_owned, size, write,
+};
