@@ -83,7 +83,7 @@ def check_names():
 
 def check_excerpts():
     """Each block of code in the README, in LIBRARY and in HEADLINE stands in a source, line by line."""
-    paths = sources(".rt") + ["examples/embed/embed.rs"]
+    paths = sources(".rt")
     stripped = ["\n".join(line.strip() for line in text_of(path).split("\n")) for path in paths]
     for document in ["README.md", "docs/LIBRARY.md", "docs/HEADLINE.md"]:
         for kind, block in re.findall(r"(?ms)^```(\w*)\n(.*?)^```", text_of(document)):

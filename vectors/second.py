@@ -64,7 +64,7 @@ def put_unsigned(value):
 
 def signed(data):
     """The number that these bytes spell as a signed varint, or None."""
-    if not data:
+    if not data or len(data) > 9:
         return None
     if data[0] < 0x80:
         other = signed(bytes(255 - byte for byte in data))
@@ -878,8 +878,10 @@ def read_table(name, text):
     if len(text) > FILE_MAX:
         refuse(1, "DefTooLong")
     lines = text.split(b"\n")
-    if lines[0] != b"baggage table 1" or len(lines) < 2:
+    if lines[0] != b"baggage table 1":
         refuse(1, "Head")
+    if len(lines) < 2:
+        refuse(1, "Form")
     top, count = [], 0
     open_bags = [(top, 0)]
     opens = False
@@ -1618,6 +1620,175 @@ def collect_bytes(lines):
         return digits_text(b"".join(pieces))
 
 
+# Rows of the library's calls
+
+class CallRefused(Exception):
+    """Why a call of the library writes nothing, as its refusal is printed."""
+
+
+def inputs_of(row):
+    return [digits_of_any(bytes(value)) for name, _, value in row.all if name == "input"]
+
+
+def table_of(row, name="table", told="line"):
+    try:
+        return read_table("t", row.bytes(name))
+    except Refused as refused:
+        place, code = refused.line.split(" ")[2:]
+        raise CallRefused(f"{told} {place.split(':')[0]} {code}") from None
+
+
+def contexts_of(inputs, read=read_context, told="context {} "):
+    lists = []
+    for place, data in enumerate(inputs):
+        try:
+            lists.append(read(data))
+        except BytesFault as fault:
+            raise CallRefused(f"{told.format(place)}offset {fault.offset} {fault.code}") from None
+    return lists
+
+
+def one_context(row, read=read_context):
+    return contexts_of(inputs_of(row)[:1], read, "")[0]
+
+
+def written(row, atoms):
+    form = row.form() if "form" in row else 1
+    return {"bytes": digits_text(write_list(form, trim(form, atoms, row.number("budget") if "budget" in row else 1 << 64)))}
+
+
+def write_of(slots, path, text, form):
+    """The encoding of a write to the field with this name path."""
+    try:
+        name, at, shape = next(slot for slot in slots if slot[0].encode() == path)
+    except StopIteration:
+        raise CallRefused("NoField") from None
+    try:
+        if text is None:
+            raise Code("BadValue")
+        return encoding(shape, at, read_write(shape, text, form))
+    except (Code, ValueError):
+        raise CallRefused("NoWrite") from None
+
+
+def call_join(row):
+    return written(row, merge(contexts_of(inputs_of(row))))
+
+
+def call_update(row):
+    fields = table_of(row, told="table line")
+    slots, form, lists = list(slots_of(fields)), row.form() if "form" in row else 1, []
+    lines = row.bytes("writes").split(b"\n")
+    for number, line in enumerate(lines[:-1] + ([lines[-1]] if lines[-1] else []), 1):
+        path, blank, text = line.partition(b" ")
+        try:
+            lists.append(write_of(slots, path, text if blank and number < len(lines) else None, form))
+        except CallRefused as refused:
+            raise CallRefused(f"write line {number} {refused}") from None
+    lists += contexts_of(inputs_of(row), lambda data: read_typed(fields, data))
+    return written(row, normal(slots, merge(lists)))
+
+
+def kept(slots, cut, atoms):
+    """What of a list stands below the slots: each path goes to itself, to the mark of its gap, or to nothing."""
+    ways, found = [at for _, at, _ in slots], set()
+    for path in paths_of(atoms):
+        if any(path[:len(at)] == at for at in ways):
+            to = path
+        elif path[-1] == b"" or cut and not any(at[:len(path)] == path for at in ways):
+            before = [at for at in ways if at < path]
+            to = (max(before)[:-1] + (header(len(max(before)) - 1, kind_of(max(before)[-1])[2] + 1),) if before else ()) + (b"",)
+        else:
+            continue
+        found |= {to[:k] for k in range(1, len(to) + 1)}
+    return [path[-1] for path in sorted(found)]
+
+
+def call_keep(row):
+    slots = list(slots_of(table_of(row)))
+    return written(row, kept(slots, row.text("others") == "cut", merge(contexts_of(inputs_of(row)))))
+
+
+def place_of_slot(fields, form, atoms, at, shape):
+    """Where the atoms of a slot stand: how many bytes before them, how many they have, and the state."""
+    paths = paths_of(atoms)
+    wrong = next((k for k, path in enumerate(paths) if path[:len(at)] == at and misspells(fields, path)), None)
+    if wrong is not None:
+        return f"{offset_of(form, atoms, wrong)} 0 ill_typed"
+    below = [k for k, path in enumerate(paths) if path[:len(at)] == at]
+    stop = below[-1] + 1 if below else next((k for k, path in enumerate(paths) if path > at), len(paths))
+    start = below[0] + 1 if below else stop
+    offset = offset_of(form, atoms, start)
+    return f"{offset} {offset_of(form, atoms, stop) - offset} {'exact' if is_ended(paths, at) else 'partial'}"
+
+
+def call_places(row):
+    fields = table_of(row)
+    data, atoms = inputs_of(row)[0], one_context(row)
+    lines = [place_of_slot(fields, form_of(data), atoms, at, shape) + "\n" for _, at, shape in slots_of(fields)]
+    return {"form": ("", "one", "two")[form_of(data)], "places": "".join(lines)}
+
+
+def call_report(row):
+    fields = table_of(row, told="table 0 line")
+    form, atoms = form_of(inputs_of(row)[0]), one_context(row, lambda data: read_typed(fields, data))
+    lines = list(block_lines(fields, form, atoms))
+    if row.text("as") == "text":
+        return {"out": b"".join(line + b"\n" for line in lines)}
+    slots = [dict(zip(("path", "state", "text"), line.decode().split(" ", 2))) for line in lines[1:]]
+    return {"out": json.dumps({"bytes": lines[0].decode()[6:], "fields": slots}, separators=(",", ":"))}
+
+
+def call_read(row):
+    fields = table_of(row)
+    found = [slot for slot in slots_of(fields) if slot[0].encode() == row.bytes("name")]
+    if not found:
+        raise CallRefused("NoField")
+    paths = paths_of(one_context(row, lambda data: read_typed(fields, data)))
+    _, at, shape = found[0]
+    return {"out": value_text(shape, read_slot(paths, at, shape)), "told": "exact" if is_ended(paths, at) else "partial"}
+
+
+def call_write(row):
+    slots = list(slots_of(table_of(row)))
+    return written(row, write_of(slots, row.bytes("name"), row.bytes("text"), row.form() if "form" in row else 1))
+
+
+def call_evolve(row):
+    line = evolve(table_of(row, told="table 0 line"), table_of(row, "next", "table 1 line"))
+    return {"out": line + "\n", "told": "fits" if line.startswith("ok") else line.split(" ")[2].lower()}
+
+
+def call_carry(row):
+    if not 4 <= row.number("width") <= 300:
+        raise CallRefused("Width")
+    one_context(row)
+    return {"out": carry(inputs_of(row)[0], row.number("width"))}
+
+
+def call_collect(row):
+    try:
+        return {"bytes": collect(row.bytes("lines")).decode().strip()}
+    except Refused as refused:
+        raise CallRefused(re.sub(r"^(input line 0 |context line 0 |input )", "", refused.line)) from None
+
+
+LIBRARY_CALLS = {
+    "baggage_check": lambda row: {"atoms": str(len(one_context(row)))}, "baggage_join": call_join, "baggage_update": call_update, "baggage_keep": call_keep,
+    "baggage_places": call_places, "baggage_report": call_report, "baggage_read_field": call_read, "baggage_write_field": call_write,
+    "baggage_check_table": lambda row: {"slots": str(len(list(slots_of(table_of(row)))))}, "baggage_evolve": call_evolve, "baggage_carry": call_carry,
+    "baggage_collect": call_collect,
+}
+
+
+def run_library(row):
+    """What a call of the library answers, or its refusal."""
+    try:
+        return {"refused": "", **LIBRARY_CALLS[row.text("call")](row)}
+    except CallRefused as refused:
+        return {"refused": str(refused)}
+
+
 CALLS = {
     "program": run_program, "tabled": run_tabled, "write": run_write, "check": run_check, "ended": run_ended, "around": run_around, "trim": run_trim,
     "forward": run_forward, "cut": run_cut, "drop": run_drop, "collect": run_collect,
@@ -1626,6 +1797,7 @@ CALLS = {
     "merge": lambda row: {"merged": atoms_text(merge([[digits_of_any(word) for word in bytes(value).split()] for name, _, value in row.all if name == "context"]))},
     "merge_lists": lambda row: {"merged": atoms_text(greedy([[digits_of_any(word) for word in bytes(value).split()] for name, _, value in row.all if name == "list"]))},
     "carry": lambda row: {"lines": carry(row.digits("bytes"), row.number("width"))},
+    **{name: run_library for name in LIBRARY_CALLS},
 }
 
 

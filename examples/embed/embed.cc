@@ -31,11 +31,9 @@ static std::optional<Bytes> forwarded(const Bytes &first, const Bytes &second, s
 // What the `table` command prints of a definition.
 static constexpr std::string_view table = "baggage table 1\n0 0 zone scalar string\n0 1 retries counter\n";
 
-static const std::uint8_t *bytes_of(std::string_view text) { return reinterpret_cast<const std::uint8_t *>(text.data()); }
-
 // What a call writes into room that grows until it is long enough, or nothing where the call is refused.
-template <class Call> static std::optional<Bytes> made(Call call) {
-    Bytes room;
+template <class Room, class Call> static std::optional<Room> made(Call call) {
+    Room room;
     for (;;) {
         const baggage_answer answer = call(room.data(), room.size());
         if (answer.status != BAGGAGE_OK && answer.status != BAGGAGE_ROOM)
@@ -49,20 +47,17 @@ template <class Call> static std::optional<Bytes> made(Call call) {
 
 // The context that says what a text writes to a field.
 static std::optional<Bytes> written(std::string_view name, std::string_view text) {
-    return made([&](std::uint8_t *room, std::size_t room_len) {
-        return baggage_write_field(BAGGAGE_FORM_ONE, bytes_of(table), table.size(), bytes_of(name), name.size(), bytes_of(text), text.size(),
-                                   room, room_len);
+    return made<Bytes>([&](std::uint8_t *room, std::size_t room_len) {
+        return baggage_write_field(BAGGAGE_FORM_ONE, table.data(), table.size(), name.data(), name.size(), text.data(), text.size(), room,
+                                   room_len);
     });
 }
 
 // The text of what a context says of a field.
 static std::optional<std::string> field(const Bytes &context, std::string_view name) {
-    const auto text = made([&](std::uint8_t *room, std::size_t room_len) {
-        return baggage_read_field(bytes_of(table), table.size(), context.data(), context.size(), bytes_of(name), name.size(), room, room_len);
+    return made<std::string>([&](char *room, std::size_t room_len) {
+        return baggage_read_field(table.data(), table.size(), context.data(), context.size(), name.data(), name.size(), room, room_len);
     });
-    if (!text)
-        return std::nullopt;
-    return std::string(text->begin(), text->end());
 }
 
 int main() {

@@ -31,8 +31,8 @@ int main(int count, char **words) {
     size_t first_len, second_len;
     uint8_t *first = whole_file(words[1], &first_len);
     uint8_t *second = whole_file(words[2], &second_len);
-    size_t room_len = first_len + second_len;
-    uint8_t *room = malloc(room_len + 1);
+    size_t room_len = BAGGAGE_ROOM_FOR(first_len + second_len);
+    uint8_t *room = malloc(room_len);
     long times = strtol(words[3], NULL, 10);
     baggage_answer answer = {0};
     for (long i = 0; i < times; i++) {

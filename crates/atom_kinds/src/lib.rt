@@ -25,6 +25,8 @@ use lex_varint::{put_u64, take_u64};
 use outside::{ATOM_MAX, Memory, Octets};
 use std::alloc::Global;
 use std::cmp::Ordering;
+use std::error::Error;
+use std::fmt;
 
 mod headers;
 pub mod laws;
@@ -52,6 +54,22 @@ pub enum KindFault {
     /// Behind the first byte of an indexed header stands anything but one varint.
     BadIndex,
 }
+
+impl fmt::Display for KindFault {
+    ghost use Rattle.std.specs.Prelude.{Some};
+    ghost use Rattle.atom_kinds.specs.FaultTexts.{kind_fault_text};
+
+    ghost output = { λ fault. Some (kind_fault_text fault) };
+
+    fn fmt<W: fmt::Write>(&self, f: &mut fmt::Formatter<W>) -> fmt::Result {
+        match self {
+            KindFault::BadPrefix => write!(f, "BadPrefix"),
+            KindFault::BadIndex => write!(f, "BadIndex"),
+        }
+    }
+}
+
+impl Error for KindFault {}
 
 /// The least first byte of a header, which is that of level 15.
 const LOWEST_HEADER: u8 = 0x80;

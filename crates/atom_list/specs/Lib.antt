@@ -1,5 +1,6 @@
 pub mod Builder
 pub mod Contexts
+pub mod FaultTexts
 pub mod OpenPlaces
 pub mod Scan
 pub mod Starts

@@ -12,6 +12,8 @@ use crate::lists::AtomList;
 use crate::shape_faults::OpenHeaders;
 use outside::Memory;
 use std::alloc::Global;
+use std::error::Error;
+use std::fmt;
 use std::marker::Model;
 
 /// What is wrong where a list ceases to be well formed. At one place the first of these counts.
@@ -26,6 +28,24 @@ pub enum ShapeFault {
     /// The path of the atom isn't greater than that of the atom before it.
     OutOfOrder,
 }
+
+impl fmt::Display for ShapeFault {
+    ghost use Rattle.std.specs.Prelude.{Some};
+    ghost use Rattle.atom_list.specs.FaultTexts.{shape_fault_text};
+
+    ghost output = { λ fault. Some (shape_fault_text fault) };
+
+    fn fmt<W: fmt::Write>(&self, f: &mut fmt::Formatter<W>) -> fmt::Result {
+        match self {
+            ShapeFault::BadPrefix => write!(f, "BadPrefix"),
+            ShapeFault::BadIndex => write!(f, "BadIndex"),
+            ShapeFault::LevelJump => write!(f, "LevelJump"),
+            ShapeFault::OutOfOrder => write!(f, "OutOfOrder"),
+        }
+    }
+}
+
+impl Error for ShapeFault {}
 
 /// A context: a list of atoms each of which has a kind, whose headers go down one level at most at a time, and whose paths
 /// strictly rise. Contracts see it as the list.

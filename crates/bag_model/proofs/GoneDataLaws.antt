@@ -48,7 +48,7 @@ only_one shape a b (inl i) (inr none) = elim none [ ]
 only_one shape a b (inr none) j = elim none [ ]
 
 mutual
-  slot_apart : (shape : Shape) (q : Path) (a b : SlotAt) (r : Path) → IsShape shape → IsIn a (slots_in shape) → IsIn b (slots_in shape) → slot_path q b ≡ slot_path q a ++ r → b ≡ a
+  pub slot_apart : (shape : Shape) (q : Path) (a b : SlotAt) (r : Path) → IsShape shape → IsIn a (slots_in shape) → IsIn b (slots_in shape) → slot_path q b ≡ slot_path q a ++ r → b ≡ a
   slot_apart Taint q a b r w i j e = only_one Taint a b i j
   slot_apart (Scalar pick kind) q a b r w i j e = only_one (Scalar pick kind) a b i j
   slot_apart (Set kind) q a b r w i j e = only_one (Set kind) a b i j
@@ -56,7 +56,7 @@ mutual
   slot_apart (Map kind shape) q a b r w i j e = only_one (Map kind shape) a b i j
   slot_apart (Bag nodes) q a b r w i j e = slots_apart nodes q a b r w i j e
 
-  slots_apart : (nodes : Nodes) (q : Path) (a b : SlotAt) (r : Path) → AreFields nodes → IsIn a (slots_of nodes) → IsIn b (slots_of nodes) → slot_path q b ≡ slot_path q a ++ r → b ≡ a
+  pub slots_apart : (nodes : Nodes) (q : Path) (a b : SlotAt) (r : Path) → AreFields nodes → IsIn a (slots_of nodes) → IsIn b (slots_of nodes) → slot_path q b ≡ slot_path q a ++ r → b ≡ a
   slots_apart no_node q a b r w i j e = elim i [ ]
   slots_apart (node name number shape nodes) q a b r w i j e =
       by (in_append a front (slots_of nodes) i) (in_append b front (slots_of nodes) j)

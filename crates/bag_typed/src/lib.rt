@@ -8,4 +8,4 @@
 mod payloads;
 mod walk;
 
-pub use walk::check_typed;
+pub use walk::{check_slot, check_typed};

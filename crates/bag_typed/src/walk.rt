@@ -72,7 +72,7 @@ fn check_entries(
                 if !kind.spelled(rest(atom(list, at))) {
                     return Err(at);
                 }
-                place = check_field(value, list, level + 1, at + 1)?;
+                place = check_slot(value, list, level + 1, at + 1)?;
             }
             Err(stop) => return Ok(stop),
         }
@@ -97,16 +97,17 @@ fn check_fields(fields: &Slots, list: &AtomList, level: usize, from: usize) -> R
     for at in 0..fields.len() {
         let field = fields.get(at).unwrap();
         place = match find_field(list, level, u64::from(field.number), place) {
-            Ok(behind) => check_field(&field.shape, list, level + 1, behind)?,
+            Ok(behind) => check_slot(&field.shape, list, level + 1, behind)?,
             Err(stop) => stop,
         };
     }
     Ok(segment_end(list, level, place))
 }
 
-/// The end of what stands below the header of a field, or the place of the first atom there that is misspelled.
+/// The end of what stands below the header of a field or a slot of this shape, from the place behind that header on, or the place of
+/// the first atom there that is misspelled. It takes no memory.
 #[cycle(check)]
-fn check_field(shape: &Shape, list: &AtomList, level: usize, from: usize) -> Result<usize, usize>
+pub fn check_slot(shape: &Shape, list: &AtomList, level: usize, from: usize) -> Result<usize, usize>
     requires behind { IsBehind list.now (path_before list.now from) from }
     requires level { length (path_before list.now from) ≡ level }
     requires shape { IsShape (shape_of shape.now) }

@@ -1,7 +1,11 @@
 -- Outcomes as numbers.
-use Rattle.std.specs.Prelude.{◌≡◌, ℕ, Result, Ok, Err}
+use Rattle.std.specs.Prelude.{◌≡◌, ℕ, List, length, Result, Ok, Err}
+use Rattle.context_model.specs.Atoms.{Atom}
+use Rattle.context_model.specs.ContextFault.{IsContextOf, IsFirstContextFault}
 use Rattle.wire_bytes.specs.declared.contexts.ByteCode.{ByteCode}
 use Rattle.wire_bytes.specs.declared.contexts.ByteCode.TheVariants.{CutLength, BadCount, AtomTooLong, LongForm, CutBody, BadPrefix, BadIndex, LevelJump, OutOfOrder}
+use Rattle.wire_bytes.specs.Reading.{byte_code_of}
+use Rattle.byte_frames.specs.declared.checks.ByteFault.{ByteFault}
 use Rattle.byte_calls.specs.declared.refusals.Refusal.{Refusal}
 use Rattle.byte_calls.specs.declared.refusals.Refusal.TheVariants.{Fault, Memory, Room}
 use Rattle.baggage_c.specs.declared.answers.Answer.{Answer}
@@ -37,6 +41,18 @@ write = 8
 abbrev pub typing : ℕ
 typing = 9
 
+abbrev pub choice : ℕ
+choice = 10
+
+abbrev pub width : ℕ
+width = 11
+
+abbrev pub long : ℕ
+long = 12
+
+abbrev pub pieces : ℕ
+pieces = 13
+
 -- The number of a code, as the header has it.
 abbrev pub code_number : ByteCode → ℕ
 code_number CutLength = 1
@@ -49,19 +65,41 @@ code_number BadIndex = 7
 code_number LevelJump = 8
 code_number OutOfOrder = 9
 
+-- The answer that has nothing but a status and a size.
+abbrev pub plain_answer : ℕ → ℕ → Answer
+plain_answer status size = record { status = status; code = 0; context = 0; offset = 0; size = size }
+
+-- The refusal that has nothing but a status.
+abbrev pub refused : ℕ → Answer
+refused status = plain_answer status 0
+
+-- The refusal of something at an offset, with a code.
+abbrev pub refused_at : ℕ → ℕ → ℕ → Answer
+refused_at status code offset = record { status = status; code = code; context = 0; offset = offset; size = 0 }
+
+-- The refusal of one of several inputs, with a code.
+abbrev pub refused_of : ℕ → ℕ → ℕ → ℕ → Answer
+refused_of status code context offset = record { status = status; code = code; context = context; offset = offset; size = 0 }
+
 -- The numbers of an outcome. What it doesn't speak of is 0.
 abbrev pub answer_of : Result ℕ Refusal → Answer
-answer_of (Ok size) = record { status = ok; code = 0; context = 0; offset = 0; size = size }
-answer_of (Err (Fault context offset code)) = record { status = fault; code = code_number code; context = context; offset = offset; size = 0 }
-answer_of (Err Memory) = record { status = memory; code = 0; context = 0; offset = 0; size = 0 }
-answer_of (Err (Room size)) = record { status = room; code = 0; context = 0; offset = 0; size = size }
+answer_of (Ok size) = plain_answer ok size
+answer_of (Err (Fault context offset code)) = refused_of fault (code_number code) context offset
+answer_of (Err Memory) = refused memory
+answer_of (Err (Room size)) = plain_answer room size
 
--- The refusal of a number that was handed in.
-abbrev pub refused : ℕ → Answer
-refused status = record { status = status; code = 0; context = 0; offset = 0; size = 0 }
+-- The numbers of what a look at bytes came to.
+abbrev pub check_answer : Result ℕ ByteFault → Answer
+check_answer (Ok count) = plain_answer ok count
+check_answer (Err wrong) = refused_at fault (code_number wrong.code) wrong.offset
+
+-- The answer is the number of atoms of the context whose bytes these are, or tells their first fault.
+abbrev pub ChecksBytes : List ℕ → Result ℕ ByteFault → Type 0
+ChecksBytes bytes (Ok count) = (list : List Atom) × IsContextOf list bytes × (count ≡ length list)
+ChecksBytes bytes (Err wrong) = IsFirstContextFault bytes wrong.offset (byte_code_of wrong.code)
 
 -- The numbers are those of an outcome for which this holds.
-pub record Tells {O : Type 0} (numbers : O → Answer) (Holds : O → Type 0) (answer : Answer) : Type 0 where
+pub record TellsOutcome {O : Type 0} (numbers : O → Answer) (Holds : O → Type 0) (answer : Answer) : Type 0 where
   pub outcome : O
   pub holds : Holds outcome
   pub told : answer ≡ numbers outcome

@@ -1,24 +1,33 @@
--- Outcomes of calls on fields as numbers.
+-- Outcomes of calls on tables and fields as numbers.
 use Rattle.std.specs.Prelude.{ℕ, Result, Ok, Err}
+use Rattle.context_model.specs.declared.Form.{Form}
+use Rattle.context_model.specs.declared.Form.TheVariants.{One, Two}
 use Rattle.bag_scan.specs.declared.states.State.{State}
 use Rattle.bag_scan.specs.declared.states.State.TheVariants.{Exact, Partial}
 use Rattle.table_text.specs.declared.faults.TableCode.{TableCode}
-use Rattle.table_text.specs.declared.faults.TableCode.TheVariants.{Head, Form, Depth, Order, DuplicateField, TooDeep, TooManySlots}
+use Rattle.table_text.specs.declared.faults.TableCode.TheVariants.{Head, Form as LineForm, Depth, Order, DuplicateField, TooDeep, TooManySlots}
 use Rattle.field_calls.specs.declared.refusals.FieldRefusal.{FieldRefusal}
-use Rattle.field_calls.specs.declared.refusals.FieldRefusal.TheVariants.{Table, NoField, NoWrite, Fault, IllTyped, Memory, Room}
+use Rattle.field_calls.specs.declared.refusals.FieldRefusal.TheVariants as fields
+use Rattle.place_calls.specs.declared.refusals.PlaceRefusal.{PlaceRefusal}
+use Rattle.place_calls.specs.declared.refusals.PlaceRefusal.TheVariants as places
 use Rattle.baggage_c.specs.declared.answers.Answer.{Answer}
-use Rattle.baggage_c.specs.Answers.{code_number, refused}
+use Rattle.baggage_c.specs.Answers.{code_number, plain_answer, refused, refused_at}
 use Rattle.baggage_c.specs.Answers as status
 
 -- The number of a state, as the header has it.
-abbrev pub state_number : State → ℕ
-state_number Exact = 1
-state_number Partial = 2
+abbrev pub state_code : State → ℕ
+state_code Exact = 1
+state_code Partial = 2
+
+-- The number of a form, as the header has it.
+abbrev pub header_form : Form → ℕ
+header_form One = 1
+header_form Two = 2
 
 -- The number of a rule of a table's text, as the header has it.
 abbrev pub table_number : TableCode → ℕ
 table_number Head = 1
-table_number Form = 2
+table_number LineForm = 2
 table_number Depth = 3
 table_number Order = 4
 table_number DuplicateField = 5
@@ -26,21 +35,29 @@ table_number TooDeep = 6
 table_number TooManySlots = 7
 
 -- The numbers of a refusal. What it doesn't speak of is 0.
-abbrev pub refusal_answer : FieldRefusal → Answer
-refusal_answer (Table line code) = record { status = status.table; code = table_number code; context = 0; offset = line; size = 0 }
-refusal_answer NoField = refused status.field
-refusal_answer NoWrite = refused status.write
-refusal_answer (Fault offset code) = record { status = status.fault; code = code_number code; context = 0; offset = offset; size = 0 }
-refusal_answer (IllTyped offset) = record { status = status.typing; code = 0; context = 0; offset = offset; size = 0 }
-refusal_answer Memory = refused status.memory
-refusal_answer (Room size) = record { status = status.room; code = 0; context = 0; offset = 0; size = size }
+abbrev pub field_refusal : FieldRefusal → Answer
+field_refusal (fields.Table line code) = refused_at status.table (table_number code) line
+field_refusal fields.NoField = refused status.field
+field_refusal fields.NoWrite = refused status.write
+field_refusal (fields.Fault offset code) = refused_at status.fault (code_number code) offset
+field_refusal (fields.IllTyped offset) = refused_at status.typing 0 offset
+field_refusal fields.Memory = refused status.memory
+field_refusal (fields.Room size) = plain_answer status.room size
 
 -- The numbers of what is read: beside its size the state of the field.
 abbrev pub reading_answer : Result (State × ℕ) FieldRefusal → Answer
-reading_answer (Ok read) = record { status = status.ok; code = state_number read.0; context = 0; offset = 0; size = read.1 }
-reading_answer (Err refusal) = refusal_answer refusal
+reading_answer (Ok read) = record { status = status.ok; code = state_code read.0; context = 0; offset = 0; size = read.1 }
+reading_answer (Err refusal) = field_refusal refusal
 
 -- The numbers of what is written.
 abbrev pub write_answer : Result ℕ FieldRefusal → Answer
-write_answer (Ok size) = record { status = status.ok; code = 0; context = 0; offset = 0; size = size }
-write_answer (Err refusal) = refusal_answer refusal
+write_answer (Ok size) = plain_answer status.ok size
+write_answer (Err refusal) = field_refusal refusal
+
+-- The numbers of places: beside how many there are the form of the bytes.
+abbrev pub places_answer : Result (Form × ℕ) PlaceRefusal → Answer
+places_answer (Ok found) = record { status = status.ok; code = header_form found.0; context = 0; offset = 0; size = found.1 }
+places_answer (Err (places.Table line code)) = refused_at status.table (table_number code) line
+places_answer (Err (places.Fault offset code)) = refused_at status.fault (code_number code) offset
+places_answer (Err places.Memory) = refused status.memory
+places_answer (Err (places.Room size)) = plain_answer status.room size

@@ -1,3 +1,5 @@
 pub mod Answers
-pub mod Forms
+pub mod Choices
 pub mod FieldAnswers
+pub mod StepAnswers
+pub mod TableAnswers

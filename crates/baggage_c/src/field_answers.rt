@@ -1,15 +1,17 @@
 //! Outcomes of calls on fields as numbers.
 
 ghost use Rattle.std.specs.Prelude.{◌≡◌};
-ghost use Rattle.baggage_c.specs.FieldAnswers.{reading_answer, refusal_answer, state_number, table_number, write_answer};
+ghost use Rattle.baggage_c.specs.FieldAnswers.{field_refusal, header_form, places_answer, reading_answer, state_code, table_number, write_answer};
 
 use crate::answers::{Answer, FAULT, FIELD, MEMORY, OK, ROOM, TABLE, TYPE, WRITE, code_number};
 use field_calls::{FieldRefusal, State};
+use place_calls::PlaceRefusal;
 use table_text::TableCode;
+use wire_bytes::Form;
 
 /// The number of a state in `enum baggage_state`.
 fn state_number(state: State) -> u32
-    ensures { result ≡ state_number state }
+    ensures { result ≡ state_code state }
 {
     match state {
         State::Exact => 1,
@@ -17,8 +19,18 @@ fn state_number(state: State) -> u32
     }
 }
 
+/// The number of a form in `enum baggage_form`.
+fn form_number(form: Form) -> u32
+    ensures { result ≡ header_form form }
+{
+    match form {
+        Form::One => 1,
+        Form::Two => 2,
+    }
+}
+
 /// The number of a rule that a table's text breaks, in `enum baggage_table_code`.
-fn table_number(code: TableCode) -> u32
+pub(crate) fn table_number(code: TableCode) -> u32
     ensures { result ≡ table_number code }
 {
     match code {
@@ -32,29 +44,20 @@ fn table_number(code: TableCode) -> u32
     }
 }
 
-/// What is wrong with an input, and where.
-fn wrong(status: u32, code: u32, offset: usize) -> Answer
-    ensures { result ≡ record { status = status; code = code; context = 0; offset = offset; size = 0 } }
-{
-    Answer {
-        status,
-        code,
-        context: 0,
-        offset,
-        size: 0,
-    }
-}
-
 /// The numbers of a refusal.
-fn refusal_answer(refusal: FieldRefusal) -> Answer
-    ensures { result ≡ refusal_answer refusal }
+fn field_refusal(refusal: FieldRefusal) -> Answer
+    ensures { result ≡ field_refusal refusal }
 {
     match refusal {
-        FieldRefusal::Table { line, code } => wrong(TABLE, table_number(code), line as usize),
+        FieldRefusal::Table { line, code } => {
+            Answer::refused_at(TABLE, table_number(code), line as usize)
+        }
         FieldRefusal::NoField => Answer::refused(FIELD),
         FieldRefusal::NoWrite => Answer::refused(WRITE),
-        FieldRefusal::Fault { offset, code } => wrong(FAULT, code_number(code), offset),
-        FieldRefusal::IllTyped { offset } => wrong(TYPE, 0, offset),
+        FieldRefusal::Fault { offset, code } => {
+            Answer::refused_at(FAULT, code_number(code), offset)
+        }
+        FieldRefusal::IllTyped { offset } => Answer::refused_at(TYPE, 0, offset),
         FieldRefusal::Memory => Answer::refused(MEMORY),
         FieldRefusal::Room { size } => Answer::plain(ROOM, size),
     }
@@ -65,14 +68,8 @@ pub(crate) fn reading_answer(outcome: Result<(State, usize), FieldRefusal>) -> A
     ensures { result ≡ reading_answer outcome }
 {
     match outcome {
-        Ok((state, size)) => Answer {
-            status: OK,
-            code: state_number(state),
-            context: 0,
-            offset: 0,
-            size,
-        },
-        Err(refusal) => refusal_answer(refusal),
+        Ok((state, size)) => Answer::coded(state_number(state), size),
+        Err(refusal) => field_refusal(refusal),
     }
 }
 
@@ -82,6 +79,23 @@ pub(crate) fn write_answer(outcome: Result<usize, FieldRefusal>) -> Answer
 {
     match outcome {
         Ok(size) => Answer::plain(OK, size),
-        Err(refusal) => refusal_answer(refusal),
+        Err(refusal) => field_refusal(refusal),
+    }
+}
+
+/// The numbers of places.
+pub(crate) fn places_answer(outcome: Result<(Form, usize), PlaceRefusal>) -> Answer
+    ensures { result ≡ places_answer outcome }
+{
+    match outcome {
+        Ok((form, slots)) => Answer::coded(form_number(form), slots),
+        Err(PlaceRefusal::Table { line, code }) => {
+            Answer::refused_at(TABLE, table_number(code), line as usize)
+        }
+        Err(PlaceRefusal::Fault { offset, code }) => {
+            Answer::refused_at(FAULT, code_number(code), offset)
+        }
+        Err(PlaceRefusal::Memory) => Answer::refused(MEMORY),
+        Err(PlaceRefusal::Room { size }) => Answer::plain(ROOM, size),
     }
 }

@@ -4,7 +4,11 @@
 #![tactic(auto)]
 
 mod answers;
+mod choices;
 mod exports;
 mod field_answers;
 mod field_exports;
-mod forms;
+mod step_answers;
+mod step_exports;
+mod table_answers;
+mod table_exports;

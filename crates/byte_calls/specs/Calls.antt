@@ -1,21 +1,2 @@
--- What the calls answer and make.
-use Rattle.std.specs.Prelude.{◌≡◌, ℕ, List, length, Result, Ok, Err}
-use Rattle.context_model.specs.declared.Form.{Form}
-use Rattle.context_model.specs.Atoms.{Atom}
-use Rattle.context_model.specs.ContextFault.{IsContextOf}
-use Rattle.context_model.specs.Trimmed.{trimmed}
-use Rattle.byte_calls.specs.declared.refusals.Refusal.{Refusal}
-use Rattle.byte_calls.specs.Contexts.{IsMergeOf, IsRefusalAt}
-
--- The answer is the number of atoms of the context whose bytes these are, or tells their first fault.
-abbrev pub ChecksBytes : List ℕ → Result ℕ Refusal → Type 0
-ChecksBytes bytes (Ok count) = (list : List Atom) × IsContextOf list bytes × (count ≡ length list)
-ChecksBytes bytes (Err refusal) = IsRefusalAt 0 bytes refusal
-
--- The bytes are those of a context, and this is what is left of it within the budget.
-abbrev pub IsTrimOf : Form → ℕ → List ℕ → List Atom → Type 0
-IsTrimOf form budget bytes cut = (list : List Atom) × IsContextOf list bytes × (cut ≡ trimmed form list budget)
-
--- The inputs are the bytes of contexts, and this is what is left of their merge within the budget.
-abbrev pub IsCutMergeOf : Form → ℕ → List (List ℕ) → List Atom → Type 0
-IsCutMergeOf form budget inputs cut = (merged : List Atom) × IsMergeOf inputs merged × (cut ≡ trimmed form merged budget)
+-- What the call makes.
+pub use Rattle.byte_forward.specs.Calls.{IsCutMergeOf}

@@ -1,28 +1,10 @@
 -- Inputs that are read as contexts.
-use Rattle.std.specs.Prelude.{◌≡◌, ℕ, ◌+◌, zero, suc, List, [], ◌∷◌}
-use Rattle.context_model.specs.Atoms.{Atom}
-use Rattle.context_model.specs.ByteCodes.{ByteCode}
-use Rattle.context_model.specs.ContextFault.{IsContextOf, IsFirstContextFault}
-use Rattle.context_model.specs.Merged.{IsMerged}
+use Rattle.std.specs.Prelude.{◌≡◌, ℕ, ◌+◌, List}
+use Rattle.context_model.specs.ContextFault.{IsFirstContextFault}
 use Rattle.wire_bytes.specs.Reading.{byte_code_of}
 use Rattle.byte_calls.specs.declared.refusals.Refusal.{Refusal}
 use Rattle.byte_calls.specs.declared.refusals.Refusal.TheVariants.{Fault, Memory, Room}
-
--- The inputs are the bytes of these contexts, one by one.
-abbrev pub AreContextsOf : List (List Atom) → List (List ℕ) → Type 0
-AreContextsOf [] [] = Unit {0}
-AreContextsOf (list ∷ lists) (bytes ∷ inputs) = IsContextOf list bytes × AreContextsOf lists inputs
-AreContextsOf lists inputs = ⊥
-
--- The inputs are the bytes of contexts, and this is their merge.
-abbrev pub IsMergeOf : List (List ℕ) → List Atom → Type 0
-IsMergeOf inputs merged = (lists : List (List Atom)) × AreContextsOf lists inputs × IsMerged lists merged
-
--- The inputs before this place are the bytes of contexts, and the one at this place isn't: its first fault.
-abbrev pub IsFaultAt : List (List ℕ) → ℕ → ℕ → ByteCode → Type 0
-IsFaultAt [] place offset code = ⊥
-IsFaultAt (bytes ∷ inputs) zero offset code = IsFirstContextFault bytes offset code
-IsFaultAt (bytes ∷ inputs) (suc place) offset code = ((list : List Atom) × IsContextOf list bytes) × IsFaultAt inputs place offset code
+pub use Rattle.byte_forward.specs.Contexts.{AreContextsOf, IsMergeOf, IsFaultAt}
 
 -- The refusal tells the fault of some inputs; want of memory claims nothing.
 abbrev pub IsInputsRefusalOf : List (List ℕ) → Refusal → Type 0
@@ -30,7 +12,7 @@ IsInputsRefusalOf inputs (Fault context offset code) = IsFaultAt inputs context 
 IsInputsRefusalOf inputs Memory = Unit {0}
 IsInputsRefusalOf inputs (Room size) = ⊥
 
--- The refusal tells the fault of the bytes at this place.
+-- The refusal tells the fault of the bytes at this place; want of memory claims nothing.
 abbrev pub IsRefusalAt : ℕ → List ℕ → Refusal → Type 0
 IsRefusalAt place bytes (Fault context offset code) = (context ≡ place) × IsFirstContextFault bytes offset (byte_code_of code)
 IsRefusalAt place bytes Memory = Unit {0}

@@ -3,12 +3,9 @@ use Rattle.std.specs.Prelude.{ℕ, List, ◌++◌, codes}
 use Rattle.std.specs.Fmt.{decimal}
 use Rattle.context_model.specs.ByteCodes.{code_name}
 use Rattle.wire_bytes.specs.Reading.{byte_code_of}
+use Rattle.byte_forward.specs.FaultTexts.{size_text}
 use Rattle.byte_calls.specs.declared.refusals.Refusal.{Refusal}
 use Rattle.byte_calls.specs.declared.refusals.Refusal.TheVariants as refusals
-
--- How many bytes a room has to have.
-abbrev pub size_text : ℕ → List ℕ
-size_text size = codes "size " ++ decimal size
 
 -- The text of a refusal: which context, how many bytes of it stand before the fault, and its code.
 abbrev pub refusal_text : Refusal → List ℕ

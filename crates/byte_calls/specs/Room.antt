@@ -1,20 +1,13 @@
 -- What is written into a room, and what is left of it.
-use Rattle.std.specs.Prelude.{◌≡◌, ℕ, ◌<◌, ◌≤◌, List, ◌++◌, length, drop, Result, Ok, Err}
+use Rattle.std.specs.Prelude.{◌≡◌, ℕ, List, Result, Ok, Err}
 use Rattle.context_model.specs.declared.Form.{Form}
 use Rattle.context_model.specs.Atoms.{Atom}
 use Rattle.context_model.specs.ByteCodes.{ByteCode}
 use Rattle.context_model.specs.Framing.{bytes_of}
 use Rattle.wire_bytes.specs.Reading.{byte_code_of}
+pub use Rattle.byte_forward.specs.Room.{HoldsBytes, IsTooShortFor}
 use Rattle.byte_calls.specs.declared.refusals.Refusal.{Refusal}
 use Rattle.byte_calls.specs.declared.refusals.Refusal.TheVariants.{Fault, Memory, Room}
-
--- The room has place for these bytes, so many: it begins with them, and goes on as before.
-abbrev pub HoldsBytes : List ℕ → ℕ → List ℕ → List ℕ → Type 0
-HoldsBytes bytes size old new = (size ≡ length bytes) × (size ≤ length old) × (new ≡ bytes ++ drop size old)
-
--- The room has no place for these bytes, so many, and is as before.
-abbrev pub IsTooShortFor : List ℕ → ℕ → List ℕ → List ℕ → Type 0
-IsTooShortFor bytes size old new = (size ≡ length bytes) × (length old < size) × (new ≡ old)
 
 -- A list for which the first fact holds is written into the room, and its size is the answer. Otherwise nothing is written: the room is
 -- too short for such a list, of whose size the answer is; or an input has a fault, for which the second fact holds; or there is no memory.

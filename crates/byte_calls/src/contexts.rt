@@ -1,8 +1,9 @@
 //! Contexts from their bytes, of which the first that are none are told.
 
-ghost use Rattle.std.specs.Prelude.{◌+◌, ◌^◌, ◌<◌, [], ◌∷◌, length, IfOk, IfErr};
+ghost use Rattle.std.specs.Prelude.{◌+◌, ◌^◌, ◌<◌, length, IfOk, IfErr};
 ghost use Rattle.context_model.specs.ContextFault.{IsContextOf};
-ghost use Rattle.byte_calls.specs.Contexts.{IsMergeOf, IsRefusalAt, IsRefusalFrom, IsInputsRefusalOf};
+ghost use Rattle.byte_forward.specs.Contexts.{IsMergeOf};
+ghost use Rattle.byte_calls.specs.Contexts.{IsRefusalAt, IsRefusalFrom};
 ghost use Rattle.byte_calls.specs.Spans.{inputs_of};
 
 use crate::refusals::Refusal;
@@ -13,8 +14,8 @@ use lex_merge::merge;
 use std::alloc::Global;
 use wire_bytes::{ContextFault, read_context};
 
-/// The context of the bytes at a place among the inputs.
-pub(crate) fn read_at(alloc: Global, place: usize, bytes: &[u8]) -> Result<Context, Refusal>
+/// The context of the bytes at this place among the inputs, from 0 on. The refusal is their first fault, or want of memory.
+pub fn read_at(alloc: Global, place: usize, bytes: &[u8]) -> Result<Context, Refusal>
     ensures found { IfOk result (λ context. IsContextOf context bytes.now) }
     ensures refused { IfErr result (IsRefusalAt place bytes.now) }
 {
@@ -27,16 +28,6 @@ pub(crate) fn read_at(alloc: Global, place: usize, bytes: &[u8]) -> Result<Conte
         }),
         Err(ContextFault::Memory) => Err(Refusal::Memory),
     }
-}
-
-/// The merge of the contexts of two inputs.
-pub(crate) fn read_merged(alloc: Global, first: &[u8], second: &[u8]) -> Result<Context, Refusal>
-    ensures merged { IfOk result (IsMergeOf (first.now ∷ second.now ∷ [])) }
-    ensures refused { IfErr result (IsInputsRefusalOf (first.now ∷ second.now ∷ [])) }
-{
-    let first = read_at(alloc, 0, first)?;
-    let second = read_at(alloc, 1, second)?;
-    Ok(merge(alloc, &first, &second)?)
 }
 
 /// The merge of the contexts of any number of inputs, the first of which stands at this place: by halves of halves.

@@ -1,8 +1,7 @@
-//! Calls from bytes to bytes, for programs that hold contexts as bytes and know nothing of lists: what is made is written into the
-//! caller's room.
+//! Calls from bytes to bytes, for programs that hold contexts as bytes: what is made is written into the caller's room.
 //!
 //! ```rust
-//! match forward_into(alloc, Form::One, first, second, 512, &mut room) {
+//! match join_into(alloc, Form::One, &inputs, 512, &mut room) {
 //!     Ok(size) => channel.send(&room[..size]),
 //!     Err(Refusal::Room { size }) => .. // nothing was written; so many bytes are needed
 //!     Err(refusal) => ..
@@ -16,7 +15,8 @@ mod refusals;
 mod room;
 mod spans;
 
-pub use calls::{check, forward_into, merge_into, merge_many_into, trim_into};
+pub use calls::join_into;
+pub use contexts::read_at;
 pub use refusals::Refusal;
-pub use room::{TooShort, write_front};
+pub use room::{TooShort, write_front, write_into};
 pub use spans::Span;

@@ -1,6 +1,7 @@
 //! Why a call wrote nothing.
 
 use crate::room::TooShort;
+use byte_forward::ByteRefusal;
 use outside::Memory;
 use std::error::Error;
 use std::fmt;
@@ -65,5 +66,26 @@ impl From<TooShort> for Refusal {
 
     fn from(short: TooShort) -> Refusal {
         Refusal::Room { size: short.size }
+    }
+}
+
+impl From<ByteRefusal> for Refusal {
+    ghost use Rattle.byte_calls.specs.Refusals.{SaysRefusal};
+
+    ghost from_gives = { SaysRefusal };
+
+    fn from(refusal: ByteRefusal) -> Refusal {
+        match refusal {
+            ByteRefusal::Fault {
+                context,
+                offset,
+                code,
+            } => Refusal::Fault {
+                context,
+                offset,
+                code,
+            },
+            ByteRefusal::Room { size } => Refusal::Room { size },
+        }
     }
 }

@@ -1,7 +1,8 @@
 //! The room that a caller hands in.
 
 ghost use Rattle.std.specs.Prelude.{◌≡◌, MatchResult};
-ghost use Rattle.byte_calls.specs.Room.{HoldsBytes, IsTooShortFor, WritesList};
+ghost use Rattle.byte_forward.specs.Room.{HoldsBytes, IsTooShortFor};
+ghost use Rattle.byte_calls.specs.Room.{WritesList};
 
 use crate::refusals::Refusal;
 use atom_list::AtomList;
@@ -18,7 +19,7 @@ pub struct TooShort {
 
 impl fmt::Display for TooShort {
     ghost use Rattle.std.specs.Prelude.{Some};
-    ghost use Rattle.byte_calls.specs.FaultTexts.{size_text};
+    ghost use Rattle.byte_forward.specs.FaultTexts.{size_text};
 
     ghost output = { λ short. Some (size_text short.size) };
 
@@ -46,7 +47,7 @@ pub fn write_front(bytes: &[u8], room: &mut [u8]) -> Result<usize, TooShort>
 
 /// Writes a list at the front of the room, in the form that is asked for, and answers how many bytes it has. The rest of the room
 /// stays. It takes no memory where the room is too short, nor where the bytes stand in the list's buffer.
-pub(crate) fn write_into(
+pub fn write_into(
     alloc: Global,
     form: Form,
     list: &AtomList,

@@ -5,7 +5,7 @@ use fixture_tables::table_of;
 use forwarding::forward;
 use std::alloc::Global;
 use std::test::Fail;
-use terncommode::{Form, Scalar, State, Table, Val};
+use terncommode::{Form, Scalar, State, Table, Val, forward_bytes};
 
 const DEFINITION: &str = "bag Req { uint64 order = 0; set<string> coupons = 1; }";
 
@@ -47,15 +47,19 @@ fn two_branches_come_together(rt: HostRuntime) -> Result<(), Fail> {
     let (order, coupon) = branches(alloc, &table)?;
 
     // A service that knows no definition merges them. There is room for both, so all that is read is exact.
-    let sent = forward(alloc, Form::One, &order, &coupon, 17)?;
-    assert!(rt; order_of(alloc, &table, &sent)? == (State::Exact, 7));
-    let (state, coupons) = coupons_of(alloc, &table, &sent)?;
+    let mut buffer = [0; 17];
+    let size = forward(&order, &coupon, &mut buffer)?;
+    let sent = &buffer[..size.min(17)];
+    assert!(rt; order_of(alloc, &table, sent)? == (State::Exact, 7));
+    let (state, coupons) = coupons_of(alloc, &table, sent)?;
     assert!(rt; state == State::Exact && coupons.as_str() == "spring");
 
     // Behind a head the same is read.
-    let sent = forward(alloc, Form::Two, &order, &coupon, 29)?;
-    assert!(rt; order_of(alloc, &table, &sent)? == (State::Exact, 7));
-    let (state, coupons) = coupons_of(alloc, &table, &sent)?;
+    let mut buffer = [0; 40];
+    let size = forward_bytes(Form::Two, &order, &coupon, 29, &mut buffer)?;
+    let sent = &buffer[..size.min(40)];
+    assert!(rt; order_of(alloc, &table, sent)? == (State::Exact, 7));
+    let (state, coupons) = coupons_of(alloc, &table, sent)?;
     assert!(rt; state == State::Exact && coupons.as_str() == "spring");
     Ok(())
 }
@@ -67,9 +71,11 @@ fn what_is_cut_off_is_told(rt: HostRuntime) -> Result<(), Fail> {
     let (order, coupon) = branches(alloc, &table)?;
 
     // With a byte less the coupon is cut off. The reader is told that there may have been more coupons. The order is whole.
-    let sent = forward(alloc, Form::One, &coupon, &order, 16)?;
-    assert!(rt; order_of(alloc, &table, &sent)? == (State::Exact, 7));
-    let (state, coupons) = coupons_of(alloc, &table, &sent)?;
+    let mut buffer = [0; 16];
+    let size = forward(&coupon, &order, &mut buffer)?;
+    let sent = &buffer[..size.min(16)];
+    assert!(rt; order_of(alloc, &table, sent)? == (State::Exact, 7));
+    let (state, coupons) = coupons_of(alloc, &table, sent)?;
     assert!(rt; state == State::Partial && coupons.as_str() == "");
     Ok(())
 }

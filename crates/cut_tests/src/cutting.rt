@@ -1,13 +1,12 @@
 //! Cuts to budgets of bytes in either form, and the contexts that a service sends on.
 
 use atom_list::AtomList;
-use fixture_bytes::{bytes_of, context_of, expect_atoms, expect_bytes, list_of};
-use forwarding::forward;
+use fixture_bytes::{context_of, expect_atoms, expect_bytes, list_of};
 use overflow_trim::{kept, trim, trim_context, trimmed_copy};
 use std::alloc::Global;
 use std::process::Abort;
 use std::test::Fail;
-use wire_bytes::{ByteCode, ContextFault, Form, write};
+use wire_bytes::{Form, write};
 
 /// A field and two data: with their lengths three bytes, six and six.
 const ATOMS: &str = "f800 0000000007 0000000009";
@@ -140,99 +139,4 @@ fn cuts_of_wide_lists(rt: HostRuntime) -> Result<(), Fail> {
     trim(Form::One, &mut list, 65_552);
     expect_atoms(alloc, &list, "00 -")?;
     expect_bytes(alloc, &write(alloc, Form::One, &list)?, "010000")
-}
-
-/// A form, two received contexts, a budget, and what is sent on.
-static SENT: [(Form, &str, &str, u64, &str); 5] = [
-    (Form::One, SEVEN, NINE, 15, BOTH),
-    (Form::One, NINE, SEVEN, 14, "02f80005000000000700"),
-    (
-        Form::One,
-        "ffffff02000000000000000902f800050000000007",
-        NINE,
-        15,
-        BOTH,
-    ),
-    (
-        Form::Two,
-        SEVEN,
-        NINE,
-        27,
-        "ffffff02000000000000000f02f800050000000007050000000009",
-    ),
-    (
-        Form::Two,
-        SEVEN,
-        NINE,
-        26,
-        "ffffff02000000000000000a02f80005000000000700",
-    ),
-];
-
-const SEVEN: &str = "02f800050000000007";
-
-const NINE: &str = "02f800050000000009";
-
-const BOTH: &str = "02f800050000000007050000000009";
-
-/// That the merge of two received contexts is sent on so.
-fn expect_sent(
-    rt: &impl Abort,
-    alloc: Global,
-    form: Form,
-    received: (&str, &str),
-    budget: u64,
-    sent: &str,
-) -> Result<(), Fail> {
-    let (first, second) = received;
-    let (first, second) = (bytes_of(alloc, first)?, bytes_of(alloc, second)?);
-    assert!(rt; form.least_budget() <= budget);
-    let found = forward(alloc, form, &first, &second, budget)?;
-    expect_bytes(alloc, &found, sent)
-}
-
-#[test]
-fn sends_on(rt: HostRuntime) -> Result<(), Fail> {
-    let alloc = rt.alloc();
-    for (form, first, second, budget, sent) in &SENT {
-        expect_sent(&rt, alloc, *form, (first, second), *budget, sent)?;
-    }
-    Ok(())
-}
-
-/// Two received byte strings of which one is no context at least, and the refusal.
-static REFUSED: [(&str, &str, usize, ByteCode); 4] = [
-    ("02f800050000000007", "8000", 0, ByteCode::LongForm),
-    ("02f80003", "8000", 3, ByteCode::CutBody),
-    ("02f800027800", "00", 3, ByteCode::BadPrefix),
-    ("00", "ffffff020000000000000001", 4, ByteCode::BadCount),
-];
-
-/// That nothing is sent on for a fault of what was received.
-fn expect_refused(
-    rt: &impl Abort,
-    alloc: Global,
-    received: (&str, &str),
-    fault: ContextFault,
-) -> Result<(), Fail> {
-    let (first, second) = received;
-    let (one, other) = (bytes_of(alloc, first)?, bytes_of(alloc, second)?);
-    match forward(alloc, Form::One, &one, &other, 14) {
-        Err(found) => assert_eq!(rt; found, fault, "{first} and {second}"),
-        Ok(_sent) => panic!(rt; "{first} and {second} are sent"),
-    }
-    Ok(())
-}
-
-#[test]
-fn refuses_to_send(rt: HostRuntime) -> Result<(), Fail> {
-    let alloc = rt.alloc();
-    for (first, second, offset, code) in &REFUSED {
-        let fault = ContextFault::At {
-            offset: *offset,
-            code: *code,
-        };
-        expect_refused(&rt, alloc, (first, second), fault)?;
-    }
-    Ok(())
 }

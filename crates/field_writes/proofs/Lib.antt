@@ -8,5 +8,5 @@ mod Unique
 mod Bags
 mod Taking
 mod Whole
-mod OneWrite
-mod Fits
+pub mod OneWrite
+pub mod Fits

@@ -1,26 +1,19 @@
 -- What a forwarding service sends on.
-use Rattle.std.specs.Prelude.{◌≡◌, ◌⊎◌, ℕ, List, [], ◌∷◌}
-use Rattle.context_model.specs.declared.Form.{Form}
+use Rattle.std.specs.Prelude.{◌≡◌, ℕ, List, [], ◌∷◌, length, Result, Ok, Err}
+use Rattle.context_model.specs.declared.Form.TheVariants.{One}
 use Rattle.context_model.specs.Atoms.{Atom}
-use Rattle.context_model.specs.ContextFault.{IsContextOf}
 use Rattle.context_model.specs.Framing.{bytes_of}
-use Rattle.context_model.specs.Merged.{IsMerged}
-use Rattle.context_model.specs.Trimmed.{trimmed}
-use Rattle.wire_bytes.specs.Reading.{IsContextRefusalOf}
-use Rattle.wire_bytes.specs.declared.contexts.ContextFault.{ContextFault}
+use Rattle.wire_bytes.specs.Reading.{byte_code_of}
+use Rattle.byte_forward.specs.declared.refusals.ByteRefusal.{ByteRefusal}
+use Rattle.byte_forward.specs.declared.refusals.ByteRefusal.TheVariants.{Fault, Room}
+use Rattle.byte_forward.specs.Contexts.{IsFaultAt}
+use Rattle.byte_forward.specs.Calls.{IsCutMergeOf}
+use Rattle.byte_forward.specs.Room.{HoldsBytes}
 
--- Both are the bytes of contexts, and what is sent are those of their merge, trimmed to the budget, in the form that is asked for.
-pub record Forwards (form : Form) (first second : List ℕ) (budget : ℕ) (sent : List ℕ) : Type 0 where
-  pub one : List Atom
-  pub other : List Atom
-  pub merged : List Atom
-  pub is_first : IsContextOf one first
-  pub is_second : IsContextOf other second
-  pub is_merged : IsMerged (one ∷ other ∷ []) merged
-  pub is_sent : sent ≡ bytes_of form (trimmed form merged budget)
-
--- The refusal is the fault of the first bytes, or that of the second where the first are those of a context.
-abbrev pub RefusesFirst : List ℕ → List ℕ → ContextFault → Type 0
-RefusesFirst first second fault =
-    IsContextRefusalOf first fault
-    ⊎ ((list : List Atom) × IsContextOf list first × IsContextRefusalOf second fault)
+-- Both are the bytes of contexts, and the buffer begins with those of their merge, cut to its length; or the first of them that isn't has
+-- this fault, and the buffer is as before. It is never too short.
+abbrev pub Forwards : List ℕ → List ℕ → List ℕ → List ℕ → Result ℕ ByteRefusal → Type 0
+Forwards first second old new (Ok size) =
+    (sent : List Atom) × IsCutMergeOf One (length old) (first ∷ second ∷ []) sent × HoldsBytes (bytes_of One sent) size old new
+Forwards first second old new (Err (Fault context offset code)) = IsFaultAt (first ∷ second ∷ []) context offset (byte_code_of code) × (new ≡ old)
+Forwards first second old new (Err (Room size)) = ⊥

@@ -1,36 +1,25 @@
-//! An example of the libraries: a service that merges the contexts of two branches and sends the result on within a budget of
-//! bytes. It reads either form of bytes and sends one, and knows no definition and no type.
+//! An example of the libraries: a proxy that merges the contexts of two branches and sends the result on, at most as many bytes as its
+//! buffer has. It reads either form of bytes and sends one, knows no definition and no type, and takes no memory.
 //!
 //! ```rust
-//! let sent = forward(alloc, Form::One, &ours, &theirs, 512)?;   // at most 512 bytes
+//! let size = forward(&ours, &theirs, &mut buffer)?;
+//! channel.send(&buffer[..size]);
 //! ```
 #![tactic(auto)]
 
-ghost use Rattle.std.specs.Prelude.{◌≤◌, IfOk, IfErr};
-ghost use Rattle.context_model.specs.Framing.{least_budget};
-ghost use Rattle.forwarding.specs.Forwards.{Forwards, RefusesFirst};
+ghost use Rattle.std.specs.Prelude.{◌<◌, length};
+ghost use Rattle.forwarding.specs.Forwards.{Forwards};
 
-use lex_merge::merge;
-use overflow_trim::trim_context;
-use std::alloc::Global;
-use wire_bytes::{ContextFault, Form, read_context, write};
+use byte_forward::{ByteRefusal, forward_bytes};
+use wire_bytes::Form;
 
-/// The bytes to send on, in the form that is asked for: the merge of two received contexts, cut to the budget where it is longer. A budget
-/// is at least `form.least_budget()`. The refusal is the first fault of the first context that has one, or want of memory.
-pub fn forward(
-    alloc: Global,
-    form: Form,
-    first: &[u8],
-    second: &[u8],
-    budget: u64,
-) -> Result<Vec<u8>, ContextFault>
-    requires { least_budget form ≤ budget }
-    ensures sent { IfOk result (λ sent. Forwards form first.now second.now budget sent.items) }
-    ensures refused { IfErr result (RefusesFirst first.now second.now) }
+/// Writes what is sent on at the front of the buffer, and answers how many bytes that is: the merge of two received contexts, in form one,
+/// cut to as many bytes as the buffer has. It can fail only by what was received: the refusal is the first fault of the first input that
+/// is no context, and the buffer is as it was.
+pub fn forward(first: &[u8], second: &[u8], buffer: &mut [u8]) -> Result<usize, ByteRefusal>
+    requires { 0 < length buffer.old }
+    ensures { Forwards first.now second.now buffer.old buffer.new result }
 {
-    let first = read_context(alloc, first)?;
-    let second = read_context(alloc, second)?;
-    let mut merged = merge(alloc, &first, &second)?;
-    trim_context(form, &mut merged, budget);
-    Ok(write(alloc, form, merged.list())?)
+    let budget = buffer.len() as u64;
+    forward_bytes(Form::One, first, second, budget, buffer)
 }

@@ -17,6 +17,8 @@ ghost use Rattle.std.specs.Prelude.{◌≡◌, ◌≢◌, ◌↔◌, ℕ, ℤ, �
 ghost use Rattle.context_model.specs.Varints.{big_endian, unsigned_tail, unsigned_varint, natural_form, natural_tail, signed_varint, complement};
 ghost use Rattle.lex_varint.specs.Readings.{IsUnsignedAt, IsUnsignedCut, IsUnsignedLong, IsSignedAt, IsSignedCut, IsSignedLong, IsSignedOut, natural_demand, turned, with_sign};
 
+use std::error::Error;
+use std::fmt;
 use std::marker::Model;
 
 pub mod laws;
@@ -31,6 +33,23 @@ pub enum VarintFault {
     /// The number doesn't fit 64 bits with a sign.
     OutOfRange,
 }
+
+impl fmt::Display for VarintFault {
+    ghost use Rattle.std.specs.Prelude.{Some};
+    ghost use Rattle.lex_varint.specs.FaultTexts.{varint_fault_text};
+
+    ghost output = { λ fault. Some (varint_fault_text fault) };
+
+    fn fmt<W: fmt::Write>(&self, f: &mut fmt::Formatter<W>) -> fmt::Result {
+        match self {
+            VarintFault::Cut => write!(f, "Cut"),
+            VarintFault::LongForm => write!(f, "LongForm"),
+            VarintFault::OutOfRange => write!(f, "OutOfRange"),
+        }
+    }
+}
+
+impl Error for VarintFault {}
 
 /// The code of one number: one to nine bytes, held in place.
 #[derive(Debug, Drop)]

@@ -1,1 +1,1 @@
-mod Overs
+pub mod Overs

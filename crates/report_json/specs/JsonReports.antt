@@ -38,6 +38,12 @@ step_object form list fields n = object
     (member (codes "fields") (array (items_of fields))
     (member (codes "step") (number (unsigned n)) no_members)))
 
+-- The digits of the bytes of a list in this form, and what it says of each slot.
+abbrev pub context_object : Form → List Atom → List Data → Data
+context_object form list fields = object
+    (member (codes "bytes") (string (hex_text (bytes_of form list)))
+    (member (codes "fields") (array (items_of fields)) no_members))
+
 -- There are so many objects, and each is the right one for its place.
 abbrev pub AreInPlace : ℕ → (ℕ → Data → Type 0) → List Data → Type 0
 AreInPlace count IsRight objects =
@@ -55,6 +61,14 @@ pub record IsSlotObject (nodes : Nodes) (list : List Atom) (slot : ℕ) (d : Dat
 abbrev pub AreSlotObjects : Nodes → List Atom → List Data → Type 0
 AreSlotObjects nodes list objects =
     AreInPlace (length (slots_of nodes)) (IsSlotObject nodes list) objects
+
+-- The object is that of the list, in this form.
+abbrev pub IsContextObject : Nodes → Form → List Atom → Data → Type 0
+IsContextObject nodes form list d = (fields : List Data) × AreSlotObjects nodes list fields × (d ≡ context_object form list fields)
+
+-- The text is the compact text of the object of the list.
+abbrev pub IsContextJson : Nodes → Form → List Atom → List ℕ → Type 0
+IsContextJson nodes form list text = (d : Data) × IsContextObject nodes form list d × (text ≡ compact_text d)
 
 -- The object is that of the step with this number, where all steps have these lists, in the form of the service where it stands.
 abbrev pub IsStepObject : Nodes → Graph → Lists → ℕ → Data → Type 0

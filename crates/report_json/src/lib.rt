@@ -9,4 +9,4 @@ pub mod laws;
 mod objects;
 mod reports;
 
-pub use reports::report_json;
+pub use reports::{context_json, report_json};

@@ -15,7 +15,7 @@ ghost use Rattle.bag_value.specs.Vals.{plain};
 ghost use Rattle.text_lines.specs.HexLines.{hex_text};
 ghost use Rattle.text_model.specs.ValueTexts.{value_text};
 ghost use Rattle.serde_json.specs.View.{view};
-ghost use Rattle.report_json.specs.JsonReports.{AreSlotObjects, IsStepObject, slot_object, state_word};
+ghost use Rattle.report_json.specs.JsonReports.{AreSlotObjects, IsContextObject, IsStepObject, slot_object, state_word};
 
 use atom_list::Context;
 use bag_decode::slot_value;
@@ -93,6 +93,21 @@ fn slots_json(alloc: Global, table: &Table, context: &Context) -> Result<Vec<Val
         fields.push(slot_json(alloc, table, slot, span.state(marker), &value)?)?;
     }
     Ok(fields)
+}
+
+/// The object of a typed context, with its bytes in this form.
+pub(crate) fn context_object(
+    alloc: Global,
+    table: &Table,
+    form: Form,
+    context: &Context,
+) -> Result<Value, Memory>
+    requires typed { AreTyped table.now (PathsOf context.now) [] }
+    ensures { IfOk result (λ json. IsContextObject table.now form context.now (view json)) }
+{
+    let bytes = digits_of(alloc, form, context)?;
+    let fields = slots_json(alloc, table, context)?;
+    Ok(json!(in alloc; {"bytes": bytes, "fields": fields})?)
 }
 
 /// The object of the step with this number.

@@ -1,4 +1,4 @@
-//! Row files: texts of items, of which each is some fields, as `vectors/README.md` has them.
+//! Row files: texts of items, of which each is some fields, as `vectors/README.md` has them; and what is told of rows that were run.
 //!
 //! ```rust
 //! for item in items_of(alloc, text)?.as_slice() {
@@ -12,8 +12,10 @@ mod fields;
 mod items;
 mod rows;
 mod texts;
+mod told;
 
 pub use faults::{Reason, RowFault};
 pub use fields::Field;
 pub use items::{Item, items_of};
 pub use rows::Row;
+pub use told::{Count, Told};

@@ -5,9 +5,8 @@ use crate::objects::{
     Objects, asked_of, call, left_of, library_of, sink_of, size_of, source_of, words_of,
 };
 use crate::tabled::run_tabled;
-use crate::told::Told;
 use outside::MemorySink;
-use row_files::{Field, Reason, Row, RowFault};
+use row_files::{Field, Reason, Row, RowFault, Told};
 use std::alloc::Global;
 use std::thread::Threads;
 

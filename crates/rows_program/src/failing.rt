@@ -1,8 +1,7 @@
 //! Calls in which each use of an object fails in turn.
 
 use crate::objects::{Objects, call, left_of, library_of, sink_of, source_of, words_of};
-use crate::told::Told;
-use row_files::{Reason, Row, RowFault};
+use row_files::{Reason, Row, RowFault, Told};
 use std::alloc::Global;
 use std::thread::Threads;
 

@@ -1,18 +1,9 @@
 //! The rows of a file.
 
 use crate::calls::run_row;
-use crate::told::Told;
-use row_files::{Item, Row, RowFault, items_of};
+use row_files::{Item, Row, RowFault, Told, items_of};
 use std::alloc::{AllocError, Global};
 use std::thread::Threads;
-
-/// Tells a fault of the row, unless memory is what is wanting.
-fn tell_fault(fault: RowFault, told: &mut Told<'_>) -> Result<(), AllocError> {
-    match fault {
-        RowFault::Memory => Err(AllocError),
-        RowFault::At(_, _) => told.tell_fault(fault),
-    }
-}
 
 /// Runs a row, and counts it.
 fn run_counted<R: Threads + Sync>(
@@ -23,7 +14,7 @@ fn run_counted<R: Threads + Sync>(
 ) -> Result<(), AllocError> {
     told.begin_row(row.line);
     if let Err(fault) = run_row(rt, alloc, row, told) {
-        tell_fault(fault, told)?;
+        told.tell_fault(fault)?;
     }
     told.end_row();
     Ok(())
@@ -32,7 +23,7 @@ fn run_counted<R: Threads + Sync>(
 /// Counts an item that can't be read, and tells why.
 fn count_unread(line: usize, fault: RowFault, told: &mut Told<'_>) -> Result<(), AllocError> {
     told.begin_row(line);
-    tell_fault(fault, told)?;
+    told.tell_fault(fault)?;
     told.end_row();
     Ok(())
 }

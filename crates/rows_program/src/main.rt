@@ -8,16 +8,15 @@ mod failing;
 mod files;
 mod objects;
 mod tabled;
-mod told;
 
 use files::run_file;
+use row_files::{Count, Told};
 use std::alloc::Global;
 use std::env::{self, Env};
 use std::process::ExitCode;
 use std::rt::Files;
 use std::thread::Threads;
 use std::{fs, io};
-use told::{Count, Told};
 
 /// Runs the rows of the named file. One that can't be read is a difference.
 fn run_named<R>(rt: &R, alloc: Global, name: &str, told: &mut Told<'_>) -> io::Result<()>

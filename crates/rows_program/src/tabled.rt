@@ -1,9 +1,8 @@
 //! A graph, run under a definition and under the table of it.
 
 use crate::objects::{Objects, call, cut_words, library_of, sink_of, source_of, wanting};
-use crate::told::Told;
 use outside::MemoryLibrary;
-use row_files::{Row, RowFault};
+use row_files::{Row, RowFault, Told};
 use std::alloc::Global;
 use std::fmt::Write;
 use std::thread::Threads;

@@ -10,3 +10,4 @@ pub mod WordCodecs
 pub mod KindCodec
 pub mod Words
 pub mod OneCode
+pub mod FaultTexts

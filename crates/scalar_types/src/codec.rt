@@ -7,6 +7,8 @@ ghost use Rattle.context_model.specs.Orders.{atom_cmp};
 use outside::Memory;
 use std::alloc::{AllocError, AllocFailed, Global};
 use std::cmp::Ordering;
+use std::error::Error;
+use std::fmt;
 
 /// Why bytes gave no value.
 #[derive(Clone, Copy, Debug, PartialEq, Eq)]
@@ -16,6 +18,22 @@ pub enum TakeFault {
     /// There is no memory for the value.
     Memory,
 }
+
+impl fmt::Display for TakeFault {
+    ghost use Rattle.std.specs.Prelude.{Some};
+    ghost use Rattle.scalar_types.specs.FaultTexts.{take_fault_text};
+
+    ghost output = { λ fault. Some (take_fault_text fault) };
+
+    fn fmt<W: fmt::Write>(&self, f: &mut fmt::Formatter<W>) -> fmt::Result {
+        match self {
+            TakeFault::NotSpelled => write!(f, "NotSpelled"),
+            TakeFault::Memory => write!(f, "out of memory"),
+        }
+    }
+}
+
+impl Error for TakeFault {}
 
 impl From<Memory> for TakeFault {
     ghost use Rattle.std.specs.Prelude.{◌≡◌};

@@ -1,13 +1,10 @@
 //! What a service needs of the libraries, and a client, under one name.
 //!
-//! A service that knows no definition merges what two branches brought, and sends it on within a budget of bytes:
+//! A service that knows no definition merges what two branches brought, and sends it on within a budget of bytes. It takes no memory:
 //!
 //! ```rust
-//! let first = read_context(alloc, first)?;               // or the first fault, with its offset
-//! let second = read_context(alloc, second)?;
-//! let mut merged = merge(alloc, &first, &second)?;
-//! trim_context(Form::One, &mut merged, 512);             // takes no memory
-//! let sent = write(alloc, Form::One, merged.list())?;    // at most 512 bytes
+//! let size = forward_bytes(Form::One, &ours, &theirs, 512, &mut buffer)?;   // or the first fault, with its input and offset
+//! channel.send(&buffer[..size]);
 //! ```
 //!
 //! A client has a table of the fields, writes one by its name, and reads it behind such services:
@@ -33,6 +30,8 @@ pub use bag_codec::{
     decode_slot, encode, normal, spans_of, state_of,
 };
 pub use bdl_check::{DefCode, DefFault, compile};
+pub use byte_forward::{ByteRefusal, forward_bytes, merge_bytes, trim_bytes};
+pub use byte_frames::{ByteFault, check_bytes};
 pub use counter_type::{Counts, Lattice};
 pub use def_evolve::{Change, Part, Verdict, evolve};
 pub use field_table::{Shape, Slot, SlotSet, Slots, Table, View};

@@ -87,7 +87,7 @@ covers_by_fields P Q = record {
   around = λ nodes q e. e;
 }
 
-typed_by_fields : (P : Path → Type 0) → ByFields (λ shape q. IsTyped shape P q) (λ nodes q. AreTyped nodes P q)
+pub typed_by_fields : (P : Path → Type 0) → ByFields (λ shape q. IsTyped shape P q) (λ nodes q. AreTyped nodes P q)
 typed_by_fields P = record {
   inside = λ nodes q h. h;
   first = λ name number shape nodes q h. h.0;

@@ -1,5 +1,5 @@
-mod Codings
-mod Stops
+pub mod Codings
+pub mod Stops
 pub mod OneCode
 mod Widths
 mod Offsets

@@ -10,7 +10,7 @@ use crate::reading::WireCode;
 use context_model::{Form, HEAD_LEN};
 
 /// What form two begins with.
-pub(crate) const MARK: [u8; 4] = [0xff, 0xff, 0xff, 0x02];
+pub const MARK: [u8; 4] = [0xff, 0xff, 0xff, 0x02];
 
 /// The form that bytes are read in. It takes no memory.
 pub fn form_of(bytes: &[u8]) -> Form
@@ -23,8 +23,8 @@ pub fn form_of(bytes: &[u8]) -> Form
     }
 }
 
-/// What is wrong with the head of bytes that are read in this form.
-pub(crate) fn check_head(form: Form, bytes: &[u8]) -> Result<(), WireCode>
+/// What is wrong with the head of bytes that are read in this form. It takes no memory.
+pub fn check_head(form: Form, bytes: &[u8]) -> Result<(), WireCode>
     ensures right { IfOk result (λ _. head_code form bytes.now ≡ None) }
     ensures long { IfOk result (λ _. head_len form ≤ length bytes.now) }
     ensures fault { IfErr result (λ code. head_code form bytes.now ≡ Some (code_of code)) }

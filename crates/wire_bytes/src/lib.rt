@@ -18,6 +18,6 @@ mod writing;
 
 pub use context_model::{Form, LENGTH_MAX};
 pub use contexts::{ByteCode, ContextFault, read_context, read_context_owned, reads_one_context};
-pub use heads::form_of;
-pub use reading::{WireCode, WireFault, read, read_owned, reads_one_way};
+pub use heads::{MARK, check_head, form_of};
+pub use reading::{WireCode, WireFault, first_frame, read, read_owned, reads_one_way};
 pub use writing::{frame_len, offset, size, write};

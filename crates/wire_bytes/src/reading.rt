@@ -89,8 +89,9 @@ impl From<Memory> for WireFault {
     }
 }
 
-/// How many bytes the length at the front has, and how many the atom behind it, or what is wrong with them.
-fn front(form: Form, bytes: &[u8]) -> Result<(usize, usize), WireCode>
+/// How many bytes the length at the front has in this form, and how many the atom behind it, or what is wrong with them. It takes no
+/// memory, and looks at no byte of the atom.
+pub fn first_frame(form: Form, bytes: &[u8]) -> Result<(usize, usize), WireCode>
     ensures within { IfOk result (λ found. found.0 + found.1 ≤ length bytes.now) }
     ensures short { IfOk result (λ found. found.1 ≤ most form) }
     ensures code { IfOk result (λ found. take found.0 bytes.now ≡ length_code form found.1) }
@@ -175,7 +176,7 @@ fn read_frames(alloc: Global, form: Form, bytes: Vec<u8>) -> Result<FrontList, M
 {
     let mut scan = Scan::over(alloc, bytes)?;
     while !scan.rest().is_empty() {
-        match front(form, scan.rest()) {
+        match first_frame(form, scan.rest()) {
             Ok((skip, len)) => note(&mut scan, form, skip, len)?,
             Err(code) => {
                 let fault = Some((scan.offset(), code));

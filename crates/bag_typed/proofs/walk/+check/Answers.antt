@@ -19,57 +19,57 @@ use Rattle.bag_typed.proofs.walk.+check.Goals.{check_fields-in-Ok+in_ok-place-in
 
 -- ---- a field
 
-pub check_field-returns-in-Taint-clause-typed : goal.check_field-returns-in-Taint-clause-typed
-check_field-returns-in-Taint-clause-typed t c =
+pub check_slot-returns-in-Taint-clause-typed : goal.check_slot-returns-in-Taint-clause-typed
+check_slot-returns-in-Taint-clause-typed t c =
     let list = c.args.list.now in
     let q = path_before list c.args.from in
     let shown = ap shape_of c.in-Taint.is ∙ taint_shown.0 in
     subst (λ (shape : model.Shape). IfOk c.check_data.result (λ _. HasNone list (Misspells shape q))) (sym shown) c.check_data.ensures.right
 
-pub check_field-returns-in-Taint-clause-fault : goal.check_field-returns-in-Taint-clause-fault
-check_field-returns-in-Taint-clause-fault t c =
+pub check_slot-returns-in-Taint-clause-fault : goal.check_slot-returns-in-Taint-clause-fault
+check_slot-returns-in-Taint-clause-fault t c =
     let list = c.args.list.now in
     let q = path_before list c.args.from in
     let shown = ap shape_of c.in-Taint.is ∙ taint_shown.0 in
     subst (λ (shape : model.Shape). IfErr c.check_data.result (IsFirstOfPaths list (Misspells shape q))) (sym shown) c.check_data.ensures.fault
 
-pub check_field-returns-in-Scalar-clause-typed : goal.check_field-returns-in-Scalar-clause-typed
-check_field-returns-in-Scalar-clause-typed t c =
+pub check_slot-returns-in-Scalar-clause-typed : goal.check_slot-returns-in-Scalar-clause-typed
+check_slot-returns-in-Scalar-clause-typed t c =
     let list = c.args.list.now in
     let q = path_before list c.args.from in
     let shown = ap shape_of c.in-Scalar.is ∙ (scalar_shown c.in-Scalar.kind).0 in
     subst (λ (shape : model.Shape). IfOk c.check_data-in-Scalar.result (λ _. HasNone list (Misspells shape q))) (sym shown) c.check_data-in-Scalar.ensures.right
 
-pub check_field-returns-in-Scalar-clause-fault : goal.check_field-returns-in-Scalar-clause-fault
-check_field-returns-in-Scalar-clause-fault t c =
+pub check_slot-returns-in-Scalar-clause-fault : goal.check_slot-returns-in-Scalar-clause-fault
+check_slot-returns-in-Scalar-clause-fault t c =
     let list = c.args.list.now in
     let q = path_before list c.args.from in
     let shown = ap shape_of c.in-Scalar.is ∙ (scalar_shown c.in-Scalar.kind).0 in
     subst (λ (shape : model.Shape). IfErr c.check_data-in-Scalar.result (IsFirstOfPaths list (Misspells shape q))) (sym shown) c.check_data-in-Scalar.ensures.fault
 
-pub check_field-returns-in-Greatest-clause-typed : goal.check_field-returns-in-Greatest-clause-typed
-check_field-returns-in-Greatest-clause-typed t c =
+pub check_slot-returns-in-Greatest-clause-typed : goal.check_slot-returns-in-Greatest-clause-typed
+check_slot-returns-in-Greatest-clause-typed t c =
     let list = c.args.list.now in
     let q = path_before list c.args.from in
     let shown = ap shape_of c.in-Greatest.is ∙ (greatest_shown c.in-Greatest.kind).0 in
     subst (λ (shape : model.Shape). IfOk c.check_data-in-Greatest.result (λ _. HasNone list (Misspells shape q))) (sym shown) c.check_data-in-Greatest.ensures.right
 
-pub check_field-returns-in-Greatest-clause-fault : goal.check_field-returns-in-Greatest-clause-fault
-check_field-returns-in-Greatest-clause-fault t c =
+pub check_slot-returns-in-Greatest-clause-fault : goal.check_slot-returns-in-Greatest-clause-fault
+check_slot-returns-in-Greatest-clause-fault t c =
     let list = c.args.list.now in
     let q = path_before list c.args.from in
     let shown = ap shape_of c.in-Greatest.is ∙ (greatest_shown c.in-Greatest.kind).0 in
     subst (λ (shape : model.Shape). IfErr c.check_data-in-Greatest.result (IsFirstOfPaths list (Misspells shape q))) (sym shown) c.check_data-in-Greatest.ensures.fault
 
-pub check_field-returns-in-Set-clause-typed : goal.check_field-returns-in-Set-clause-typed
-check_field-returns-in-Set-clause-typed t c =
+pub check_slot-returns-in-Set-clause-typed : goal.check_slot-returns-in-Set-clause-typed
+check_slot-returns-in-Set-clause-typed t c =
     let list = c.args.list.now in
     let q = path_before list c.args.from in
     let shown = ap shape_of c.in-Set.is ∙ (set_shown c.in-Set.kind).0 in
     subst (λ (shape : model.Shape). IfOk c.check_data-in-Set.result (λ _. HasNone list (Misspells shape q))) (sym shown) c.check_data-in-Set.ensures.right
 
-pub check_field-returns-in-Set-clause-fault : goal.check_field-returns-in-Set-clause-fault
-check_field-returns-in-Set-clause-fault t c =
+pub check_slot-returns-in-Set-clause-fault : goal.check_slot-returns-in-Set-clause-fault
+check_slot-returns-in-Set-clause-fault t c =
     let list = c.args.list.now in
     let q = path_before list c.args.from in
     let shown = ap shape_of c.in-Set.is ∙ (set_shown c.in-Set.kind).0 in
@@ -91,8 +91,8 @@ check_entries-returns-then-not-spelled-clause-fault t c =
     let own = key_fault kind value list q turn.key c.in-Ok.at turn.behind wrong in
     first_alike list (OfSomeKey (of_key kind value q)) (Misspells (model.Shape.Map kind value) q) c.in-Ok.at (from_key kind value q) (to_key kind value q) (turn.fault c.in-Ok.at own)
 
-pub check_entries-check_field-requires : goal.check_entries-check_field-requires
-check_entries-check_field-requires t c =
+pub check_entries-check_slot-requires : goal.check_entries-check_slot-requires
+check_entries-check_slot-requires t c =
     let list = c.args.list.now in
     let q = path_before list c.args.from in
     let kind = kind_of c.args.kind.now in
@@ -148,8 +148,8 @@ check_fields-find_field-requires-clause-level t c =
     let there = slot_there c.args.fields.now at c.get.result c.unwrap-field.result c.get.ensures c.unwrap-field.ensures in
     omega (arith, levels_there (nodes_of c.args.fields.now) at (plain_slot c.unwrap-field.result.now) there, c.requires.room)
 
-pub check_fields-check_field-requires : goal.check_fields-check_field-requires
-check_fields-check_field-requires t c =
+pub check_fields-check_slot-requires : goal.check_fields-check_slot-requires
+check_fields-check_slot-requires t c =
     let list = c.args.list.now in
     let q = path_before list c.args.from in
     let nodes = nodes_of c.args.fields.now in

@@ -8,8 +8,8 @@ use Rattle.bag_typed.proofs.Keys.{ClearsKeys}
 use Rattle.bag_typed.proofs.Shapes.{of_key}
 use Rattle.bag_typed.proofs.walk.+check.Given as goal
 
-abbrev pub decreases-check_field : goal.decreases-check_field
-decreases-check_field l = shape_size (shape_of l.shape.now)
+abbrev pub decreases-check_slot : goal.decreases-check_slot
+decreases-check_slot l = shape_size (shape_of l.shape.now)
 
 abbrev pub decreases-check_fields : goal.decreases-check_fields
 decreases-check_fields l = nodes_size (nodes_of l.fields.now)

@@ -1,0 +1,6 @@
+mod ToCome
+mod Cuts
+mod Walks
+mod Fitting
+mod Rooms
+mod Made

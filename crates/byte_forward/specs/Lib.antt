@@ -1,0 +1,7 @@
+pub mod Contexts
+pub mod Room
+pub mod Calls
+pub mod Merging
+pub mod Cutting
+pub mod FaultTexts
+pub mod Laws

@@ -1,0 +1,36 @@
+-- What is written into a room, and what is left of it.
+use Rattle.std.specs.Prelude.{◌≡◌, ℕ, ◌^◌, ◌<◌, ◌≤◌, List, ◌++◌, length, drop, Result, Ok, Err}
+use Rattle.context_model.specs.declared.Form.{Form}
+use Rattle.context_model.specs.Atoms.{Atom}
+use Rattle.context_model.specs.ByteCodes.{ByteCode}
+use Rattle.context_model.specs.Framing.{bytes_of}
+use Rattle.wire_bytes.specs.Reading.{byte_code_of}
+use Rattle.byte_forward.specs.declared.refusals.ByteRefusal.{ByteRefusal}
+use Rattle.byte_forward.specs.declared.refusals.ByteRefusal.TheVariants.{Fault, Room}
+
+-- The room has place for these bytes, so many: it begins with them, and goes on as before.
+abbrev pub HoldsBytes : List ℕ → ℕ → List ℕ → List ℕ → Type 0
+HoldsBytes bytes size old new = (size ≡ length bytes) × (size ≤ length old) × (new ≡ bytes ++ drop size old)
+
+-- The room has no place for these bytes, so many, and is as before.
+abbrev pub IsTooShortFor : List ℕ → ℕ → List ℕ → List ℕ → Type 0
+IsTooShortFor bytes size old new = (size ≡ length bytes) × (length old < size) × (new ≡ old)
+
+-- The same, but that of 2 ^ 64 bytes and more the number can't be told.
+abbrev pub HasNoPlaceFor : List ℕ → ℕ → List ℕ → List ℕ → Type 0
+HasNoPlaceFor bytes size old new = (length bytes < 2 ^ 64 → size ≡ length bytes) × (length old < length bytes) × (new ≡ old)
+
+-- A list for which the first fact holds is written into the room, and its size is the answer. Otherwise nothing is written: the room is
+-- too short for such a list, of whose size the answer is, or an input has a fault, for which the second fact holds.
+abbrev pub WritesBytes : Form → (List Atom → Type 0) → (ℕ → ℕ → ByteCode → Type 0) → List ℕ → List ℕ → Result ℕ ByteRefusal → Type 0
+WritesBytes form IsMade IsFault old new (Ok size) = (list : List Atom) × IsMade list × HoldsBytes (bytes_of form list) size old new
+WritesBytes form IsMade IsFault old new (Err (Fault context offset code)) = IsFault context offset (byte_code_of code) × (new ≡ old)
+WritesBytes form IsMade IsFault old new (Err (Room size)) =
+    (list : List Atom) × IsMade list × IsTooShortFor (bytes_of form list) size old new
+
+-- The same of a list that no budget bounds.
+abbrev pub WritesWhole : Form → (List Atom → Type 0) → (ℕ → ℕ → ByteCode → Type 0) → List ℕ → List ℕ → Result ℕ ByteRefusal → Type 0
+WritesWhole form IsMade IsFault old new (Ok size) = (list : List Atom) × IsMade list × HoldsBytes (bytes_of form list) size old new
+WritesWhole form IsMade IsFault old new (Err (Fault context offset code)) = IsFault context offset (byte_code_of code) × (new ≡ old)
+WritesWhole form IsMade IsFault old new (Err (Room size)) =
+    (list : List Atom) × IsMade list × HasNoPlaceFor (bytes_of form list) size old new

@@ -1,0 +1,4 @@
+pub mod Frames
+pub mod OpenAtoms
+pub mod Reading
+pub mod FaultTexts

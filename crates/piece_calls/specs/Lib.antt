@@ -1,0 +1,4 @@
+pub mod Refusals
+pub mod Carrying
+pub mod Collecting
+pub mod FaultTexts

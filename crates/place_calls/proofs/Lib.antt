@@ -1,0 +1,10 @@
+mod Offsets
+mod SlotPlaces
+mod Putting
+mod Framed
+mod PartPlaces
+mod PartKeys
+mod Payloads
+mod Told
+mod Readers
+mod OnePlace

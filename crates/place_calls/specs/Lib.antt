@@ -1,0 +1,6 @@
+pub mod Refusals
+pub mod Places
+pub mod Parts
+pub mod Telling
+pub mod Readers
+pub mod FaultTexts

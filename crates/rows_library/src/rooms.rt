@@ -1,0 +1,120 @@
+//! Calls that write into a room: each is run with rooms of several lengths.
+
+use crate::answers::expect_refused;
+use crate::calls::Call;
+use crate::written::{Outcome, call_into};
+use row_files::{Row, RowFault, Told};
+use std::alloc::Global;
+
+/// What a room holds before a call.
+const UNTOUCHED: u8 = 0xee;
+
+/// By how many bytes rooms are longer than what is written.
+const SPARE: [usize; 3] = [0, 1, 100];
+
+/// Whether nothing was written there.
+fn is_untouched(room: &[u8]) -> bool {
+    room.iter().all(|byte| *byte == UNTOUCHED)
+}
+
+/// Tells where something was written that isn't part of the answer.
+fn expect_untouched(room: &[u8], told: &mut Told<'_>) -> Result<(), RowFault> {
+    let written = u64::from(!is_untouched(room));
+    told.expect_number("room written to", written, 0)?;
+    Ok(())
+}
+
+/// Tells where a room isn't as the answer leaves it: the answer's bytes, and behind them what stood there.
+fn expect_room(
+    room: &[u8],
+    size: usize,
+    wanted: &[u8],
+    told: &mut Told<'_>,
+) -> Result<(), RowFault> {
+    let (written, rest) = room.split_at(size.min(room.len()));
+    told.expect_number("size", size as u64, wanted.len() as u64)?;
+    told.expect_bytes("written", written, wanted)?;
+    expect_untouched(rest, told)
+}
+
+/// Runs the call once with a room of this length, and tells where it doesn't write what is wanted.
+fn expect_written(
+    alloc: Global,
+    call: Call,
+    row: Row<'_>,
+    room_len: usize,
+    wanted: &[u8],
+    told: &mut Told<'_>,
+) -> Result<(), RowFault> {
+    let mut room = Vec::from_elem(alloc, UNTOUCHED, room_len)?;
+    match call_into(alloc, call, row, &mut room)? {
+        Outcome::Written { size, told: words } => {
+            told.expect_bytes("told", words.as_bytes(), row.value("told"))?;
+            expect_room(&room, size, wanted, told)
+        }
+        Outcome::TooShort { size } => {
+            told.expect_number("room asked for", size as u64, 0)?;
+            Ok(())
+        }
+        Outcome::Refused { text } => {
+            told.expect_bytes("refused", text.as_bytes(), b"")?;
+            expect_untouched(&room, told)
+        }
+    }
+}
+
+/// Runs the call once with a room that is a byte too short, and tells where it isn't told so, or the room was written to.
+fn expect_short(
+    alloc: Global,
+    call: Call,
+    row: Row<'_>,
+    needed: usize,
+    told: &mut Told<'_>,
+) -> Result<(), RowFault> {
+    let Some(room_len) = needed.checked_sub(1) else {
+        return Ok(());
+    };
+    let mut room = Vec::from_elem(alloc, UNTOUCHED, room_len)?;
+    match call_into(alloc, call, row, &mut room)? {
+        Outcome::TooShort { size } => {
+            told.expect_number("room asked for", size as u64, needed as u64)?;
+        }
+        _ => told.expect_number("room too short", 0, 1)?,
+    }
+    expect_untouched(&room, told)
+}
+
+/// Runs the call once with a room of this length, and tells where it isn't refused as the row says.
+fn expect_unwritten(
+    alloc: Global,
+    call: Call,
+    row: Row<'_>,
+    room_len: usize,
+    told: &mut Told<'_>,
+) -> Result<(), RowFault> {
+    let mut room = Vec::from_elem(alloc, UNTOUCHED, room_len)?;
+    match call_into(alloc, call, row, &mut room)? {
+        Outcome::Refused { text } => expect_refused(alloc, &text.as_str(), row, told)?,
+        _ => told.expect_bytes("refused", b"", row.value("refused"))?,
+    }
+    expect_untouched(&room, told)
+}
+
+/// Runs a row of a call that writes: in rooms of several lengths, or refused in two of them.
+pub fn run_written(
+    alloc: Global,
+    call: Call,
+    row: Row<'_>,
+    told: &mut Told<'_>,
+) -> Result<(), RowFault> {
+    if row.has("refused") {
+        expect_unwritten(alloc, call, row, 0, told)?;
+        return expect_unwritten(alloc, call, row, 100, told);
+    }
+    let wanted = call.wanted(alloc, row)?;
+    for spare in SPARE {
+        let room_len = wanted.len().saturating_add(spare);
+        expect_written(alloc, call, row, room_len, &wanted, told)?;
+    }
+    expect_short(alloc, call, row, wanted.len(), told)
+}

@@ -1,0 +1,10 @@
+mod ExcerptLaws
+mod StepLaws
+mod NameTexts
+mod LineLaws
+mod LineTexts
+mod InputLaws
+mod JoinLaws
+mod AddLaws
+mod UpdateLaws
+mod LostLaws

@@ -1,0 +1,47 @@
+-- An update that is made of what was read.
+use Rattle.std.proofs.Common.{◌≡◌, ℕ, List, Result, Ok, Err, sym, ◌∙◌, subst}
+use Rattle.std.specs.Result.{IsErrAnd}
+use Rattle.context_model.specs.declared.Form.{Form}
+use Rattle.context_model.specs.Atoms.{Atom}
+use Rattle.context_model.specs.Framing.{bytes_of}
+use Rattle.context_model.specs.Trimmed.{trimmed}
+use Rattle.bag_model.specs.Shapes.{Nodes}
+use Rattle.bag_model.specs.Views.{All}
+use Rattle.trace_model.specs.Runs.{Lists, IsNormalMerge}
+use Rattle.byte_calls.specs.declared.refusals.Refusal.{Refusal}
+use Rattle.byte_calls.specs.declared.refusals.Refusal.TheVariants as calls
+use Rattle.byte_calls.specs.Room.{WritesList, IsTooShortFor}
+use Rattle.field_calls.specs.Fields.{IsPrintedTable}
+use Rattle.step_calls.specs.declared.refusals.StepRefusal.{StepRefusal}
+use Rattle.step_calls.specs.declared.refusals.StepRefusal.TheVariants.{Memory, Room}
+use Rattle.step_calls.specs.Refusals.{TellsBytes}
+use Rattle.step_calls.specs.Updates.{AreRead, IsUpdateFor, Updates}
+
+-- What was read makes an update.
+pub update_for : (form : Form) (nodes : Nodes) (table : List ℕ) (inputs : List (List ℕ)) (writes : List ℕ) (all : Lists) (list : List Atom)
+    → IsPrintedTable nodes table → AreRead form nodes inputs writes all → IsNormalMerge nodes All all list → IsUpdateFor form table inputs writes list
+update_for form nodes table inputs writes all list printed read normal = record {
+  nodes = nodes;
+  printed = printed;
+  said = read.said;
+  says = read.says;
+  lists = read.lists;
+  typed = read.typed;
+  update = record {
+    written = read.written;
+    encodings = read.encodings;
+    normal = subst (λ (ls : Lists). IsNormalMerge nodes All ls list) read.is normal;
+  };
+}
+
+-- Its bytes don't fit the room, or there is no memory for them.
+pub unwritten : (form : Form) (budget : ℕ) (table : List ℕ) (inputs : List (List ℕ)) (writes old new : List ℕ) (list cut : List Atom) (refusal : Refusal) (result : Result ℕ StepRefusal)
+    → IsUpdateFor form table inputs writes list → cut ≡ trimmed form list budget → IsErrAnd result (TellsBytes refusal)
+    → WritesList form (λ written. written ≡ cut) (λ _ _ _. ⊥) old new (Err refusal) → Updates form budget table inputs writes old new result
+unwritten form budget table inputs writes old new list cut refusal (Ok size) made is told left = absurd told
+unwritten form budget table inputs writes old new list cut (calls.Fault context offset code) (Err other) made is told left = absurd left.0
+unwritten form budget table inputs writes old new list cut calls.Memory (Err other) made is told left =
+    subst (λ (r : StepRefusal). Updates form budget table inputs writes old new (Err r)) (sym told) left
+unwritten form budget table inputs writes old new list cut (calls.Room size) (Err other) made is told left =
+    subst (λ (r : StepRefusal). Updates form budget table inputs writes old new (Err r)) (sym told)
+    (list, made, subst (λ (l : List Atom). IsTooShortFor (bytes_of form l) size old new) (left.1 ∙ is) left.2)

@@ -1,0 +1,5 @@
+pub mod Refusals
+pub mod Tables
+pub mod Reports
+pub mod Evolution
+pub mod FaultTexts
