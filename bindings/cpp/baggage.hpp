@@ -1,0 +1,614 @@
+// Baggage contexts in C++17, over the library of baggage.h. This header is tested, not proved.
+//
+// A `context` is a value that is always valid: whoever has one can send it, join it and cut it, and none of these fails. A copy is a branch.
+// A `bag` is the table of a definition; it reads and writes fields. Nothing here throws but std::bad_alloc, and `value()` of a result that
+// has none. There is no current context: C++ has no place for one that survives coroutines, so hand it on as an argument.
+//
+//     const auto request = terncommode::bag::from(TABLE).value();
+//     auto here = terncommode::extract(values, terncommode::context());              // what came in
+//     here = request.update(here, terncommode::writes().set("id", "4711")).value();  // what this service says
+//     send(to_header(here));                                                         // what goes on
+//     const auto id = request.text(here, "id").value();                              // id.value is "4711", id.exact says whether that is all
+#ifndef TERNCOMMODE_BAGGAGE_HPP
+#define TERNCOMMODE_BAGGAGE_HPP
+
+#include <cstddef>
+#include <cstdint>
+#include <cstdlib>
+#include <cstring>
+#include <exception>
+#include <functional>
+#include <initializer_list>
+#include <iterator>
+#include <new>
+#include <string>
+#include <string_view>
+#include <type_traits>
+#include <utility>
+#include <variant>
+#include <vector>
+#if defined(__has_include)
+#if __has_include(<version>)
+#include <version>
+#endif
+#endif
+#if defined(__cpp_lib_expected)
+#include <expected>
+#endif
+
+#if defined(__GNUC__)
+#pragma GCC diagnostic push
+#pragma GCC diagnostic ignored "-Wold-style-cast" // it is C
+#endif
+#include "baggage_carriers.h"
+#if defined(__GNUC__)
+#pragma GCC diagnostic pop
+#endif
+
+namespace terncommode {
+
+/// The name of the header that carries a context, and the key of gRPC's metadata.
+inline constexpr std::string_view header_name = BAGGAGE_HEADER;
+inline constexpr std::string_view grpc_key = BAGGAGE_GRPC_KEY;
+
+/// The greatest budget: no context is cut to it.
+inline constexpr std::uint64_t no_budget = BAGGAGE_NO_BUDGET;
+
+/// The forms of bytes. Form two begins with the number of its bytes.
+enum class form : std::uint32_t { one = BAGGAGE_FORM_ONE, two = BAGGAGE_FORM_TWO };
+
+/// What becomes of the fields that `bag::keep` drops: they are marked as cut off, or nothing is said of them.
+enum class others : std::uint32_t { cut = BAGGAGE_CUT, unsaid = BAGGAGE_UNSAID };
+
+/// What is wrong with bytes that aren't a context's, and how many bytes stand before it.
+struct fault {
+    std::size_t offset;
+    baggage_code code;
+
+    /// The code's name, as the program prints it.
+    [[nodiscard]] const char *name() const noexcept { return baggage_code_text(BAGGAGE_FAULT, code); }
+    [[nodiscard]] std::string message() const { return std::string(name()) + " at byte " + std::to_string(offset); }
+    friend bool operator==(const fault &a, const fault &b) noexcept { return a.offset == b.offset && a.code == b.code; }
+    friend bool operator!=(const fault &a, const fault &b) noexcept { return !(a == b); }
+};
+
+/// Why a bag refused a call.
+struct refusal {
+    enum class cause {
+        bad_table, ///< the text isn't a table's: `line`, and `code` says why
+        no_field,  ///< no slot has this path: `line` of the writes, 0 for the path that was handed in
+        bad_write, ///< the text in this `line` is no write to its field
+        bad_bytes, ///< of received bytes: they aren't a context's, from `offset` on for `code`
+        ill_typed  ///< of the input with this number, what stands at `offset` isn't spelled as the table says
+    };
+    cause why;
+    std::size_t line = 0;
+    std::size_t input = 0;
+    std::size_t offset = 0;
+    std::uint32_t code = 0;
+
+    /// The name of the code beside `bad_table` and `bad_bytes`, else "".
+    [[nodiscard]] const char *name() const noexcept {
+        return why == cause::bad_table ? baggage_code_text(BAGGAGE_TABLE, code) : why == cause::bad_bytes ? baggage_code_text(BAGGAGE_FAULT, code) : "";
+    }
+    [[nodiscard]] std::string message() const {
+        switch (why) {
+        case cause::bad_table: return "line " + std::to_string(line) + " is not a table's: " + name();
+        case cause::no_field: return line ? "write " + std::to_string(line) + ": no such field" : "no such field";
+        case cause::bad_write: return "write " + std::to_string(line) + ": not a write to its field";
+        case cause::bad_bytes: return std::string(name()) + " at byte " + std::to_string(offset);
+        case cause::ill_typed: return "input " + std::to_string(input) + ": ill typed at byte " + std::to_string(offset);
+        }
+        return "";
+    }
+};
+
+#if defined(__cpp_lib_expected)
+template <class T, class E> using result = std::expected<T, E>;
+template <class E> using unexpected = std::unexpected<E>;
+#else
+template <class E> class unexpected {
+public:
+    constexpr explicit unexpected(E error) : error_(std::move(error)) {}
+    constexpr E &&error() && noexcept { return std::move(error_); }
+
+private:
+    E error_;
+};
+
+/// What `value()` throws where there is none.
+class bad_result_access : public std::exception {
+public:
+    [[nodiscard]] const char *what() const noexcept override { return "a result without a value"; }
+};
+
+/// A value or an error, with the part of std::expected that is used here.
+template <class T, class E> class [[nodiscard]] result {
+public:
+    using value_type = T;
+    using error_type = E;
+
+    result(T value) : is_(std::in_place_index<0>, std::move(value)) {}
+    result(unexpected<E> error) : is_(std::in_place_index<1>, std::move(error).error()) {}
+
+    [[nodiscard]] bool has_value() const noexcept { return is_.index() == 0; }
+    explicit operator bool() const noexcept { return has_value(); }
+    [[nodiscard]] const T &operator*() const & noexcept { return *std::get_if<0>(&is_); }
+    [[nodiscard]] T &operator*() & noexcept { return *std::get_if<0>(&is_); }
+    [[nodiscard]] T &&operator*() && noexcept { return std::move(*std::get_if<0>(&is_)); }
+    [[nodiscard]] const T *operator->() const noexcept { return std::get_if<0>(&is_); }
+    [[nodiscard]] T *operator->() noexcept { return std::get_if<0>(&is_); }
+    [[nodiscard]] const T &value() const & { return checked(), **this; }
+    [[nodiscard]] T &value() & { return checked(), **this; }
+    [[nodiscard]] T &&value() && { return checked(), std::move(**this); }
+    [[nodiscard]] const E &error() const & noexcept { return *std::get_if<1>(&is_); }
+    [[nodiscard]] E &error() & noexcept { return *std::get_if<1>(&is_); }
+    [[nodiscard]] E &&error() && noexcept { return std::move(*std::get_if<1>(&is_)); }
+    template <class U> [[nodiscard]] T value_or(U &&other) const & { return has_value() ? **this : static_cast<T>(std::forward<U>(other)); }
+    template <class U> [[nodiscard]] T value_or(U &&other) && { return has_value() ? std::move(**this) : static_cast<T>(std::forward<U>(other)); }
+
+private:
+    void checked() const {
+        if (!has_value())
+            throw bad_result_access();
+    }
+    std::variant<T, E> is_;
+};
+#endif
+
+class bag;
+class context;
+
+namespace detail {
+
+inline const std::uint8_t *bytes_of(std::string_view text) noexcept {
+    return text.empty() ? BAGGAGE_LOST : reinterpret_cast<const std::uint8_t *>(text.data());
+}
+
+inline std::uint8_t *room_of(std::string &room) noexcept { return reinterpret_cast<std::uint8_t *>(&room[0]); }
+
+inline const char *text_of(std::string_view text) noexcept { return text.empty() ? "" : text.data(); }
+
+inline baggage_span span_of(std::string_view text) noexcept { return {bytes_of(text), text.size()}; }
+
+/// The spans of inputs, of which there may be none; a null pointer is never handed in.
+class spans {
+public:
+    void add(std::string_view input) {
+        list_.push_back(span_of(input));
+        total_ += input.size();
+    }
+    [[nodiscard]] const baggage_span *data() const noexcept { return list_.empty() ? &none_ : list_.data(); }
+    [[nodiscard]] std::size_t size() const noexcept { return list_.size(); }
+    /// A room that is long enough for a join.
+    [[nodiscard]] std::size_t room() const noexcept { return BAGGAGE_ROOM_FOR(total_); }
+
+private:
+    std::vector<baggage_span> list_;
+    std::size_t total_ = 0;
+    baggage_span none_ = span_of({});
+};
+
+/// Calls with a room that grows until it is long enough. What can't be is no memory, or a library that isn't that of the header.
+template <class Call> baggage_answer fill(std::string &room, std::size_t first, Call call) {
+    room.resize(first);
+    for (;;) {
+        const baggage_answer answer = call(room);
+        if (answer.status == BAGGAGE_MEMORY)
+            throw std::bad_alloc();
+        if (answer.status != BAGGAGE_ROOM) {
+            room.resize(answer.status == BAGGAGE_OK ? answer.size : 0);
+            return answer;
+        }
+        room.resize(answer.size);
+    }
+}
+
+/// The result of a call that no argument can make fail.
+template <class Call> std::string filled(std::size_t first, Call call) {
+    std::string room;
+    if (fill(room, first, call).status != BAGGAGE_OK)
+        std::terminate(); // the library isn't that of the header
+    return room;
+}
+
+constexpr std::uint64_t within(form as, std::uint64_t budget) noexcept {
+    const std::uint64_t least = as == form::two ? 13 : 1;
+    return budget < least ? least : budget;
+}
+
+inline std::string join(form as, const spans &inputs, std::uint64_t budget) {
+    return filled(inputs.room(), [&](std::string &room) {
+        return baggage_join(static_cast<std::uint32_t>(as), inputs.data(), inputs.size(), within(as, budget), room_of(room), room.size());
+    });
+}
+
+inline refusal refusal_of(const baggage_answer &answer) noexcept {
+    switch (answer.status) {
+    case BAGGAGE_TABLE: return {refusal::cause::bad_table, answer.offset, 0, 0, answer.code};
+    case BAGGAGE_FIELD: return {refusal::cause::no_field, answer.offset, 0, 0, 0};
+    case BAGGAGE_WRITE: return {refusal::cause::bad_write, answer.offset, 0, 0, 0};
+    case BAGGAGE_FAULT: return {refusal::cause::bad_bytes, 0, answer.context, answer.offset, answer.code};
+    case BAGGAGE_TYPE: return {refusal::cause::ill_typed, 0, answer.context, answer.offset, 0};
+    default: std::terminate(); // the library isn't that of the header
+    }
+}
+
+template <class Range> using element_of = std::decay_t<decltype(*std::begin(std::declval<const Range &>()))>;
+
+template <class Range, class Element, class = void> struct is_range_of : std::false_type {};
+template <class Range, class Element>
+struct is_range_of<Range, Element, std::void_t<element_of<Range>>> : std::is_convertible<element_of<Range>, Element> {};
+
+} // namespace detail
+
+/// A context. It is always valid, a copy of it is a branch, and one that was moved from is the empty one.
+class context {
+public:
+    /// The empty context: nothing is said, and all of it is exact.
+    context() noexcept = default;
+    context(const context &) = default;
+    context(context &&other) noexcept : bytes_(std::move(other.bytes_)) { other.bytes_.clear(); }
+    context &operator=(const context &) = default;
+    context &operator=(context &&other) noexcept {
+        if (this != &other) {
+            bytes_ = std::move(other.bytes_);
+            other.bytes_.clear();
+        }
+        return *this;
+    }
+    ~context() = default;
+
+    /// What stands for a context that was promised and can't be read: every field is partial.
+    [[nodiscard]] static context lost() { return context(std::string(1, '\0')); }
+
+    /// The context with these bytes, which may be in either form.
+    [[nodiscard]] static result<context, fault> from(std::string_view bytes) {
+        const baggage_answer checked = baggage_check(detail::bytes_of(bytes), bytes.size());
+        if (checked.status != BAGGAGE_OK)
+            return unexpected<fault>(fault{checked.offset, static_cast<baggage_code>(checked.code)});
+        return context(in_form(form::one, bytes));
+    }
+
+    /// The merge of any number of contexts.
+    template <class Range> [[nodiscard]] static context join(const Range &contexts) {
+        detail::spans inputs;
+        for (const context &each : contexts)
+            inputs.add(each.bytes_);
+        return context(detail::join(form::one, inputs, no_budget));
+    }
+
+    /// The context within a budget of bytes in a form. A budget that nothing fits into is raised to the least one, 1 or 13.
+    [[nodiscard]] context cut(std::uint64_t budget, form as = form::one) const {
+        detail::spans inputs;
+        inputs.add(bytes_);
+        std::string bytes = detail::join(as, inputs, budget);
+        return context(as == form::one ? std::move(bytes) : in_form(form::one, bytes));
+    }
+
+    /// The bytes, in form two also where an atom is too long for form one.
+    [[nodiscard]] std::string bytes(form as = form::one) const { return as == form::one ? bytes_ : in_form(as, bytes_); }
+
+    /// The bytes in form one, as long as the context stays.
+    [[nodiscard]] std::string_view view() const noexcept { return bytes_; }
+
+    /// Whether nothing is said, and nothing is missing.
+    [[nodiscard]] bool empty() const noexcept { return bytes_.empty(); }
+
+    [[nodiscard]] friend context operator|(const context &a, const context &b) {
+        detail::spans inputs;
+        inputs.add(a.bytes_);
+        inputs.add(b.bytes_);
+        return context(detail::join(form::one, inputs, no_budget));
+    }
+    context &operator|=(const context &other) { return *this = *this | other; }
+    [[nodiscard]] friend bool operator==(const context &a, const context &b) noexcept { return a.bytes_ == b.bytes_; }
+    [[nodiscard]] friend bool operator!=(const context &a, const context &b) noexcept { return a.bytes_ != b.bytes_; }
+
+private:
+    friend class bag;
+    template <class Values> friend context extract(const Values &values, const context &absent);
+
+    explicit context(std::string bytes) noexcept : bytes_(std::move(bytes)) {}
+
+    static std::string in_form(form as, std::string_view bytes) {
+        detail::spans inputs;
+        inputs.add(bytes);
+        return detail::join(as, inputs, no_budget);
+    }
+
+    std::string bytes_; // a context's, in form one, or in form two where an atom is too long; so equal contexts have equal bytes
+};
+
+// ---- carriers
+
+/// The value of a header that carries the context.
+[[nodiscard]] inline std::string to_header(const context &it) {
+    const std::string_view bytes = it.view();
+    std::string text(baggage_header_letters(bytes.size()), '\0');
+    text.resize(baggage_to_header(&text[0], detail::bytes_of(bytes), bytes.size()));
+    return text;
+}
+
+/// The context that the values of a header carry, one for each line that came. What can't be read is lost. `absent` stands for no value at all:
+/// `context()` at an edge, `context::lost()` inside.
+template <class Values> [[nodiscard]] context extract(const Values &values, const context &absent) {
+    detail::spans inputs;
+    std::size_t total = 0;
+    for (const auto &each : values) {
+        const std::string_view value(each);
+        inputs.add(value);
+        total += value.size();
+    }
+    if (!inputs.size())
+        return absent;
+    std::string room(BAGGAGE_EXTRACT_ROOM(total), '\0');
+    room.resize(baggage_extract(detail::room_of(room), inputs.data(), inputs.size(), BAGGAGE_ABSENT_LOST, nullptr));
+    room.shrink_to_fit();
+    return context(std::move(room));
+}
+
+/// The context that one value of a header carries.
+[[nodiscard]] inline context from_header(std::string_view value) {
+    const std::string_view values[] = {value};
+    return extract(values, context::lost());
+}
+
+/// The context that came as bytes over a carrier that keeps lengths; lost where they are no context's.
+[[nodiscard]] inline context from_binary(std::string_view bytes) {
+    auto read = context::from(bytes);
+    return read ? std::move(*read) : context::lost();
+}
+
+/// Sets the header in a map of names to values, in place of any that is there.
+template <class Headers> void inject(Headers &headers, const context &it) {
+    const std::string name(header_name);
+    headers.erase(name);
+    headers.emplace(name, to_header(it));
+}
+
+/// The context of all values that a map or a multimap has under the header's name. The map compares names as it does.
+template <class Headers> [[nodiscard]] context extract_from(const Headers &headers, const context &absent) {
+    std::vector<std::string_view> values;
+    const auto found = headers.equal_range(std::string(header_name));
+    for (auto each = found.first; each != found.second; ++each)
+        values.emplace_back(each->second);
+    return extract(values, absent);
+}
+
+// ---- bags
+
+/// The literal of a string, as a write has it.
+[[nodiscard]] inline std::string quote(std::string_view text) {
+    std::string literal(BAGGAGE_QUOTE_ROOM(text.size()), '\0');
+    literal.resize(baggage_quote(&literal[0], text.data(), text.size()));
+    return literal;
+}
+
+/// What a service writes: paths, each with a text as in a `set` of a graph.
+class writes {
+public:
+    /// `set("id", "4711")`, `set("tags", quote("spring"))`, `set("hops", quote("cart") + ":3")`, `set("debug", "on")`.
+    writes &set(std::string_view path, std::string_view text) & {
+        // A blank or a line feed would make another write of it; no slot has the empty path, and no write the empty text.
+        if (path.find_first_of(" \n") == std::string_view::npos)
+            lines_ += path;
+        lines_ += ' ';
+        if (text.find('\n') == std::string_view::npos)
+            lines_ += text;
+        lines_ += '\n';
+        return *this;
+    }
+    writes &&set(std::string_view path, std::string_view text) && { return std::move(set(path, text)); }
+
+    [[nodiscard]] const std::string &lines() const noexcept { return lines_; }
+
+private:
+    std::string lines_;
+};
+
+/// What a context says of a field, and whether that is all that was said.
+template <class T> struct field {
+    T value;
+    bool exact;
+
+    friend bool operator==(const field &a, const field &b) { return a.value == b.value && a.exact == b.exact; }
+    friend bool operator!=(const field &a, const field &b) { return !(a == b); }
+};
+
+/// What a service knows: the table of a definition, or a part of it. A copy is as good as the first.
+class bag {
+public:
+    /// The bag that knows no field.
+    bag() : table_("baggage table 1\n") {}
+
+    /// The bag of a table's text, as `baggage table FILE BAG` prints it.
+    [[nodiscard]] static result<bag, refusal> from(std::string_view table) {
+        const baggage_answer checked = baggage_check_table(detail::text_of(table), table.size());
+        if (checked.status == BAGGAGE_MEMORY)
+            throw std::bad_alloc();
+        if (checked.status != BAGGAGE_OK)
+            return unexpected<refusal>(detail::refusal_of(checked));
+        return bag(std::string(table));
+    }
+
+    /// The bag that knows the fields at these paths alone, of a slot or of a bag.
+    template <class Paths> [[nodiscard]] result<bag, refusal> only(const Paths &paths) const;
+    [[nodiscard]] result<bag, refusal> only(std::initializer_list<std::string_view> paths) const { return only<std::initializer_list<std::string_view>>(paths); }
+
+    /// The same bag with the limits of a form on what is written: a datum may have 65,534 bytes in form one and 1,048,575 in form two.
+    [[nodiscard]] bag in_form(form as) const {
+        bag other(*this);
+        other.form_ = as;
+        return other;
+    }
+
+    [[nodiscard]] const std::string &table() const noexcept { return table_; }
+
+    /// The name paths of the slots, in the table's order.
+    [[nodiscard]] std::vector<std::string> slots() const;
+
+    /// One step of this service: the merge of the inputs and of what is written, in normal form, cut to the budget.
+    template <class Range, std::enable_if_t<detail::is_range_of<Range, context>::value, int> = 0>
+    [[nodiscard]] result<context, refusal> update(const Range &inputs, const writes &said = writes(), std::uint64_t budget = no_budget) const {
+        detail::spans spans;
+        for (const context &each : inputs)
+            spans.add(each.bytes_);
+        return update_spans(spans, said, budget);
+    }
+    [[nodiscard]] result<context, refusal> update(std::initializer_list<context> inputs, const writes &said = writes(), std::uint64_t budget = no_budget) const {
+        return update<std::initializer_list<context>>(inputs, said, budget);
+    }
+    [[nodiscard]] result<context, refusal> update(const context &input, const writes &said = writes(), std::uint64_t budget = no_budget) const {
+        detail::spans spans;
+        spans.add(input.bytes_);
+        return update_spans(spans, said, budget);
+    }
+
+    /// The context that bytes say, as this service takes it. A refusal's offset is one in these bytes.
+    [[nodiscard]] result<context, refusal> receive(std::string_view bytes) const {
+        detail::spans spans;
+        spans.add(bytes);
+        return update_spans(spans, writes(), no_budget);
+    }
+
+    /// What may leave a trust boundary: only what stands below the fields of this bag.
+    [[nodiscard]] context keep(const context &it, others rest, std::uint64_t budget = no_budget) const {
+        detail::spans spans;
+        spans.add(it.bytes_);
+        return keep_spans(spans, rest, budget);
+    }
+
+    /// The text of a field's value, as `baggage decode` prints it.
+    [[nodiscard]] result<field<std::string>, refusal> text(const context &it, std::string_view path) const {
+        std::string room;
+        const baggage_answer answer = detail::fill(room, 64, [&](std::string &into) {
+            return baggage_read_field(table_.data(), table_.size(), detail::bytes_of(it.bytes_), it.bytes_.size(), detail::text_of(path), path.size(), &into[0],
+                                      into.size());
+        });
+        if (answer.status != BAGGAGE_OK)
+            return unexpected<refusal>(detail::refusal_of(answer));
+        return field<std::string>{std::move(room), answer.code == BAGGAGE_EXACT};
+    }
+
+    /// The text that `baggage decode` prints of the context, with its bytes in a form.
+    [[nodiscard]] result<std::string, refusal> report(const context &it, form as = form::one) const {
+        const std::string bytes = it.bytes(as);
+        std::string room;
+        const baggage_answer answer = detail::fill(room, 256, [&](std::string &into) {
+            return baggage_report(BAGGAGE_TEXT, table_.data(), table_.size(), detail::bytes_of(bytes), bytes.size(), &into[0], into.size());
+        });
+        if (answer.status != BAGGAGE_OK)
+            return unexpected<refusal>(detail::refusal_of(answer));
+        return room;
+    }
+
+private:
+    explicit bag(std::string table) : table_(std::move(table)) {}
+
+    result<context, refusal> update_spans(const detail::spans &inputs, const writes &said, std::uint64_t budget) const {
+        std::string room;
+        const std::string &lines = said.lines();
+        const baggage_answer answer = detail::fill(room, inputs.room() + 2 * lines.size(), [&](std::string &into) {
+            return baggage_update(static_cast<std::uint32_t>(form_), table_.data(), table_.size(), inputs.data(), inputs.size(), lines.data(), lines.size(),
+                                  detail::within(form_, budget), detail::room_of(into), into.size());
+        });
+        if (answer.status != BAGGAGE_OK)
+            return unexpected<refusal>(detail::refusal_of(answer));
+        return context(form_ == form::one ? std::move(room) : context::in_form(form::one, room));
+    }
+
+    context keep_spans(const detail::spans &inputs, others rest, std::uint64_t budget) const {
+        return context(detail::filled(inputs.room(), [&](std::string &into) {
+            return baggage_keep(BAGGAGE_FORM_ONE, static_cast<std::uint32_t>(rest), table_.data(), table_.size(), inputs.data(), inputs.size(),
+                                detail::within(form::one, budget), detail::room_of(into), into.size());
+        }));
+    }
+
+    std::string table_; // a table's
+    form form_ = form::one;
+};
+
+namespace detail {
+
+/// A line of a table: how deep it stands, its name path, whether it is a bag's, and where its text is.
+struct table_line {
+    std::size_t depth;
+    std::string path;
+    bool is_bag;
+    std::string_view text;
+};
+
+/// The lines of a table behind its head. Inside the values of a map there is no path.
+inline std::vector<table_line> lines_of(std::string_view table) {
+    std::vector<table_line> lines;
+    std::vector<std::string> names;
+    std::size_t inside = 0; // the depth of the outermost map to bags that is open, and one more; 0 where there is none
+    for (std::size_t from = table.find('\n') + 1; from < table.size();) {
+        const std::size_t feed = table.find('\n', from);
+        const std::string_view line = table.substr(from, feed + 1 - from);
+        from = feed + 1;
+        const std::size_t first = line.find(' '), second = line.find(' ', first + 1), third = line.find(' ', second + 1);
+        const std::size_t depth = std::strtoul(std::string(line.substr(0, first)).c_str(), nullptr, 10);
+        const std::string_view shape = line.substr(third + 1, line.size() - third - 2);
+        if (inside > depth)
+            inside = 0;
+        names.resize(depth);
+        names.emplace_back(line.substr(second + 1, third - second - 1));
+        std::string path;
+        if (!inside)
+            for (const std::string &name : names)
+                path += (path.empty() ? "" : ".") + name;
+        if (!inside && shape.substr(0, 4) == "map ")
+            inside = depth + 1;
+        lines.push_back({depth, std::move(path), shape == "bag", line});
+    }
+    return lines;
+}
+
+inline bool is_at_or_below(std::string_view path, std::string_view top) noexcept {
+    return path.substr(0, top.size()) == top && (path.size() == top.size() || path[top.size()] == '.');
+}
+
+} // namespace detail
+
+inline std::vector<std::string> bag::slots() const {
+    std::vector<std::string> names;
+    for (detail::table_line &line : detail::lines_of(table_))
+        if (!line.path.empty() && !line.is_bag)
+            names.push_back(std::move(line.path));
+    return names;
+}
+
+template <class Paths> result<bag, refusal> bag::only(const Paths &paths) const {
+    const std::vector<detail::table_line> lines = detail::lines_of(table_);
+    std::vector<bool> kept(lines.size(), false);
+    for (const auto &each : paths) {
+        const std::string_view path(each);
+        bool found = false, below = false;
+        for (std::size_t k = 0; k < lines.size(); k++) {
+            const bool has_path = !lines[k].path.empty();
+            below = has_path ? detail::is_at_or_below(lines[k].path, path) : below; // what is inside a map goes with the map
+            found = found || (has_path && lines[k].path == path);
+            if (below || (has_path && lines[k].is_bag && detail::is_at_or_below(path, lines[k].path)))
+                kept[k] = true;
+        }
+        if (!found)
+            return unexpected<refusal>(refusal{refusal::cause::no_field});
+    }
+    std::string table = "baggage table 1\n";
+    for (std::size_t k = 0; k < lines.size(); k++)
+        if (kept[k])
+            table += lines[k].text;
+    bag other(std::move(table));
+    other.form_ = form_;
+    return other;
+}
+
+} // namespace terncommode
+
+template <> struct std::hash<terncommode::context> {
+    std::size_t operator()(const terncommode::context &it) const noexcept { return std::hash<std::string_view>()(it.view()); }
+};
+
+#endif

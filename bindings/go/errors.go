@@ -1,0 +1,106 @@
+package terncommode
+
+import "fmt"
+
+// A Code says what is wrong where bytes cease to be those of a context.
+type Code int
+
+// The codes of faults.
+const (
+	CutLength   Code = iota + 1 // the input ends inside the head or a length
+	BadCount                    // the number in the head isn't that of the bytes after it
+	AtomTooLong                 // a length is above the form's limit
+	LongForm                    // a length has more bytes than it needs
+	CutBody                     // fewer bytes follow than a length says
+	BadPrefix                   // no kind of atom begins with this byte
+	BadIndex                    // after the first byte of an indexed header stands anything but one varint
+	LevelJump                   // a header is more than one level below the one before it
+	OutOfOrder                  // an atom doesn't come after the one before it
+)
+
+var codes = []string{"", "CutLength", "BadCount", "AtomTooLong", "LongForm", "CutBody", "BadPrefix", "BadIndex", "LevelJump", "OutOfOrder"}
+
+// String is the name of the code, as the program prints it.
+func (c Code) String() string {
+	if c > 0 && int(c) < len(codes) {
+		return codes[c]
+	}
+	return fmt.Sprintf("Code(%d)", int(c))
+}
+
+// A TableCode says what is wrong with a line of a table's text.
+type TableCode int
+
+// The codes of tables.
+const (
+	TableHead           TableCode = iota + 1 // the first line isn't `baggage table 1`
+	TableForm                                // the line hasn't the form of a field's, or its line feed is missing
+	TableDepth                               // the field stands deeper than the lines before it let it
+	TableOrder                               // its number isn't greater than that of the field before it in the same bag
+	TableDuplicateField                      // an earlier field of the same bag has the name
+	TableTooDeep                             // its headers would need more levels than there are
+	TableTooManySlots                        // as many fields as a table may have stand before it
+)
+
+var tableCodes = []string{"", "Head", "Form", "Depth", "Order", "DuplicateField", "TooDeep", "TooManySlots"}
+
+// String is the name of the code, as the program prints it.
+func (c TableCode) String() string {
+	if c > 0 && int(c) < len(tableCodes) {
+		return tableCodes[c]
+	}
+	return fmt.Sprintf("TableCode(%d)", int(c))
+}
+
+// A Fault is that bytes aren't those of a context.
+type Fault struct {
+	Input  int // which input it is, from 0 on
+	Offset int // how many of its bytes stand before the fault
+	Code   Code
+}
+
+func (f Fault) Error() string {
+	return fmt.Sprintf("context %d: %v at byte %d", f.Input, f.Code, f.Offset)
+}
+
+// IllTyped is that an atom isn't spelled as the type of its field says.
+type IllTyped struct {
+	Input  int // which context it stands in, from 0 on
+	Offset int // how many bytes of it stand before the atom
+}
+
+func (t IllTyped) Error() string {
+	return fmt.Sprintf("context %d: ill typed at byte %d", t.Input, t.Offset)
+}
+
+// NoField is that no slot of the bag has a name path.
+type NoField struct {
+	Line int    // the number of the write, from 1 on; 0 outside writes
+	Path string // the path, if it was handed in by itself
+}
+
+func (n NoField) Error() string {
+	if n.Line > 0 {
+		return fmt.Sprintf("write %d: no such field", n.Line)
+	}
+	return fmt.Sprintf("no field %q", n.Path)
+}
+
+// BadWrite is that a text is no write to its field.
+type BadWrite struct {
+	Line int // the number of the write, from 1 on
+}
+
+func (b BadWrite) Error() string {
+	return fmt.Sprintf("write %d: no write", b.Line)
+}
+
+// BadTable is that a text isn't that of a table.
+type BadTable struct {
+	Line int // its first bad line, from 1 on
+	Code TableCode
+}
+
+func (b BadTable) Error() string {
+	return fmt.Sprintf("table line %d: %v", b.Line, b.Code)
+}

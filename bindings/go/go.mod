@@ -1,0 +1,3 @@
+module terncommode
+
+go 1.19

@@ -1,0 +1,168 @@
+package otelbag_test
+
+import (
+	"context"
+	"net/http"
+	"reflect"
+	"strings"
+	"testing"
+
+	"go.opentelemetry.io/otel/baggage"
+	"go.opentelemetry.io/otel/propagation"
+
+	"terncommode"
+	"terncommode/otelbag"
+)
+
+var (
+	id7 = parsed("\x02\xf8\x00\x05\x00\x00\x00\x00\x07")
+	tag = parsed("\x02\xf8\x01\x02\x00a")
+)
+
+// A mapCarrier is a carrier that isn't the headers of HTTP.
+type mapCarrier map[string]string
+
+func (c mapCarrier) Get(key string) string { return c[key] }
+func (c mapCarrier) Set(key, value string) { c[key] = value }
+func (c mapCarrier) Keys() []string {
+	var keys []string
+	for key := range c {
+		keys = append(keys, key)
+	}
+	return keys
+}
+
+func parsed(data string) terncommode.Context {
+	c, err := terncommode.Parse([]byte(data))
+	if err != nil {
+		panic(err)
+	}
+	return c
+}
+
+func same(t *testing.T, found, wanted interface{}) {
+	t.Helper()
+	if !reflect.DeepEqual(found, wanted) {
+		t.Errorf("%v, not %v", found, wanted)
+	}
+}
+
+func composite(p propagation.TextMapPropagator) propagation.TextMapPropagator {
+	return propagation.NewCompositeTextMapPropagator(propagation.TraceContext{}, propagation.Baggage{}, p)
+}
+
+// known is what services do that know the propagator of baggage alone.
+var known = propagation.NewCompositeTextMapPropagator(propagation.TraceContext{}, propagation.Baggage{})
+
+// hop hands headers on through a service with this propagator.
+func hop(p propagation.TextMapPropagator, headers http.Header) http.Header {
+	next := http.Header{}
+	p.Inject(p.Extract(context.Background(), propagation.HeaderCarrier(headers)), propagation.HeaderCarrier(next))
+	return next
+}
+
+func sent(t *testing.T, p propagation.TextMapPropagator, c terncommode.Context) http.Header {
+	member, err := baggage.NewMember("tenant", "acme")
+	same(t, err, nil)
+	foreign, err := baggage.New(member)
+	same(t, err, nil)
+	headers := http.Header{}
+	p.Inject(terncommode.With(baggage.ContextWithBaggage(context.Background(), foreign), c), propagation.HeaderCarrier(headers))
+	return headers
+}
+
+func TestThroughServicesThatKnowBaggageAlone(t *testing.T) {
+	for _, row := range []struct {
+		ways    otelbag.Ways
+		arrives terncommode.Context
+		fields  []string
+	}{
+		{otelbag.Header, terncommode.Lost(), []string{"terncommode"}}, {otelbag.Member, id7, []string{"baggage"}},
+		{otelbag.Header | otelbag.Member, id7, []string{"terncommode", "baggage"}},
+	} {
+		p := otelbag.New(terncommode.Lost(), row.ways)
+		same(t, p.Fields(), row.fields)
+		headers := sent(t, composite(p), id7)
+		same(t, terncommode.From(p.Extract(context.Background(), propagation.HeaderCarrier(hop(composite(p), headers)))), id7)
+		for k := 0; k < 5; k++ {
+			headers = hop(known, headers)
+		}
+		ctx := composite(p).Extract(context.Background(), propagation.HeaderCarrier(headers))
+		same(t, terncommode.From(ctx), row.arrives)
+		same(t, baggage.FromContext(ctx).Member("tenant").Value(), "acme")
+		same(t, headers.Get("terncommode"), "")
+	}
+}
+
+func TestAnOldMemberIsReplaced(t *testing.T) {
+	p := otelbag.New(terncommode.Lost(), otelbag.Member)
+	ctx := composite(p).Extract(context.Background(), propagation.HeaderCarrier(sent(t, composite(p), id7)))
+	terncommode.Add(ctx, tag)
+	headers := http.Header{}
+	composite(p).Inject(ctx, propagation.HeaderCarrier(headers))
+	same(t, strings.Count(headers.Get("baggage"), "terncommode="), 1)
+	same(t, strings.Contains(headers.Get("baggage"), "tenant=acme"), true)
+	same(t, terncommode.From(p.Extract(context.Background(), propagation.HeaderCarrier(headers))), terncommode.Join(id7, tag))
+}
+
+func TestWhatArrives(t *testing.T) {
+	own, other, lost := terncommode.ToHeader(id7), terncommode.ToHeader(tag), terncommode.Lost()
+	both := terncommode.Join(id7, tag)
+	for _, row := range []struct {
+		headers http.Header
+		c       *terncommode.Context // nil where nothing came
+	}{
+		{http.Header{}, nil}, {http.Header{"Baggage": {"a=b"}}, nil}, {http.Header{"Baggage": {"Terncommode=" + own}}, nil},
+		{http.Header{"Terncommode": {own}, "Baggage": {"terncommode=" + other}}, &both},
+		{http.Header{"Terncommode": {own, other}}, &both},
+		{http.Header{"Baggage": {"terncommode=" + own + ", terncommode=" + other}}, &both},
+		{http.Header{"Baggage": {"x=y", "bad key=1,\x80, terncommode = " + own + " ;p=q"}}, &id7},
+		{http.Header{"Baggage": {"terncommode=" + own[:len(own)-1]}}, &lost}, {http.Header{"Baggage": {"terncommode"}}, &lost}, {http.Header{"Terncommode": {""}}, &lost},
+	} {
+		for _, absent := range []terncommode.Context{{}, lost, tag} {
+			wanted := absent
+			if row.c != nil {
+				wanted = *row.c
+			}
+			p := otelbag.New(absent, otelbag.Header|otelbag.Member)
+			same(t, terncommode.From(p.Extract(context.Background(), propagation.HeaderCarrier(row.headers))), wanted)
+		}
+	}
+	p := otelbag.New(terncommode.Context{}, otelbag.Header|otelbag.Member)
+	same(t, terncommode.From(p.Extract(context.Background(), mapCarrier{"Terncommode": own, "BAGGAGE": "terncommode=" + other})), terncommode.Join(id7, tag))
+	same(t, terncommode.From(p.Extract(context.Background(), mapCarrier{"terncommode": ""})), lost)
+	carrier := mapCarrier{}
+	p.Inject(terncommode.With(context.Background(), id7), carrier)
+	same(t, carrier, mapCarrier{"terncommode": own, "baggage": "terncommode=" + own})
+}
+
+func TestNoSDKDropsWhatIsSent(t *testing.T) {
+	bag := terncommode.MustBag("baggage table 1\n0 0 id scalar fixed32\n0 1 tags set string\n")
+	var writes []terncommode.Write
+	for k := 0; k < 300; k++ {
+		writes = append(writes, terncommode.Set("tags", terncommode.Quote(strings.Repeat("x", k%50)+string(rune('A'+k%26))+string(rune('a'+k/26)))))
+	}
+	long, err := bag.Update([]terncommode.Context{id7}, writes...)
+	same(t, err, nil)
+	p := otelbag.New(terncommode.Lost(), otelbag.Member)
+	for _, letters := range []int{0, 100, 3000, 5000, 8000, 8150} {
+		headers := http.Header{}
+		if letters > 0 {
+			headers.Set("baggage", "x="+strings.Repeat("y", letters/2)+",z="+strings.Repeat("y", letters/2-4))
+		}
+		p.Inject(terncommode.With(context.Background(), long), propagation.HeaderCarrier(headers))
+		own := strings.Split(headers.Get("baggage"), ",")[0]
+		if len(own) > 4096 || len(headers.Get("baggage")) > 8192 {
+			t.Errorf("%d letters of %d", len(own), len(headers.Get("baggage")))
+		}
+		if least := 8100 - letters; len(own) < least && len(own) < 3900 {
+			t.Errorf("%d letters, where %d are free", len(own), least)
+		}
+		if letters <= 5000 {
+			headers = hop(known, headers)
+		}
+		arrived := terncommode.From(p.Extract(context.Background(), propagation.HeaderCarrier(headers)))
+		text, exact, err := bag.Text(arrived, "tags")
+		same(t, []interface{}{len(text) > 2 || letters > 8000, exact, err}, []interface{}{true, false, nil})
+	}
+}

@@ -1,0 +1,6 @@
+//go:build !terncommode_flags
+
+package terncommode
+
+// #cgo pkg-config: baggage
+import "C"

@@ -1,0 +1,76 @@
+package terncommode
+
+import (
+	"strconv"
+	"strings"
+)
+
+const head = "baggage table 1\n"
+
+// A row is a field of a table that is reached through bags: its name path, the
+// lines of the bags on the way to it, and its own lines, those below included.
+type row struct {
+	path        string
+	isSlot      bool
+	way         []int
+	first, last int
+}
+
+// rowsOf gives the lines of a table's text and its rows, in their order.
+func rowsOf(table string) ([]string, []*row) {
+	lines := strings.SplitAfter(strings.TrimSuffix(table, "\n"), "\n")
+	var rows, open []*row // open are the rows that the next line may stand below
+	for number, line := range lines[1:] {
+		number++
+		words := strings.Fields(line)
+		depth, _ := strconv.Atoi(words[0])
+		if depth < len(open) {
+			open = open[:depth]
+		}
+		for _, above := range open {
+			above.last = number
+		}
+		if depth == len(open) && (depth == 0 || !open[depth-1].isSlot) {
+			here := &row{path: words[2], isSlot: words[3] != "bag", first: number, last: number}
+			for _, above := range open {
+				here.way = append(here.way, above.first)
+			}
+			if depth > 0 {
+				here.path = open[depth-1].path + "." + here.path
+			}
+			rows, open = append(rows, here), append(open, here)
+		}
+	}
+	return lines, rows
+}
+
+// excerpt is the text of the table with the fields at these paths alone.
+func excerpt(table string, paths []string) (string, error) {
+	lines, rows := rowsOf(table)
+	kept := make([]bool, len(lines))
+	kept[0] = true
+	for _, path := range paths {
+		found := false
+		for _, each := range rows {
+			if each.path == path {
+				found = true
+				for _, number := range each.way {
+					kept[number] = true
+				}
+				for number := each.first; number <= each.last; number++ {
+					kept[number] = true
+				}
+			}
+		}
+		if !found {
+			return "", NoField{Path: path}
+		}
+	}
+	var text strings.Builder
+	for number, line := range lines {
+		if kept[number] {
+			text.WriteString(strings.TrimSuffix(line, "\n") + "\n")
+		}
+	}
+	return text.String(), nil
+}

@@ -1,0 +1,196 @@
+"""What a service knows."""
+
+from __future__ import annotations
+
+from dataclasses import dataclass
+from typing import Any, Dict, Iterable, List, Mapping, Optional, Tuple, Union
+
+from . import _library
+from ._context import Context, bytes_of, check_form, data_of, form_one
+from ._errors import BadWrite, NoField
+from ._values import Shape, Table
+
+__all__ = ["Bag", "Field", "Writes"]
+
+Writes = Union[str, bytes, Mapping[str, Any], Iterable[Tuple[str, Any]]]
+"""What an update writes: name paths with values, or lines ``PATH TEXT`` as docs/FORMATS.md has them, each with its line feed."""
+
+
+@dataclass(frozen=True)
+class Field:
+    """What a context says of a field.
+
+    ``exact`` is whether nothing of it can have been cut off. Of a field that isn't exact the value is what is known: more may have
+    been said.
+    """
+
+    value: Any
+    exact: bool
+
+
+class Bag:
+    """The table that a service knows: the text that ``baggage table FILE BAG`` prints.
+
+    Values are Python's own: a scalar is an int, a str, bytes or a bool, and None where it is absent; a struct is a tuple, a set a
+    frozenset, a taint a bool; a counter is a dict of counts by writer (bytes), a map a dict by key, and a bag inside a map a dict by
+    field name.
+    """
+
+    def __init__(self, table: str) -> None:
+        """Raises BadTable where the text isn't that of a table."""
+        if not isinstance(table, str):
+            raise TypeError(f"a table is a str, not {type(table).__name__}")
+        # A letter beyond ASCII stands in no table, nor does the question mark that takes its place.
+        encoded = table.encode("ascii", "replace")
+        _library.check_table(encoded)
+        self._text = table
+        self._encoded = encoded
+        self._table = Table(table)
+
+    @property
+    def table(self) -> str:
+        """The text of the table."""
+        return self._text
+
+    @property
+    def slots(self) -> Tuple[str, ...]:
+        """The name paths of all slots, in the order of the table."""
+        return tuple(self._table.slots)
+
+    def only(self, *paths: str) -> Bag:
+        """The excerpt with these fields alone, each a slot or a bag with all that it has. Raises NoField.
+
+        A service that knows fewer fields updates fewer and can be refused for the types of fewer.
+        """
+        for path in paths:
+            if path not in self._table.fields:
+                raise NoField(path=path)
+        return Bag(self._table.excerpt(paths))
+
+    def receive(self, data: bytes) -> Context:
+        """What this service makes of bytes that came, in either form: their context, in normal form for the bag.
+
+        Raises Fault where they aren't those of a context, and IllTyped, both with offsets in these bytes.
+        """
+        return Context._of(_library.update(_library.FORM_ONE, self._encoded, [bytes_of(data)], b""))
+
+    def update(
+        self,
+        contexts: Iterable[Context],
+        writes: Writes = (),
+        budget: Optional[int] = None,
+        form: int = 1,
+    ) -> Context:
+        """One step of this service: the merge of the contexts and of what is written, in normal form, cut to the budget.
+
+        With one context and no write this is what a service does with a context that it received, and with several what it does where
+        branches meet. Data of fields that the bag doesn't have are left as they are. ``form`` is the one in which the budget holds; in
+        form two a written value may be longer.
+
+        Raises IllTyped where a context has an atom that isn't spelled as the type of its field, NoField and BadWrite where a write is no
+        write. A service does best to go on after IllTyped as one that doesn't know the field: with ``Context.join``, or with the
+        excerpt without it.
+        """
+        check_form(form)
+        inputs = [data_of(context) for context in contexts]
+        lines, numbers = self._lines(writes)
+        try:
+            data = _library.update(form, self._encoded, inputs, lines, _library.NO_BUDGET if budget is None else budget)
+        except BadWrite as refused:
+            # A value of several lines is one write.
+            raise BadWrite(numbers[refused.line - 1] if numbers else refused.line) from None
+        return Context._of(form_one(data))
+
+    def write(self, context: Context, path: str, value: Any) -> Context:
+        """The context with this value written to a field, in normal form.
+
+        A write adds: of two values of a scalar the least stays (of a greatest the greatest), a set and a dict get what is new, and a
+        value that says nothing, such as an empty set, adds nothing.
+        """
+        return self.update([context], [(path, value)])
+
+    def read(self, context: Context, path: str) -> Field:
+        """What a context says of a field.
+
+        Raises IllTyped where an atom of any field of this bag isn't spelled as its type says: ``bag.only(path).read(context, path)`` looks
+        at this field alone.
+        """
+        shape = self._shape(path)
+        text = self.text(context, path)
+        return Field(shape.value_of(text.value), text.exact)
+
+    def read_all(self, context: Context) -> Dict[str, Field]:
+        """What a context says of all fields, in the order of the table. Raises IllTyped."""
+        lines = (line.split(" ", 2) for line in self.report(context).split("\n")[1:-1])
+        return {path: Field(self._table.slots[path].value_of(text), state == "exact") for path, state, text in lines}
+
+    def text(self, context: Context, path: str) -> Field:
+        """What a context says of a field, as the text that a report has. Raises IllTyped as ``read`` does."""
+        self._shape(path)
+        text, state = _library.read_field(self._encoded, data_of(context), path.encode("ascii"))
+        return Field(text.decode("utf-8"), state == _library.EXACT)
+
+    def report(self, context: Context, form: int = 1) -> str:
+        """The text of what a context says of all fields, as ``baggage decode`` prints it of the bytes in that form. Raises IllTyped."""
+        return _library.report(self._encoded, context.to_bytes(form)).decode("utf-8")
+
+    def keep(self, contexts: Iterable[Context], budget: Optional[int] = None, *, cut: bool = True, form: int = 1) -> Context:
+        """What may leave a trust boundary: of the merge of the contexts only what stands below the slots of this bag, within the budget.
+
+        With ``cut`` the rest is marked as cut off, so no field is read as exact that isn't, whatever table reads it. Without, nothing is
+        said of the rest, and the kept fields are exactly as exact as before, for readers with this table.
+        """
+        check_form(form)
+        inputs = [data_of(context) for context in contexts]
+        others = _library.CUT if cut else _library.UNSAID
+        data = _library.keep(form, others, self._encoded, inputs, _library.NO_BUDGET if budget is None else budget)
+        return Context._of(form_one(data))
+
+    def value_of(self, path: str, text: str) -> Any:
+        """The value that the text of a report says of a field."""
+        return self._shape(path).value_of(text)
+
+    def text_of(self, path: str, value: Any) -> str:
+        """The text of a value of a field, as a report has it. Raises BadWrite where the field can't hold the value."""
+        return self._shape(path).format(value)
+
+    def lines_of(self, path: str, value: Any) -> str:
+        """The lines of the writes that together say a value of a field. Raises BadWrite where the field can't hold the value."""
+        return "".join(f"{path} {text}\n" for text in self._shape(path).writes(value))
+
+    def _shape(self, path: str) -> Shape:
+        try:
+            return self._table.slots[path]
+        except KeyError:
+            raise NoField(path=path) from None
+
+    def _lines(self, writes: Writes) -> Tuple[bytes, List[int]]:
+        """The lines of the writes and, where they aren't lines already, of each line the number of its write."""
+        if isinstance(writes, (str, bytes)):
+            return writes.encode("utf-8") if isinstance(writes, str) else writes, []
+        lines: List[str] = []
+        numbers: List[int] = []
+        for number, (path, value) in enumerate(writes.items() if isinstance(writes, Mapping) else writes, 1):
+            try:
+                texts = list(self._shape(path).writes(value))
+            except NoField as refused:
+                raise NoField(number, refused.path) from None
+            except BadWrite as refused:
+                raise BadWrite(number, f"{path}: {refused.reason}") from None
+            lines += [f"{path} {text}\n" for text in texts]
+            numbers += [number] * len(texts)
+        return "".join(lines).encode("utf-8"), numbers
+
+    def __eq__(self, other: object) -> bool:
+        if not isinstance(other, Bag):
+            return NotImplemented
+        return self._text == other._text
+
+    def __hash__(self) -> int:
+        return hash((Bag, self._text))
+
+    def __reduce__(self) -> Tuple[Any, Tuple[str]]:
+        return Bag, (self._text,)
+
+    def __repr__(self) -> str:
+        return f"<Bag {' '.join(self.slots)}>"

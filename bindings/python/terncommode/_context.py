@@ -1,0 +1,110 @@
+"""What a request carries along."""
+
+from __future__ import annotations
+
+from typing import Iterable, Tuple, Type
+
+from . import _library
+
+__all__ = ["Context"]
+
+
+class Context:
+    """The bytes of a context. It is always valid and never changes, so a branch is the same object.
+
+    ``Context()`` is the empty one, with which a request begins. ``Context.lost()`` stands for a context that was promised and can't
+    be read. Two contexts are equal where they say the same in the same atoms.
+    """
+
+    __slots__ = ("_data",)
+    _data: bytes
+
+    def __init__(self, data: bytes = b"") -> None:
+        """The context with these bytes, in either form. Raises Fault where they aren't those of a context."""
+        # Inside a process all contexts are in form one, so that equal ones have equal bytes.
+        self._data = _library.join(_library.FORM_ONE, [bytes_of(data)])
+
+    @classmethod
+    def _of(cls, data: bytes) -> Context:
+        """The context with these bytes, which the library wrote in form one."""
+        made = cls.__new__(cls)
+        made._data = data
+        return made
+
+    @classmethod
+    def lost(cls) -> Context:
+        """The context of one marker: anything may be missing from it, so every field reads as partial."""
+        return cls._of(_library.LOST)
+
+    @classmethod
+    def join(cls, contexts: Iterable[Context]) -> Context:
+        """The merge of all of them, the empty context where there is none."""
+        return cls._of(_library.join(_library.FORM_ONE, [data_of(context) for context in contexts]))
+
+    def __or__(self, other: object) -> Context:
+        if not isinstance(other, Context):
+            return NotImplemented
+        return Context.join([self, other])
+
+    def cut(self, budget: int, form: int = 1) -> Context:
+        """The context within so many bytes of that form.
+
+        A longer one loses its last fields, and what it may have lost reads as partial from there on. A budget below the least one, 1
+        or in form two 13, counts as that.
+        """
+        check_form(form)
+        return Context._of(form_one(_library.join(form, [self._data], budget)))
+
+    def to_bytes(self, form: int = 1) -> bytes:
+        """The bytes in that form; in form two also where form one is asked for and an atom is too long for it.
+
+        The bytes of form one have no end of their own: send them only where their length travels with them.
+        """
+        check_form(form)
+        return self._data if form == _library.FORM_ONE else _library.join(form, [self._data])
+
+    def __bytes__(self) -> bytes:
+        return self._data
+
+    def __len__(self) -> int:
+        return len(self._data)
+
+    def __eq__(self, other: object) -> bool:
+        if not isinstance(other, Context):
+            return NotImplemented
+        return self._data == other._data
+
+    def __hash__(self) -> int:
+        return hash((Context, self._data))
+
+    def __reduce__(self) -> Tuple[Type[Context], Tuple[bytes]]:
+        return Context, (self._data,)
+
+    def __repr__(self) -> str:
+        digits = self._data.hex()
+        return f"<Context {len(self)} bytes {digits if len(digits) <= 64 else digits[:64] + '..'}>"
+
+
+def bytes_of(data: bytes) -> bytes:
+    """The bytes of anything that has some."""
+    if not isinstance(data, (bytes, bytearray, memoryview)):
+        raise TypeError(f"bytes are wanted, not {type(data).__name__}")
+    return bytes(data)
+
+
+def data_of(context: Context) -> bytes:
+    """The bytes of a context in form one."""
+    if not isinstance(context, Context):
+        raise TypeError(f"a Context is wanted, not {type(context).__name__}")
+    return context._data
+
+
+def form_one(data: bytes) -> bytes:
+    """The bytes of a context, in either form, in form one."""
+    return _library.join(_library.FORM_ONE, [data]) if data.startswith(_library.MARK) else data
+
+
+def check_form(form: int) -> None:
+    """Raises ValueError where no form has the number."""
+    if form not in (_library.FORM_ONE, _library.FORM_TWO):
+        raise ValueError(f"a form is 1 or 2, not {form!r}")

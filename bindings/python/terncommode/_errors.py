@@ -1,0 +1,84 @@
+"""What can be wrong, each with what it is about."""
+
+from __future__ import annotations
+
+from typing import Optional
+
+__all__ = ["BadTable", "BadWrite", "Error", "Fault", "IllTyped", "NoField"]
+
+
+class Error(Exception):
+    """Anything that the library refuses. Out of memory is a MemoryError instead."""
+
+
+class Fault(Error, ValueError):
+    """Bytes that aren't those of a context.
+
+    ``input`` says which of the inputs it is, from 0 on, ``offset`` how many of its bytes stand before the fault, and ``code``
+    is the fault's name as the program prints it, such as ``CutBody``.
+    """
+
+    def __init__(self, input: int, offset: int, code: str) -> None:
+        super().__init__(input, offset, code)
+        self.input = input
+        self.offset = offset
+        self.code = code
+
+    def __str__(self) -> str:
+        return f"context {self.input}: {self.code} at byte {self.offset}"
+
+
+class IllTyped(Error, ValueError):
+    """A context with an atom that isn't spelled as the type of its field says.
+
+    ``input`` says which of the inputs it is, from 0 on, and ``offset`` how many of its bytes stand before the atom.
+    """
+
+    def __init__(self, input: int, offset: int) -> None:
+        super().__init__(input, offset)
+        self.input = input
+        self.offset = offset
+
+    def __str__(self) -> str:
+        return f"context {self.input}: ill typed at byte {self.offset}"
+
+
+class NoField(Error, LookupError):
+    """A name path that no slot of the bag has; ``line`` is the number of the write, from 1 on, or 0 outside writes."""
+
+    def __init__(self, line: int = 0, path: Optional[str] = None) -> None:
+        super().__init__(line, path)
+        self.line = line
+        self.path = path
+
+    def __str__(self) -> str:
+        where = f"write {self.line}: " if self.line else ""
+        return where + ("no such field" if self.path is None else f"no field {self.path!r}")
+
+
+class BadWrite(Error, ValueError):
+    """A value that the field can't hold, or a text that is no write to it; ``line`` is the number of the write, from 1 on."""
+
+    def __init__(self, line: int = 0, reason: str = "no write") -> None:
+        super().__init__(line, reason)
+        self.line = line
+        self.reason = reason
+
+    def __str__(self) -> str:
+        return (f"write {self.line}: " if self.line else "") + self.reason
+
+
+class BadTable(Error, ValueError):
+    """A text that isn't that of a table.
+
+    ``line`` is the number of its first bad line, from 1 on, and ``code`` the fault's name as the program prints it, such as
+    ``Order``.
+    """
+
+    def __init__(self, line: int, code: str) -> None:
+        super().__init__(line, code)
+        self.line = line
+        self.code = code
+
+    def __str__(self) -> str:
+        return f"table line {self.line}: {self.code}"

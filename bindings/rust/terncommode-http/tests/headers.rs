@@ -1,0 +1,30 @@
+//! Contexts in a map of headers.
+
+use http::header::{HeaderMap, HeaderValue};
+use terncommode::{to_header, Context};
+use terncommode_http::{extract, inject};
+
+fn context(digit: u8) -> Context {
+    Context::from_bytes(&[2, 0xf8, 1, 2, 0, digit]).expect("it is a context")
+}
+
+#[test]
+fn a_context_comes_back() {
+    let mut headers = HeaderMap::new();
+    inject(&mut headers, &context(1));
+    inject(&mut headers, &context(2));
+    assert_eq!(headers.get_all("Terncommode").iter().count(), 1);
+    assert_eq!(extract(&headers, Context::default()), context(2));
+}
+
+#[test]
+fn all_lines_are_merged() {
+    let mut headers = HeaderMap::new();
+    assert_eq!(extract(&headers, Context::lost()), Context::lost());
+    assert_eq!(extract(&headers, Context::default()), Context::default());
+    headers.append("terncommode", to_header(&context(1)).parse().unwrap());
+    headers.append("terncommode", to_header(&context(2)).parse().unwrap());
+    assert_eq!(extract(&headers, Context::default()), &context(1) | &context(2));
+    headers.append("terncommode", HeaderValue::from_bytes(b"\xff").unwrap());
+    assert_eq!(extract(&headers, Context::default()), Context::join([&context(1), &context(2), &Context::lost()]));
+}

@@ -1,0 +1,147 @@
+//! What a service knows: a table, or a part of it.
+
+use crate::context::{Budget, Context, Form};
+use crate::error::{refused, Error};
+use crate::raw;
+use crate::table;
+use crate::writes::Writes;
+use terncommode_sys::{self as sys, status};
+
+/// What a context says of a field, and whether that is all that was said.
+#[derive(Clone, Debug, PartialEq, Eq, Hash)]
+pub struct Field<T> {
+    /// What is said.
+    pub value: T,
+    /// Whether nothing of it can have been cut off.
+    pub exact: bool,
+}
+
+/// What becomes of the fields that [`Bag::keep`] drops.
+#[derive(Clone, Copy, Debug, PartialEq, Eq)]
+pub enum Others {
+    /// They are marked as cut off: no field is read as exact that isn't, under any table.
+    Cut,
+    /// Nothing is said of them: the fields that stay are exactly as exact as before, for readers with this table.
+    Unsaid,
+}
+
+/// What a service knows: the table of a definition, or a part of it. The default knows no field.
+#[derive(Clone, Debug, PartialEq, Eq, Hash)]
+pub struct Bag {
+    table: Box<str>,
+    form: Form,
+}
+
+impl Default for Bag {
+    fn default() -> Bag {
+        Bag { table: table::HEAD.into(), form: Form::One }
+    }
+}
+
+impl Bag {
+    /// The bag of a table's text, as `baggage table FILE BAG` prints it.
+    ///
+    /// # Errors
+    ///
+    /// [`Error::BadTable`] with the first bad line.
+    pub fn new(table: &str) -> Result<Bag, Error> {
+        let answer = raw::check_table(table);
+        if answer.status != status::OK {
+            return Err(refused(answer));
+        }
+        Ok(Bag { table: table.into(), form: Form::One })
+    }
+
+    /// The bag that knows the fields at these paths alone. A path is that of a slot, or of a bag.
+    ///
+    /// # Errors
+    ///
+    /// [`Error::NoField`] where a path is neither.
+    pub fn only(&self, paths: &[&str]) -> Result<Bag, Error> {
+        let table = table::excerpt(&self.table, paths).ok_or(Error::NoField { line: 0 })?;
+        Ok(Bag { table: table.into(), form: self.form })
+    }
+
+    /// The same bag with the limits of a form on what is written: a datum may have 65,534 bytes in form one and 1,048,575 in form two.
+    #[must_use]
+    pub fn with_form(self, form: Form) -> Bag {
+        Bag { form, ..self }
+    }
+
+    /// The table's text.
+    #[must_use]
+    pub fn table(&self) -> &str {
+        &self.table
+    }
+
+    /// The name paths of the slots, in the table's order.
+    #[must_use]
+    pub fn slots(&self) -> Vec<String> {
+        table::lines_of(&self.table).into_iter().filter(|line| !line.is_bag).filter_map(|line| line.path).collect()
+    }
+
+    /// One step of this service: the merge of the inputs and of what is written, in normal form for this bag. With one input and no write
+    /// it is what receiving does, with one write a `set`, with several inputs a `join`.
+    ///
+    /// # Errors
+    ///
+    /// [`Error::NoField`] or [`Error::BadWrite`] with the first bad write, else [`Error::IllTyped`] with the first input that isn't typed
+    /// for this bag. A service that takes others' contexts goes on with [`Context::join`] then, as one that doesn't know would.
+    pub fn update<'a>(&self, inputs: impl IntoIterator<Item = &'a Context>, writes: &Writes) -> Result<Context, Error> {
+        self.update_within(inputs, writes, u64::MAX)
+    }
+
+    /// The same, cut to a number of bytes in the bag's form.
+    ///
+    /// # Errors
+    ///
+    /// As [`Bag::update`].
+    pub fn update_within<'a>(&self, inputs: impl IntoIterator<Item = &'a Context>, writes: &Writes, budget: u64) -> Result<Context, Error> {
+        let inputs: Vec<&[u8]> = inputs.into_iter().map(Context::as_bytes).collect();
+        self.update_bytes(&inputs, writes, budget)
+    }
+
+    /// The context that bytes say, as this service takes it.
+    ///
+    /// # Errors
+    ///
+    /// [`Error::Fault`] or [`Error::IllTyped`], with the offset in these bytes.
+    pub fn receive(&self, bytes: &[u8]) -> Result<Context, Error> {
+        self.update_bytes(&[bytes], &Writes::new(), u64::MAX)
+    }
+
+    fn update_bytes(&self, inputs: &[&[u8]], writes: &Writes, budget: u64) -> Result<Context, Error> {
+        let bytes = raw::update(&self.table, inputs, writes.lines(), Budget::new(self.form, budget)).map_err(refused)?;
+        Ok(Context::made(self.form, bytes))
+    }
+
+    /// What may leave a trust boundary: only what stands below the fields of this bag, well typed or not.
+    #[must_use]
+    pub fn keep(&self, context: &Context, others: Others, budget: impl Into<Budget>) -> Context {
+        let others = match others {
+            Others::Cut => sys::CUT,
+            Others::Unsaid => sys::UNSAID,
+        };
+        let budget = budget.into();
+        Context::made(budget.form(), raw::keep(&self.table, others, &[context.as_bytes()], budget))
+    }
+
+    /// The text of a field's value, as `baggage decode` prints it.
+    ///
+    /// # Errors
+    ///
+    /// [`Error::NoField`] where no slot has the path, [`Error::IllTyped`] where the context isn't typed for this bag.
+    pub fn text(&self, context: &Context, path: &str) -> Result<Field<String>, Error> {
+        let (value, exact) = raw::read_field(&self.table, context.as_bytes(), path).map_err(refused)?;
+        Ok(Field { value, exact })
+    }
+
+    /// The text that `baggage decode` prints of the context, with its bytes in a form.
+    ///
+    /// # Errors
+    ///
+    /// [`Error::IllTyped`] where the context isn't typed for this bag.
+    pub fn report(&self, context: &Context, form: Form) -> Result<String, Error> {
+        raw::report(&self.table, &context.to_bytes(form)).map_err(refused)
+    }
+}

@@ -1,0 +1,164 @@
+//! A context, its forms and its budgets.
+
+use crate::error::{refused_bytes, Error};
+use crate::raw;
+use std::fmt;
+use std::ops::{BitOr, BitOrAssign};
+use terncommode_sys::status;
+
+/// The forms of bytes. Form two begins with the number of its bytes.
+#[derive(Clone, Copy, Debug, Default, PartialEq, Eq, Hash)]
+pub enum Form {
+    /// Without a head; atoms of up to 65,535 bytes. A context with a longer one is written in form two all the same.
+    #[default]
+    One,
+    /// With a head of twelve bytes; atoms of up to 1,048,576 bytes.
+    Two,
+}
+
+/// How many bytes a context may have, in a form.
+#[derive(Clone, Copy, Debug, PartialEq, Eq)]
+pub struct Budget {
+    form: Form,
+    bytes: u64,
+}
+
+impl Budget {
+    /// So many bytes in a form. A number that nothing fits into is raised to the least budget: 1, or 13 in form two.
+    #[must_use]
+    pub const fn new(form: Form, bytes: u64) -> Budget {
+        let least = match form {
+            Form::One => 1,
+            Form::Two => 13,
+        };
+        Budget { form, bytes: if bytes < least { least } else { bytes } }
+    }
+
+    /// No limit.
+    pub const NONE: Budget = Budget::none(Form::One);
+
+    pub(crate) const fn none(form: Form) -> Budget {
+        Budget { form, bytes: u64::MAX }
+    }
+
+    pub(crate) fn form(self) -> Form {
+        self.form
+    }
+
+    pub(crate) fn bytes(self) -> u64 {
+        self.bytes
+    }
+}
+
+impl From<u64> for Budget {
+    /// So many bytes in form one.
+    fn from(bytes: u64) -> Budget {
+        Budget::new(Form::One, bytes)
+    }
+}
+
+/// A context. It is always valid and never changes; a clone of it is a branch. The default is the empty one: nothing is said, and nothing is
+/// missing.
+// The bytes are a context's, in form one, or in form two where an atom is too long; so equal contexts have equal bytes.
+#[derive(Clone, Default, PartialEq, Eq, Hash)]
+pub struct Context(Box<[u8]>);
+
+impl Context {
+    /// What stands for a context that was promised and can't be read: every field is partial.
+    #[must_use]
+    pub fn lost() -> Context {
+        Context(Box::new(terncommode_sys::LOST))
+    }
+
+    /// The context with these bytes, which may be in either form.
+    ///
+    /// # Errors
+    ///
+    /// [`Error::Fault`] with the first fault, where the bytes aren't a context's.
+    pub fn from_bytes(bytes: &[u8]) -> Result<Context, Error> {
+        let answer = raw::check(bytes);
+        if answer.status != status::OK {
+            return Err(refused_bytes(answer));
+        }
+        Ok(Context::made(Form::Two, bytes.to_vec()))
+    }
+
+    /// The bytes in form one, or in form two where an atom is too long for form one.
+    #[must_use]
+    pub fn as_bytes(&self) -> &[u8] {
+        &self.0
+    }
+
+    /// The bytes in a form.
+    #[must_use]
+    pub fn to_bytes(&self, form: Form) -> Vec<u8> {
+        match form {
+            Form::One => self.0.to_vec(),
+            Form::Two => raw::join(&[&self.0], Budget::none(form)),
+        }
+    }
+
+    /// The merge of any number of contexts. That of none is the empty one.
+    pub fn join<'a>(contexts: impl IntoIterator<Item = &'a Context>) -> Context {
+        let inputs: Vec<&[u8]> = contexts.into_iter().map(Context::as_bytes).collect();
+        Context(raw::join(&inputs, Budget::NONE).into())
+    }
+
+    /// The context within a budget: `cut(64)`, or `cut(Budget::new(Form::Two, 64))`.
+    #[must_use]
+    pub fn cut(&self, budget: impl Into<Budget>) -> Context {
+        let budget = budget.into();
+        Context::made(budget.form(), raw::join(&[&self.0], budget))
+    }
+
+    /// Whether nothing is said and nothing is missing.
+    #[must_use]
+    pub fn is_empty(&self) -> bool {
+        self.0.is_empty()
+    }
+
+    /// The context of what the library has written in a form.
+    pub(crate) fn made(form: Form, bytes: Vec<u8>) -> Context {
+        match form {
+            Form::One => Context(bytes.into()),
+            Form::Two => Context(raw::join(&[&bytes], Budget::NONE).into()),
+        }
+    }
+}
+
+impl BitOr for &Context {
+    type Output = Context;
+
+    /// The merge of both.
+    fn bitor(self, other: &Context) -> Context {
+        Context::join([self, other])
+    }
+}
+
+impl BitOrAssign<&Context> for Context {
+    fn bitor_assign(&mut self, other: &Context) {
+        *self = &*self | other;
+    }
+}
+
+impl AsRef<[u8]> for Context {
+    fn as_ref(&self) -> &[u8] {
+        &self.0
+    }
+}
+
+impl TryFrom<&[u8]> for Context {
+    type Error = Error;
+
+    fn try_from(bytes: &[u8]) -> Result<Context, Error> {
+        Context::from_bytes(bytes)
+    }
+}
+
+impl fmt::Debug for Context {
+    fn fmt(&self, out: &mut fmt::Formatter<'_>) -> fmt::Result {
+        out.write_str("Context(")?;
+        self.0.iter().try_for_each(|byte| write!(out, "{byte:02x}"))?;
+        out.write_str(")")
+    }
+}

@@ -1,0 +1,68 @@
+//! What a service writes.
+
+use std::fmt::Write as _;
+
+/// Paths, each with a text as in a `set` of a graph.
+#[derive(Clone, Debug, Default, PartialEq, Eq)]
+pub struct Writes(String);
+
+impl Writes {
+    /// No write.
+    #[must_use]
+    pub fn new() -> Writes {
+        Writes::default()
+    }
+
+    /// A write by its text: `set("id", "4711")`, `set("debug", "on")`, `set("hops", quote("cart") + ":3")`.
+    ///
+    /// A path with a blank or a line feed is that of no slot, and a text with a line feed no write, so that one write never becomes two.
+    #[must_use]
+    pub fn set(mut self, path: &str, text: impl AsRef<str>) -> Writes {
+        let text = text.as_ref();
+        // No slot has the empty path, and no write the empty text.
+        let path = if path.contains([' ', '\n']) { "" } else { path };
+        let text = if text.contains('\n') { "" } else { text };
+        let _ = writeln!(self.0, "{path} {text}");
+        self
+    }
+
+    /// A string for a field of strings, or an element of a set of them.
+    #[must_use]
+    pub fn set_string(self, path: &str, value: &str) -> Writes {
+        self.set(path, quote(value))
+    }
+
+    /// A writer's count for a counter: the greatest count of each writer stays.
+    #[must_use]
+    pub fn count(self, path: &str, writer: &str, count: u64) -> Writes {
+        self.set(path, format!("{}:{count}", quote(writer)))
+    }
+
+    /// A taint that is on.
+    #[must_use]
+    pub fn mark(self, path: &str) -> Writes {
+        self.set(path, "on")
+    }
+
+    pub(crate) fn lines(&self) -> &str {
+        &self.0
+    }
+}
+
+/// The literal of a string, as a write has it.
+#[must_use]
+pub fn quote(text: &str) -> String {
+    let mut literal = String::with_capacity(text.len() + 2);
+    literal.push('"');
+    for letter in text.chars() {
+        match letter {
+            '"' | '\\' => literal.extend(['\\', letter]),
+            '\0'..='\x1f' | '\x7f' => {
+                let _ = write!(literal, "\\x{:02x}", u32::from(letter));
+            }
+            _ => literal.push(letter),
+        }
+    }
+    literal.push('"');
+    literal
+}
