@@ -4,3 +4,4 @@ mod Walks
 mod Fitting
 mod Rooms
 mod Made
+mod RunSteps

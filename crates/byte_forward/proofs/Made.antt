@@ -1,5 +1,5 @@
 -- What is written where the lists that are made are known.
-use Rattle.std.proofs.Common.{◌≡◌, ℕ, ◌+◌, ◌-◌, ◌^◌, ◌<◌, ◌≤◌, inl, inr, Bool, true, false, not, List, [], ◌∷◌, ◌++◌, length, Result, Ok, Err, refl, sym, ap, ◌∙◌, subst, arith}
+use Rattle.std.proofs.Common.{◌≡◌, ℕ, ◌+◌, ◌-◌, ◌^◌, ◌<◌, ◌≤◌, inl, inr, Bool, true, false, not, List, [], ◌∷◌, ◌++◌, length, drop, Result, Ok, Err, refl, sym, ap, ◌∙◌, subst, arith}
 use Rattle.std.proofs.lemmas.Bool.{cases_lt}
 use Rattle.context_model.specs.declared.Form.{Form}
 use Rattle.context_model.specs.declared.Form.TheVariants.{One, Two}
@@ -7,24 +7,26 @@ use Rattle.context_model.specs.declared.TheConstants.{ATOM_MAX}
 use Rattle.context_model.specs.Atoms.{Atom, AreAtoms}
 use Rattle.context_model.specs.ByteCodes.{ByteCode}
 use Rattle.context_model.specs.ContextFault.{IsContextOf}
-use Rattle.context_model.specs.Framing.{bytes_of, has_long, least_budget, size_of}
+use Rattle.context_model.specs.Framing.{bytes_in, bytes_of, form_of, frames, has_long, head_len, least_budget, size_of, AreWithin}
 use Rattle.context_model.specs.GreedyMerge.{greedy_merge}
 use Rattle.context_model.specs.Orders.{atom_cmp}
 use Rattle.context_model.specs.Trimmed.{trimmed}
 use Rattle.context_model.proofs.Following.{IsWellFormed-empty}
 use Rattle.context_model.proofs.GreedyElements.{All-greedy}
+use Rattle.context_model.proofs.Heads.{read_back}
 use Rattle.context_model.proofs.MergedLaws.{merges_greedily, stays_within_limit}
 use Rattle.context_model.proofs.OrderLaws.{atoms_total, atoms_anti}
 use Rattle.context_model.proofs.TrimmedLaws.{trimmed-fits}
+use Rattle.overflow_trim.proofs.Overs.{written_narrow}
 use Rattle.wire_bytes.specs.Reading.{byte_code_of}
 use Rattle.byte_forward.specs.declared.cutting.Cut.{Cut}
 use Rattle.byte_forward.specs.declared.refusals.ByteRefusal.{ByteRefusal}
 use Rattle.byte_forward.specs.declared.refusals.ByteRefusal.TheVariants.{Fault, Room}
-use Rattle.byte_forward.specs.Calls.{IsCutMergeOf}
-use Rattle.byte_forward.specs.Contexts.{IsMergeOf}
+use Rattle.byte_forward.specs.Calls.{IsTrimOf, IsCutMergeOf}
+use Rattle.byte_forward.specs.Contexts.{IsFaultAt, IsMergeOf}
 use Rattle.byte_forward.specs.Cutting.{IsUnderWay}
 use Rattle.byte_forward.specs.Room.{HoldsBytes, IsTooShortFor, WritesBytes, WritesWhole}
-use Rattle.byte_forward.proofs.Fitting.{merged_no_more, trimmed_less, trimmed_much, context_len, size_le, all_atoms}
+use Rattle.byte_forward.proofs.Fitting.{merged_narrow, merged_no_more, narrow_within, trimmed_less, trimmed_much, context_len, size_le, all_atoms}
 use Rattle.byte_forward.proofs.ToCome.{to_come_same}
 
 -- What is said of each list that is made, and of each fault.
@@ -47,6 +49,16 @@ not_long false none = refl
 pub no_bytes : IsContextOf [] []
 no_bytes = (tt, IsWellFormed-empty, refl)
 
+-- A context in the form that is asked for, which fits the budget, is written as it stands.
+pub writes_own : (form : Form) (a : List Atom) (bytes : List ℕ) → IsContextOf a bytes → form_of bytes ≡ form → (budget : ℕ) → length bytes ≤ budget
+    → (old new : List ℕ) (size : ℕ) → HoldsBytes bytes size old new → WritesBytes form (IsTrimOf form budget bytes) (IsFaultAt (bytes ∷ [])) old new (Ok size)
+writes_own form a bytes is own budget fits old new size put =
+    let whole : bytes ≡ bytes_of form a = is.2 ∙ ap (λ width. bytes_of width a) own in
+    let l = ap length whole in
+    let cut = trimmed-fits form a budget (omega arith) in
+    let made : IsTrimOf form budget bytes a = (a, is, sym cut) in
+    (a, made, subst (λ written. HoldsBytes written size old new) whole put)
+
 -- ---- the merge of two contexts
 
 module _ (a b : List Atom) (first second : List ℕ) (is_a : IsContextOf a first) (is_b : IsContextOf b second) where
@@ -65,6 +77,50 @@ module _ (a b : List Atom) (first second : List ℕ) (is_a : IsContextOf a first
       let own = context_len a first is_a in
       let other = context_len b second is_b in
       omega arith
+
+-- ---- the merge of two contexts in form one, whole
+
+-- Bytes in form one are the frames of their context.
+pub narrow_frames : (list : List Atom) (bytes : List ℕ) → IsContextOf list bytes → form_of bytes ≡ One → AreWithin One list × (bytes ≡ frames One list)
+narrow_frames list bytes is one =
+    let read = read_back bytes list is.0 is.2 in (
+      subst (λ form. AreWithin form list) one read.1,
+      subst (λ form. drop (head_len form) bytes ≡ frames form list) one read.2,
+    )
+
+module _ (a b : List Atom) (within : AreWithin One a × AreWithin One b) where
+  merged_not_long : has_long (greedy_merge atom_cmp a b) ≡ false
+  merged_not_long = merged_narrow a b (narrow_within a within.0) (narrow_within b within.1)
+
+  -- The frames of the merge are its bytes.
+  pub whole_bytes : bytes_of One (greedy_merge atom_cmp a b) ≡ frames One (greedy_merge atom_cmp a b)
+  whole_bytes = ap (λ form. bytes_in form (greedy_merge atom_cmp a b)) (written_narrow One (greedy_merge atom_cmp a b) merged_not_long)
+
+  -- Where the budget has place for both lists, nothing is cut.
+  pub whole_cut : (budget : ℕ) → length (frames One a) + length (frames One b) ≤ budget → trimmed One (greedy_merge atom_cmp a b) budget ≡ greedy_merge atom_cmp a b
+  whole_cut budget fits =
+      let few = merged_no_more One a b in
+      let size = ap length whole_bytes in
+      trimmed-fits One (greedy_merge atom_cmp a b) budget (omega arith)
+
+pub writes_whole : (form : Form) (a b : List Atom) (first second : List ℕ) → IsContextOf a first → IsContextOf b second
+    → form ≡ One → form_of first ≡ One → form_of second ≡ One → (budget : ℕ) → length first + length second ≤ budget
+    → (old new : List ℕ) (size : ℕ) → HoldsBytes (frames form (greedy_merge atom_cmp a b)) size old new
+    → WritesBytes form (IsCutMergeOf form budget (first ∷ second ∷ [])) (IsFaultAt (first ∷ second ∷ [])) old new (Ok size)
+writes_whole form a b first second is_a is_b one f g budget fits old new size put =
+    let own = narrow_frames a first is_a f in
+    let other = narrow_frames b second is_b g in
+    let within : AreWithin One a × AreWithin One b = (own.0, other.0) in
+    let l = ap length own.1 in
+    let k = ap length other.1 in
+    let merged = greedy_merge atom_cmp a b in
+    let cut = whole_cut a b within budget (omega arith) in
+    let bytes : HoldsBytes (bytes_of One merged) size old new =
+    subst (λ bytes. HoldsBytes bytes size old new) (sym (whole_bytes a b within)) (subst (λ width. HoldsBytes (frames width merged) size old new) one put) in
+    let P : Form → Type 0 = λ form. WritesBytes form (IsCutMergeOf form budget (first ∷ second ∷ [])) (IsFaultAt (first ∷ second ∷ [])) old new (Ok size) in
+    let is : IsCutMergeOf One budget (first ∷ second ∷ []) merged = (merged, merge_of_two a b first second is_a is_b, sym cut) in
+    let made : WritesBytes One (IsCutMergeOf One budget (first ∷ second ∷ [])) (IsFaultAt (first ∷ second ∷ [])) old new (Ok size) = (merged, is, bytes) in
+    subst P (sym one) made
 
 -- ---- the greatest budget
 

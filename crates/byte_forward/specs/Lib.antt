@@ -5,3 +5,4 @@ pub mod Merging
 pub mod Cutting
 pub mod FaultTexts
 pub mod Laws
+pub mod Runs

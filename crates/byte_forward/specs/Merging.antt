@@ -13,14 +13,14 @@ use Rattle.byte_forward.specs.declared.merging.Piece.{Piece}
 abbrev pub IsFramePiece : Piece → Type 0
 IsFramePiece piece = (length piece.frame.atom.now ≤ most piece.form) × (piece.frame.bytes.now ≡ frame piece.form piece.frame.atom.now)
 
--- This list is still to come: the frame that is known next, and those behind it.
+-- The list is what is still to come of an input: the frame that is known next, and those after it.
 abbrev pub IsAhead : Ahead → List Atom → Type 0
 IsAhead ahead list = MatchOption ahead.next (list ≡ [])
     (λ next. (rest : List Atom) × (list ≡ next.atom.now ∷ rest)
     × (length next.atom.now ≤ most ahead.behind.form) × (next.bytes.now ≡ frame ahead.behind.form next.atom.now)
     × AreFramesOf ahead.behind rest)
 
--- This list is still to come: the greedy merge of what is still to come of both.
+-- The list is what is still to come of a merge: the greedy merge of what is still to come of both inputs.
 abbrev pub IsToCome : Merging → List Atom → Type 0
 IsToCome merging list =
     (a b : List Atom) × IsAhead merging.first a × IsAhead merging.second b × (list ≡ greedy_merge atom_cmp a b)

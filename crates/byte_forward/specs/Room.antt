@@ -16,7 +16,7 @@ HoldsBytes bytes size old new = (size ≡ length bytes) × (size ≤ length old)
 abbrev pub IsTooShortFor : List ℕ → ℕ → List ℕ → List ℕ → Type 0
 IsTooShortFor bytes size old new = (size ≡ length bytes) × (length old < size) × (new ≡ old)
 
--- The same, but that of 2 ^ 64 bytes and more the number can't be told.
+-- The room has no place for these bytes and is as before, and the answer is how many they are where they are fewer than 2 ^ 64.
 abbrev pub HasNoPlaceFor : List ℕ → ℕ → List ℕ → List ℕ → Type 0
 HasNoPlaceFor bytes size old new = (length bytes < 2 ^ 64 → size ≡ length bytes) × (length old < length bytes) × (new ≡ old)
 
@@ -28,7 +28,9 @@ WritesBytes form IsMade IsFault old new (Err (Fault context offset code)) = IsFa
 WritesBytes form IsMade IsFault old new (Err (Room size)) =
     (list : List Atom) × IsMade list × IsTooShortFor (bytes_of form list) size old new
 
--- The same of a list that no budget bounds.
+-- A list that no budget bounds, for which the first fact holds, is written into the room, and its size is the answer. Otherwise
+-- nothing is written: the room is too short for such a list, of whose size the answer is where it can be told, or an input has
+-- a fault, for which the second fact holds.
 abbrev pub WritesWhole : Form → (List Atom → Type 0) → (ℕ → ℕ → ByteCode → Type 0) → List ℕ → List ℕ → Result ℕ ByteRefusal → Type 0
 WritesWhole form IsMade IsFault old new (Ok size) = (list : List Atom) × IsMade list × HoldsBytes (bytes_of form list) size old new
 WritesWhole form IsMade IsFault old new (Err (Fault context offset code)) = IsFault context offset (byte_code_of code) × (new ≡ old)

@@ -14,7 +14,8 @@ use lex_varint::put_u64;
 use wire_bytes::{Form, MARK};
 
 /// Writes bytes at the front of the room, and answers how many they are. The rest of the room stays.
-fn put_bytes(bytes: &[u8], room: &mut [u8]) -> usize
+#[inline(always)]
+pub(crate) fn put_bytes(bytes: &[u8], room: &mut [u8]) -> usize
     requires { length bytes.now ≤ length room.old }
     ensures { HoldsBytes bytes.now result room.old room.new }
 {

@@ -16,6 +16,7 @@ mod filling;
 pub mod laws;
 mod merging;
 mod refusals;
+mod runs;
 
 pub use calls::{forward_bytes, merge_bytes, trim_bytes};
 pub use refusals::ByteRefusal;

@@ -9,7 +9,7 @@ use Rattle.context_model.specs.WireFault.{head_code}
 use Rattle.context_model.specs.ContextFault.{IsContextOf, IsWrongBehind, IsFirstContextFault}
 use Rattle.context_model.proofs.ContextFronts.{first_unformed}
 use Rattle.context_model.proofs.Heads.{AreWithin-atoms, read_there}
-use Rattle.byte_frames.specs.declared.open_atoms.OpenAtoms.{OpenAtoms}
+use Rattle.byte_frames.specs.OpenAtoms.{OpenAtoms}
 use Rattle.byte_frames.specs.Reading.{IsReadTo}
 
 -- Bytes with a right head in this form, of which a context was read and the rest is left.

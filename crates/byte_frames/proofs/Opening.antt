@@ -19,8 +19,7 @@ use Rattle.context_model.proofs.PathPlaces.{place_below, place_at, length_at, la
 use Rattle.atom_kinds.specs.declared.Kind.TheVariants.{Marker, Datum, Indexed, Keyed}
 use Rattle.atom_kinds.specs.Kinds.{outer_kind, TellsKind}
 use Rattle.atom_list.specs.OpenPlaces.{IsHeaderOf, MayStandBehind}
-use Rattle.byte_frames.specs.declared.open_atoms.OpenAtoms.{OpenAtoms}
-use Rattle.byte_frames.specs.OpenAtoms.{EndsWithDatum, IsOpenFor, RisesToAtom}
+use Rattle.byte_frames.specs.OpenAtoms.{OpenAtoms, EndsWithDatum, IsOpenFor, RisesToAtom}
 
 -- ---- a list with one element changed
 

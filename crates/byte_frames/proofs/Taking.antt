@@ -16,8 +16,7 @@ use Rattle.context_model.proofs.FramingLaws.{frames-append, long-append}
 use Rattle.atom_list.specs.OpenPlaces.{MayStandBehind}
 use Rattle.wire_bytes.specs.declared.contexts.ByteCode.{ByteCode}
 use Rattle.wire_bytes.specs.Reading.{byte_code_of}
-use Rattle.byte_frames.specs.declared.open_atoms.OpenAtoms.{OpenAtoms}
-use Rattle.byte_frames.specs.OpenAtoms.{IsOpenFor}
+use Rattle.byte_frames.specs.OpenAtoms.{OpenAtoms, IsOpenFor}
 use Rattle.byte_frames.specs.Reading.{IsReadTo, TakesAtom}
 
 -- ---- the frame at the front

@@ -11,14 +11,24 @@ use Rattle.context_model.specs.ShapeFault.{IsWrong}
 use Rattle.atom_list.specs.declared.contexts.ShapeFault.{ShapeFault}
 use Rattle.atom_list.specs.Contexts.{shape_fault_code_of}
 use Rattle.atom_list.specs.OpenPlaces.{MayStandBehind}
-use Rattle.byte_frames.specs.declared.open_atoms.OpenAtoms.{OpenAtoms}
+use Rattle.byte_frames.specs.declared.open_atoms.OpenHeaders.{OpenHeaders}
+
+-- The headers that are open behind an atom, by their levels, and the last datum behind the last of them.
+pub record OpenAtoms : Type 0 where
+  pub headers : List (Bor (List ℕ))
+  pub count : ℕ
+  pub datum : Option (Bor (List ℕ))
+
+-- The atoms that are open where these headers are, and this datum.
+abbrev pub opened_by : OpenHeaders → Option (Bor (List ℕ)) → OpenAtoms
+opened_by opened datum = record { headers = opened.headers; count = opened.count; datum = datum }
 
 -- Behind so many atoms of a path stands this datum; or the path ends there, or a marker stands there.
 abbrev pub EndsWithDatum : Path → ℕ → Option Atom → Type 0
 EndsWithDatum q count (Some datum) = (payload : List ℕ) × (datum ≡ 0 ∷ payload) × (slice_get q count ≡ Some datum)
 EndsWithDatum q count None = (length q ≡ count) ⊎ (slice_get q count ≡ Some [])
 
--- These are the headers of a path by their levels, and the datum behind them.
+-- The open atoms are the headers of a path by their levels, and the datum after them.
 pub record IsOpenFor (q : Path) (opened : OpenAtoms) : Type 0 where
   pub number : opened.count ≡ header_count q
   pub few : opened.count ≤ LEVELS_MAX

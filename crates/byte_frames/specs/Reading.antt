@@ -9,8 +9,7 @@ use Rattle.context_model.specs.WellFormed.{IsWellFormed}
 use Rattle.context_model.specs.ContextFault.{IsWrongBehind}
 use Rattle.wire_bytes.specs.declared.contexts.ByteCode.{ByteCode}
 use Rattle.wire_bytes.specs.Reading.{byte_code_of}
-use Rattle.byte_frames.specs.declared.open_atoms.OpenAtoms.{OpenAtoms}
-use Rattle.byte_frames.specs.OpenAtoms.{IsOpenFor}
+use Rattle.byte_frames.specs.OpenAtoms.{OpenAtoms, IsOpenFor}
 
 -- A context whose atoms have frames was read, and these are open behind it.
 pub record IsReadTo (form : Form) (list : List Atom) (opened : OpenAtoms) : Type 0 where

@@ -4,19 +4,18 @@ ghost use Rattle.std.specs.Prelude.{◌≡◌, ◌<◌, ◌∷◌, List, ℕ, []
 ghost use Rattle.std.specs.declared.cmp.Ordering.TheVariants.{Less};
 ghost use Rattle.context_model.specs.Orders.{Path, atom_cmp};
 ghost use Rattle.atom_list.specs.OpenPlaces.{IsHeaderOf};
-ghost use Rattle.byte_frames.specs.OpenAtoms.{IsOpenFor, Admits, RisesToAtom};
+ghost use Rattle.byte_frames.specs.OpenAtoms.{IsOpenFor, Admits, RisesToAtom, opened_by};
 
 use atom_kinds::{Kind, KindFault, compare, kind_of};
 use atom_list::ShapeFault;
 use context_model::LEVELS_MAX;
 use std::cmp::Ordering;
 
-/// The headers that are open behind an atom, by their levels, and the last datum behind the last of them.
+/// The headers that are open behind an atom, by their levels.
 #[derive(Drop)]
-pub(crate) struct OpenAtoms<'a> {
+pub(crate) struct OpenHeaders<'a> {
     headers: [&'a [u8]; LEVELS_MAX],
     count: usize,
-    datum: Option<&'a [u8]>,
 }
 
 /// Whether an atom is greater than an earlier one.
@@ -36,48 +35,60 @@ fn rises_behind(earlier: Option<&[u8]>, atom: &[u8]) -> bool
     }
 }
 
-impl<'a> OpenAtoms<'a> {
+impl<'a> OpenHeaders<'a> {
     /// Before the first atom no header is open.
-    pub(crate) fn new() -> OpenAtoms<'a>
-        ensures { IsOpenFor [] result }
+    pub(crate) fn new() -> OpenHeaders<'a>
+        ensures { IsOpenFor [] (opened_by result None) }
     {
-        OpenAtoms {
+        OpenHeaders {
             headers: [&[]; LEVELS_MAX],
             count: 0,
-            datum: None,
         }
     }
 
-    /// Admits an atom, or says what is wrong with it behind the atoms that were admitted.
-    pub(crate) fn admit(&mut self, atom: &'a [u8]) -> Result<(), ShapeFault>
-        ensures { (q : Path) → IsOpenFor q self.old → Admits q atom.now self.new result }
+    /// Admits an atom, or says what is wrong with it behind the atoms that were admitted. `datum` is the last datum behind the last of the
+    /// headers.
+    #[inline(always)]
+    pub(crate) fn admit(
+        &mut self,
+        datum: &mut Option<&'a [u8]>,
+        atom: &'a [u8],
+    ) -> Result<(), ShapeFault>
+        ensures { (q : Path) → IsOpenFor q (opened_by self.old datum.old) → Admits q atom.now (opened_by self.new datum.new) result }
     {
         match kind_of(atom) {
             Ok(Kind::Marker) => Ok(()),
-            Ok(Kind::Datum) => self.admit_datum(atom),
-            Ok(Kind::Indexed { level, .. }) => self.admit_header(atom, usize::from(level)),
-            Ok(Kind::Keyed { level }) => self.admit_header(atom, usize::from(level)),
+            Ok(Kind::Datum) => self.admit_datum(datum, atom),
+            Ok(Kind::Indexed { level, .. }) => self.admit_header(datum, atom, usize::from(level)),
+            Ok(Kind::Keyed { level }) => self.admit_header(datum, atom, usize::from(level)),
             Err(KindFault::BadPrefix) => Err(ShapeFault::BadPrefix),
             Err(KindFault::BadIndex) => Err(ShapeFault::BadIndex),
         }
     }
 
     /// Admits a datum.
-    fn admit_datum(&mut self, atom: &'a [u8]) -> Result<(), ShapeFault>
+    #[inline(always)]
+    fn admit_datum(&self, datum: &mut Option<&'a [u8]>, atom: &'a [u8]) -> Result<(), ShapeFault>
         requires { (payload : List ℕ) × (atom.now ≡ 0 ∷ payload) }
-        ensures { (q : Path) → IsOpenFor q self.old → Admits q atom.now self.new result }
+        ensures { (q : Path) → IsOpenFor q (opened_by self.now datum.old) → Admits q atom.now (opened_by self.now datum.new) result }
     {
-        if !rises_behind(self.datum, atom) {
+        if !rises_behind(*datum, atom) {
             return Err(ShapeFault::OutOfOrder);
         }
-        self.datum = Some(atom);
+        *datum = Some(atom);
         Ok(())
     }
 
     /// Admits a header of a level.
-    fn admit_header(&mut self, atom: &'a [u8], level: usize) -> Result<(), ShapeFault>
+    #[inline(always)]
+    fn admit_header(
+        &mut self,
+        datum: &mut Option<&'a [u8]>,
+        atom: &'a [u8],
+        level: usize,
+    ) -> Result<(), ShapeFault>
         requires { IsHeaderOf atom.now level }
-        ensures { (q : Path) → IsOpenFor q self.old → Admits q atom.now self.new result }
+        ensures { (q : Path) → IsOpenFor q (opened_by self.old datum.old) → Admits q atom.now (opened_by self.new datum.new) result }
     {
         if self.count < level {
             return Err(ShapeFault::LevelJump);
@@ -87,7 +98,7 @@ impl<'a> OpenAtoms<'a> {
         }
         self.headers[level] = atom;
         self.count = level + 1;
-        self.datum = None;
+        *datum = None;
         Ok(())
     }
 }

@@ -10,8 +10,19 @@ use Rattle.byte_forward.specs.Cutting.{IsUnderWay}
 use Rattle.byte_forward.specs.Merging.{IsToCome}
 use Rattle.byte_forward.specs.Room.{WritesBytes}
 use Rattle.byte_forward.proofs.Fitting.{trimmed_narrow, trimmed_less, context_len, size_le}
-use Rattle.byte_forward.proofs.Made.{no_bytes, writes_weaker, cut_same}
+use Rattle.byte_forward.proofs.Made.{no_bytes, writes_own, writes_weaker, cut_same}
 use Rattle.byte_forward.proofs.calls.trim_bytes.Goals as goal
+
+pub put_bytes-requires : goal.put_bytes-requires
+put_bytes-requires c =
+    let whole = c.if-fits_as_is.ensures refl in
+    omega (arith, whole.1, c.min.ensures)
+
+pub returns-then-fits_as_is : goal.returns-then-fits_as_is
+returns-then-fits_as_is c =
+    let a = c.in_ok-long.ensures.found in
+    let whole = c.if-fits_as_is.ensures refl in
+    writes_own c.args.form a.0 c.args.context.now a.1 whole.0 c.args.budget (omega (arith, whole.1, c.min.ensures)) c.args.room.now c.put_bytes.new.room c.put_bytes.result c.put_bytes.ensures
 
 pub write_cut-requires : goal.write_cut-requires
 write_cut-requires c =

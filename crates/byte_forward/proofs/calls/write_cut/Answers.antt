@@ -1,6 +1,5 @@
-use Rattle.std.proofs.Common.{◌≡◌, ◌≤◌, false, true, not, refl, sym, ap, ◌∙◌, subst, arith}
+use Rattle.std.proofs.Common.{◌≡◌, refl, sym, ap, ◌∙◌, subst, arith}
 use Rattle.context_model.specs.declared.Form.{Form}
-use Rattle.context_model.specs.declared.Form.TheVariants.{Two}
 use Rattle.context_model.specs.Framing.{written_in, size_of}
 use Rattle.overflow_trim.proofs.Overs.{written_narrow}
 use Rattle.byte_forward.proofs.Fitting.{trimmed_within}

@@ -1,6 +1,6 @@
-use Rattle.std.proofs.Common.{◌≡◌, ◌+◌, ◌-◌, ◌≤◌, List, [], ◌++◌, length, take, drop, refl, sym, ap, ◌∙◌, subst, arith}
+use Rattle.std.proofs.Common.{◌≡◌, ◌+◌, ◌-◌, ◌≤◌, ◌++◌, length, take, drop, sym, ap, ◌∙◌, subst, arith}
 use Rattle.context_model.specs.declared.Form.TheVariants.{Two}
-use Rattle.context_model.specs.Framing.{frames, head, head_len, bytes_in, size_of, written_in}
+use Rattle.context_model.specs.Framing.{frames, head, head_len, bytes_in, written_in}
 use Rattle.context_model.proofs.FramingLaws.{size_is}
 use Rattle.byte_forward.specs.Room.{HoldsBytes}
 use Rattle.byte_forward.proofs.Rooms.{put_before}

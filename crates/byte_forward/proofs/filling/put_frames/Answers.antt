@@ -1,4 +1,4 @@
-use Rattle.std.proofs.Common.{◌≡◌, ◌+◌, ◌-◌, ◌≤◌, List, [], ◌∷◌, ◌++◌, length, refl, sym, ap, ◌∙◌, subst, arith}
+use Rattle.std.proofs.Common.{◌+◌, ◌-◌, ◌≤◌, [], ◌++◌, length, refl, sym, ap, ◌∙◌, subst, arith}
 use borrow.Rule.Slice.PartMut.{put_mid}
 use Rattle.context_model.specs.Framing.{frame, frames, written_in}
 use Rattle.byte_forward.specs.Cutting.{IsUnderWay}

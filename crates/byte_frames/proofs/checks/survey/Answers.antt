@@ -4,6 +4,7 @@ use Rattle.std.proofs.lemmas.List.{length_push}
 use Rattle.context_model.specs.declared.TheConstants.{LENGTH_MAX}
 use Rattle.context_model.specs.Framing.{has_long}
 use Rattle.wire_bytes.specs.Reading.{byte_code_of}
+use Rattle.byte_frames.specs.OpenAtoms.{opened_by}
 use Rattle.byte_frames.proofs.Ends.{context_read, fault_read}
 use Rattle.byte_frames.proofs.Taking.{split_more, shorter, long_more}
 use Rattle.byte_frames.proofs.checks.survey.Goals as goal
@@ -35,7 +36,7 @@ returns-in-Err-take_atom-clause-fault c =
     let before = c.loop-rest.invariant in
     let head = c.in_default.ensures in
     let some : 0 < length c.loop-rest.rest.now = grind (arith, common_steps) in
-    fault_read c.form_of-form.result c.args.bytes.now before.list c.loop-rest.rest.now c.loop-rest.«open» (byte_code_of c.in-Err-take_atom.code)
+    fault_read c.form_of-form.result c.args.bytes.now before.list c.loop-rest.rest.now (opened_by c.loop-rest.«open» c.loop-rest.datum) (byte_code_of c.in-Err-take_atom.code)
     (record { form_is = c.form_of-form.ensures; right = head.right; long = head.long; split = before.split })
     before.read some (c.in-Err-take_atom.ensures before.list before.read)
 
@@ -45,7 +46,7 @@ returns-clause-found c =
     let head = c.in_default.ensures in
     let none : c.loop-rest.rest.now ≡ [] = grind (arith, common_steps) in (
       before.list,
-      context_read c.form_of-form.result c.args.bytes.now before.list c.loop-rest.rest.now c.loop-rest.«open»
+      context_read c.form_of-form.result c.args.bytes.now before.list c.loop-rest.rest.now (opened_by c.loop-rest.«open» c.loop-rest.datum)
           (record { form_is = c.form_of-form.ensures; right = head.right; long = head.long; split = before.split }) before.read none,
       before.counted,
       before.long,

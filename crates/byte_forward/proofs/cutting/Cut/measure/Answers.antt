@@ -1,7 +1,7 @@
-use Rattle.std.proofs.Common.{◌≡◌, ◌+◌, List, [], ◌++◌, refl, sym, ap, ◌∙◌, subst, arith}
+use Rattle.std.proofs.Common.{[], sym, ap, ◌∙◌, subst, arith}
 use Rattle.context_model.specs.Framing.{size_of, written_in}
 use Rattle.byte_forward.specs.Cutting.{IsUnderWay}
-use Rattle.byte_forward.proofs.Walks.{IsWalk, walk_on, walk_end, of_some, of_none}
+use Rattle.byte_forward.proofs.Walks.{walk_on, walk_end, of_some, of_none}
 use Rattle.byte_forward.proofs.cutting.Cut.measure.Goals as goal
 
 pub loop-smaller : goal.loop-smaller
