@@ -16,7 +16,7 @@ outer_kind (PlainDatum payload) = Datum
 outer_kind (PlainIndexed level number) = Indexed level number
 outer_kind (PlainKeyed level key) = Keyed level
 
--- This is told of the atom's kind.
+-- The atom has a kind, and the code's value stands for it.
 abbrev pub TellsKind : List ℕ → Kind → Type 0
 TellsKind atom kind = (f : HasKind atom) × (outer_kind f.kind ≡ kind)
 

@@ -44,7 +44,7 @@ abbrev pub EndsWith : List Atom → Path → ℕ → Option ℕ → Type 0
 EndsWith list q count (Some place) = (payload : List ℕ) × StandsAt list place q count (0 ∷ payload)
 EndsWith list q count None = (length q ≡ count) ⊎ (slice_get q count ≡ Some [])
 
--- These are the places of a path's headers by their levels, and of the datum behind them.
+-- The numbers are the places of a path's headers by their levels, and of the datum after them.
 pub record IsOpenPath (list : List Atom) (q : Path) (headers : List ℕ) (datum : Option ℕ) : Type 0 where
   pub number : length headers ≡ header_count q
   pub few : length headers ≤ LEVELS_MAX
@@ -52,7 +52,7 @@ pub record IsOpenPath (list : List Atom) (q : Path) (headers : List ℕ) (datum 
       → (a : Atom) × StandsAt list (slice_index headers k) q k a
   pub behind : EndsWith list q (length headers) datum
 
--- These are the places of the headers that are open before a place of the list, and of the datum behind them.
+-- The numbers are the places of the headers that are open before a place of the list, and of the datum after them.
 abbrev pub IsOpenAt : List Atom → ℕ → List ℕ → Option ℕ → Type 0
 IsOpenAt list at headers datum = IsOpenPath list (path_before list at) headers datum
 
@@ -60,7 +60,7 @@ IsOpenAt list at headers datum = IsOpenPath list (path_before list at) headers d
 abbrev pub MayStand : List Atom → ℕ → Type 0
 MayStand list at = MayStandBehind (path_before list at) (atom_at list at)
 
--- This is wrong with the atom at a place.
+-- The code says what is wrong with the atom at a place.
 abbrev pub IsWrongAt : ByteCode → List Atom → ℕ → Type 0
 IsWrongAt code list at = IsWrong code (path_before list at) (atom_at list at)
 

@@ -54,8 +54,8 @@ pub record IsFlat (bytes : List ℕ) (starts : List ℕ) (laid : ℕ) : Type 0 w
   -- all frames together, also where some begin at one place, are no more than a buffer may have
   pub light : length (frames One (atoms_at bytes starts)) ≤ BUFFER_MAX
 
--- These are the frames of the list one behind the other, with their starts in a buffer where they
--- begin at this place.
+-- The bytes are the frames of the list one after another, and the starts are theirs in a buffer where the first begins at this
+-- place.
 pub record IsPieceOf (bytes : List ℕ) (at : ℕ) (starts : List ℕ) (list : List Atom) : Type 0 where
   pub short : AreAtoms list
   pub framed : bytes ≡ frames One list
@@ -89,7 +89,7 @@ LeavesOut gone old new =
 abbrev pub KeepsFront : List ℕ → List ℕ → List ℕ → Type 0
 KeepsFront gone old new = take (slice_index gone 0) new ≡ take (slice_index gone 0) old
 
--- These are the frames of the list from a place on, as many as there are starts.
+-- The bytes are the frames of the list from a place on, as many as there are starts.
 abbrev pub IsPieceFrom : List Atom → ℕ → List ℕ → ℕ → List ℕ → Type 0
 IsPieceFrom list from bytes at starts =
     IsPieceOf bytes at starts (slice_range list from (from + length starts))

@@ -35,7 +35,7 @@ abbrev mutual
   IsEncodable (shapes.Bag nodes) (Bag vs) = AreEncodable nodes vs
   IsEncodable (shapes.Bag nodes) other = ⊥
 
-  -- The same of a bag's fields; there is a value for each.
+  -- There is a value for each field of a bag, and each can be encoded as its field's shape says.
   pub AreEncodable : Nodes → Values → Type 0
   AreEncodable no_node no_value = Unit {0}
   AreEncodable no_node (value v vs) = ⊥

@@ -1,5 +1,5 @@
 -- One turn of a walk over the keys behind a path: the next key is there, or there is none.
-use Rattle.std.proofs.Common.{◌≡◌, ℕ, ◌+◌, ◌<◌, ◌≤◌, List, [], ◌∷◌, ◌++◌, length, true, inl, inr, sym, ap, ◌∙◌, subst, le_refl, length-append, arith}
+use Rattle.std.proofs.Common.{◌≡◌, ℕ, ◌+◌, ◌<◌, ◌≤◌, List, [], ◌∷◌, ◌++◌, length, inl, inr, sym, ap, ◌∙◌, subst, arith}
 use Rattle.std.proofs.lemmas.Bool.{cases_order}
 use Rattle.context_model.specs.Atoms.{Atom}
 use Rattle.context_model.specs.Kinds.{atom_of}
@@ -15,9 +15,8 @@ use Rattle.bag_model.specs.Shapes.{Shape}
 use Rattle.bag_model.specs.Values.{Value, Entries, pairs}
 use Rattle.bag_walks.specs.Parts.{IsBehind, IsSegment, StaysBelow}
 use Rattle.bag_walks.specs.Gathering.{GathersCounts, GathersEntries}
-use Rattle.bag_walks.proofs.Inside.{inside_along, child_behind}
 use Rattle.bag_walks.proofs.Sets.{stands_on, key_header, counts_below, counts_more, counts_read, entries_other, entries_below, entries_more, map_reads}
-use Rattle.bag_walks.proofs.Turns.{stays_whole, stays_higher, segment_whole}
+use Rattle.bag_walks.proofs.Turns.{stays_whole, stays_higher, segment_whole, stays_over, header_below, level_below}
 use Rattle.bag_scan.specs.Searches.{HasNoKey}
 use Rattle.bag_decode.specs.Leaves.{IsNextKey}
 
@@ -37,18 +36,6 @@ counts_further list q from to next counts l other holds = record {
   each = holds.each;
 }
 
--- A header of a level stays at that level.
-stays_header : (list : List Atom) (depth from k : ℕ) → k < length list → level (atom_at list k) ≡ depth → StaysBelow list depth from k → StaysBelow list depth from (k + 1)
-stays_header list depth from k within own stays = record {
-  rises = omega (arith, stays.rises);
-  within = omega arith;
-  deep = λ j l m header. elim (cases_order j k) [
-    | inl same ↦ (let e : level (atom_at list j) ≡ depth = ap (λ n. level (atom_at list n)) same ∙ own in omega (arith, e))
-    | inr (inl before) ↦ stays.deep j l before header
-    | inr (inr after) ↦ absurd (omega arith)
-  ];
-}
-
 module _ (list : List Atom) (q : Path) (depth from place : ℕ) (own : length q ≡ depth) (few : depth < 16) (behind : IsBehind list q from) (stays : StaysBelow list (length q) from place) where
   few_own : length q < 16
   few_own = omega arith
@@ -59,21 +46,19 @@ module _ (list : List Atom) (q : Path) (depth from place : ℕ) (own : length q 
     found : IsNextKey list (length q) place key next
     found = subst (λ n. IsNextKey list n place key next) (sym own) there
 
-    is_one : (is_header (atom_at list found.place) ≡ true) × (level (atom_at list found.place) ≡ length q)
-    is_one = (ap is_header found.is ∙ (key_header (length q) key few_own).0, ap level found.is ∙ (key_header (length q) key few_own).1)
+    key_own : level (atom_at list found.place) ≡ length q
+    key_own = ap level found.is ∙ (key_header (length q) key few_own).1
 
     up_to_key : StaysBelow list (length q) from found.place
     up_to_key = stays_whole list (length q) from place found.place stays found.before.stays
 
     over_key : StaysBelow list (length q) from (found.place + 1)
-    over_key = stays_header list (length q) from found.place found.within is_one.1 up_to_key
+    over_key = stays_over list (length q) from found.place up_to_key found.within key_own
 
     -- The place behind its header is behind its path.
     pub behind_key : IsBehind list (key_path q key) next
     behind_key = subst (IsBehind list (key_path q key)) (sym found.next)
-        (subst (λ a. IsBehind list (q ++ a ∷ []) (found.place + 1)) found.is
-        (child_behind list q found.place behind.well_formed behind.headers found.within
-        (inside_along list q from found.place behind up_to_key found.place up_to_key.rises (le_refl found.place)) is_one.0 is_one.1))
+        (let head = key_header (length q) key few_own in header_below list q from found.place (atom_of (Keyed (length q) key)) behind up_to_key found.within found.is head.0 head.1)
 
     pub key_path_is : path_before list next ≡ key_path q key
     key_path_is = behind_key.path
@@ -86,7 +71,7 @@ module _ (list : List Atom) (q : Path) (depth from place : ℕ) (own : length q 
     key_behind = subst (λ p. IsBehind list p next) (sym key_path_is) behind_key
 
     pub key_level : length (path_before list next) ≡ depth + 1
-    key_level = ap length key_path_is ∙ length-append q (atom_of (Keyed (length q) key) ∷ []) ∙ ap (λ n. n + 1) own
+    key_level = level_below list q depth next (atom_of (Keyed (length q) key)) own behind_key
 
     pub key_stays : StaysBelow list (length q) from next
     key_stays = subst (StaysBelow list (length q) from) (sym found.next) over_key

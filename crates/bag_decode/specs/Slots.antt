@@ -16,7 +16,7 @@ abbrev pub IsPlaceBehind : List Atom → List ℕ → Option ℕ → Type 0
 IsPlaceBehind list numbers None = PathsOf list (field_path numbers) → ⊥
 IsPlaceBehind list numbers (Some from) = IsBehind list (field_path numbers) from
 
--- The same for the slot with this place of the table.
+-- The place after the header of the slot with this number in the table, or none where the header isn't there.
 abbrev pub IsSlotPlace : Nodes → List Atom → ℕ → Option ℕ → Type 0
 IsSlotPlace nodes list slot from = (at : SlotAt) → HasSlot nodes slot at → IsPlaceBehind list at.numbers from
 

@@ -37,10 +37,11 @@ header_over header (tree a under next) behind = tree header (tree a under next) 
 abbrev pub scalar_datum : ScalarKind → ScalarValue → Atom
 scalar_datum kind v = atom_of (Datum (spelling kind v))
 
--- The headers of a key and of a writer at this level.
+-- The header of a map's key at this level.
 abbrev pub key_header : ℕ → ScalarKind → ScalarValue × Value → Atom
 key_header level kind e = atom_of (Keyed level (spelling kind e.0))
 
+-- The header of a counter's writer at this level.
 abbrev pub writer_header : ℕ → List ℕ × ℕ → Atom
 writer_header level e = atom_of (Keyed level e.0)
 

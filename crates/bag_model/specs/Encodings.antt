@@ -84,6 +84,7 @@ abbrev mutual
       (key : List ℕ) × ((p ≡ key_path q key) ⊎ IsUsed shape (key_path q key) p)
   IsUsed (Bag nodes) q p = AreUsed nodes q p
 
+  -- p is a path that a field of a bag at q names: its header, or a path that its shape names.
   pub AreUsed : Nodes → Path → Path → Type 0
   AreUsed no_node q p = ⊥
   AreUsed (node name number shape nodes) q p =

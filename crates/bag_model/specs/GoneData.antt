@@ -24,7 +24,7 @@ pub record LeavesItsHeader (nodes : Nodes) (view : View) (list normal : List Ato
   pub beyond : (other : SlotAt) → IsIn other (slots_of nodes) → IsBeyond (field_path other.numbers) (path_at list place)
       → IsBeyond (field_path other.numbers) (field_path at.numbers)
 
--- So does each datum that normal form takes away.
+-- Each datum that normal form takes away stands under the header of a slot that the view knows, and that header stays.
 abbrev pub GoneDataLeaveHeaders : Type 0
 GoneDataLeaveHeaders =
     (nodes : Nodes) (view : View) (list normal : List Atom) → IsTable nodes → IsWellFormed list

@@ -18,8 +18,8 @@ entries_onto key v es with_own rest (entry other w fs) =
     (entry key (with_own w) (rest fs))
     (entry other w (entries_onto key v es with_own rest fs))
 
--- Taints by or; of two scalars the one that stays; sets by union; counters with the greater count of each writer;
--- maps with the keys of both, and at a key of both the join of its values; bags field by field.
+-- The join of two values: taints by or; of two scalars the one that stays; sets by union; counters with the greater count of
+-- each writer; maps with the keys of both, and at a key of both the join of its values; bags field by field.
 abbrev mutual
   pub join : Value → Value → Value
   join (Taint a) (Taint b) = Taint (a || b)
@@ -35,10 +35,12 @@ abbrev mutual
   join (Bag a) (Bag b) = Bag (join_values a b)
   join (Bag a) other = Bag a
 
+  -- The join of two maps: the keys of both, and at a key of both the join of its values.
   pub join_entries : Entries → Entries → Entries
   join_entries no_entry fs = fs
   join_entries (entry key v es) fs = entries_onto key v es (join v) (join_entries es) fs
 
+  -- The join of two bags: the join of the two values of each field.
   pub join_values : Values → Values → Values
   join_values no_value ws = no_value
   join_values (value v vs) no_value = value v vs
@@ -58,6 +60,7 @@ abbrev mutual
   IsBottom (Map es) = es ≡ no_entry
   IsBottom (Bag vs) = AreBottom vs
 
+  -- Each value of a bag's fields says nothing.
   pub AreBottom : Values → Type 0
   AreBottom no_value = Unit {0}
   AreBottom (value v vs) = IsBottom v × AreBottom vs
@@ -79,11 +82,13 @@ abbrev mutual
   Alike (Bag a) (Bag b) = AreAlike a b
   Alike (Bag a) other = ⊥
 
+  -- At each key that both maps have the two values can be joined.
   pub AlikeEntries : Entries → Entries → Type 0
   AlikeEntries no_entry fs = Unit {0}
   AlikeEntries (entry key v es) fs =
       ((w : Value) → IsAt key w (pairs fs) → Alike v w) × AlikeEntries es fs
 
+  -- Two bags have as many values, and the two values of each field can be joined.
   pub AreAlike : Values → Values → Type 0
   AreAlike no_value no_value = Unit {0}
   AreAlike no_value (value w ws) = ⊥
@@ -101,10 +106,12 @@ abbrev mutual
   Proper (Map es) = Rises scalar_cmp (keys_of (pairs es)) × AreProperEntries es
   Proper (Bag vs) = AreProper vs
 
+  -- The values of a map are in order, and all inside them.
   pub AreProperEntries : Entries → Type 0
   AreProperEntries no_entry = Unit {0}
   AreProperEntries (entry key v es) = Proper v × AreProperEntries es
 
+  -- The values of a bag are in order, and all inside them.
   pub AreProper : Values → Type 0
   AreProper no_value = Unit {0}
   AreProper (value v vs) = Proper v × AreProper vs

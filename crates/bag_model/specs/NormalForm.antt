@@ -37,7 +37,7 @@ abbrev mutual
       (key : List ℕ) × IsSpelling kind key × HoldsData shape (key_path q key) keep p
   HoldsData (Bag nodes) q keep p = SomeHoldsData nodes q keep p
 
-  -- The same for some field of a bag.
+  -- Data are read at p for some field of a bag at q, and normal form keeps these of them.
   pub SomeHoldsData : Nodes → Path → Keeping → Path → Type 0
   SomeHoldsData no_node q keep p = ⊥
   SomeHoldsData (node name number shape nodes) q keep p =

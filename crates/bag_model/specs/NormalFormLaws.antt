@@ -25,7 +25,7 @@ pub record NormalKeepsList (nodes : Nodes) (view : View) (list normal : List Ato
   pub once : (again : List Atom) → IsNormalOf nodes view normal again → again ≡ normal
   pub one : (other : List Atom) → IsNormalOf nodes view list other → other ≡ normal
 
--- That of a typed list is typed, and says the same.
+-- The normal form of a typed list is typed, and says the same values.
 pub record NormalKeepsValues (nodes : Nodes) (list normal : List Atom) : Type 0 where
   pub typed : AreTyped nodes (PathsOf normal) []
   pub says : (vs : Values) → SaysValues nodes normal vs ↔ SaysValues nodes list vs

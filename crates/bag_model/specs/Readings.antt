@@ -75,6 +75,7 @@ abbrev mutual
   Reads (Bag nodes) P q (Bag vs) = ReadsEach nodes P q vs
   Reads (Bag nodes) P q other = ⊥
 
+  -- The paths P say these values of the fields of a bag whose own path is q, one for each field.
   pub ReadsEach : Nodes → (Path → Type 0) → Path → Values → Type 0
   ReadsEach no_node P q no_value = Unit {0}
   ReadsEach no_node P q (value v vs) = ⊥

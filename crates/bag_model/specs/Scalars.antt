@@ -74,6 +74,7 @@ IsOfForm TextBytes (Text bs) = IsUtf8 bs
 IsOfForm RawBytes (Octets bs) = Unit {0}
 IsOfForm _ _ = ⊥
 
+-- The value is one of the word's.
 abbrev pub IsPlainOf : Word → Plain → Type 0
 IsPlainOf word v = IsOfForm (spelling_form_of word) v
 
@@ -99,6 +100,7 @@ plain_rank (Unsigned n) = 2
 plain_rank (Text bs) = 3
 plain_rank (Octets bs) = 4
 
+-- The number that a plain value is; 0 where it is a text or a byte string.
 abbrev pub plain_number : Plain → ℤ
 plain_number (Truth b) = if b then pos 1 else pos 0
 plain_number (Signed z) = z
@@ -106,6 +108,7 @@ plain_number (Unsigned n) = pos n
 plain_number (Text bs) = pos 0
 plain_number (Octets bs) = pos 0
 
+-- The bytes that a plain value is; none where it is a truth value or a number.
 abbrev pub plain_bytes : Plain → List ℕ
 plain_bytes (Text bs) = bs
 plain_bytes (Octets bs) = bs
@@ -115,10 +118,12 @@ plain_bytes _ = []
 abbrev pub plain_cmp : Plain → Plain → Ordering
 plain_cmp = then_cmp (on plain_rank nat_cmp) (then_cmp (on plain_number int_cmp) (on plain_bytes (slice_cmp nat_cmp)))
 
+-- Values that are no structs come before structs.
 abbrev pub scalar_rank : ScalarValue → ℕ
 scalar_rank (One v) = 0
 scalar_rank (Packed vs) = 1
 
+-- The plain values of a scalar: its own, or those of a struct's fields.
 abbrev pub scalar_fields : ScalarValue → List Plain
 scalar_fields (One v) = v ∷ []
 scalar_fields (Packed vs) = vs

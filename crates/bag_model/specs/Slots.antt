@@ -65,7 +65,8 @@ abbrev mutual
   IsWithin Counter (name ∷ names) before shape = ⊥
   IsWithin (Map key value) (name ∷ names) before shape = ⊥
 
-  -- The same, seen from a bag with these fields; there is at least one name.
+  -- The field with these names, of which there is at least one, has the shape, seen from a bag with these fields; so many slots
+  -- stand before it.
   pub IsReached : Nodes → List ℕ → List (List ℕ) → ℕ → Shape → Type 0
   IsReached no_node name names before shape = ⊥
   IsReached (node field number own nodes) name names before shape =

@@ -27,6 +27,8 @@ abbrev mutual
   IsShape (Map key value) = IsKeyKind key × IsShape value
   IsShape (Bag nodes) = AreFields nodes
 
+  -- Each field of a bag has a name of the definition language, a number of 16 bits and a shape that is right inside, and the
+  -- fields after it have greater numbers and other names.
   pub AreFields : Nodes → Type 0
   AreFields no_node = Unit {0}
   AreFields (node name number shape nodes) =
@@ -49,7 +51,7 @@ abbrev mutual
   levels no_node = 0
   levels (node name number shape nodes) = max (1 + levels_under shape) (levels nodes)
 
--- The fields of a bag and all fields inside them, also those inside the values of maps.
+-- The number of fields inside a field of this shape, also of those inside the values of a map.
 abbrev mutual
   pub nodes_under : Shape → ℕ
   nodes_under Taint = 0
@@ -59,6 +61,7 @@ abbrev mutual
   nodes_under (Map key value) = nodes_under value
   nodes_under (Bag nodes) = node_count nodes
 
+  -- The number of a bag's fields and of all fields inside them, also of those inside the values of maps.
   pub node_count : Nodes → ℕ
   node_count no_node = 0
   node_count (node name number shape nodes) = 1 + nodes_under shape + node_count nodes

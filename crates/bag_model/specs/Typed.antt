@@ -33,6 +33,7 @@ abbrev mutual
       (key : List ℕ) → P (key_path q key) → IsSpelling kind key × IsTyped shape P (key_path q key)
   IsTyped (Bag nodes) P q = AreTyped nodes P q
 
+  -- Each datum and each key that is read of a field of a bag at q is the spelling of a value of its type.
   pub AreTyped : Nodes → (Path → Type 0) → Path → Type 0
   AreTyped no_node P q = Unit {0}
   AreTyped (node name number shape nodes) P q =
@@ -55,7 +56,7 @@ abbrev mutual
       × (((p ≡ key_path q key) × ¬ (IsSpelling kind key)) ⊎ Misspells shape (key_path q key) p)
   Misspells (Bag nodes) q p = SomeMisspells nodes q p
 
-  -- The same for some field of a bag.
+  -- p is a datum or a key that is read of a field of a bag at q, and no spelling of a value of its type.
   pub SomeMisspells : Nodes → Path → Path → Type 0
   SomeMisspells no_node q p = ⊥
   SomeMisspells (node name number shape nodes) q p =
@@ -77,7 +78,7 @@ TypedWhereNoneMisspells = (nodes : Nodes) (list : List Atom)
 abbrev pub AllListsSay : Type 0
 AllListsSay = (nodes : Nodes) (list : List Atom) → (vs : Values) × SaysValues nodes list vs
 
--- So does a typed list.
+-- Each typed list says values of all fields of each bag.
 abbrev pub TypedListsSay : Type 0
 TypedListsSay = (nodes : Nodes) (list : List Atom) → AreTyped nodes (PathsOf list) []
     → (vs : Values) × SaysValues nodes list vs

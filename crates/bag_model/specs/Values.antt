@@ -48,6 +48,7 @@ abbrev mutual
   bottom (Shape.Map key shape) = Map no_entry
   bottom (Shape.Bag nodes) = Bag (bottoms nodes)
 
+  -- Bottom of each field of a bag.
   pub bottoms : Nodes → Values
   bottoms no_node = no_value
   bottoms (node name number shape nodes) = value (bottom shape) (bottoms nodes)
@@ -77,6 +78,7 @@ abbrev mutual
   IsOfShape (Shape.Bag nodes) (Bag vs) = AreOfShapes nodes vs
   IsOfShape (Shape.Bag nodes) other = ⊥
 
+  -- There is a value for each field of a bag, and each is of its field's shape.
   pub AreOfShapes : Nodes → Values → Type 0
   AreOfShapes no_node no_value = Unit {0}
   AreOfShapes no_node (value v vs) = ⊥
@@ -93,10 +95,12 @@ abbrev mutual
   value_count (Map es) = 1 + value_count_of_entries es
   value_count (Bag vs) = 1 + value_count_of_values vs
 
+  -- How many values there are in the entries of a map, with all those inside them.
   pub value_count_of_entries : Entries → ℕ
   value_count_of_entries no_entry = 0
   value_count_of_entries (entry key v es) = value_count v + value_count_of_entries es
 
+  -- How many values there are in the fields of a bag, with all those inside them.
   pub value_count_of_values : Values → ℕ
   value_count_of_values no_value = 0
   value_count_of_values (value v vs) = value_count v + value_count_of_values vs

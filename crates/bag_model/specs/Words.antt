@@ -50,7 +50,7 @@ abbrev pub all_reserved : List Reserved
 all_reserved =
     Import ∷ Bag ∷ Struct ∷ Set ∷ Greatest ∷ Map ∷ Counter ∷ Taint ∷ Float ∷ Double ∷ map ScalarWord scalar_words
 
--- Their texts.
+-- The texts of the reserved words, each once.
 abbrev pub reserved_words : List (List ℕ)
 reserved_words = map reserved_text all_reserved
 

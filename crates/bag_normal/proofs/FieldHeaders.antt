@@ -17,13 +17,12 @@ use Rattle.bag_model.proofs.LayoutLaws.{field_wide}
 use Rattle.bag_model.proofs.SlotsBelow.{get_in}
 use Rattle.bag_walks.specs.Parts.{IsBehind, StaysBelow, IsSegment}
 use Rattle.bag_walks.proofs.Sets.{index_header}
-use Rattle.bag_walks.proofs.Turns.{stays_none}
 use Rattle.field_table.specs.Tables.{FindsNumber}
 use Rattle.field_table.proofs.Held.{levels_there}
 use Rattle.field_table.proofs.Numbers.{numbers_rise}
 use Rattle.bag_normal.specs.Data.{AddsPlaces}
 use Rattle.bag_normal.specs.Headers.{IsIndex, IsFieldHeader, PassesNoField, IsFieldFound, HasNoField}
-use Rattle.bag_normal.proofs.Turns.{PassesNone, HoldsAtWanted, AddsBehind, segment_at_end, path_is, header_behind, header_level, headers_more, headers_end, headers_all}
+use Rattle.bag_normal.proofs.Turns.{PassesNone, HoldsAtWanted, AddsBehind, path_is, header_behind, header_level, headers_more, headers_end, headers_all}
 use Rattle.bag_normal.proofs.Places.{adds_same}
 
 -- Two fields whose numbers are the same are one.
@@ -111,13 +110,6 @@ pub record HoldsAtField (nodes : Nodes) (R : ℕ → Field → Path → ℕ → 
 -- What was added at the fields up to a place.
 abbrev pub AddsFields : Nodes → (ℕ → Field → Path → ℕ → Type 0) → List Atom → Path → ℕ → ℕ → ℕ → List ℕ → List ℕ → Type 0
 AddsFields nodes R list q depth from to before after = AddsBehind (HeadsField nodes depth) (AtField nodes depth R q) list depth from to before after
-
--- At the end of the list there is no field.
-pub no_field_at_end : (nodes : Nodes) (list : List Atom) (depth at : ℕ) → at ≤ length list → length list ≤ at → HasNoField nodes list depth at at
-no_field_at_end nodes list depth at within l = record {
-  before = record { stays = stays_none list depth at within; none = λ k i f m n. absurd (omega arith) };
-  segment = segment_at_end list depth at within l;
-}
 
 module _ (nodes : Nodes) (R : ℕ → Field → Path → ℕ → Type 0) (list : List Atom) (q : Path) (depth from at : ℕ) (own : length q ≡ depth) (are : AreFields nodes)
     (room : depth + levels nodes ≤ 16) (behind : IsBehind list q from) (before gone : List ℕ) (come : AddsFields nodes R list q depth from at before gone) where

@@ -8,11 +8,10 @@ use Rattle.context_model.specs.Paths.{is_header, level, atom_at, path_before}
 use Rattle.bag_model.specs.Readings.{PathsOf, key_path}
 use Rattle.bag_walks.specs.Parts.{IsBehind, StaysBelow, IsSegment}
 use Rattle.bag_walks.proofs.Sets.{key_header}
-use Rattle.bag_walks.proofs.Turns.{stays_none}
 use Rattle.bag_scan.specs.Searches.{PassesNoKey, IsKeyFound, HasNoKey}
 use Rattle.bag_normal.specs.Data.{AddsPlaces}
 use Rattle.bag_normal.specs.Known.{HoldsAtKey}
-use Rattle.bag_normal.proofs.Turns.{PassesNone, HoldsAtWanted, AddsBehind, segment_at_end, path_is, header_behind, header_level, headers_more, headers_end, headers_all}
+use Rattle.bag_normal.proofs.Turns.{PassesNone, HoldsAtWanted, AddsBehind, path_is, header_behind, header_level, headers_more, headers_end, headers_all}
 use Rattle.bag_normal.proofs.Places.{adds_same}
 
 -- The header of a key of this level.
@@ -27,13 +26,6 @@ AtHeader P q = λ header. P (q ++ header ∷ [])
 -- What was added at the keys up to a place.
 abbrev pub AddsKeys : (Path → ℕ → Type 0) → List Atom → Path → ℕ → ℕ → List ℕ → List ℕ → Type 0
 AddsKeys P list q from to before after = AddsBehind (IsKeyHeader (length q)) (AtHeader P q) list (length q) from to before after
-
--- At the end of the list there is no key.
-pub no_key_at_end : (list : List Atom) (depth at : ℕ) → at ≤ length list → length list ≤ at → HasNoKey list depth at at
-no_key_at_end list depth at within l = record {
-  before = record { stays = stays_none list depth at within; none = λ k key m n. absurd (omega arith) };
-  segment = segment_at_end list depth at within l;
-}
 
 module _ (P : Path → ℕ → Type 0) (list : List Atom) (q : Path) (depth from at : ℕ) (own : length q ≡ depth) (few : depth < 16) (behind : IsBehind list q from)
     (before gone : List ℕ) (come : AddsKeys P list q from at before gone) where

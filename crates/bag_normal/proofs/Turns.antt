@@ -1,16 +1,14 @@
 -- One turn of a walk over the wanted headers of one level behind a path: the next is found, or there is none.
-use Rattle.std.proofs.Common.{◌≡◌, ◌⊎◌, inl, inr, ◌↔◌, ℕ, ◌+◌, ◌<◌, ◌≤◌, true, List, [], ◌∷◌, ◌++◌, length, refl, sym, ap, ◌∙◌, subst, arith, le_refl}
+use Rattle.std.proofs.Common.{◌≡◌, ◌⊎◌, inl, inr, ◌↔◌, ℕ, ◌+◌, ◌<◌, ◌≤◌, true, List, [], ◌∷◌, ◌++◌, length, refl, sym, ap, ◌∙◌, subst, arith}
 use Rattle.std.proofs.lemmas.Bool.{cases_order}
-use Rattle.std.proofs.lemmas.List.{length-append}
 use Rattle.context_model.specs.Atoms.{Atom}
 use Rattle.context_model.specs.Orders.{Path}
 use Rattle.context_model.specs.Paths.{is_header, level, atom_at, path_before}
 use Rattle.bag_model.specs.Readings.{PathsOf}
 use Rattle.bag_walks.specs.Parts.{IsBehind, StaysBelow, IsSegment, Stands}
-use Rattle.bag_walks.proofs.Inside.{inside_along, child_behind}
 use Rattle.bag_walks.proofs.Bridge.{headers_are}
 use Rattle.bag_walks.proofs.Sets.{stands_on}
-use Rattle.bag_walks.proofs.Turns.{stays_none, stays_whole, stays_higher, segment_whole}
+use Rattle.bag_walks.proofs.Turns.{stays_whole, stays_past, segment_whole, header_below, level_below}
 use Rattle.bag_normal.specs.Data.{AddsPlaces}
 use Rattle.bag_normal.proofs.Places.{adds_both, adds_same}
 
@@ -37,10 +35,6 @@ pub record AddsBehind (W : Atom → Type 0) (P : Atom → ℕ → Type 0) (list 
   pub stays : StaysBelow list depth from to
   pub adds : AddsPlaces (HoldsAtPassed W P list from to) before after
 
--- The end of the list ends what stands below any path.
-pub segment_at_end : (list : List Atom) (depth at : ℕ) → at ≤ length list → length list ≤ at → IsSegment list depth at at
-segment_at_end list depth at within l = record { part = stays_none list depth at within; ends = λ less. absurd (omega arith) }
-
 module _ (W : Atom → Type 0) (P : Atom → ℕ → Type 0) (list : List Atom) (q : Path) (depth from at : ℕ) (own : length q ≡ depth)
     (at_level : (h : Atom) → W h → (is_header h ≡ true) × (level h ≡ depth)) (behind : IsBehind list q from) (before gone : List ℕ) (come : AddsBehind W P list depth from at before gone) where
   -- ---- the next wanted header stands at a place
@@ -53,10 +47,7 @@ module _ (W : Atom → Type 0) (P : Atom → ℕ → Type 0) (list : List Atom) 
     its_level = (at_level (atom_at list place) wanted).1
 
     it_behind : IsBehind list (q ++ atom_at list place ∷ []) (place + 1)
-    it_behind =
-        child_behind list q place behind.well_formed behind.headers within
-        (inside_along list q from place behind (subst (λ d. StaysBelow list d from place) (sym own) stays) place stays.rises (le_refl place))
-        (at_level (atom_at list place) wanted).0 (its_level ∙ sym own)
+    it_behind = header_below list q from place (atom_at list place) behind (subst (λ d. StaysBelow list d from place) (sym own) stays) within refl (at_level (atom_at list place) wanted).0 (its_level ∙ sym own)
 
     pub path_is : path_before list (place + 1) ≡ q ++ atom_at list place ∷ []
     path_is = it_behind.path
@@ -65,25 +56,14 @@ module _ (W : Atom → Type 0) (P : Atom → ℕ → Type 0) (list : List Atom) 
     header_behind = subst (λ p. IsBehind list p (place + 1)) (sym path_is) it_behind
 
     pub header_level : length (path_before list (place + 1)) ≡ depth + 1
-    header_level = ap length path_is ∙ length-append q (atom_at list place ∷ []) ∙ (let e : length q + 1 ≡ depth + 1 = ap (λ n. n + 1) own in e)
+    header_level = level_below list q depth (place + 1) (atom_at list place) own it_behind
 
     pub place_on : at ≤ place
     place_on = passed.stays.rises
 
     module _ (next : ℕ) (deep : StaysBelow list (depth + 1) (place + 1) next) where
-      upto : StaysBelow list depth from (place + 1)
-      upto = record {
-        rises = omega (arith, stays.rises);
-        within = omega (arith, within);
-        deep = λ k l m e. elim (cases_order k place) [
-          | inl same ↦ (let lv : level (atom_at list k) ≡ depth = ap (λ i. level (atom_at list i)) same ∙ its_level in omega (arith, lv))
-          | inr (inl less) ↦ stays.deep k l less e
-          | inr (inr more) ↦ absurd (omega (arith, m, more))
-        ];
-      }
-
       stays_next : StaysBelow list depth from next
-      stays_next = stays_whole list depth from (place + 1) next upto (stays_higher list (depth + 1) depth (place + 1) next (omega arith) deep)
+      stays_next = stays_past list depth from place next stays within its_level deep
 
       -- A wanted header that stands up to the next place is an earlier one, or this.
       split : (p : ℕ) → (HoldsAtPassed W P list from at p ⊎ P (atom_at list place) p) ↔ HoldsAtPassed W P list from next p

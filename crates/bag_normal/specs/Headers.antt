@@ -34,7 +34,7 @@ pub record IsFieldFound (nodes : Nodes) (list : List Atom) (level from at : ℕ)
   pub within : place < length list
   pub header : IsFieldHeader nodes level (atom_at list place) at field
 
--- There is none, and what stands below ends at this place.
+-- What stands below, from a place on, ends at the second place, and no header of this level of a field stands before that.
 pub record HasNoField (nodes : Nodes) (list : List Atom) (level from stop : ℕ) : Type 0 where
   pub before : PassesNoField nodes list level from stop
   pub segment : IsSegment list level from stop

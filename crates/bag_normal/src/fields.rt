@@ -39,13 +39,16 @@ fn add_counts(
         gone.old.items gone.new.items) }
 {
     let mut place = from;
-    'writers: while place < list.len() {
+    'writers: loop {
         match find_key(list, level, place) {
-            Ok(writer) => place = add_earlier_data(list, writer + 1, gone)?,
+            Ok(writer) => {
+                // So there is a place after the header.
+                prove!(writer < list.len());
+                place = add_earlier_data(list, writer + 1, gone)?;
+            }
             Err(stop) => return Ok(stop),
         }
     }
-    Ok(place)
 }
 
 /// Adds the places of a field's data that go, from the place behind its header on, and gives the end of what stands below
@@ -109,9 +112,11 @@ fn add_values(
         gone.old.items gone.new.items) }
 {
     let mut place = from;
-    'keys: while place < list.len() {
+    'keys: loop {
         match find_key(list, level, place) {
             Ok(key) => {
+                // So there is a place after the header.
+                prove!(key < list.len());
                 place = key + 1;
                 if kind.spelled(rest(atom(list, key))) {
                     place = add_field(shape, list, level + 1, place, gone)?;
@@ -120,7 +125,6 @@ fn add_values(
             Err(stop) => return Ok(stop),
         }
     }
-    Ok(place)
 }
 
 /// Adds the places of the data that go in the fields of a bag, likewise.
@@ -143,7 +147,7 @@ fn add_fields(
         gone.old.items gone.new.items) }
 {
     let mut place = from;
-    'headers: while place < list.len() {
+    'headers: loop {
         match next_field(fields, list, level, place) {
             Ok((_, field, behind)) => place = add_field(
                 &field.shape,
@@ -155,5 +159,4 @@ fn add_fields(
             Err(stop) => return Ok(stop),
         }
     }
-    Ok(place)
 }

@@ -80,7 +80,7 @@ pub(crate) fn add_known_fields(
         gone.old.items gone.new.items) }
 {
     let mut place = from;
-    'headers: while place < list.len() {
+    'headers: loop {
         match next_field(fields, list, level, place) {
             Ok((at, field, behind)) => {
                 let start = before + fields.slots_before(at);
@@ -89,5 +89,4 @@ pub(crate) fn add_known_fields(
             Err(stop) => return Ok(stop),
         }
     }
-    Ok(place)
 }

@@ -1,7 +1,6 @@
 -- One turn of a walk over the fields of a bag: the header of the next field is sought, and found or not.
-use Rattle.std.proofs.Common.{◌≡◌, ℕ, zero, suc, ◌+◌, ◌<◌, ◌≤◌, List, [], ◌∷◌, length, true, Less, Some, sym, ap, ◌∙◌, subst, arith}
+use Rattle.std.proofs.Common.{◌≡◌, ℕ, zero, suc, ◌+◌, ◌<◌, ◌≤◌, List, length, true, Less, Some, sym, ap, ◌∙◌, subst, arith}
 use Rattle.std.specs.List.{slice_get}
-use Rattle.std.proofs.lemmas.List.{length-append}
 use Rattle.context_model.specs.Atoms.{Atom}
 use Rattle.context_model.specs.Kinds.{atom_of}
 use Rattle.context_model.specs.Kinds.Kind.{Indexed}
@@ -17,7 +16,7 @@ use Rattle.bag_walks.specs.Searches.{HasPassed, IsSought, IsFirstBeyond}
 use Rattle.bag_walks.proofs.Absent.{IsBare}
 use Rattle.bag_walks.proofs.Sets.{index_header}
 use Rattle.bag_walks.proofs.Stops.{absent_is_first}
-use Rattle.bag_walks.proofs.Turns.{index_order, stays_none, passed_none, sought_whole, found_behind, found_next, found_stays, absent_next, absent_bare}
+use Rattle.bag_walks.proofs.Turns.{index_order, stays_none, passed_none, sought_whole, level_below, found_behind, found_next, found_stays, absent_next, absent_bare}
 use Rattle.bag_scan.specs.Searches.{IsFoundBehind, IsMissing}
 use Rattle.field_table.proofs.Held.{levels_there}
 
@@ -98,7 +97,7 @@ module _ (list : List Atom) (q : Path) (from depth : ℕ) (nodes : Nodes) (i : �
     field_path = field_behind.path
 
     pub field_level : length (path_before list next) ≡ depth + 1
-    field_level = ap length field_path ∙ length-append q (atom_of (Indexed (length q) f.number) ∷ []) ∙ (let e : length q + 1 ≡ depth + 1 = ap (λ n. n + 1) own in e)
+    field_level = level_below list q depth next (atom_of (Indexed (length q) f.number)) own field_behind
 
     -- Behind its segment the walk has come to the next field.
     pub field_passed : (stop : ℕ) → IsSegment list (depth + 1) next stop → IsBefore list depth nodes from (i + 1) stop

@@ -15,7 +15,8 @@ pub record IsFoundBehind (list : List Atom) (depth : ℕ) (h : Atom) (from behin
   pub within : place < length list
   pub there : atom_at list place ≡ h
 
--- It stopped at another atom, or at the end.
+-- A search from a place on for the header h of this level stopped at the second place, where another atom stands or the list
+-- ends.
 pub record IsMissing (list : List Atom) (depth : ℕ) (h : Atom) (from stop : ℕ) : Type 0 where
   pub sought : IsSought list depth h from stop
   pub other : stop < length list → atom_at list stop ≡ h → ⊥
@@ -32,7 +33,7 @@ pub record IsKeyFound (list : List Atom) (depth from place : ℕ) : Type 0 where
   pub key : List ℕ
   pub is : atom_at list place ≡ atom_of (Keyed depth key)
 
--- There is none, and what stands below ends at this place.
+-- What stands below, from a place on, ends at the second place, and no header of a key of this level stands before that.
 pub record HasNoKey (list : List Atom) (depth from stop : ℕ) : Type 0 where
   pub before : PassesNoKey list depth from stop
   pub segment : IsSegment list depth from stop

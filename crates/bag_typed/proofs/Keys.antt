@@ -1,5 +1,5 @@
 -- Keys behind a path: what stands below each, up to a place.
-use Rattle.std.proofs.Common.{◌≡◌, ℕ, ◌+◌, ◌<◌, ◌≤◌, inl, inr, List, [], ◌∷◌, ◌++◌, length, drop, Ordering, Less, Equal, Greater, refl, sym, ap, ◌∙◌, subst, arith, true, length-append}
+use Rattle.std.proofs.Common.{◌≡◌, ℕ, ◌+◌, ◌<◌, ◌≤◌, inl, inr, List, length, drop, Ordering, Less, Equal, Greater, refl, sym, ap, ◌∙◌, subst, arith, true}
 use Rattle.std.specs.Ordering.{ordering_reverse}
 use Rattle.std.proofs.lemmas.Bool.{cases_order}
 use Rattle.context_model.specs.Atoms.{Atom}
@@ -9,11 +9,10 @@ use Rattle.context_model.specs.Orders.{Path, atom_cmp}
 use Rattle.context_model.specs.Paths.{is_header, level, atom_at, path_at}
 use Rattle.context_model.proofs.OrderLaws.{atoms_total, atoms_anti}
 use Rattle.bag_model.specs.Readings.{key_path}
-use Rattle.bag_walks.specs.Parts.{IsBehind, StaysBelow, IsSegment, IsInside, Stands}
-use Rattle.bag_walks.proofs.Inside.{inside_along, child_behind, header_there}
+use Rattle.bag_walks.specs.Parts.{IsBehind, StaysBelow, IsSegment, Stands}
 use Rattle.bag_walks.proofs.Bridge.{headers_are, earlier_stands}
 use Rattle.bag_walks.proofs.Sets.{key_header, key_back}
-use Rattle.bag_walks.proofs.Turns.{stays_whole, stays_higher, segment_whole}
+use Rattle.bag_walks.proofs.Turns.{stays_whole, stays_past, segment_whole, header_below, level_below}
 use Rattle.bag_scan.specs.Searches.{PassesNoKey, IsKeyFound, HasNoKey}
 use Rattle.bag_typed.specs.Walk.{HasNone, IsFirstOfPaths}
 use Rattle.bag_typed.proofs.Orders.{StandsUnder, no_greater_before, header_of_under}
@@ -56,9 +55,6 @@ module _ (M : List ℕ → Path → Type 0) (list : List Atom) (q : Path) (from 
     }
 
     module _ (at : ℕ) (key : List ℕ) (clears : ClearsKeys M list q from at) (within : at < length list) (is : atom_at list at ≡ key_at q key) where
-      inside : IsInside list q at
-      inside = inside_along list q from at behind clears.stays at clears.stays.rises (omega arith)
-
       header : is_header (atom_at list at) ≡ true
       header = ap is_header is ∙ (key_header (length q) key few).0
 
@@ -67,15 +63,12 @@ module _ (M : List ℕ → Path → Type 0) (list : List Atom) (q : Path) (from 
 
       -- The place behind the header is behind the key's path.
       pub key_behind : IsBehind list (key_path q key) (at + 1)
-      key_behind = subst (λ a. IsBehind list (q ++ a ∷ []) (at + 1)) is (child_behind list q at behind.well_formed behind.headers within inside header own)
-
-      pub key_path_at : path_at list at ≡ key_path q key
-      key_path_at = header_there list q at within inside header own ∙ ap (λ a. q ++ a ∷ []) is
+      key_behind = let head = key_header (length q) key few in header_below list q from at (key_at q key) behind clears.stays within is head.0 head.1
 
       -- The key and all below it is clear, so the walk goes on behind it.
       pub keys_more : (next : ℕ) → HasNone list (M key) → IsSegment list (length q + 1) (at + 1) next → ClearsKeys M list q from next
       keys_more next none segment = record {
-        stays = stays_whole list (length q) from (at + 1) next upto (stays_higher list (length q + 1) (length q) (at + 1) next (omega arith) segment.part);
+        stays = stays_past list (length q) from at next clears.stays within own segment.part;
         clear = λ other s. elim (cases_order s.place at) [
           | inl same ↦ subst (λ x. HasNone list (M x)) (key_back (length q) key other (sym is ∙ ap (atom_at list) (sym same) ∙ s.atom)) none
           | inr (inl before) ↦ clears.clear other (record { place = s.place; from_on = s.from_on; up_to = before; atom = s.atom })
@@ -83,17 +76,6 @@ module _ (M : List ℕ → Path → Type 0) (list : List Atom) (q : Path) (from 
         ];
       }
         where
-          upto : StaysBelow list (length q) from (at + 1)
-          upto = record {
-            rises = omega (arith, clears.stays.rises);
-            within = omega arith;
-            deep = λ k l m e. elim (cases_order k at) [
-              | inl same ↦ (let lv : level (atom_at list k) ≡ length q = ap (λ i. level (atom_at list i)) same ∙ own in omega (arith, lv))
-              | inr (inl before) ↦ clears.stays.deep k l before e
-              | inr (inr after) ↦ absurd (omega arith)
-            ];
-          }
-
           deeper : (other : List ℕ) (s : Stands list (key_at q other) from next) → at < s.place → ⊥
           deeper other s after =
               let head = key_header (length q) other few in
@@ -150,13 +132,12 @@ module _ (M : List ℕ → Path → Type 0) (list : List Atom) (q : Path) (from 
       let come : ClearsKeys M list q from at = keys_passed M list q from place at clears own.before in
       let room : length q < 16 = omega arith in
       let its : IsBehind list (key_path q own.key) (at + 1) = key_behind M list q from behind room under at own.key come own.within own.is in
-      let long = ap length its.path ∙ length-append q (key_at q own.key ∷ []) in
       record {
         key = own.key;
         rest = ap (drop 1) own.is;
         behind = its;
         starts = subst (λ p. IsBehind list p (at + 1)) (sym its.path) its;
-        deeper = omega (arith, long);
+        deeper = level_below list q depth (at + 1) (key_at q own.key) same its;
         more = λ next none segment. keys_more M list q from behind room under at own.key come own.within own.is next none (subst (λ d. IsSegment list (d + 1) (at + 1) next) (sym same) segment);
         fault = keys_fault M list q from behind room under at own.key come own.within own.is;
       }

@@ -1,5 +1,5 @@
 -- What misspells in counters and maps, key by key.
-use Rattle.std.proofs.Common.{◌≡◌, ◌+◌, ◌<◌, ◌⊎◌, inl, inr, ℕ, Less, List, [], ◌∷◌, ◌++◌, subst, arith, ◌∙◌, append_assoc}
+use Rattle.std.proofs.Common.{◌≡◌, ◌+◌, ◌<◌, ◌⊎◌, inl, inr, ℕ, Less, List, [], ◌∷◌, ◌++◌, sym, subst, arith, ◌∙◌, append_assoc, Result, IfOk, IfErr}
 use Rattle.context_model.specs.Atoms.{Atom}
 use Rattle.context_model.specs.Kinds.{atom_of}
 use Rattle.context_model.specs.Kinds.Kind.{Datum}
@@ -27,6 +27,13 @@ first_alike list P Q place to back is = record {
   is = to (path_at list place) is.is;
   first = λ earlier less q. is.first earlier less (back (path_at list earlier) q);
 }
+
+-- What is told of a shape is told of what is seen as it.
+pub typed_seen : (list : List Atom) (q : Path) (told : Result ℕ ℕ) (shape known : Shape) → shape ≡ known → IfOk told (λ _. HasNone list (Misspells known q)) → IfOk told (λ _. HasNone list (Misspells shape q))
+typed_seen list q told shape known same = subst (λ (s : Shape). IfOk told (λ _. HasNone list (Misspells s q))) (sym same)
+
+pub fault_seen : (list : List Atom) (q : Path) (told : Result ℕ ℕ) (shape known : Shape) → shape ≡ known → IfErr told (IsFirstOfPaths list (Misspells known q)) → IfErr told (IsFirstOfPaths list (Misspells shape q))
+fault_seen list q told shape known same = subst (λ (s : Shape). IfErr told (IsFirstOfPaths list (Misspells s q))) (sym same)
 
 under_key : (q : Path) (key : List ℕ) (a : Atom) (r p : Path) → p ≡ key_path q key ++ a ∷ r → StandsUnder q (key_at q key) p
 under_key q key a r p is = (a ∷ r, is ∙ append_assoc q (key_at q key ∷ []) (a ∷ r))

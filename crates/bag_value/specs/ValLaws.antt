@@ -14,14 +14,17 @@ use Rattle.bag_value.specs.declared.vals.Val.{Val}
 use Rattle.bag_value.specs.declared.vals.Val.TheVariants as vals
 use Rattle.bag_value.specs.Vals.{plain, val_of, val_joined}
 
+-- Scalars of the model come back from those of the code.
 values_back : (vs : List ScalarValue) → map value_of (map scalar_of vs) ≡ vs
 values_back [] = refl
 values_back (v ∷ vs) = λ i. value_back v i ∷ values_back vs i
 
+-- Scalars of the code come back from those of the model.
 scalars_back : (vs : List Scalar) → map scalar_of (map value_of vs) ≡ vs
 scalars_back [] = refl
 scalars_back (v ∷ vs) = λ i. scalar_comes_back v i ∷ scalars_back vs i
 
+-- A value of the model comes back from the code's.
 pub value_comes_back : (x : model.Value) → plain (val_of x) ≡ x
 value_comes_back (model.Value.Taint on) = refl
 value_comes_back (model.Value.Scalar pick.Least None) = refl
@@ -33,6 +36,7 @@ value_comes_back (model.Value.Counter counts) = refl
 value_comes_back (model.Value.Map entries) = refl
 value_comes_back (model.Value.Bag values) = refl
 
+-- A value of the code comes back from the model's.
 pub val_back : (v : Val) → val_of (plain v) ≡ v
 val_back (vals.Taint on) = refl
 val_back (vals.Scalar None) = refl
@@ -44,6 +48,7 @@ val_back (vals.Counter counts) = refl
 val_back (vals.Map entries) = refl
 val_back (vals.Bag values) = refl
 
+-- The values of the code are a join semilattice.
 pub val_laws : LatticeLaws (λ v. Proper (plain v)) (λ v w. Alike (plain v) (plain w)) val_joined (λ v. IsBottom (plain v))
 val_laws = record {
   alike_self = λ x p. Alike-self (plain x) p;

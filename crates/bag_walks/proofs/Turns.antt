@@ -4,7 +4,7 @@ use Rattle.std.specs.Ordering.{ordering_then}
 use Rattle.std.specs.Cmp.{nat_cmp_is}
 use Rattle.std.proofs.lemmas.Bool.{cases_order}
 use Rattle.std.proofs.lemmas.Cmp.{tied_itself}
-use Rattle.std.proofs.lemmas.List.{append-nil}
+use Rattle.std.proofs.lemmas.List.{append-nil, length-append}
 use Rattle.context_model.specs.Atoms.{Atom}
 use Rattle.context_model.specs.Kinds.{atom_of}
 use Rattle.context_model.specs.Kinds.Kind.{Indexed}
@@ -14,7 +14,7 @@ use Rattle.context_model.specs.Varints.{unsigned_varint}
 use Rattle.context_model.proofs.OrderLaws.{atoms_total, atoms_anti}
 use Rattle.context_model.proofs.VarintLaws.{unsigned_varint-order}
 use Rattle.bag_model.specs.Readings.{PathsOf}
-use Rattle.bag_walks.specs.Parts.{IsBehind, StaysBelow, IsSegment, IsInside, Stands}
+use Rattle.bag_walks.specs.Parts.{IsBehind, StaysBelow, IsSegment, Stands}
 use Rattle.bag_walks.specs.Searches.{HasPassed, IsSought}
 use Rattle.bag_walks.proofs.Inside.{inside_along, child_behind}
 use Rattle.bag_walks.proofs.Bridge.{earlier_stands, none_below}
@@ -78,6 +78,37 @@ stays_none list depth from within = record { rises = le_refl from; within = with
 pub stays_higher : (list : List Atom) (depth less from to : ℕ) → less ≤ depth → StaysBelow list depth from to → StaysBelow list less from to
 stays_higher list depth less from to l stays = record { rises = stays.rises; within = stays.within; deep = λ k m n header. let d = stays.deep k m n header in omega (arith, d) }
 
+-- ---- a header of a level, and what stands below it
+
+-- Over the header itself all stays at its level.
+pub stays_over : (list : List Atom) (depth from at : ℕ) → StaysBelow list depth from at → at < length list → level (atom_at list at) ≡ depth → StaysBelow list depth from (at + 1)
+stays_over list depth from at stays within own = record {
+  rises = omega (arith, stays.rises);
+  within = omega (arith, within);
+  deep = λ k l m header. elim (cases_order k at) [
+    | inl same ↦ (let e : level (atom_at list k) ≡ depth = ap (λ n. level (atom_at list n)) same ∙ own in omega (arith, e))
+    | inr (inl before) ↦ stays.deep k l before header
+    | inr (inr after) ↦ absurd (omega (arith, m, after))
+  ];
+}
+
+-- And so it does over all that stands below the header.
+pub stays_past : (list : List Atom) (depth from at next : ℕ) → StaysBelow list depth from at → at < length list → level (atom_at list at) ≡ depth → StaysBelow list (depth + 1) (at + 1) next
+    → StaysBelow list depth from next
+stays_past list depth from at next stays within own deep =
+    stays_whole list depth from (at + 1) next (stays_over list depth from at stays within own) (stays_higher list (depth + 1) depth (at + 1) next (omega arith) deep)
+
+-- The place behind a header of the level of q is behind q and the header.
+pub header_below : (list : List Atom) (q : Path) (from at : ℕ) (h : Atom) → IsBehind list q from → StaysBelow list (length q) from at → at < length list → atom_at list at ≡ h → is_header h ≡ true → level h ≡ length q
+    → IsBehind list (q ++ h ∷ []) (at + 1)
+header_below list q from at h behind stays within there header own =
+    subst (λ a. IsBehind list (q ++ a ∷ []) (at + 1)) there
+    (child_behind list q at behind.well_formed behind.headers within (inside_along list q from at behind stays at stays.rises (le_refl at)) (ap is_header there ∙ header) (ap level there ∙ own))
+
+-- So many headers are open there.
+pub level_below : (list : List Atom) (q : Path) (depth place : ℕ) (h : Atom) → length q ≡ depth → IsBehind list (q ++ h ∷ []) place → length (path_before list place) ≡ depth + 1
+level_below list q depth place h own below = ap length below.path ∙ length-append q (h ∷ []) ∙ (let e : length q + 1 ≡ depth + 1 = ap (λ n. n + 1) own in e)
+
 module _ (list : List Atom) (q : Path) (from at to : ℕ) (h : Atom) (behind : IsBehind list q from) (header : is_header h ≡ true) (own : level h ≡ length q)
     (passed : HasPassed list (length q) h from at) (sought : IsSought list (length q) h at to) where
   abbrev whole : IsSought list (length q) h from to
@@ -86,13 +117,9 @@ module _ (list : List Atom) (q : Path) (from at to : ℕ) (h : Atom) (behind : I
   -- ---- the header is there
 
   module _ (within : to < length list) (there : atom_at list to ≡ h) where
-    inside : IsInside list q to
-    inside = inside_along list q from to behind whole.before.stays to whole.before.stays.rises (le_refl to)
-
     -- The place behind it is behind its path.
     pub found_behind : IsBehind list (q ++ h ∷ []) (to + 1)
-    found_behind = subst (λ a. IsBehind list (q ++ a ∷ []) (to + 1)) there
-        (child_behind list q to behind.well_formed behind.headers within inside (ap is_header there ∙ header) (ap level there ∙ own))
+    found_behind = header_below list q from to h behind whole.before.stays within there header own
 
     pub found_path : path_before list (to + 1) ≡ q ++ h ∷ []
     found_path = found_behind.path
@@ -106,15 +133,7 @@ module _ (list : List Atom) (q : Path) (from at to : ℕ) (h : Atom) (behind : I
       where
         upto : HasPassed list (length q) g from (to + 1)
         upto = record {
-          stays = record {
-            rises = omega (arith, whole.before.stays.rises);
-            within = omega arith;
-            deep = λ k l m e. elim (cases_order k to) [
-              | inl same ↦ (let lv : level (atom_at list k) ≡ length q = ap (λ i. level (atom_at list i)) same ∙ ap level there ∙ own in omega (arith, lv))
-              | inr (inl before) ↦ whole.before.stays.deep k l before e
-              | inr (inr after) ↦ absurd (omega arith)
-            ];
-          };
+          stays = stays_over list (length q) from to whole.before.stays within (ap level there ∙ own);
           passed = λ k l m e. elim (cases_order k to) [
             | inl same ↦ (let lv : level (atom_at list k) ≡ length q = ap (λ i. level (atom_at list i)) same ∙ ap level there ∙ own in
                 (omega (arith, lv), λ own_level. ap (λ i. atom_cmp (atom_at list i) g) same ∙ ap (λ a. atom_cmp a g) there ∙ less))
@@ -124,18 +143,7 @@ module _ (list : List Atom) (q : Path) (from at to : ℕ) (h : Atom) (behind : I
         }
 
     pub found_stays : (next : ℕ) → IsSegment list (length q + 1) (to + 1) next → StaysBelow list (length q) from next
-    found_stays next segment = stays_whole list (length q) from (to + 1) next upto (stays_higher list (length q + 1) (length q) (to + 1) next (omega arith) segment.part)
-      where
-        upto : StaysBelow list (length q) from (to + 1)
-        upto = record {
-          rises = omega (arith, whole.before.stays.rises);
-          within = omega arith;
-          deep = λ k l m e. elim (cases_order k to) [
-            | inl same ↦ (let lv : level (atom_at list k) ≡ length q = ap (λ i. level (atom_at list i)) same ∙ ap level there ∙ own in omega (arith, lv))
-            | inr (inl before) ↦ whole.before.stays.deep k l before e
-            | inr (inr after) ↦ absurd (omega arith)
-          ];
-        }
+    found_stays next segment = stays_past list (length q) from to next whole.before.stays within (ap level there ∙ own) segment.part
 
   -- ---- it isn't there
 

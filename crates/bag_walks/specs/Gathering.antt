@@ -35,22 +35,22 @@ abbrev pub IsDatumThatStays : Pick → List Atom → ℕ → ℕ → Option ℕ 
 IsDatumThatStays Least = IsFirstDatum
 IsDatumThatStays Greatest = IsLastDatum
 
--- These are the values of the kind that stand as data from the one place up to the other, in order, and all data there are
+-- The values are those of the kind that stand as data from the one place up to the other, in order, and each datum there is one
 -- of them.
 pub record GathersData (kind : ScalarKind) (list : List Atom) (from to : ℕ) (vs : List ScalarValue) : Type 0 where
   pub rises : Rises scalar_cmp vs
   pub each : (v : ScalarValue) → IsIn v vs → IsScalarOf kind v × Stands list (0 ∷ spelling kind v) from to
   pub all : (x : List ℕ) → Stands list (0 ∷ x) from to → (v : ScalarValue) × IsIn v vs × (x ≡ spelling kind v)
 
--- These are the writers whose headers stand behind q from the one place up to the other, in order, each with the greatest
+-- The counts have the writers whose headers stand after q from the one place up to the other, in order, each with the greatest
 -- count that stands there.
 pub record GathersCounts (list : List Atom) (q : Path) (from to : ℕ) (counts : List (List ℕ × ℕ)) : Type 0 where
   pub rises : Rises atom_cmp (keys_of counts)
   pub keys : (writer : List ℕ) → IsIn writer (keys_of counts) ↔ Stands list (atom_of (Keyed (length q) writer)) from to
   pub each : EachPair (λ writer n. IsGreatest (PathsOf list) (key_path q writer) n) counts
 
--- These are the keys of the kind whose headers stand behind q from the one place up to the other, in order, each with what
--- is read there; and all headers of keys there are of them.
+-- The entries have the keys of the kind whose headers stand after q from the one place up to the other, in order, each with
+-- what is read there; and each header of a key there is one of them.
 pub record GathersEntries (kind : ScalarKind) (shape : Shape) (list : List Atom) (q : Path) (from to : ℕ) (es : List (ScalarValue × Value)) : Type 0 where
   pub rises : Rises scalar_cmp (keys_of es)
   pub keys : (v : ScalarValue) → IsIn v (keys_of es) → IsScalarOf kind v × Stands list (atom_of (Keyed (length q) (spelling kind v))) from to

@@ -14,20 +14,20 @@ IsPassed list depth h at =
     is_header (atom_at list at) ≡ true
     → (depth ≤ level (atom_at list at)) × (level (atom_at list at) ≡ depth → atom_cmp (atom_at list at) h ≡ Less)
 
--- Such a search stops at the atom at a place: it is a header whose level isn't greater, and one of the same level is h or
--- comes after it.
+-- A search for the header h of this level stops at the atom at a place: it is a header whose level isn't greater, and one of
+-- the same level is h or comes after it.
 abbrev pub IsStop : List Atom → ℕ → Atom → ℕ → Type 0
 IsStop list depth h at =
     (is_header (atom_at list at) ≡ true)
     × (level (atom_at list at) ≤ depth)
     × (level (atom_at list at) ≡ depth → atom_cmp h (atom_at list at) ≢ Greater)
 
--- The search has gone from the one place to the other.
+-- A search for the header h of this level has gone from the one place to the other.
 pub record HasPassed (list : List Atom) (depth : ℕ) (h : Atom) (from to : ℕ) : Type 0 where
   pub stays : StaysBelow list depth from to
   pub passed : (k : ℕ) → from ≤ k → k < to → IsPassed list depth h k
 
--- And there it stops, or at the end.
+-- A search for the header h of this level has gone from the one place to the other, and stops there, or at the end.
 pub record IsSought (list : List Atom) (depth : ℕ) (h : Atom) (from to : ℕ) : Type 0 where
   pub before : HasPassed list depth h from to
   pub stops : to < length list → IsStop list depth h to

@@ -10,46 +10,59 @@ use Rattle.byte_calls.specs.declared.refusals.Refusal.{Refusal}
 use Rattle.byte_calls.specs.declared.refusals.Refusal.TheVariants.{Fault, Memory, Room}
 use Rattle.baggage_c.specs.declared.answers.Answer.{Answer}
 
--- The numbers of the statuses, as the header has them.
+-- The status of a call that is done, as the header has it.
 abbrev pub ok : ℕ
 ok = 0
 
+-- The status of an input that isn't the bytes of a context.
 abbrev pub fault : ℕ
 fault = 1
 
+-- The status of a room that is too short.
 abbrev pub room : ℕ
 room = 2
 
+-- The status of a call that is out of memory.
 abbrev pub memory : ℕ
 memory = 3
 
+-- The status of a number that no form has.
 abbrev pub form : ℕ
 form = 4
 
+-- The status of a budget that is below the least one of its form.
 abbrev pub budget : ℕ
 budget = 5
 
+-- The status of a text that isn't that of a table.
 abbrev pub table : ℕ
 table = 6
 
+-- The status of a name path that no slot of the table has.
 abbrev pub field : ℕ
 field = 7
 
+-- The status of a text that is no write to its field.
 abbrev pub write : ℕ
 write = 8
 
+-- The status of a datum or a key that isn't spelled as the type of its field says.
 abbrev pub typing : ℕ
 typing = 9
 
+-- The status of a choice for which the call offers no number.
 abbrev pub choice : ℕ
 choice = 10
 
+-- The status of a number of bytes that no piece may have.
 abbrev pub width : ℕ
 width = 11
 
+-- The status of bytes that are too many to be carried in pieces.
 abbrev pub long : ℕ
 long = 12
 
+-- The status of lines that carry no bytes.
 abbrev pub pieces : ℕ
 pieces = 13
 
@@ -81,7 +94,7 @@ refused_at status code offset = record { status = status; code = code; context =
 abbrev pub refused_of : ℕ → ℕ → ℕ → ℕ → Answer
 refused_of status code context offset = record { status = status; code = code; context = context; offset = offset; size = 0 }
 
--- The numbers of an outcome. What it doesn't speak of is 0.
+-- The numbers of an outcome. What an outcome doesn't speak of is 0.
 abbrev pub answer_of : Result ℕ Refusal → Answer
 answer_of (Ok size) = plain_answer ok size
 answer_of (Err (Fault context offset code)) = refused_of fault (code_number code) context offset

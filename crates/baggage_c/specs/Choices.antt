@@ -31,8 +31,8 @@ others_numbered number = if number == 1 then Ok Cut else if number == 2 then Ok 
 abbrev pub report_numbered : ℕ → Result ReportForm ℕ
 report_numbered number = if number == 1 then Ok Text else if number == 2 then Ok Json else Err status.choice
 
--- There is such a choice, and the answer is as this says of it; or there is none: the answer tells the status with this number, and the room
--- is as before.
+-- A choice is made by its number, and the answer is as this says of it; or no choice has the number: the answer tells the
+-- status that stands for this, and the room is as before.
 abbrev pub Chosen : {C : Type 0} → Result C ℕ → (C → Answer → Type 0) → List ℕ → List ℕ → Answer → Type 0
 Chosen (Ok choice) Answers old new answer = Answers choice answer
 Chosen (Err number) Answers old new answer = (answer ≡ status.refused number) × (new ≡ old)

@@ -34,7 +34,7 @@ table_number DuplicateField = 5
 table_number TooDeep = 6
 table_number TooManySlots = 7
 
--- The numbers of a refusal. What it doesn't speak of is 0.
+-- The numbers of a refusal. What a refusal doesn't speak of is 0.
 abbrev pub field_refusal : FieldRefusal → Answer
 field_refusal (fields.Table line code) = refused_at status.table (table_number code) line
 field_refusal fields.NoField = refused status.field

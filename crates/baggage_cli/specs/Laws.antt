@@ -42,7 +42,8 @@ pub record CertificateLaws : Type 0 where
   pub truth : (table : Nodes) (graph : Graph) (certificate : List ℕ) → IsRecorded table graph
       → IsVerdictOf table graph certificate Yes → TellsTruth table graph certificate
 
--- All of them. A list has one block, lines of pieces have one answer, and contexts are safe under a table that fits.
+-- The laws that the program's answers rest on: those of tables, of graphs and of certificates, and that a list has one block,
+-- lines of pieces have one answer, and contexts are safe under a table that fits.
 pub record Laws : Type 0 where
   pub one_collected : CollectOneWay
   pub tables : TableLaws

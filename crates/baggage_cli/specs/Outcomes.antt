@@ -16,15 +16,15 @@ abbrev pub outcome_of : Result (Vec ℕ) Refusal → Outcome
 outcome_of (Ok output) = Ok output.items
 outcome_of (Err refusal) = Err refusal
 
--- Memory is wanting, or this holds of the outcome.
+-- The outcome is that memory is out, or this holds of it.
 abbrev pub OrMemory : (Outcome → Type 0) → Outcome → Type 0
 OrMemory gives outcome = (outcome ≡ Err (Plain Memory)) ⊎ gives outcome
 
--- This output is built, or memory is wanting for it.
+-- The outcome is this output, or that memory is out.
 abbrev pub Builds : List ℕ → Outcome → Type 0
 Builds output = OrMemory (λ outcome. outcome ≡ Ok output)
 
--- An output of which this holds is made, or memory is wanting for it.
+-- The outcome is an output of which this holds, or that memory is out.
 abbrev pub Makes : (List ℕ → Type 0) → Outcome → Type 0
 Makes made = OrMemory (λ outcome. (output : List ℕ) × made output × (outcome ≡ Ok output))
 

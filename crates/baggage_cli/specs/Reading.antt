@@ -145,13 +145,15 @@ cut_bytes budget = record {
       ⊎ ((least_budget (form_of bytes) ≤ budget) × list_bytes.faults earlier bytes fault);
 }
 
--- Lines of digits say lists that can be cut to a budget, or contexts, or contexts that are typed under a table.
+-- Lines of digits say lists that can be cut to a budget.
 abbrev pub cut_lines : ℕ → Reading Framed InputFault
 cut_lines budget = hex_lines Hex (cut_bytes budget)
 
+-- Lines of digits say contexts.
 abbrev pub context_lines : Reading Framed InputFault
 context_lines = hex_lines Hex context_bytes
 
+-- Lines of digits say contexts that are typed under a table.
 abbrev pub typed_lines : Nodes → Reading Framed InputFault
 typed_lines table = hex_lines Hex (typed_bytes table)
 

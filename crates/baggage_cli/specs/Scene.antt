@@ -53,31 +53,31 @@ scene_of library requests source out errs = record {
   errs = errs;
 }
 
--- Nothing was done to it.
+-- An object outside is as before, and so is its count of faults.
 abbrev pub IsSame : {A : Type 0} → Change A → Type 0
 IsSame c = (c.after ≡ c.before) × (c.faults_after ≡ c.faults_before)
 
--- Its count of faults didn't fall.
+-- The count of faults of an object outside didn't fall.
 abbrev pub NeverFell : {A : Type 0} → Change A → Type 0
 NeverFell c = c.faults_before ≤ c.faults_after
 
--- Its count of faults is as before.
+-- The count of faults of an object outside is as before.
 abbrev pub IsSteady : {A : Type 0} → Change A → Type 0
 IsSteady c = c.faults_after ≡ c.faults_before
 
--- It counted a fault in this call.
+-- An object outside counted a fault in this call.
 abbrev pub HasFailed : {A : Type 0} → Change A → Type 0
 HasFailed c = Rose c.faults_before c.faults_after
 
--- This was its content; where it doesn't tell, any content is as good.
+-- An object outside had this content; where it doesn't tell, any content is as good.
 abbrev pub HeldContent : {A : Type 0} → Change A → A → Type 0
 HeldContent c content = IfSome c.before (λ told. told ≡ content)
 
--- The bytes were appended to it.
+-- The bytes were appended to an object outside, and its count of faults is as before.
 abbrev pub TakesWhole : Change (List ℕ) → List ℕ → Type 0
 TakesWhole c bytes = Appends c.before c.after bytes × IsSteady c
 
--- It failed, and a front of the bytes was appended to it.
+-- An object outside counted a fault, and a prefix of the bytes was appended to it.
 abbrev pub TakesPart : Change (List ℕ) → List ℕ → Type 0
 TakesPart c bytes = HasFailed c × AppendsPart c.before c.after bytes × NeverFell c
 

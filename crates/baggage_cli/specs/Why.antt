@@ -26,7 +26,7 @@ IsNoPlace table graph step path refusal =
     ((length graph.steps ≤ step) × (refusal ≡ of_input StepRange))
     ⊎ ((step < length graph.steps) × FindsSlot table path None × (refusal ≡ of_input NoSuchPath))
 
--- Both are there, but the slot isn't ended in the list that the graph's run gives the step.
+-- The graph has the step and the table the slot, but the slot isn't ended in the list that the graph's run gives the step.
 abbrev pub IsPartial : Nodes → Graph → ℕ → List ℕ → Refusal → Type 0
 IsPartial table graph step path refusal =
     (lists : Lists) × (slot : ℕ) × IsRun table graph lists × IsPlace table graph step path slot

@@ -13,7 +13,7 @@ use Rattle.bdl_check.specs.Fields.{decl_faults}
 use Rattle.bdl_check.specs.Types.{Kinds}
 use Rattle.bdl_parser.specs.declared.trees.Decl.{Decl}
 
--- These faults in this file.
+-- The findings as faults in the file of this name.
 abbrev pub faults_in_file : List ℕ → List Finding → List Fault
 faults_in_file file findings = map (fault_in file) findings
 
@@ -21,7 +21,7 @@ faults_in_file file findings = map (fault_in file) findings
 abbrev pub name_fault : Bool → Decl → List Finding
 name_fault is_taken decl = when is_taken (found (decl_place decl) DuplicateName)
 
--- The faults of the declarations' names behind the earlier declarations.
+-- The faults of the declarations' names after the earlier declarations.
 abbrev pub name_faults : List Placed → List Placed → List Fault
 name_faults earlier [] = []
 name_faults earlier (d ∷ ds) =
@@ -32,10 +32,10 @@ name_faults earlier (d ∷ ds) =
 abbrev pub declaration_faults : Kinds → List Placed → List Fault
 declaration_faults kinds ds = flat_map (λ d. faults_in_file d.file (decl_faults kinds d.decl)) ds
 
--- First the names of all declarations, and then what each says.
+-- The faults of declarations: first those of all names, and then those of what each says.
 abbrev pub placed_faults : List Placed → List Fault
 placed_faults ds = name_faults [] ds ++ declaration_faults (kind_named ds) ds
 
--- The same of the declarations of all files.
+-- The faults of the declarations of all files, in the order in which they count.
 abbrev pub declared_faults : List LoadedFile → List Fault
 declared_faults files = placed_faults (all_placed files)

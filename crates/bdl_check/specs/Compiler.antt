@@ -44,8 +44,7 @@ pub data IsFirstFaultOf (held : Holding) (root name : List ℕ) (fault : Fault) 
   loaded : (files : List LoadedFile) → Loads held root (all_loaded files)
       → IsFaultIn files root name fault → IsFirstFaultOf held root name fault
 
--- It is so of the files that a library holds, and loading asked it for all names that it asks for,
--- and for no others.
+-- The fact holds of the files that a library holds, and loading asked it for all names that it asks for, and for no others.
 abbrev pub CameOf : Files → Asked → Asked → List ℕ → (Holding → Type 0) → Type 0
 CameOf files before after root Holds =
     OfLibrary files before after (λ held names. Holds held × AsksAll held root names)

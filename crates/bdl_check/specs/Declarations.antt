@@ -21,7 +21,7 @@ abbrev pub decl_place : Decl → Spot
 decl_place (Bag name spot fields) = spot
 decl_place (Struct name spot fields) = spot
 
--- What it declares.
+-- Whether a declaration is of a bag or of a struct.
 abbrev pub decl_kind : Decl → DeclKind
 decl_kind (Bag name spot fields) = IsBag
 decl_kind (Struct name spot fields) = IsStruct
@@ -31,7 +31,7 @@ pub record Placed : Type 0 where
   pub file : List ℕ
   pub decl : Decl
 
--- This declaration in this file.
+-- The declaration in the file of this name.
 abbrev pub placed : List ℕ → Decl → Placed
 placed file decl = record { file = file; decl = decl }
 
@@ -47,11 +47,11 @@ all_placed files = flat_map placed_in files
 abbrev pub decl_named : List Placed → List ℕ → Option Placed
 decl_named ds text = find (λ d. bytes_eq (decl_name d.decl) text) ds
 
--- Its number, from 0 on.
+-- The number of the first declaration of this name, from 0 on.
 abbrev pub number_named : List Placed → List ℕ → Option ℕ
 number_named ds text = position (λ d. bytes_eq (decl_name d.decl) text) ds
 
--- What it declares.
+-- Whether the first declaration of this name is of a bag or of a struct.
 abbrev pub kind_named : List Placed → List ℕ → Option DeclKind
 kind_named ds text = option_map (λ d. decl_kind d.decl) (decl_named ds text)
 

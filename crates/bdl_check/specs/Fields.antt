@@ -20,18 +20,19 @@ is_number_among number numbers = list_any (λ other. other == number) numbers
 abbrev pub is_name_among : List ℕ → List (List ℕ) → Bool
 is_name_among text names = list_any (λ other. bytes_eq other text) names
 
--- The numbers and the names of a bag's fields, and the names of a struct's.
+-- The numbers of a bag's fields, in their order.
 abbrev pub numbers_of : List BagFieldTree → List ℕ
 numbers_of fields = map (λ field. field.number) fields
 
--- The names of fields, in their order.
+-- The names of a bag's fields, in their order.
 abbrev pub bag_field_names : List BagFieldTree → List (List ℕ)
 bag_field_names fields = map (λ field. field.name) fields
 
+-- The names of a struct's fields, in their order.
 abbrev pub struct_names_of : List StructFieldTree → List (List ℕ)
 struct_names_of fields = map (λ field. field.name) fields
 
--- The faults of a bag's field behind the earlier ones: its type's, its number's and its name's.
+-- The faults of a bag's field after the earlier ones: its type's, its number's and its name's.
 abbrev pub bag_field_faults : Kinds → List BagFieldTree → BagFieldTree → List Finding
 bag_field_faults kinds earlier field =
     type_faults kinds BagField field.kind
@@ -39,20 +40,20 @@ bag_field_faults kinds earlier field =
     (found field.number_at DuplicateNumber)
     ++ when (is_name_among field.name (bag_field_names earlier)) (found field.name_at DuplicateField))
 
--- The same of each field.
+-- The faults of each field of a bag after those before it.
 abbrev pub bag_faults : Kinds → List BagFieldTree → List BagFieldTree → List Finding
 bag_faults kinds earlier [] = []
 bag_faults kinds earlier (field ∷ fields) =
     bag_field_faults kinds earlier field ++ bag_faults kinds (earlier ++ field ∷ []) fields
 
--- The faults of a struct's field behind the earlier ones: its type's and its name's.
+-- The faults of a struct's field after the earlier ones: its type's and its name's.
 abbrev pub struct_field_faults : Kinds → List StructFieldTree → StructFieldTree → List Finding
 struct_field_faults kinds earlier field =
     type_faults kinds StructField field.kind
     ++ when (is_name_among field.name (struct_names_of earlier))
     (found field.name_at DuplicateField)
 
--- The same of each field.
+-- The faults of each field of a struct after those before it.
 abbrev pub struct_faults : Kinds → List StructFieldTree → List StructFieldTree → List Finding
 struct_faults kinds earlier [] = []
 struct_faults kinds earlier (field ∷ fields) =

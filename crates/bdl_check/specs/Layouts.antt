@@ -41,7 +41,7 @@ word_of_type _ = None
 abbrev pub struct_words : List trees.StructFieldTree → List scalars.Word
 struct_words fields = filter_map (λ field. word_of_type field.kind) fields
 
--- The same of a declaration: a bag has none.
+-- The words of a declared struct's fields, in the order of the text; a bag has none.
 abbrev pub words_of_decl : Decl → List scalars.Word
 words_of_decl (Bag own spot list) = []
 words_of_decl (Struct own spot list) = struct_words list
@@ -99,7 +99,7 @@ pub record IsFieldOf (ds : List Placed) (LaysOut : Layout) (tree : trees.BagFiel
   pub number_is : field.number ≡ tree.number
   pub shape : IsShapeOf ds LaysOut tree.kind field.shape
 
--- Each of them, one for one.
+-- Each field of a table is the bag's field in its place, and there are as many.
 abbrev pub AreFieldsOf : List Placed → Layout → List trees.BagFieldTree → List Field → Type 0
 AreFieldsOf ds LaysOut [] [] = Unit {0}
 AreFieldsOf ds LaysOut (tree ∷ list) (field ∷ more) =
@@ -114,7 +114,7 @@ pub record IsLaidOutInOrder (ds : List Placed) (LaysOut : Layout) (list : List t
   pub rising : IsStrictlyIncreasing (map (λ (tree : trees.BagFieldTree). tree.number) sorted)
   pub each : AreFieldsOf ds LaysOut sorted (fields nodes)
 
--- The same, where at most so many bags stand inside one another, this one among them.
+-- The fields of a bag as those of a table, where at most so many bags stand inside one another, this one among them.
 abbrev pub IsLaidOutWithin : ℕ → List Placed → Layout
 IsLaidOutWithin zero ds list nodes = ⊥
 IsLaidOutWithin (suc room) ds list nodes = IsLaidOutInOrder ds (IsLaidOutWithin room ds) list nodes
@@ -128,7 +128,8 @@ abbrev pub HasShapeIn : List Placed → trees.TypeTree → ℕ → Type 0
 HasShapeIn ds tree room =
     (shape : Shape) × IsShapeOf ds (IsLaidOut ds) tree shape × (levels_under shape ≤ room)
 
--- The same of a field whose type is the name of this declaration.
+-- A field whose type is the name of this declaration has a shape whose headers take at most so many levels under the field's
+-- own.
 abbrev pub HasDeclShapeIn : List Placed → Decl → ℕ → Type 0
 HasDeclShapeIn ds decl room =
     (shape : Shape) × IsShapeOfDecl (IsLaidOut ds) decl shape × (levels_under shape ≤ room)

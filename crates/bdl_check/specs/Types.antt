@@ -38,6 +38,7 @@ abbrev pub is_unknown : Kinds → TypeTree → Bool
 is_unknown kinds (leaf (name text) spot) = not (is_some (kinds text))
 is_unknown kinds _ = false
 
+-- Whether a name is declared, and as a struct.
 abbrev pub is_struct : Option DeclKind → Bool
 is_struct (Some IsStruct) = true
 is_struct _ = false
@@ -67,7 +68,7 @@ node_faults_at spot kinds role type =
     ++ (when (is_bad_key kinds role type) (found spot BadKeyType)
     ++ when (is_bad_struct_field role type) (found spot BadStructField)))
 
--- The same at its own place.
+-- The faults of one node at its own place, in the order in which they count.
 abbrev pub node_faults : Kinds → Role → TypeTree → List Finding
 node_faults kinds role type = node_faults_at (type_place type) kinds role type
 

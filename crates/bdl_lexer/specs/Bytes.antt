@@ -3,15 +3,19 @@ use Rattle.std.specs.Prelude.{ℕ, Bool, ◌||◌, not, ◌==◌, codes}
 use Rattle.std.specs.Char.{is_ascii_alphabetic, is_ascii_digit}
 use Rattle.std.specs.List.{list_any}
 
+-- The byte of a line feed.
 abbrev pub line_feed : ℕ
 line_feed = 10
 
+-- The byte of a double quote.
 abbrev pub quote : ℕ
 quote = 34
 
+-- The byte of a star.
 abbrev pub star : ℕ
 star = 42
 
+-- The byte of a slash.
 abbrev pub slash : ℕ
 slash = 47
 

@@ -24,7 +24,7 @@ abbrev pub begins_piece : ℕ → List ℕ → Bool
 begins_piece byte more =
     is_blank byte || is_letter byte || is_ascii_digit byte || byte == quote || is_sign byte || (byte == slash && begins_comment more)
 
--- There is a byte, and nothing begins with it.
+-- The rest has a first byte, and nothing begins with it.
 pub record IsBadByte (rest : List ℕ) : Type 0 where
   pub byte : ℕ
   pub more : List ℕ

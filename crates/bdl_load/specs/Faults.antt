@@ -9,11 +9,11 @@ use Rattle.bdl_load.specs.declared.faults.DefFault.TheVariants.{At, Failed, Memo
 use Rattle.bdl_load.specs.declared.faults.Fault.{Fault}
 use Rattle.bdl_load.specs.declared.faults.Finding.{Finding}
 
--- A fault of that code at that place.
+-- A fault of this code at this place.
 abbrev pub found : Spot → DefCode → Finding
 found spot code = record { at = spot; code = code }
 
--- The same in the file of this name.
+-- A fault at its place in the file of this name.
 abbrev pub fault_in : List ℕ → Finding → Fault
 fault_in file finding = record { file = file; line = finding.at.line; column = finding.at.column; code = finding.code }
 

@@ -108,7 +108,7 @@ pub record Answered (whole : Bool) (files : Files) (before after : Asked) (loade
   pub distinct : IsDistinct bytes_eq (file_names loaded ++ answer_names answers)
   pub comes : (held : Holding) → GivesAnswers held answers → Comes (file_names loaded ++ answer_names answers) held
 
--- These files were loaded after those, and this comes of the answers of a library.
+-- Some files were loaded after the earlier ones, and this comes of the answers of a library.
 pub record Loaded (files : Files) (before after : Asked) (earlier later : List LoadedFile) (Comes : Holding → Type 0) : Type 0 where
   pub more : List LoadedFile
   pub grown : later ≡ earlier ++ more
@@ -143,10 +143,11 @@ IsSoundLoader loader = AreSound loader.files.items loader.taking.items
 abbrev pub taking_next : Loader → List ℕ
 taking_next loader = loader.taking.items ++ length loader.files.items ∷ []
 
--- The name and the imports of the file of this number.
+-- The name of the file of this number.
 abbrev pub name_from : Loader → ℕ → List ℕ
 name_from loader from = (file_at loader.files.items from).name
 
+-- The imports of the file of this number.
 abbrev pub imports_from : Loader → ℕ → List Import
 imports_from loader from = (file_at loader.files.items from).«module».imports
 
@@ -166,7 +167,7 @@ module _ {S : Type 0} (files : S → Files) (asked : S → Asked) (before after 
       Takes held (names_taking loader) loader.files.items (name_from loader from) (imports_from loader from)
       (all_loaded later.files.items))
 
-  -- One of them ended loading.
+  -- An import of the file of this number ended loading.
   abbrev pub StopsInAll : DefFault → Type 0
   StopsInAll refusal =
       Ends (files before) (asked before) (asked after) loader.files.items
@@ -181,7 +182,7 @@ module _ {S : Type 0} (files : S → Files) (asked : S → Asked) (before after 
       Passes held (names_taking loader) (name_from loader from) loader.files.items (drop number (imports_from loader from))
       later.files.items (drop (number + 1) (imports_from loader from)))
 
-  -- It ended loading.
+  -- The import of this number ended loading.
   abbrev pub StopsInOne : ℕ → DefFault → Type 0
   StopsInOne number refusal =
       Ends (files before) (asked before) (asked after) loader.files.items

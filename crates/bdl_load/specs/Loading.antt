@@ -18,7 +18,7 @@ use Rattle.bdl_load.specs.Source.{SaysModule, IsSourceFault}
 abbrev pub Holding : Type 0
 Holding = List ℕ → Option (List ℕ)
 
--- One of these names.
+-- Whether a name is one of these.
 abbrev pub is_among : List ℕ → List (List ℕ) → Bool
 is_among name names = list_any (bytes_eq name) names
 
@@ -26,7 +26,7 @@ is_among name names = list_any (bytes_eq name) names
 abbrev pub file_names : List LoadedFile → List (List ℕ)
 file_names files = map (λ file. file.name) files
 
--- This file with this module.
+-- The file of this name with this module.
 abbrev pub loaded_as : List ℕ → Module → LoadedFile
 loaded_as name module_ = record { name = name; «module» = module_ }
 
@@ -90,7 +90,7 @@ names_asked (stopped names fault) = names
 abbrev pub AsksAll : Holding → List ℕ → List (List ℕ) → Type 0
 AsksAll held root names = (outcome : Loading) × Loads held root outcome × (names ≡ names_asked outcome)
 
--- The same is held under each of these names but the last.
+-- Two holdings have the same under each of these names but the last.
 abbrev pub AgreeButLast : List (List ℕ) → Holding → Holding → Type 0
 AgreeButLast names held other = AllByRecursion (λ name. other name ≡ held name) (take (length names - 1) names)
 
@@ -99,15 +99,15 @@ AgreeButLast names held other = AllByRecursion (λ name. other name ≡ held nam
 abbrev pub AsksFirst : Holding → List ℕ → List (List ℕ) → Type 0
 AsksFirst held root names = (other : Holding) × AgreeButLast names held other × AsksAll other root names
 
--- It is so of the files of a library and of the names that it was asked for. One that doesn't tell held some files and was asked for some
--- names of which it is so.
+-- The fact holds of the files of a library and of the names that it was asked for. A library that doesn't tell held some files
+-- and was asked for some names of which the fact holds.
 abbrev pub OfLibrary : Files → Asked → Asked → (Holding → List (List ℕ) → Type 0) → Type 0
 OfLibrary files before after Holds =
     (held : Holding) × (names : List (List ℕ)) × IfSome files (λ told. told ≡ held) × Asks names before after × Holds held names
 
 -- Below, `files` and `asked` say what a library holds and was asked for; it went from the state `before` to the state `after`.
 module _ {S : Type 0} (files : S → Files) (asked : S → Asked) (before after : S) (root : List ℕ) where
-  -- These files were loaded, and the library was asked for each of them and for nothing else.
+  -- All files of a definition were loaded, and the library was asked for each of them and for nothing else.
   abbrev pub LoadsAll : List LoadedFile → Type 0
   LoadsAll loaded =
       OfLibrary (files before) (asked before) (asked after)

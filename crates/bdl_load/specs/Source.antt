@@ -68,7 +68,7 @@ pub data IsSourceFault (source : List ℕ) (finding : Finding) : Type 0 where
   lexical : IsLexical source finding → IsSourceFault source finding
   syntactic : IsSyntactic source finding → IsSourceFault source finding
 
--- The same in the file of this name.
+-- The fault is the first one of a file's bytes, in the file of this name.
 pub record IsFaultOfSource (name source : List ℕ) (fault : Fault) : Type 0 where
   pub finding : Finding
   pub first : IsSourceFault source finding

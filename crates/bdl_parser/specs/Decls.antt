@@ -10,11 +10,11 @@ use Rattle.bdl_parser.specs.Trees.{BagFieldTree}
 abbrev pub IsSpelledField : BagFieldTree → Type 0
 IsSpelledField field = (is_name field.name ≡ true) × (field.number < 2 ^ 16)
 
--- Each field of a bag is spelled so.
+-- Each field of a declared bag has a name of the definition language and a number of 16 bits.
 abbrev pub IsSpelledDecl : Decl → Type 0
 IsSpelledDecl (Bag name spot fields) = AllByRecursion IsSpelledField fields
 IsSpelledDecl (Struct name spot fields) = Unit {0}
 
--- The same of all declarations.
+-- Each field of each declared bag has a name of the definition language and a number of 16 bits.
 abbrev pub AreSpelledDecls : List Decl → Type 0
 AreSpelledDecls decls = AllByRecursion IsSpelledDecl decls

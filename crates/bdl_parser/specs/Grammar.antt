@@ -13,21 +13,21 @@ use Rattle.bdl_parser.specs.Trees.{Leaf, TypeTree, BagFieldTree, StructFieldTree
 use Rattle.bdl_parser.specs.Words.{name_of_word, leaf_of, holding_of}
 use Rattle.grammar_model.specs.Grammars.{Grammar, token, two, either, made, many, nothing, at_end}
 
--- Whether it is this word.
+-- Whether what a token says is this word.
 abbrev pub is_this_word : List ℕ → What → Bool
 is_this_word text (word found) = bytes_eq found text
 is_this_word text _ = false
 
--- Whether it is this sign.
+-- Whether what a token says is this sign.
 abbrev pub is_this_sign : ℕ → What → Bool
 is_this_sign byte (sign found) = found == byte
 is_this_sign byte _ = false
 
--- This word.
+-- A token that is this word says its place.
 abbrev pub this_word : List ℕ → Lexeme → Option Spot
 this_word text lexeme = if is_this_word text lexeme.what then Some lexeme.spot else None
 
--- This sign.
+-- A token that is this sign says its place.
 abbrev pub this_sign : ℕ → Lexeme → Option Spot
 this_sign byte lexeme = if is_this_sign byte lexeme.what then Some lexeme.spot else None
 
@@ -49,6 +49,7 @@ number_in _ = None
 abbrev pub a_number : Lexeme → Option (ℕ × Spot)
 a_number lexeme = option_map (λ value. (value, lexeme.spot)) (number_in lexeme.what)
 
+-- The text that a token is.
 abbrev pub quoted_in : What → Option (List ℕ)
 quoted_in (quoted text) = Some text
 quoted_in _ = None
@@ -57,6 +58,7 @@ quoted_in _ = None
 abbrev pub a_text : Lexeme → Option (List ℕ × Spot)
 a_text lexeme = option_map (λ text. (text, lexeme.spot)) (quoted_in lexeme.what)
 
+-- The type of one word that a token is.
 abbrev pub leaf_in : What → Option Leaf
 leaf_in (word text) = leaf_of text
 leaf_in _ = None
@@ -65,6 +67,7 @@ leaf_in _ = None
 abbrev pub a_leaf : Lexeme → Option TypeTree
 a_leaf lexeme = option_map (λ found. leaf found lexeme.spot) (leaf_in lexeme.what)
 
+-- The word before an element's type that a token is: `set` or `greatest`.
 abbrev pub holding_in : What → Option Holding
 holding_in (word text) = holding_of text
 holding_in _ = None

@@ -33,6 +33,6 @@ token_place token = record { line = token.line; column = token.column }
 abbrev pub lexeme_of : List ℕ → Token → Lexeme
 lexeme_of source token = record { what = what_of token.class (token_text source token); spot = token_place token }
 
--- The same of each token.
+-- What each token of this source says, and where.
 abbrev pub lexemes_of : List ℕ → List Token → List Lexeme
 lexemes_of source tokens = map (lexeme_of source) tokens

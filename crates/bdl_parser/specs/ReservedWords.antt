@@ -20,11 +20,11 @@ in_code model.Reserved.Float = Float
 in_code model.Reserved.Double = Double
 in_code (model.Reserved.ScalarWord word) = Scalar (scalar_word_of word)
 
--- Those of the scalars.
+-- The reserved words of scalars, each once.
 abbrev pub reserved_scalars : List model.Reserved
 reserved_scalars = map model.Reserved.ScalarWord model.scalar_words
 
--- The type that it is by itself, if it is one.
+-- The type that a reserved word is by itself, if it is one.
 abbrev pub leaf_in_code : Reserved → Option Leaf
 leaf_in_code (Scalar word) = Some (scalar word)
 leaf_in_code Float = Some float

@@ -1,8 +1,10 @@
-//! Decimal numbers, lines, and bytes as digits.
+//! Decimal numbers, words, lines, and bytes as digits.
 
-use decimal_text::read_decimal;
 use std::test::Fail;
-use text_lines::{DIGITS_MAX, HexCode, HexFault, hex_bytes, hex_line, lines_of, push_hex};
+use text_lines::{
+    DIGITS_MAX, HexCode, HexFault, cut_str, cut_word, hex_bytes, hex_line, is_one_word, is_word,
+    lines_of, push_hex, read_decimal, read_number, take_number,
+};
 
 /// Texts, and the number that each says.
 static NUMBERS: [(&str, Option<u64>); 13] = [
@@ -27,6 +29,64 @@ fn decimal_numbers(rt: HostRuntime) {
         assert!(rt; read_decimal(text.as_bytes()) == *number, "at {text:?}");
     }
     assert!(rt; read_decimal(b"1\xff").is_none());
+}
+
+#[test]
+fn numbers_below_a_bound(rt: HostRuntime) {
+    assert!(rt; read_number(b"99", 100) == Some(99));
+    assert!(rt; read_number(b"100", 100).is_none());
+    assert!(rt; read_number(b"099", 100).is_none());
+    assert!(rt; matches!(take_number(b"99  x", 100), Some((99, rest)) if rest == b" x".as_slice()));
+    assert!(rt; take_number(b"100 x", 100).is_none());
+    assert!(rt; take_number(b"99", 100).is_none());
+}
+
+/// Texts, the first word of each and the rest after the space.
+static CUTS: [(&str, Option<(&str, &str)>); 5] = [
+    ("", None),
+    ("a\tb", None),
+    ("é b c", Some(("é", "b c"))),
+    (" b", Some(("", "b"))),
+    ("a ", Some(("a", ""))),
+];
+
+#[test]
+fn first_words(rt: HostRuntime) {
+    for (text, cut) in &CUTS {
+        let (found, bytes) = (cut_str(text), cut_word(text.as_bytes()));
+        match cut {
+            Some((word, rest)) => {
+                assert!(rt;
+                    matches!(found, Some((a, b)) if a == *word && b == *rest),
+                    "{text:?}"
+                );
+                assert!(rt;
+                    matches!(bytes, Some((a, b)) if a == word.as_bytes() && b == rest.as_bytes()),
+                    "{text:?}"
+                );
+            }
+            None => assert!(rt; found.is_none() && bytes.is_none(), "{text:?}"),
+        }
+    }
+}
+
+/// Texts, whether each is one word, and whether it is one of letters and digits.
+static WORDS: [(&str, bool, bool); 7] = [
+    ("", false, false),
+    ("a ", false, false),
+    ("é", true, false),
+    ("a.b", true, false),
+    ("9a", true, false),
+    ("_a9", true, true),
+    ("map", true, true),
+];
+
+#[test]
+fn words(rt: HostRuntime) {
+    for (text, one, letters) in &WORDS {
+        assert!(rt; is_one_word(text.as_bytes()) == *one, "{text:?}");
+        assert!(rt; is_word(text.as_bytes()) == *letters, "{text:?}");
+    }
 }
 
 /// Inputs, and their lines with numbers.

@@ -10,7 +10,7 @@
 
 ghost use Rattle.std.specs.Prelude.{IfOk, IfErr};
 ghost use Rattle.std.specs.Option.{option_map};
-ghost use Rattle.decimal_text.specs.Answers.{IsSomeOf};
+ghost use Rattle.text_lines.specs.Answers.{IsSomeOf};
 ghost use Rattle.checkout_client.specs.Writes.{SaysWrite};
 ghost use Rattle.checkout_client.specs.Readings.{IsRead, IsUnreadFor};
 
@@ -22,6 +22,8 @@ use field_writes::laws::writes_are_of_their_shape;
 use field_writes::read_write;
 use outside::Memory;
 use std::alloc::Global;
+use std::error::Error;
+use std::fmt;
 use wire_bytes::{ByteCode, ContextFault, Form, read_context, write};
 
 /// Why a field wasn't read.
@@ -36,6 +38,24 @@ pub enum FieldFault {
     /// There is no memory for the reading.
     Memory,
 }
+
+impl fmt::Display for FieldFault {
+    ghost use Rattle.std.specs.Prelude.{Some};
+    ghost use Rattle.checkout_client.specs.FaultTexts.{field_fault_text};
+
+    ghost output = { λ fault. Some (field_fault_text fault) };
+
+    fn fmt<W: fmt::Write>(&self, f: &mut fmt::Formatter<W>) -> fmt::Result {
+        match self {
+            FieldFault::NoField => write!(f, "NoField"),
+            FieldFault::NoContext { offset, code } => write!(f, "offset {offset} {code}"),
+            FieldFault::IllTyped { place } => write!(f, "place {place} IllTyped"),
+            FieldFault::Memory => write!(f, "out of memory"),
+        }
+    }
+}
+
+impl Error for FieldFault {}
 
 impl From<Memory> for FieldFault {
     ghost use Rattle.std.specs.Prelude.{◌≡◌};

@@ -9,7 +9,7 @@ use Rattle.std.proofs.lemmas.Bool.Decides.{Decides-and, Decides-ltb}
 use Rattle.std.proofs.lemmas.Fmt.{decimal_injective, decimal_is_IsNumeral}
 use Rattle.std.proofs.lemmas.Slice.Eq.{bytes_eq-Decides}
 use Rattle.graph_lines.specs.Reading.{IsNumberText}
-use Rattle.decimal_text.specs.Answers.{IsSomeOf}
+use Rattle.text_lines.specs.Answers.{IsSomeOf}
 use Rattle.command_line.specs.Commands.{positive_number_of, step_of_word}
 
 -- A fact holds of this number alone or of none, and a test tells which.

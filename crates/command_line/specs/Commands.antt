@@ -57,11 +57,11 @@ positive_number_of word =
     then Some (digits_value 10 word)
     else None
 
--- Such a number, but for those above `ROUNDS_MAX`.
+-- A number from 1 to `ROUNDS_MAX`, whose decimal digits the word is.
 abbrev pub rounds_of : List ℕ → Option ℕ
 rounds_of word = option_and_then (λ rounds. if nat_lt ROUNDS_MAX rounds then None else Some rounds) (positive_number_of word)
 
--- Such a number, where it may be the width of a piece.
+-- A number that may be the width of a piece, whose decimal digits the word is.
 abbrev pub width_of : List ℕ → Option ℕ
 width_of word = option_and_then (λ width. if nat_lt width WIDTH_MIN || nat_lt WIDTH_MAX width then None else Some width) (positive_number_of word)
 

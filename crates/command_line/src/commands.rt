@@ -4,11 +4,11 @@ ghost use Rattle.std.specs.Prelude.{◌≡◌, [], ◌∷◌, IfSome};
 ghost use Rattle.std.specs.Option.{option_map};
 ghost use Rattle.command_line.specs.Commands as spec;
 
-use decimal_text::read_decimal;
 use load_maker::ROUNDS_MAX;
 use outside::Words;
 use std::num::NonZeroU32;
 use text_carrier::{WIDTH_MAX, WIDTH_MIN};
+use text_lines::read_decimal;
 
 /// A command with what it is asked for. The names stay in the words, so it takes no memory.
 ///

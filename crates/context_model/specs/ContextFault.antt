@@ -17,8 +17,8 @@ IsContextOf list bytes = AreAtoms list × IsWellFormed list × IsBytesOf list by
 abbrev pub IsFrontOf : Form → List Atom → List ℕ → Type 0
 IsFrontOf form list bytes = AreWithin form list × IsWellFormed list × (bytes ≡ frames form list)
 
--- This is wrong with the bytes behind the frames of a list: they begin with no frame, or with that of an atom that may not stand
--- there.
+-- The code says what is wrong with the bytes after the frames of a list: they begin with no frame, or with that of an atom that
+-- may not stand there.
 abbrev pub IsWrongBehind : Form → List Atom → List ℕ → ByteCode → Type 0
 IsWrongBehind form list rest code =
     IsUnframed form rest code
@@ -32,6 +32,7 @@ pub record IsFirstUnformed (form : Form) (bytes : List ℕ) (offset : ℕ) (code
   pub longest : (n : ℕ) (other : List Atom) → n ≤ length bytes → IsFrontOf form other (take n bytes) → n ≤ offset
   pub applies : IsWrongBehind form list (drop offset bytes) code
 
+-- The first fault of bytes that aren't a context's: where it stands, and its code.
 abbrev pub IsFirstContextFault : List ℕ → ℕ → ByteCode → Type 0
 IsFirstContextFault = FirstFault IsFirstUnformed
 

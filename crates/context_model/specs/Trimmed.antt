@@ -24,7 +24,7 @@ kept_of form list budget =
 unfoldable pub trimmed : Form → List Atom → ℕ → List Atom
 trimmed form list budget = if nat_le (size_of form list) budget then list else cut_at (kept_of form list budget) list
 
--- So many first atoms, and not all, fit the budget with a marker behind them, and no more do.
+-- The number counts the first atoms that stay: not all stay, so many fit the budget with a marker after them, and no more do.
 pub record IsLongestFit (form : Form) (list : List Atom) (budget keep : ℕ) : Type 0 where
   pub within : keep < length list
   pub fits : size_of form (cut_at keep list) ≤ budget

@@ -38,6 +38,7 @@ unfoldable pub signed_form : ℕ → ℤ → List ℕ
 signed_form k (pos n) = natural_form k n
 signed_form k (negsuc n) = complement (natural_form k n)
 
+-- The number of bytes after the first one in the shortest form of a number with a sign.
 unfoldable pub signed_tail : ℤ → ℕ
 signed_tail (pos n) = natural_tail n
 signed_tail (negsuc n) = natural_tail n
@@ -48,6 +49,7 @@ signed_varint z = signed_form (signed_tail z) z
 
 -- ---- what stands at the front of bytes: an unsigned varint, a longer form of one, or too few bytes
 
+-- The bytes begin with this prefix.
 abbrev pub BeginsWith : List ℕ → List ℕ → Type 0
 BeginsWith bytes front = (rest : List ℕ) × (bytes ≡ front ++ rest)
 

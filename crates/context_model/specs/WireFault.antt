@@ -76,7 +76,7 @@ head_code Two bytes =
 
 -- ---- either form
 
--- This is wrong with the atom that begins here.
+-- The code says what is wrong with the atom that begins here.
 abbrev pub IsUnframed : Form → List ℕ → ByteCode → Type 0
 IsUnframed One bytes code = wire_code bytes ≡ Some code
 IsUnframed Two bytes code = IsUnframedTwo bytes code
@@ -96,6 +96,7 @@ FirstFault Behind bytes offset code =
     ⊎ ((at : ℕ) × (head_code (form_of bytes) bytes ≡ None) × (offset ≡ head_len (form_of bytes) + at)
     × Behind (form_of bytes) (drop (head_len (form_of bytes)) bytes) at code)
 
+-- The first fault of bytes that aren't a list's: where it stands, and its code.
 abbrev pub IsFirstWireFault : List ℕ → ℕ → ByteCode → Type 0
 IsFirstWireFault = FirstFault IsFirstUnframed
 

@@ -15,6 +15,7 @@ use Rattle.context_model.proofs.MergeLaws.{From, with-from, keys_of-merge_with, 
 abbrev pub FitsCount : ℕ → Type 0
 FitsCount count = count < 2 ^ 64
 
+-- Counts of 64 bits are a join semilattice, in which the greater one stays.
 pub count_laws : LatticeLaws FitsCount (λ x y. Unit {0}) max (λ x. x ≡ 0)
 count_laws = record {
   alike_self = λ x p. tt;
@@ -36,6 +37,7 @@ pub record IsCounted (counts : List (List ℕ × ℕ)) : Type 0 where
 abbrev pub counts_joined : List (List ℕ × ℕ) → List (List ℕ × ℕ) → List (List ℕ × ℕ)
 counts_joined = merge_with atom_cmp max
 
+-- A count that stands in the join of two counters has 64 bits.
 greater_count : (x y : List (List ℕ × ℕ)) → IsCounted x → IsCounted y → (k : List ℕ) (v : ℕ) → From atom_cmp max x y k v → FitsCount v
 greater_count x y p q k v (inl at) = EachPair-at (λ writer count. FitsCount count) x k v p.bounded at
 greater_count x y p q k v (inr (inl at)) = EachPair-at (λ writer count. FitsCount count) y k v q.bounded at
@@ -44,12 +46,14 @@ greater_count x y p q k v (inr (inr m)) =
     let second = EachPair-at (λ writer count. FitsCount count) y m.other m.second q.bounded m.in_second in
     omega (arith, first, second, m.made)
 
+-- The join of two counters is a counter.
 pub IsCounted-joined : (x y : List (List ℕ × ℕ)) → IsCounted x → IsCounted y → IsCounted (counts_joined x y)
 IsCounted-joined x y p q = record {
   rise = subst (Rises atom_cmp) (sym (keys_of-merge_with atom_cmp max x y)) (Rises-greedy atom_cmp nat_list_cmp_total (keys_of x) (keys_of y) p.rise q.rise);
   bounded = EachPair-from (λ writer count. FitsCount count) (counts_joined x y) (λ k v at. greater_count x y p q k v (with-from atom_cmp max x y k v at));
 }
 
+-- Counters are a join semilattice.
 pub counts_laws : LatticeLaws IsCounted (λ x y. Unit {0}) counts_joined (λ x. x ≡ [])
 counts_laws = record {
   alike_self = λ x p. tt;
@@ -62,6 +66,7 @@ counts_laws = record {
   bottom_first = λ b x p q a e. ap (λ l. counts_joined l x) e;
 }
 
+-- The join of two counters is their union, in which the greater count of each writer stays.
 pub counts_union : (a b : List (List ℕ × ℕ)) → IsCounted a → IsCounted b → IsUnion max a b (counts_joined a b)
 counts_union a b p q = with-union atom_cmp nat_list_cmp_total max a b p.rise q.rise (λ x y s t tie. exact_bytes x y tie)
 

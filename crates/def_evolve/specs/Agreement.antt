@@ -44,7 +44,7 @@ HasField (node name own other nodes) (value u ws) number shape w =
 
 -- ---- values that agree
 
--- Both have the same keys, and at each key the fact holds of the two values.
+-- Two maps have the same keys, and at each key the fact holds of the two values.
 abbrev pub AgreeAtKeys : (Value → Value → Type 0) → Entries → Entries → Type 0
 AgreeAtKeys holds es fs =
     (keys_of (pairs es) ≡ keys_of (pairs fs))
@@ -89,7 +89,8 @@ abbrev mutual
       → IsKeySpelling new key × IsTypedForBoth shape (value_shape new) P (key_path q key)
   IsTypedForBoth (Bag nodes) new P q = AreTypedForBoth nodes (bag_nodes new) P q
 
-  -- The same of the fields of a bag.
+  -- Each datum and each key that is read at q of the fields that an old bag and a new one both have, and of all fields inside
+  -- that both have, is the spelling of a value of its new type.
   pub AreTypedForBoth : Nodes → Nodes → (Path → Type 0) → Path → Type 0
   AreTypedForBoth no_node others P q = Unit {0}
   AreTypedForBoth (node name number shape nodes) others P q =

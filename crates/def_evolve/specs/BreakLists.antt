@@ -42,7 +42,7 @@ break_of found = record { way = found.way.items; change = found.change; old = si
 abbrev pub own_side : Shape → SideAt
 own_side shape = record { names = []; shape = shape }
 
--- The same side, seen from the field around.
+-- A side seen from the field around, in which the side's field has this name.
 abbrev pub side_behind : List ℕ → SideAt → SideAt
 side_behind name side = record { names = name ∷ side.names; shape = side.shape }
 
@@ -50,7 +50,7 @@ side_behind name side = record { names = name ∷ side.names; shape = side.shape
 abbrev pub own_break : Change → Shape → Shape → BreakAt
 own_break change old new = record { way = []; change = change; old = own_side old; new = own_side new }
 
--- The same break, seen from the fields around, in which the next ones have these names.
+-- A break seen from the fields around, in which the next ones have these names.
 abbrev pub break_behind : Part → List ℕ → List ℕ → BreakAt → BreakAt
 break_behind part name other told =
     record { way = part ∷ told.way; change = told.change; old = side_behind name told.old; new = side_behind other told.new }
@@ -61,14 +61,14 @@ break_behind part name other told =
 abbrev pub values_name : List ℕ
 values_name = codes "*"
 
--- This step leads from a field of the first shape by this name to the second shape: to a field of a bag, or to the values of a
+-- The step leads from a field of the first shape by this name to the second shape: to a field of a bag, or to the values of a
 -- map.
 abbrev pub StepsBy : Shape → Part → List ℕ → Shape → Type 0
 StepsBy (Bag nodes) (Number number) name shape = IsIn (record { name = name; number = number; shape = shape }) (fields nodes)
 StepsBy (Map key value) MapValue name shape = (name ≡ values_name) × (value ≡ shape)
 StepsBy own part name shape = ⊥
 
--- This way leads from a field of the first shape by these names to the second shape.
+-- The way leads from a field of the first shape by these names to the second shape.
 abbrev pub LeadsBy : Shape → List Part → List (List ℕ) → Shape → Type 0
 LeadsBy own [] [] shape = own ≡ shape
 LeadsBy own (part ∷ way) (name ∷ names) shape = (next : Shape) × StepsBy own part name next × LeadsBy next way names shape
@@ -89,7 +89,7 @@ IsTold list way change = (told : BreakAt) × IsIn told list × (told.way ≡ way
 abbrev pub break_cmp : BreakAt → BreakAt → Ordering
 break_cmp = on (λ told. told.way) way_cmp
 
--- These are all breaks, each once, by the order of their ways.
+-- The list has all breaks, each once, in the order of their ways.
 pub record AreBreaks (old new : Shape) (list : List BreakAt) : Type 0 where
   pub rises : Rises break_cmp list
   pub each : (told : BreakAt) → IsIn told list → IsToldBreak old new told

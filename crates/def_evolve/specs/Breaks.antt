@@ -35,14 +35,14 @@ part_text MapValue = codes "*"
 abbrev pub way_text : List Part → List ℕ
 way_text way = dotted (map part_text way)
 
--- This step leads from a field of the first shape to one of the second: to a field of a bag, or to the values of a map.
+-- The step leads from a field of the first shape to one of the second: to a field of a bag, or to the values of a map.
 abbrev pub StepsTo : Shape → Part → Shape → Type 0
 StepsTo (Bag nodes) (Number number) shape =
     (field : Field) × IsIn field (fields nodes) × (field.number ≡ number) × (field.shape ≡ shape)
 StepsTo (Map key value) MapValue shape = value ≡ shape
 StepsTo own part shape = ⊥
 
--- This way leads from a field of the first shape to one of the second.
+-- The way leads from a field of the first shape to one of the second.
 abbrev pub LeadsAlong : Shape → List Part → Shape → Type 0
 LeadsAlong own [] shape = own ≡ shape
 LeadsAlong own (part ∷ way) shape = (next : Shape) × StepsTo own part next × LeadsAlong next way shape
@@ -59,12 +59,12 @@ variant_of Counter = 4
 variant_of (Map key value) = 5
 variant_of (Bag nodes) = 6
 
--- Both are maps, and the kind of the keys may not become the new one.
+-- Two shapes are maps, and the kind of the old keys may not become that of the new ones.
 abbrev pub KeysDiffer : Shape → Shape → Type 0
 KeysDiffer (Map key value) (Map other more) = ¬ (Widens key other)
 KeysDiffer old new = ⊥
 
--- Both are scalars of which the same value stays, or both are sets, and their kind may not become the new one.
+-- Two shapes are scalars of which the same value stays, or sets, and the old kind may not become the new one.
 abbrev pub KindsDiffer : Shape → Shape → Type 0
 KindsDiffer (Scalar pick kind) (Scalar own other) = (own ≡ pick) × ¬ (Widens kind other)
 KindsDiffer (Set kind) (Set other) = ¬ (Widens kind other)
@@ -80,7 +80,7 @@ Differs changes.Kind old new = KindsDiffer old new
 abbrev pub IsBreak : Shape → Shape → List Part → Change → Type 0
 IsBreak old new way change = (a b : Shape) × LeadsAlong old way a × LeadsAlong new way b × Differs change a b
 
--- It is a break, and none comes before it.
+-- The way leads to a break, and no break comes before it.
 pub record IsFirstBreak (old new : Shape) (way : List Part) (change : Change) : Type 0 where
   pub breaks : IsBreak old new way change
   pub first : (other : List Part) (its : Change) → IsBreak old new other its → way_cmp way other ≢ Greater

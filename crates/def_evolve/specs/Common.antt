@@ -15,6 +15,6 @@ pub record AreCommonPaths (old new : Shape) (paths : List (List ℕ)) : Type 0 w
   pub rises : Rises (slice_cmp nat_cmp) paths
   pub each : (numbers : List ℕ) → IsIn numbers paths ↔ (IsSlotPath old numbers × IsSlotPath new numbers)
 
--- So many slots are in both fields.
+-- The number is that of the slots that two fields have in common.
 abbrev pub IsCommonCount : Shape → Shape → ℕ → Type 0
 IsCommonCount old new common = (paths : List (List ℕ)) × AreCommonPaths old new paths × (common ≡ length paths)

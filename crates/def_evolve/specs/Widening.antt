@@ -27,7 +27,7 @@ Widens (One word) (Packed wider) = ⊥
 Widens (Packed words) (One wider) = ⊥
 Widens (Packed words) (Packed wider) = AreWider words wider
 
--- Then each value of the kind is one of the wider kind, with the same spelling.
+-- Where a kind may take the place of another, each value of the other is one of it, with the same spelling.
 pub record WiderKindsSpellAlike : Type 0 where
   pub values : (kind wider : ScalarKind) (v : ScalarValue) → Widens kind wider → IsScalarOf kind v → IsScalarOf wider v
   pub spellings : (kind wider : ScalarKind) (v : ScalarValue) → Widens kind wider → IsScalarOf kind v

@@ -14,7 +14,7 @@ use std::alloc::Global;
 use std::thread::{Threads, join};
 
 /// Fewer places are merged on one thread: to start another costs more than it saves.
-const FORKED_MIN: usize = 64;
+pub(crate) const FORKED_MIN: usize = 64;
 
 /// How often each half is halved again at most, so that there are up to 8 pieces.
 const FORKS: u8 = 2;

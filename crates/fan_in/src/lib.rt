@@ -7,6 +7,8 @@
 
 mod alone;
 mod forked;
+mod merges;
 
 pub use alone::merge_alone;
 pub use forked::merge_all;
+pub use merges::{Alone, Beside, Merge};

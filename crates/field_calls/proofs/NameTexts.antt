@@ -1,46 +1,20 @@
 -- The name paths of a table's slots are texts.
-use Rattle.std.proofs.Common.{◌≡◌, ℕ, zero, suc, ◌<◌, ◌||◌, not, Bool, true, List, [], ◌∷◌, ◌++◌, map, Some, ap, subst, arith}
-use Rattle.std.specs.Char.{is_ascii_digit}
-use Rattle.std.specs.List.{slice_get, list_all, list_any}
-use Rattle.std.specs.Str.{IsUtf8, IsAscii, bytes_eq}
+use Rattle.std.proofs.Common.{◌≡◌, ℕ, zero, suc, not, true, List, [], ◌∷◌, ◌++◌, map, Some, subst, arith}
+use Rattle.std.specs.List.{slice_get, list_any}
+use Rattle.std.specs.Str.{IsUtf8, bytes_eq}
 use Rattle.std.proofs.lemmas.Bool.{and_parts}
-use Rattle.std.proofs.lemmas.Bool.Decides.{nat_tests}
 use Rattle.std.proofs.lemmas.Str.{IsUtf8-from_ascii, IsUtf8-append, IsUtf8-nil}
+use Rattle.std.proofs.lemmas.Str.Ascii.{IsAscii-nil, IsAscii-cons}
 use Rattle.bag_model.specs.Shapes.{Shape, Nodes, Taint, Scalar, Set, Counter, Map, Bag, no_node, node}
 use Rattle.bag_model.specs.Slots.{SlotAt, slots_of, slots_in, within, dotted, name_path}
 use Rattle.bag_model.specs.SlotValues.{HasSlot}
 use Rattle.bag_model.specs.Tables.{IsShape, AreFields, IsTable}
-use Rattle.bag_model.specs.Words.{is_letter, is_word, is_name, reserved_words}
-
--- The byte may stand in a word.
-abbrev is_of_word : ℕ → Bool
-is_of_word byte = is_letter byte || is_ascii_digit byte
-
-of_word_small : (byte : ℕ) → is_of_word byte ≡ true → byte < 128
-of_word_small byte is = grind (arith, nat_tests, is)
-
-letter_of_word : (byte : ℕ) → is_letter byte ≡ true → is_of_word byte ≡ true
-letter_of_word byte is = ap (λ b. b || is_ascii_digit byte) is
-
-ascii_more : (byte : ℕ) (bytes : List ℕ) → byte < 128 → IsAscii bytes → IsAscii (byte ∷ bytes)
-ascii_more byte bytes small all zero = small
-ascii_more byte bytes small all (suc i) = all i
-
-ascii_bytes : (text : List ℕ) → list_all is_of_word text ≡ true → IsAscii text
-ascii_bytes [] is = λ i. omega arith
-ascii_bytes (byte ∷ bytes) is =
-    let parts = and_parts (is_of_word byte) (list_all is_of_word bytes) is in
-    ascii_more byte bytes (of_word_small byte parts.0) (ascii_bytes bytes parts.1)
-
-word_ascii : (text : List ℕ) → is_word text ≡ true → IsAscii text
-word_ascii [] is = λ i. omega arith
-word_ascii (byte ∷ bytes) is =
-    let parts = and_parts (is_letter byte) (list_all is_of_word bytes) is in
-    ascii_more byte bytes (of_word_small byte (letter_of_word byte parts.0)) (ascii_bytes bytes parts.1)
+use Rattle.bag_model.specs.Words.{is_word, is_name, reserved_words}
+use Rattle.text_lines.proofs.WordBytes.{word_utf8}
 
 name_utf8 : (text : List ℕ) → is_name text ≡ true → IsUtf8 text
 name_utf8 text is =
-    IsUtf8-from_ascii text (word_ascii text (and_parts (is_word text) (not (list_any (bytes_eq text) reserved_words)) is).0)
+    word_utf8 text (and_parts (is_word text) (not (list_any (bytes_eq text) reserved_words)) is).0
 
 -- Each of the names is a text.
 abbrev AreTexts : List (List ℕ) → Type 0
@@ -52,7 +26,7 @@ dotted_utf8 [] texts = IsUtf8-nil
 dotted_utf8 (name ∷ []) texts = texts.0
 dotted_utf8 (name ∷ other ∷ names) texts =
     IsUtf8-append name (46 ∷ dotted (other ∷ names)) texts.0
-    (IsUtf8-append (46 ∷ []) (dotted (other ∷ names)) (IsUtf8-from_ascii (46 ∷ []) (ascii_more 46 [] (omega arith) (λ i. omega arith))) (dotted_utf8 (other ∷ names) texts.1))
+    (IsUtf8-append (46 ∷ []) (dotted (other ∷ names)) (IsUtf8-from_ascii (46 ∷ []) (IsAscii-cons 46 [] (omega arith) IsAscii-nil)) (dotted_utf8 (other ∷ names) texts.1))
 
 -- Each of the slots has texts for names.
 abbrev HaveTexts : List SlotAt → Type 0

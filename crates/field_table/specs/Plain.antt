@@ -10,6 +10,7 @@ use Rattle.field_table.specs.declared.shapes.Shape.TheFolds.{fold-Shape, fold-Sl
 use Rattle.field_table.specs.declared.shapes.Shape.TheOpen.{Shape-F, Slot-F, Slots-F}
 use Rattle.field_table.specs.Tables.{Kept, KeptField, KeptBag, kept, kept_nodes, plain_shape, plain_bag, IsKeptBag, IsInOrder, IsLoose, Taint, Scalar, Set, Counter, Map, Bag}
 
+-- A shape as it is kept, where the shapes inside it are kept already.
 abbrev pub shape_step : Shape-F Kept KeptField KeptBag → Kept
 shape_step Shape-F.Taint = Taint
 shape_step (Shape-F.Scalar kind) = Scalar Least (kind_of kind)
@@ -19,19 +20,23 @@ shape_step Shape-F.Counter = Counter
 shape_step (Shape-F.Map key value) = Map (kind_of key) value.value
 shape_step (Shape-F.Bag bag) = Bag bag
 
+-- A field as it is kept, where its shape is kept already.
 abbrev pub slot_step : Slot-F Kept KeptField KeptBag → KeptField
 slot_step slot = record { name = slot.name; number = slot.number; shape = slot.shape }
 
+-- The fields of a bag as they are kept, where each is kept already.
 abbrev pub slots_step : Slots-F Kept KeptField KeptBag → KeptBag
 slots_step slots = kept (kept_nodes slots.items.items) slots.ends.items slots.by_name.items
 
--- Shapes and fields as they are kept.
+-- A shape as it is kept.
 abbrev pub kept_shape : Shape → Kept
 kept_shape = fold-Shape Kept KeptField KeptBag shape_step slot_step slots_step
 
+-- A field as it is kept.
 abbrev pub kept_field : Slot → KeptField
 kept_field = fold-Slot Kept KeptField KeptBag shape_step slot_step slots_step
 
+-- The fields of a bag as they are kept.
 abbrev pub kept_bag : Slots → KeptBag
 kept_bag = fold-Slots Kept KeptField KeptBag shape_step slot_step slots_step
 

@@ -37,11 +37,12 @@ pub record KeptField : Type 0 where
   pub number : ℕ
   pub shape : Kept
 
+-- Fields by themselves as the fields of a bag.
 abbrev pub kept_nodes : List KeptField → KeptNodes
 kept_nodes [] = no_node
 kept_nodes (field ∷ list) = node field.name field.number field.shape (kept_nodes list)
 
--- Without the indexes.
+-- A kept shape without its indexes.
 abbrev mutual
   pub plain_shape : Kept → model.Shape
   plain_shape Taint = model.Shape.Taint
@@ -51,9 +52,11 @@ abbrev mutual
   plain_shape (Map key value) = model.Shape.Map key (plain_shape value)
   plain_shape (Bag bag) = model.Shape.Bag (plain_bag bag)
 
+  -- The fields of a kept bag without their indexes.
   pub plain_bag : KeptBag → model.Nodes
   plain_bag (kept nodes ends by_name) = plain_nodes nodes
 
+  -- Kept fields without their indexes.
   pub plain_nodes : KeptNodes → model.Nodes
   plain_nodes no_node = model.Nodes.no_node
   plain_nodes (node name number shape nodes) = model.Nodes.node name number (plain_shape shape) (plain_nodes nodes)
@@ -67,6 +70,7 @@ abbrev pub ends_after : ℕ → List model.Field → List ℕ
 ends_after before [] = []
 ends_after before (field ∷ list) = capped (before + slot_count field.shape) ∷ ends_after (before + slot_count field.shape) list
 
+-- The name of a field.
 abbrev pub name : model.Field → List ℕ
 name field = field.name
 
@@ -84,7 +88,7 @@ pub record IsNameOrder (names : List (List ℕ)) (places : List ℕ) : Type 0 wh
 abbrev pub IsInOrder : KeptBag → Type 0
 IsInOrder (kept nodes ends by_name) = IsNameOrder (map name (model.fields (plain_nodes nodes))) by_name
 
--- The indexes of the bag are those of its fields. Those of all bags inside are, too, and are in order.
+-- In a field of this shape the indexes of each bag are those of its fields, and in the order of names.
 abbrev mutual
   pub IsKept : Kept → Type 0
   IsKept Taint = Unit {0}
@@ -94,14 +98,17 @@ abbrev mutual
   IsKept (Map key value) = IsKept value
   IsKept (Bag bag) = IsKeptBag bag × IsInOrder bag
 
+  -- The indexes of a bag are those of its fields, and those of each bag inside are too, and in the order of names.
   pub IsKeptBag : KeptBag → Type 0
   IsKeptBag (kept nodes ends by_name) = (ends ≡ ends_after 0 (model.fields (plain_nodes nodes))) × HasPlaces (map name (model.fields (plain_nodes nodes))) by_name × AreKept nodes
 
+  -- In each of these fields the indexes of each bag are those of its fields, and in the order of names.
   pub AreKept : KeptNodes → Type 0
   AreKept no_node = Unit {0}
   AreKept (node name number shape nodes) = IsKept shape × AreKept nodes
 
--- The same of a shape that no field has yet: the places in its own bag may be in any order.
+-- In a shape that no field has yet the indexes of each bag are those of its fields; the places in its own bag may be in any
+-- order.
 abbrev pub IsLoose : Kept → Type 0
 IsLoose Taint = Unit {0}
 IsLoose (Scalar pick kind) = Unit {0}
@@ -110,10 +117,11 @@ IsLoose Counter = Unit {0}
 IsLoose (Map key value) = IsLoose value
 IsLoose (Bag bag) = IsKeptBag bag
 
+-- The index of a bag by slots: how many there are up to the end of each field.
 abbrev pub ends_of : KeptBag → List ℕ
 ends_of (kept nodes ends by_name) = ends
 
--- So many of the names, in their order, are less than this one.
+-- The rank is the number of names that are less than this one.
 pub record IsRank (names : List (List ℕ)) (places : List ℕ) (name : List ℕ) (rank : ℕ) : Type 0 where
   pub within : rank ≤ length places
   pub before : (k : ℕ) → k < rank → slice_cmp nat_cmp (get_or names (slice_index places k) []) name ≡ Less

@@ -25,7 +25,7 @@ use std::cmp::Ordering;
 /// A field of a bag, which may be a bag itself. A slot of a table is a field that is no bag, seen with its path from the
 /// outermost bag on: calls of `Table` know it by its number.
 #[cycle(shape)]
-#[derive(Drop)]
+#[derive(Debug, Drop)]
 pub struct Slot {
     pub name: Text,
     pub number: u16,
@@ -34,7 +34,7 @@ pub struct Slot {
 
 /// What a field holds.
 #[cycle(shape)]
-#[derive(Drop)]
+#[derive(Debug, Drop)]
 pub enum Shape {
     Taint,
     /// A scalar of which the least value stays.
@@ -51,7 +51,7 @@ pub enum Shape {
 /// The fields of a bag, in order, those that are bags among them. Indexes find a field by its name and by the number of a
 /// slot.
 #[cycle(shape)]
-#[derive(Drop)]
+#[derive(Debug, Drop)]
 pub struct Slots {
     items: Vec<Slot>,
     /// For each field, how many slots there are up to its end.

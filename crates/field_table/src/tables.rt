@@ -15,7 +15,7 @@ use std::alloc::Global;
 use std::marker::Model;
 
 /// The fields of a bag, with all nested bags in place.
-#[derive(Drop)]
+#[derive(Debug, Drop)]
 pub struct Table {
     nodes: Slots,
 }

@@ -1,6 +1,6 @@
 -- Answers of one fact are answers of another that holds of the same.
 use Rattle.std.proofs.Common.{ℕ, List, Option, Some, None}
-use Rattle.decimal_text.specs.Answers.{IsSomeOf}
+use Rattle.text_lines.specs.Answers.{IsSomeOf}
 use Rattle.field_writes.specs.Ends.{TakesFront}
 
 pub takes_same : {A : Type 0} (P Q : A → List ℕ → Type 0) (taken : Option (A × List ℕ))

@@ -2,7 +2,7 @@
 
 ghost use Rattle.std.specs.Prelude.{◌≡◌, ◌∷◌, ◌++◌, ◌↔◌, All, IsTrue};
 ghost use Rattle.std.specs.Option.{option_map};
-ghost use Rattle.decimal_text.specs.Answers.{IsSomeOf};
+ghost use Rattle.text_lines.specs.Answers.{IsSomeOf};
 ghost use Rattle.field_writes.specs.Ends.{is_stop, IsEnd, IsNoStop};
 
 /// The text behind this byte; none where the text doesn't begin with it.

@@ -6,7 +6,7 @@ ghost use Rattle.bag_model.specs.Scalars as scalars;
 ghost use Rattle.bag_model.specs.Scalars.{IsPlainOf, IsScalarOf, ArePlainsOf, plain_bytes, spelling};
 ghost use Rattle.scalar_types.specs.KindViews.{IsPlainWord, kind_of, word_of};
 ghost use Rattle.scalar_types.specs.Scalars.{IsPlain, plain_of, value_of};
-ghost use Rattle.decimal_text.specs.Answers.{IsSomeOf};
+ghost use Rattle.text_lines.specs.Answers.{IsSomeOf};
 ghost use Rattle.text_model.specs.Commas.{comma_before, comma_joined};
 ghost use Rattle.field_writes.specs.Literals.{ArePlainTexts, HasNoSign, HasSign, IsLiteral, IsPlainText, IsScalarText, IsWriter, most_payload};
 ghost use Rattle.field_writes.specs.Ends.{BeginsWithOne, TakesFront};
@@ -15,10 +15,10 @@ use crate::ends::{behind, is_end, split_at_stop};
 use crate::numbers::{read_octets, read_signed, read_truth};
 use crate::strings::take_string;
 use context_model::{Form, LENGTH_MAX};
-use decimal_text::read_decimal;
 use outside::{ATOM_MAX, Memory, Octets};
 use scalar_types::{Codec, Scalar, ScalarKind, ScalarList};
 use std::alloc::Global;
+use text_lines::read_decimal;
 
 /// The number of a word with a sign.
 fn signed_of(word: &ScalarKind, text: &[u8]) -> Option<Scalar>

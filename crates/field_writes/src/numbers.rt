@@ -4,14 +4,14 @@ ghost use Rattle.std.specs.Prelude.{◌≡◌, ℕ, ◌^◌, ◌<◌, ◌++◌, 
 ghost use Rattle.std.specs.Fmt.{signed_decimal};
 ghost use Rattle.std.specs.Int.{w64};
 ghost use Rattle.hex.specs.Hex.{decode_of};
-ghost use Rattle.decimal_text.specs.Answers.{IsSomeOf};
+ghost use Rattle.text_lines.specs.Answers.{IsSomeOf};
 ghost use Rattle.text_model.specs.ScalarTexts.{truth_text};
 
 use crate::ends::behind;
-use decimal_text::read_decimal;
 use hex::FromHexError;
 use outside::{Memory, Octets};
 use std::alloc::Global;
+use text_lines::read_decimal;
 
 /// The truth value of a word.
 pub(crate) fn read_truth(text: &[u8]) -> Option<bool>

@@ -3,7 +3,7 @@
 ghost use Rattle.std.specs.Prelude.{◌≡◌, ℕ, ◌++◌, ◌∷◌, List, codes, IfOk, IsUtf8};
 ghost use Rattle.std.specs.Option.{option_map};
 ghost use Rattle.bag_model.specs.Scalars as scalars;
-ghost use Rattle.decimal_text.specs.Answers.{IsSomeOf};
+ghost use Rattle.text_lines.specs.Answers.{IsSomeOf};
 ghost use Rattle.text_model.specs.ScalarTexts.{is_marked};
 ghost use Rattle.field_writes.specs.Literals.{AreDigitsOf, IsPlainText, SaysByte, SpellsBytes, SaysEscaped};
 ghost use Rattle.field_writes.specs.Ends.{BeginsWithOne, TakesFront};

@@ -7,7 +7,7 @@ ghost use Rattle.bag_model.specs.Tables.{AreFields, IsShape};
 ghost use Rattle.bag_model.specs.Values as values;
 ghost use Rattle.bag_model.specs.Values.{bottom, values_list};
 ghost use Rattle.bag_value.specs.Vals.{plain};
-ghost use Rattle.decimal_text.specs.Answers.{IsSomeOf};
+ghost use Rattle.text_lines.specs.Answers.{IsSomeOf};
 ghost use Rattle.field_table.specs.Plain.{shape_of, nodes_of};
 ghost use Rattle.scalar_types.specs.KindViews.{kind_of};
 ghost use Rattle.scalar_types.specs.Scalars.{value_of};
@@ -20,12 +20,12 @@ use bag_decode::bottom_of;
 use bag_value::{Entries, Entry, ScalarSet, Val, Vals};
 use context_model::Form;
 use counter_type::Counts;
-use decimal_text::read_decimal;
 use field_table::{Shape, Slots};
 use outside::Memory;
 use scalar_types::ScalarKind;
 use set_map_types::SetOf;
 use std::alloc::Global;
+use text_lines::read_decimal;
 
 /// The value that a text writes to a field of this shape, or none where the text is no write of it. Of a write's payloads and keys
 /// none is longer than those of the form.

@@ -20,7 +20,7 @@ pub record Stops {T A : Type 0} (f : Grammar T A) (ts bad : List T) : Type 0 whe
   pub ends : (t : T) (rest more : List T) → bad ≡ t ∷ rest → f.begins (front ++ t ∷ more) → ⊥
   pub none : (more : List T) (a : A) (rest : List T) → f.reads (front ++ behind bad more) a rest → ⊥
 
--- It stops in one form, and with the next token it goes on in another.
+-- The tokens stop in one form, and with the next token they go on in another.
 pub record GoesOn {T A B : Type 0} (f : Grammar T A) (g : Grammar T B) (ts bad : List T) : Type 0 where
   pub stops : Stops f ts bad
   pub front : List T

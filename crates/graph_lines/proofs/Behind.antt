@@ -4,12 +4,12 @@ use Rattle.std.specs.Prelude.{codes}
 use Rattle.std.specs.Option.{option_map}
 use Rattle.std.specs.List.{join_with_byte}
 use Rattle.graph_lines.specs.Statements.{NamedView, NamedAct, Statement, All, Nothing, Only, Step}
-use Rattle.graph_lines.specs.Forms.{HasNoSpace}
-use Rattle.decimal_text.specs.Answers.{IsSomeOf}
-use Rattle.graph_lines.specs.Reading.{IsCut, IsViewText, IsRestText, IsStatementText, first_word}
+use Rattle.text_lines.specs.Words.{HasNoSpace, IsCut}
+use Rattle.text_lines.specs.Answers.{IsSomeOf}
+use Rattle.graph_lines.specs.Reading.{IsViewText, IsRestText, IsStatementText, first_word}
 use Rattle.graph_lines.specs.Acts.{statement_of}
 use Rattle.graph_lines.specs.declared.statements.Statement as code
-use Rattle.graph_lines.proofs.Separated.{free_there, same_cut}
+use Rattle.text_lines.proofs.Separated.{free_there, same_cut}
 use Rattle.graph_lines.proofs.FirstWords.{behind_of, words_cut, first_free, only_step}
 use Rattle.graph_lines.proofs.OneForm.{joined_more}
 

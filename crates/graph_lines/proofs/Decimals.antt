@@ -1,14 +1,12 @@
 -- Numbers and the digits that say them.
-use Rattle.std.proofs.Common.{◌≡◌, ℕ, ◌^◌, ◌<◌, ◌==◌, List, [], ◌∷◌, map, refl, arith}
-use Rattle.std.specs.Prelude.{◌≢◌}
+use Rattle.std.proofs.Common.{◌≡◌, ℕ, ◌^◌, ◌<◌, List, [], ◌∷◌, ◌++◌, map, refl, arith}
 use Rattle.std.specs.Fmt.{decimal}
-use Rattle.std.specs.List.{AllByRecursion, list_any}
-use Rattle.std.specs.Str.Parse.{AllDigits}
-use Rattle.std.proofs.lemmas.Bool.{ne_eqb}
-use Rattle.std.proofs.lemmas.Str.Parse.{digit_from_value}
-use Rattle.std.proofs.lemmas.Fmt.{decimal_injective, decimal_is_IsNumeral}
-use Rattle.graph_lines.specs.Forms.{IsNumber, HasNoSpace}
-use Rattle.graph_lines.proofs.Separated.{or_false}
+use Rattle.std.specs.List.{AllByRecursion}
+use Rattle.std.proofs.lemmas.Fmt.{decimal_injective}
+use Rattle.graph_lines.specs.Forms.{IsNumber}
+use Rattle.text_lines.specs.Words.{HasNoSpace}
+use Rattle.text_lines.proofs.Numbers.{number_free}
+use Rattle.text_lines.proofs.Separated.{same_cut}
 
 pub small_number : (n : ℕ) → IsNumber n → n < 2 ^ 64
 small_number n h = omega (arith, h)
@@ -16,15 +14,14 @@ small_number n h = omega (arith, h)
 pub same_number : (m n : ℕ) → IsNumber m → IsNumber n → decimal m ≡ decimal n → m ≡ n
 same_number m n p q e = decimal_injective m n (small_number m p) (small_number n q) e
 
-digits_free : (digits : List ℕ) → AllDigits 10 digits → HasNoSpace digits
-digits_free [] h = refl
-digits_free (d ∷ ds) h =
-    let range = digit_from_value d h.0 in
-    let apart : d ≢ 32 = λ (e : d ≡ 32). omega (arith, range, e) in
-    or_false (d == 32) (list_any (λ byte. byte == 32) ds) (ne_eqb d 32 apart) (digits_free ds h.1)
-
 pub number_no_space : (n : ℕ) → IsNumber n → HasNoSpace (decimal n)
-number_no_space n h = digits_free (decimal n) (decimal_is_IsNumeral n (small_number n h)).0.1
+number_no_space n h = number_free 32 n (omega arith) (small_number n h)
+
+-- A number and what stands behind it are told by their text.
+pub one_number : (m n : ℕ) (x y : List ℕ) → IsNumber m → IsNumber n → decimal m ++ 32 ∷ x ≡ decimal n ++ 32 ∷ y → (m ≡ n) × (x ≡ y)
+one_number m n x y p q e =
+    let cut = same_cut 32 (decimal m) (decimal n) x y (number_no_space m p) (number_no_space n q) e in
+    (same_number m n p q cut.0, cut.1)
 
 pub numbers_free : (numbers : List ℕ) → AllByRecursion IsNumber numbers → AllByRecursion HasNoSpace (map decimal numbers)
 numbers_free [] h = tt

@@ -7,7 +7,8 @@ use Rattle.std.proofs.lemmas.Slice.Eq.{bytes_eq-Decides}
 use Rattle.context_model.specs.declared.Form.{Form as WireForm}
 use Rattle.context_model.specs.declared.Form.TheVariants.{One, Two}
 use Rattle.graph_lines.specs.Statements.{NamedView, NamedAct, Statement, Start, Recv, Set, Branch, Forward, Trim, Join, Service, Step, Show}
-use Rattle.graph_lines.specs.Forms.{service_word, act_name, statement_words, HasNoSpace}
+use Rattle.graph_lines.specs.Forms.{service_word, act_name, statement_words}
+use Rattle.text_lines.specs.Words.{HasNoSpace}
 use Rattle.graph_lines.specs.Reading.{first_word, more_words}
 
 -- Texts with different bytes aren't the same.

@@ -5,11 +5,12 @@ use Rattle.std.specs.Fmt.{decimal}
 use Rattle.std.specs.List.{join_with_byte}
 use Rattle.std.proofs.lemmas.List.{length-map}
 use Rattle.graph_lines.specs.Statements.{NamedView, NamedAct, Statement, All, Nothing, Only, Start, Recv, Set, Branch, Forward, Trim, Join, Service, Step, Show}
-use Rattle.graph_lines.specs.Forms.{IsNumber, HasNoSpace, IsSoundView, IsSoundNamedAct, IsSoundStatement, view_words, act_name, act_words, HasStatementForm}
+use Rattle.graph_lines.specs.Forms.{IsSoundView, IsSoundNamedAct, IsSoundStatement, view_words, act_name, act_words, HasStatementForm}
+use Rattle.text_lines.specs.Words.{HasNoSpace}
 use Rattle.graph_lines.specs.Reading.{first_word}
-use Rattle.graph_lines.proofs.Separated.{free_there, same_cut, same_joined}
+use Rattle.text_lines.proofs.Separated.{free_there, same_cut, same_joined}
 use Rattle.graph_lines.proofs.Names.{name_no_space, path_no_space, paths_free}
-use Rattle.graph_lines.proofs.Decimals.{number_no_space, numbers_free, same_number, same_numbers}
+use Rattle.graph_lines.proofs.Decimals.{numbers_free, one_number, same_number, same_numbers}
 use Rattle.graph_lines.proofs.FirstWords.{differ, only_start, only_recv, only_set, only_branch, only_forward, only_trim, only_join, behind_of, words_cut, first_free, only_service, only_show, not_service, not_show}
 
 -- The words behind a name, where there are some.
@@ -43,12 +44,6 @@ one_view (Only paths) Nothing p q e = absurd (only_cut paths p.0 (codes "none") 
 one_view (Only a) (Only b) p q e =
     let both : codes "only" ++ 32 ∷ join_with_byte 32 a ≡ codes "only" ++ 32 ∷ join_with_byte 32 b = sym (joined_more (codes "only") a p.0) ∙ e ∙ joined_more (codes "only") b q.0 in
     ap Only (same_joined 32 a b p.0 q.0 (paths_free a p.1) (paths_free b q.1) (same_cut 32 (codes "only") (codes "only") _ _ refl refl both).1)
-
--- A number and what stands behind it are told by their text.
-pub one_number : (m n : ℕ) (x y : List ℕ) → IsNumber m → IsNumber n → decimal m ++ 32 ∷ x ≡ decimal n ++ 32 ∷ y → (m ≡ n) × (x ≡ y)
-one_number m n x y p q e =
-    let cut = same_cut 32 (decimal m) (decimal n) x y (number_no_space m p) (number_no_space n q) e in
-    (same_number m n p q cut.0, cut.1)
 
 -- The other act says the same.
 abbrev SaysSame : NamedAct → NamedAct → Type 0

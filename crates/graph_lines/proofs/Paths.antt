@@ -5,7 +5,7 @@ use Rattle.std.proofs.lemmas.Bool.{and_parts, and_from}
 use Rattle.std.proofs.lemmas.List.Splits.{length-slice_split, join_with_byte-slice_split}
 use Rattle.bag_model.specs.Words.{is_word}
 use Rattle.graph_lines.specs.Forms.{IsWord, IsPath}
-use Rattle.graph_lines.proofs.Separated.{pieces, pieces_joined}
+use Rattle.text_lines.proofs.Separated.{pieces, pieces_joined}
 use Rattle.graph_lines.proofs.Names.{names_free, dotted-joined}
 
 are_names : (names : List (List ℕ)) → list_all is_word names ≡ true → AllByRecursion IsWord names

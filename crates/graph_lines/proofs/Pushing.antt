@@ -4,9 +4,10 @@ use Rattle.std.specs.Fmt.{decimal}
 use Rattle.std.specs.List.{AllByRecursion, join_with_byte}
 use Rattle.std.proofs.lemmas.List.{take_more, take_all}
 use Rattle.std.proofs.lemmas.List.Splits.{join_with_byte-slice_split}
-use Rattle.graph_lines.specs.Forms.{IsNumber, IsPath, HasNoSpace}
+use Rattle.graph_lines.specs.Forms.{IsNumber, IsPath}
+use Rattle.text_lines.specs.Words.{HasNoSpace}
 use Rattle.graph_lines.specs.Reading.{IsNumberText, AreNumbers, ArePaths}
-use Rattle.graph_lines.proofs.Separated.{pieces, pieces_joined}
+use Rattle.text_lines.proofs.Separated.{pieces, pieces_joined}
 use Rattle.graph_lines.proofs.Names.{paths_free}
 use Rattle.graph_lines.proofs.Decimals.{numbers_free}
 use Rattle.graph_lines.proofs.Paths.{piece_some}

@@ -1,12 +1,13 @@
 -- The form of a line: the words of what it says, with one space between two of them.
-use Rattle.std.specs.Prelude.{◌≡◌, ℕ, ◌^◌, ◌<◌, ◌==◌, true, false, List, [], ◌∷◌, map, length, codes}
+use Rattle.std.specs.Prelude.{◌≡◌, ℕ, ◌^◌, ◌<◌, true, List, [], ◌∷◌, map, length, codes}
 use Rattle.std.specs.Fmt.{decimal}
-use Rattle.std.specs.List.{AllByRecursion, join_with_byte, list_any}
+use Rattle.std.specs.List.{AllByRecursion, join_with_byte}
 use Rattle.std.specs.Str.{IsUtf8}
 use Rattle.context_model.specs.declared.Form.{Form as WireForm}
 use Rattle.context_model.specs.declared.Form.TheVariants.{One, Two}
 use Rattle.bag_model.specs.Slots.{dotted}
 use Rattle.bag_model.specs.Words.{is_word}
+use Rattle.text_lines.specs.Words.{IsOneWord}
 use Rattle.graph_lines.specs.Statements.{NamedView, NamedAct, Statement, All, Nothing, Only, Start, Recv, Set, Branch, Forward, Trim, Join, Service, Step, Show}
 
 -- The words of a view.
@@ -57,14 +58,6 @@ IsWord text = is_word text ≡ true
 -- A path is one name, or several with dots between them.
 abbrev pub IsPath : List ℕ → Type 0
 IsPath text = (names : List (List ℕ)) × (0 < length names) × AllByRecursion IsWord names × (text ≡ dotted names)
-
--- No byte is a space.
-abbrev pub HasNoSpace : List ℕ → Type 0
-HasNoSpace text = list_any (λ byte. byte == 32) text ≡ false
-
--- A word has at least one byte, and none of them is a space.
-abbrev pub IsOneWord : List ℕ → Type 0
-IsOneWord text = (0 < length text) × HasNoSpace text
 
 -- A view names at least one path, where it names any.
 abbrev pub IsSoundView : NamedView → Type 0

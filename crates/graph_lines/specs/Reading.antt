@@ -1,20 +1,10 @@
 -- What is read from a text, and what is taken from its front.
-use Rattle.std.specs.Prelude.{◌≡◌, ℕ, ◌<◌, List, [], ◌∷◌, ◌++◌, map, length, codes, Option, None, Some}
+use Rattle.std.specs.Prelude.{◌≡◌, ℕ, ◌<◌, List, [], ◌∷◌, map, length, codes}
 use Rattle.std.specs.Fmt.{decimal}
 use Rattle.std.specs.List.{AllByRecursion, join_with_byte}
+use Rattle.text_lines.specs.Words.{IsCut}
 use Rattle.graph_lines.specs.Statements.{NamedView, NamedAct, Statement, Service, Step, Show}
 use Rattle.graph_lines.specs.Forms.{IsNumber, IsWord, IsPath, IsSoundView, IsSoundNamedAct, IsSoundStatement, view_words, service_word, act_name, act_words, statement_words}
-
--- What was taken from the front of a text, with the rest of the text, is the one pair of which the fact holds; nothing was
--- taken where it holds of none.
-abbrev pub TakesOnly : {A : Type 0} → (A → List ℕ → Type 0) → Option (A × List ℕ) → Type 0
-TakesOnly {A} holds (Some (a, rest)) =
-    holds a rest × ((b : A) (other : List ℕ) → holds b other → (b ≡ a) × (other ≡ rest))
-TakesOnly {A} holds None = (a : A) (rest : List ℕ) → holds a rest → ⊥
-
--- The text begins with this word and a space, and goes on with the rest.
-abbrev pub IsCut : List ℕ → List ℕ → List ℕ → Type 0
-IsCut text word rest = text ≡ word ++ 32 ∷ rest
 
 -- The text begins with a number and a space.
 abbrev pub NumberThen : List ℕ → ℕ → List ℕ → Type 0

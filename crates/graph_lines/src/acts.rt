@@ -2,15 +2,16 @@
 
 ghost use Rattle.std.specs.Prelude.{codes, IfOk};
 ghost use Rattle.std.specs.Option.{option_map};
-ghost use Rattle.decimal_text.specs.Answers.{IsSomeOf};
 ghost use Rattle.graph_lines.specs.Reading.{IsActText};
 ghost use Rattle.graph_lines.specs.Acts.{named_act_of};
+ghost use Rattle.text_lines.specs.Answers.{IsSomeOf};
 
 use crate::NamedAct;
 use crate::numbers::{read_number, read_numbers, take_number};
-use crate::words::{is_one_word, is_word, take_name, take_path};
+use crate::words::{take_name, take_path};
 use outside::Memory;
 use std::alloc::Global;
+use text_lines::{is_one_word, is_word};
 
 /// `start N NAME`
 fn read_start(text: &str) -> Option<NamedAct<'_>>
@@ -28,7 +29,7 @@ fn read_recv(text: &str) -> Option<NamedAct<'_>>
     ensures { IsSomeOf (IsActText (codes "recv") text.now) (option_map named_act_of result) }
 {
     let (service, hex) = take_name(text)?;
-    if is_one_word(hex) {
+    if is_one_word(hex.as_bytes()) {
         Some(NamedAct::Recv { service, hex })
     } else {
         None

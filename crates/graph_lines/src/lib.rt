@@ -16,4 +16,4 @@ pub use laws::lines_have_one_form;
 pub use numbers::{read_number, take_number};
 pub use reading::read_statement;
 pub use statements::{NamedAct, NamedView, Statement};
-pub use words::{cut_word, is_path};
+pub use words::is_path;

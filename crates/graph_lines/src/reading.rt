@@ -2,25 +2,26 @@
 
 ghost use Rattle.std.specs.Prelude.{ℕ, codes, IfOk, MatchOption};
 ghost use Rattle.std.specs.Option.{option_map};
-ghost use Rattle.decimal_text.specs.Answers.{IsSomeOf};
 ghost use Rattle.graph_lines.specs.Statements as plain;
 ghost use Rattle.graph_lines.specs.Forms.{service_word, HasStatementForm};
 ghost use Rattle.graph_lines.specs.Reading.{IsViewText, IsRestText, IsStatementText};
 ghost use Rattle.graph_lines.specs.Acts.{named_view_of, statement_of};
+ghost use Rattle.text_lines.specs.Answers.{IsSomeOf};
 
 use crate::acts::read_act;
 use crate::numbers::{read_number, take_number};
-use crate::words::{cut_word, read_paths, take_name};
+use crate::words::{read_paths, take_name};
 use crate::{NamedView, Statement};
 use context_model::Form;
 use outside::Memory;
 use std::alloc::Global;
+use text_lines::cut_str;
 
 /// The view of a service: `all`, `none` or `only PATH [PATH ..]`
 fn read_view(alloc: Global, text: &str) -> Result<Option<NamedView<'_>>, Memory>
     ensures { IfOk result (λ read. IsSomeOf (IsViewText text.now) (option_map named_view_of read)) }
 {
-    let Some((word, rest)) = cut_word(text) else {
+    let Some((word, rest)) = cut_str(text) else {
         return Ok(match text {
             "all" => Some(NamedView::All),
             "none" => Some(NamedView::Nothing),
@@ -76,7 +77,7 @@ fn read_step<'a>(alloc: Global, name: &str, text: &'a str) -> Result<Option<Stat
 fn read_words(alloc: Global, text: &str) -> Result<Option<Statement<'_>>, Memory>
     ensures { IfOk result (λ read. IsSomeOf (IsStatementText text.now) (option_map statement_of read)) }
 {
-    let Some((first, rest)) = cut_word(text) else {
+    let Some((first, rest)) = cut_str(text) else {
         return Ok(None);
     };
     match first {

@@ -10,14 +10,14 @@ use Rattle.trace_model.specs.Graphs.{Graph}
 use Rattle.trace_model.specs.Runs.{Lists, list_at}
 use Rattle.trace_model.specs.Truth.{AreReachedBySame}
 
--- Both are steps of the graph, and the same writes and received lists reach them.
+-- Two steps of the graph are reached by the same writes and received lists.
 pub record AreAlikeSteps (graph : Graph) (n m : ℕ) : Type 0 where
   pub one : n < length graph.steps
   pub other : m < length graph.steps
   pub reached : AreReachedBySame graph n graph m
 
--- Such steps say the same, whatever the services know and however the steps between are ordered and grouped: of a slot that is
--- ended in both lists, and of all fields where neither list has a marker.
+-- Steps that the same writes and received lists reach say the same, whatever the services know and however the steps between
+-- are ordered and grouped: of a slot that is ended in both lists, and of all fields where neither list has a marker.
 pub record AlikeStepsAgree (nodes : Nodes) (graph : Graph) (lists : Lists) : Type 0 where
   pub slot : (n m place : ℕ) (at : SlotAt) (v w : Value)
       → AreAlikeSteps graph n m → HasSlot nodes place at

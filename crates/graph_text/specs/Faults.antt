@@ -3,6 +3,7 @@ use Rattle.std.specs.Prelude.{ℕ, List, codes}
 use Rattle.graph_text.specs.declared.faults.GraphCode.{GraphCode}
 use Rattle.graph_text.specs.declared.faults.GraphCode.TheVariants.{Form, StepNumber, NoSuchStep, NoSuchService, DuplicateService, WrongService, NoSuchPath, NotKnown, BadValue, BudgetRange, TooManySteps, TooManyParents, HexTooLong, BadHex}
 
+-- The name of a code of a graph's text, as it is printed.
 abbrev pub graph_code_name : GraphCode → List ℕ
 graph_code_name Form = codes "Form"
 graph_code_name StepNumber = codes "StepNumber"

@@ -26,7 +26,7 @@ pub record KeepsContexts : Type 0 where
   pub some : (nodes : Nodes) (others : Others) (list : List Atom) → IsTable nodes → IsWellFormed list → IsKeptOf nodes others list (kept_list nodes others list)
   pub one : (nodes : Nodes) (others : Others) (list a b : List Atom) → IsKeptOf nodes others list a → IsKeptOf nodes others list b → a ≡ b
 
--- These are kept of the lists, one by one.
+-- The second lists are what is kept of the first ones, one by one.
 abbrev pub AreKeptOf : Nodes → Others → List (List Atom) → List (List Atom) → Type 0
 AreKeptOf nodes others [] [] = Unit {0}
 AreKeptOf nodes others (list ∷ lists) (kept ∷ keeps) = IsKeptOf nodes others list kept × AreKeptOf nodes others lists keeps
@@ -49,6 +49,7 @@ pub record SaysTheSame (nodes : Nodes) (list kept : List Atom) : Type 0 where
   pub typed : (slot : SlotAt) → IsIn slot (slots_of nodes)
       → IsTyped slot.shape (PathsOf kept) (field_path slot.numbers) ↔ IsTyped slot.shape (PathsOf list) (field_path slot.numbers)
 
+-- The slots of the table say the same in what is kept as in the list.
 abbrev pub KeptSlotsSayTheSame : Type 0
 KeptSlotsSayTheSame = (nodes : Nodes) (others : Others) (list kept : List Atom) → KeepsList nodes others list kept → SaysTheSame nodes list kept
 

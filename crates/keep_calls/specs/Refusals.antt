@@ -11,10 +11,12 @@ use Rattle.byte_calls.specs.declared.refusals.Refusal.TheVariants as inputs
 use Rattle.keep_calls.specs.declared.refusals.KeepRefusal.{KeepRefusal}
 use Rattle.keep_calls.specs.declared.refusals.KeepRefusal.TheVariants.{Table, Fault, Memory, Room}
 
+-- The refusal tells the fault of a table's text.
 abbrev pub KeepTellsTable : TableFault → KeepRefusal → Type 0
 KeepTellsTable (tables.At line code) refusal = refusal ≡ Table line code
 KeepTellsTable tables.Memory refusal = refusal ≡ Memory
 
+-- The refusal tells what is wrong with the inputs.
 abbrev pub TellsInputs : Refusal → KeepRefusal → Type 0
 TellsInputs (inputs.Fault context offset code) refusal = refusal ≡ Fault context offset code
 TellsInputs inputs.Memory refusal = refusal ≡ Memory

@@ -51,7 +51,7 @@ abbrev pub HoldUpTo : Nodes → Others → List Atom → ℕ → List (List Atom
 HoldUpTo nodes others list to pieces =
     (q : Path) → SomeHasPath pieces q ↔ ((place : ℕ) × (place < to) × GoesTo nodes others (path_at list place) q)
 
--- So many first numbers are the same in both, and no more.
+-- The number is that of the first numbers that are the same in both, and no more are.
 pub record AreShared (a b : List ℕ) (count : ℕ) : Type 0 where
   pub first : count ≤ length a
   pub second : count ≤ length b

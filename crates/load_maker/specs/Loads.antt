@@ -32,7 +32,7 @@ lane_of round lane =
     ∷ Step (k + 5) (Forward (k + 4) (codes "b"))
     ∷ []
 
--- So many parts, one behind the other.
+-- The first parts, so many of them, one after another.
 unfoldable pub in_order : (ℕ → List Statement) → ℕ → List Statement
 in_order part zero = []
 in_order part (suc n) = in_order part n ++ part n

@@ -17,13 +17,13 @@ Files = Option (List ℕ → Option (List ℕ))
 abbrev pub Asked : Type 0
 Asked = Option (List (List ℕ))
 
--- It was asked for these names, in this order, and for nothing else. Where the library no longer
--- keeps its names, this claims nothing.
+-- A library was asked for these names, in this order, and for nothing else. Where the library no longer keeps its names, this
+-- claims nothing.
 abbrev pub Asks : List (List ℕ) → Asked → Asked → Type 0
 Asks names before after =
     IfSome after (λ kept. option_map (λ earlier. earlier ++ names) before ≡ Some kept)
 
--- The same files, with this content under this name and no other.
+-- The files of a library with this content under this name, and else as before.
 abbrev pub with_file : List ℕ → List ℕ → Files → Files
 with_file name content files =
     option_map (λ held other. if bytes_eq name other then Some content else held other) files

@@ -10,7 +10,7 @@ use Rattle.trace_model.specs.Runs.{Lists, list_at, StepGives}
 abbrev pub IsGiven : Nodes → Graph → Lists → ℕ → List Atom → Type 0
 IsGiven nodes graph lists n list = (step : Step) → HasStep graph n step → StepGives nodes graph lists step list
 
--- These are steps of the graph, and none of them is a parent of another.
+-- The row has steps of the graph, and none of them is a parent of another.
 pub record AreIndependent (graph : Graph) (row : List ℕ) : Type 0 where
   pub within : (n : ℕ) → IsIn n row → n < length graph.steps
   pub apart : (n parent : ℕ) (step : Step) → IsIn n row → HasStep graph n step → IsIn parent (parents_of step.act) → ¬ (IsIn parent row)

@@ -7,7 +7,7 @@ use Rattle.trace_model.specs.Graphs.{Step, Graph, parents_of, HasStep}
 abbrev pub AreLow : List ℕ → Type 0
 AreLow turns = (n : ℕ) → n < length turns → slice_index turns n ≤ 2 * n + 1
 
--- These are turns of the first steps of a graph: each comes after those of the step's parents.
+-- The first steps of a graph have these turns: each comes after those of the step's parents.
 pub record AreTurns (graph : Graph) (turns : List ℕ) : Type 0 where
   pub low : AreLow turns
   pub later : (n parent : ℕ) (step : Step) → n < length turns → HasStep graph n step → IsIn parent (parents_of step.act)

@@ -18,7 +18,7 @@ const HEAVY_MIN: usize = 256;
 /// So many atoms that are gone over are worth a thread, which takes some 50 microseconds to start and to wait for.
 const WORTH_A_THREAD: usize = 4_096;
 
-/// How many atoms the lists of some steps have.
+/// How many atoms the lists of some steps have. Only speed hangs on it, so no clause says what it answers.
 fn atoms_of(lists: &[Context], steps: &[usize]) -> usize
     requires { All (λ step. step < length lists.now) steps.now }
 {
@@ -29,7 +29,8 @@ fn atoms_of(lists: &[Context], steps: &[usize]) -> usize
     atoms
 }
 
-/// How many atoms a step goes over: those of its parents' lists. A branch goes over none.
+/// How many atoms a step goes over: those of its parents' lists. A branch goes over none. Only speed hangs on it, so no clause says
+/// what it answers.
 fn work_of(graph: &Graph, lists: &[Context], step: usize) -> usize
     requires lists { length lists.now ≡ length graph.now.steps }
     requires step { step < length graph.now.steps }
@@ -43,7 +44,7 @@ fn work_of(graph: &Graph, lists: &[Context], step: usize) -> usize
     }
 }
 
-/// How many atoms the steps of a row go over.
+/// How many atoms the steps of a row go over. Only speed hangs on it, so no clause says what it answers.
 fn work_of_row(graph: &Graph, lists: &[Context], row: &[usize]) -> usize
     requires lists { length lists.now ≡ length graph.now.steps }
     requires row { All (λ step. step < length graph.now.steps) row.now }
@@ -55,7 +56,7 @@ fn work_of_row(graph: &Graph, lists: &[Context], row: &[usize]) -> usize
     work
 }
 
-/// Whether a step is a join of many parents.
+/// Whether a step is a join of many parents. Only speed hangs on it, so no clause says what it answers.
 fn is_wide(graph: &Graph, step: usize) -> bool
     requires { step < length graph.now.steps }
 {
@@ -63,7 +64,7 @@ fn is_wide(graph: &Graph, step: usize) -> bool
 }
 
 /// Into how many chunks a row is cut: one where it has few steps or joins of many parents, and else as many as its work is
-/// worth.
+/// worth. Only speed hangs on it: the lists are the same, however a row is cut. So no clause says what it answers.
 pub(crate) fn chunk_count(graph: &Graph, lists: &[Context], row: &[usize]) -> usize
     requires lists { length lists.now ≡ length graph.now.steps }
     requires row { All (λ step. step < length graph.now.steps) row.now }

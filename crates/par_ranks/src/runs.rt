@@ -8,6 +8,7 @@ ghost use Rattle.graph_runner.specs.Runs.{AlikeStepsAgree};
 ghost use Rattle.par_ranks.specs.Turns.{IsPlan};
 
 use crate::rows::run_row;
+use crate::steps::Run;
 use crate::turns::{are_worth_threads, rows_of, turns_of};
 use atom_list::Context;
 use field_table::Table;
@@ -30,20 +31,16 @@ fn empty_lists(alloc: Global, count: usize) -> Result<Vec<Context>, Memory>
 
 /// The lists of all steps, where the rows of steps are run one after another.
 fn run_rows<R: Threads + Sync, G: Gate>(
-    rt: &R,
-    alloc: Global,
-    gate: &G,
-    table: &Table,
-    graph: &Graph,
+    run: &Run<R, G>,
     rows: &[Places],
 ) -> Result<Vec<Context>, Memory>
-    requires table { IsOfTable table.now graph.now }
-    requires plan { IsPlan graph.now rows.now }
-    ensures { IfOk result (λ lists. IsRun table.now graph.now lists.items) }
+    requires table { IsOfTable run.now.table.now run.now.graph.now }
+    requires plan { IsPlan run.now.graph.now rows.now }
+    ensures { IfOk result (λ lists. IsRun run.now.table.now run.now.graph.now lists.items) }
 {
-    let mut lists = empty_lists(alloc, graph.steps())?;
+    let mut lists = empty_lists(run.alloc, run.graph.steps())?;
     for row in rows {
-        run_row(rt, alloc, gate, table, graph, &mut lists, row.as_slice())?;
+        run_row(run, &mut lists, row.as_slice())?;
     }
     Ok(lists)
 }
@@ -74,7 +71,14 @@ pub fn run_ranks<R: Threads + Sync, G: Gate>(
         return run_gated(alloc, gate, table, graph);
     }
     let rows = rows_of(alloc, turns.as_slice())?;
-    let lists = run_rows(rt, alloc, gate, table, graph, rows.as_slice())?;
+    let run = Run {
+        rt,
+        alloc,
+        gate,
+        table,
+        graph,
+    };
+    let lists = run_rows(&run, rows.as_slice())?;
     tell_of_run(table, graph, lists.as_slice());
     Ok(lists)
 }

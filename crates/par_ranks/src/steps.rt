@@ -4,99 +4,77 @@ ghost use Rattle.std.specs.Prelude.{◌≡◌, ◌<◌, length, All, IfOk, OnOk}
 ghost use Rattle.trace_model.specs.Graphs.{IsOfTable};
 ghost use Rattle.par_ranks.specs.Rows.{IsGiven, AreIndependent, AreMade, IsRowRun};
 
-use crate::turns::WIDE_MIN;
 use atom_list::Context;
+use fan_in::{Alone, Beside, Merge};
 use field_table::Table;
 use outside::{Gate, Memory};
 use recorded_graph::Graph;
 use std::alloc::Global;
 use std::thread::Threads;
-use step_rules::{run_step, run_step_alone};
+use step_rules::run_step_by;
+
+/// What the run of a graph is handed: threads, memory, the gate that each step passes, and the graph with its table.
+#[derive_where(Clone, Copy)]
+pub(crate) struct Run<'a, R, G> {
+    pub(crate) rt: &'a R,
+    pub(crate) alloc: Global,
+    pub(crate) gate: &'a G,
+    pub(crate) table: &'a Table,
+    pub(crate) graph: &'a Graph,
+}
 
 /// The list of a step, from those of its parents, which stand by their numbers.
-fn run_alone<G: Gate>(
-    alloc: Global,
-    gate: &G,
-    table: &Table,
-    graph: &Graph,
+fn run_one<M: Merge, R, G: Gate>(
+    merger: &M,
+    run: &Run<R, G>,
     lists: &[Context],
     step: usize,
 ) -> Result<Context, Memory>
-    requires table { IsOfTable table.now graph.now }
-    requires lists { length lists.now ≡ length graph.now.steps }
-    requires step { step < length graph.now.steps }
-    ensures { IfOk result (IsGiven table.now graph.now lists.now step) }
+    requires ready { M.ready merger.now }
+    requires table { IsOfTable run.now.table.now run.now.graph.now }
+    requires lists { length lists.now ≡ length run.now.graph.now.steps }
+    requires step { step < length run.now.graph.now.steps }
+    ensures { IfOk result (IsGiven run.now.table.now run.now.graph.now lists.now step) }
 {
+    let graph = run.graph;
     graph.known();
-    gate.enter(step);
-    let own = graph.step(step);
-    run_step_alone(alloc, table, graph, step, lists, own.act.parents())
+    let parents = graph.step(step).act.parents();
+    run.gate.enter(step);
+    run_step_by(merger, run.alloc, run.table, graph, step, lists, parents)
 }
 
-/// The same, where a join of many parents is run in several threads.
-fn run_wide<R: Threads + Sync, G: Gate>(
-    rt: &R,
-    alloc: Global,
-    gate: &G,
-    table: &Table,
-    graph: &Graph,
-    lists: &[Context],
-    step: usize,
-) -> Result<Context, Memory>
-    requires table { IsOfTable table.now graph.now }
-    requires lists { length lists.now ≡ length graph.now.steps }
-    requires step { step < length graph.now.steps }
-    ensures { IfOk result (IsGiven table.now graph.now lists.now step) }
-{
-    graph.known();
-    let own = graph.step(step);
-    let parents = own.act.parents();
-    if parents.len() < WIDE_MIN {
-        return run_alone(alloc, gate, table, graph, lists, step);
-    }
-    gate.enter(step);
-    run_step(rt, alloc, table, graph, step, lists, parents)
-}
-
-/// Runs the steps of a row in turn.
+/// Runs the steps of a row in turn. Their joins of many parents are run in several threads.
 pub(crate) fn run_in_turn<R: Threads + Sync, G: Gate>(
-    rt: &R,
-    alloc: Global,
-    gate: &G,
-    table: &Table,
-    graph: &Graph,
+    run: &Run<R, G>,
     lists: &mut Vec<Context>,
     row: &[usize],
 ) -> Result<(), Memory>
-    requires table { IsOfTable table.now graph.now }
-    requires lists { length lists.old.items ≡ length graph.now.steps }
-    requires row { AreIndependent graph.now row.now }
-    ensures { OnOk result (IsRowRun table.now graph.now row.now lists.old.items lists.new.items) }
+    requires table { IsOfTable run.now.table.now run.now.graph.now }
+    requires lists { length lists.old.items ≡ length run.now.graph.now.steps }
+    requires row { AreIndependent run.now.graph.now row.now }
+    ensures { OnOk result (IsRowRun run.now.table.now run.now.graph.now row.now lists.old.items lists.new.items) }
 {
     for step in row {
-        let list = run_wide(rt, alloc, gate, table, graph, lists.as_slice(), *step)?;
+        let list = run_one(&Beside(run.rt), run, lists.as_slice(), *step)?;
         lists[*step] = list;
     }
     Ok(())
 }
 
 /// The lists of some steps, in their order.
-pub(crate) fn run_chunk<G: Gate>(
-    alloc: Global,
-    gate: &G,
-    table: &Table,
-    graph: &Graph,
+pub(crate) fn run_chunk<R, G: Gate>(
+    run: &Run<R, G>,
     lists: &[Context],
     steps: &[usize],
 ) -> Result<Vec<Context>, Memory>
-    requires table { IsOfTable table.now graph.now }
-    requires lists { length lists.now ≡ length graph.now.steps }
-    requires steps { All (λ step. step < length graph.now.steps) steps.now }
-    ensures { IfOk result (λ made. AreMade table.now graph.now lists.now steps.now made.items) }
+    requires table { IsOfTable run.now.table.now run.now.graph.now }
+    requires lists { length lists.now ≡ length run.now.graph.now.steps }
+    requires steps { All (λ step. step < length run.now.graph.now.steps) steps.now }
+    ensures { IfOk result (λ made. AreMade run.now.table.now run.now.graph.now lists.now steps.now made.items) }
 {
-    let mut made = Vec::with_capacity(alloc, steps.len())?;
+    let mut made = Vec::with_capacity(run.alloc, steps.len())?;
     for step in steps {
-        let list = run_alone(alloc, gate, table, graph, lists, *step)?;
+        let list = run_one(&Alone, run, lists, *step)?;
         made.push(list)?;
     }
     Ok(made)

@@ -66,7 +66,8 @@ fn turns_count(turns: &[usize]) -> usize
     count
 }
 
-/// Whether threads may be of use: some turn has enough steps for chunks, or a join of many parents.
+/// Whether threads may be of use: some turn has enough steps for chunks, or a join of many parents. Only speed hangs on it: steps that
+/// run on one thread have the same lists. So no clause says what it answers.
 pub(crate) fn are_worth_threads(alloc: Global, turns: &[usize]) -> Result<bool, Memory>
     requires few { length turns.now < 2 ^ 32 }
     requires low { AreLow turns.now }

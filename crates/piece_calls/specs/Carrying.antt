@@ -13,7 +13,7 @@ use Rattle.piece_calls.specs.declared.refusals.PieceRefusal.TheVariants.{Width, 
 abbrev pub IsWidth : ℕ → Type 0
 IsWidth width = (WIDTH_MIN ≤ width) × (width ≤ WIDTH_MAX)
 
--- They don't.
+-- Pieces don't have this width.
 abbrev pub IsNoWidth : ℕ → Type 0
 IsNoWidth width = (width < WIDTH_MIN) ⊎ (WIDTH_MAX < width)
 

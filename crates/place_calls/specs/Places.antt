@@ -57,12 +57,12 @@ pub record IsTypedPlace (form : Form) (list : List Atom) (at : SlotAt) (place : 
   pub bytes : HasBytesOf form list from stop place
   pub state : SaysWhetherEnded list at place.state
 
--- It is the place of the slot in the bytes of the list in this form.
+-- The place is that of the slot in the bytes of the list in this form.
 abbrev pub IsPlaceInBytes : Form → List Atom → SlotAt → Place → Type 0
 IsPlaceInBytes form list at place =
     (place.zero ≡ 0) × (IsIllTypedPlace form list at place ⊎ IsTypedPlace form list at place)
 
--- They are the places of these slots, one by one.
+-- The places are those of these slots, one by one.
 abbrev pub ArePlacesInBytes : Form → List Atom → List SlotAt → List Place → Type 0
 ArePlacesInBytes form list [] [] = Unit {0}
 ArePlacesInBytes form list [] (place ∷ places) = ⊥

@@ -22,7 +22,8 @@ pub record TellsSlot (list : List Atom) (at : SlotAt) (part : List Atom) : Type 
   pub same : (v : Value) → Tells at.shape (length at.numbers) part v ↔ SaysSlot list at v
   pub some : (v : Value) × Tells at.shape (length at.numbers) part v
 
--- The part of a typed slot of a table does. So a reader that follows `Tells` reads what the context says.
+-- The part of a typed slot of a table tells what the list says of the slot. So a reader that follows `Tells` reads what the
+-- context says.
 abbrev pub PartsTellValues : Type 0
 PartsTellValues = (nodes : Nodes) (list : List Atom) (slot : ℕ) (at : SlotAt) (from : Option ℕ) (stop : ℕ)
     → IsTable nodes → HasSlot nodes slot at
@@ -35,7 +36,7 @@ pub record HoldsToldPart (bytes : List ℕ) (list : List Atom) (at : SlotAt) (pl
   pub frames : slice_range bytes place.offset (place.offset + place.length) ≡ frames (form_of bytes) part
   pub tells : TellsSlot list at part
 
--- So it is at the place of each slot of a table that isn't ill typed in a context.
+-- The place of each slot of a table that isn't ill typed in a context has a part that tells what the context says of the slot.
 abbrev pub PlacesTellValues : Type 0
 PlacesTellValues = (nodes : Nodes) (bytes : List ℕ) (list : List Atom) (slot : ℕ) (at : SlotAt) (place : Place)
     → IsTable nodes → HasSlot nodes slot at → IsContextOf list bytes → IsTypedPlace (form_of bytes) list at place

@@ -101,6 +101,7 @@ abbrev mutual
   Tells (Bag nodes) n part (Bag vs) = TellsEach nodes n part vs
   Tells (Bag nodes) n part other = ⊥
 
+  -- The part of a bag tells these values, one for each field; n is the level of the fields' headers.
   pub TellsEach : Nodes → ℕ → List Atom → Values → Type 0
   TellsEach no_node n part no_value = Unit {0}
   TellsEach no_node n part (value v vs) = ⊥

@@ -1,6 +1,5 @@
 -- Texts that are ASCII, and so UTF-8.
-use Rattle.std.proofs.Common.{◌≡◌, ℕ, zero, suc, ◌<◌, ◌/◌, ◌%◌, ◌==◌, ◌||◌, nat_lt, Bool, true, false, ℤ, pos, negsuc, List, [], ◌∷◌, if◌then◌else◌, codes, length, refl, arith, IsUtf8}
-use Rattle.std.specs.Char.{is_ascii_digit}
+use Rattle.std.proofs.Common.{◌≡◌, ℕ, zero, suc, ◌<◌, ◌/◌, ◌%◌, ◌==◌, nat_lt, Bool, true, false, ℤ, pos, negsuc, List, [], ◌∷◌, if◌then◌else◌, codes, length, refl, arith, IsUtf8}
 use Rattle.std.specs.Fmt.{decimal, signed_decimal, digits, digits_onto, digit_glyph}
 use Rattle.std.specs.List.{list_all, slice_index}
 use Rattle.std.specs.Str.{IsAscii}
@@ -10,7 +9,8 @@ use Rattle.std.proofs.lemmas.Str.{IsUtf8-from_ascii}
 use Rattle.std.proofs.lemmas.Str.Ascii.{IsAscii-nil, IsAscii-cons}
 use Rattle.hex.specs.Hex.{encode_with, encode_lower, lower_digits}
 use Rattle.text_lines.specs.HexLines.{hex_text}
-use Rattle.bag_model.specs.Words.{is_letter, is_word, is_name}
+use Rattle.text_lines.proofs.WordBytes.{word_utf8}
+use Rattle.bag_model.specs.Words.{is_word, is_name}
 
 -- The byte is that of an ASCII character.
 abbrev pub is_low : ℕ → Bool
@@ -83,24 +83,6 @@ unfolding hex_text
 hex_text_utf8 bytes = either_utf8 (length bytes == 0) (codes "-") (encode_lower bytes) (literal_utf8 (codes "-") refl) (hex_utf8 bytes)
 
 -- ---- names
-
-letter_low : (byte : ℕ) → is_letter byte ≡ true → byte < 128
-letter_low byte e = grind (arith, nat_tests)
-
-letters_low : (byte : ℕ) → (is_letter byte || is_ascii_digit byte) ≡ true → byte < 128
-letters_low byte e = grind (arith, nat_tests)
-
-letters_ascii : (bytes : List ℕ) → list_all (λ byte. is_letter byte || is_ascii_digit byte) bytes ≡ true → IsAscii bytes
-letters_ascii [] e = IsAscii-nil
-letters_ascii (byte ∷ bytes) e =
-    let both = and_parts (is_letter byte || is_ascii_digit byte) (list_all (λ other. is_letter other || is_ascii_digit other) bytes) e in
-    IsAscii-cons byte bytes (letters_low byte both.0) (letters_ascii bytes both.1)
-
-word_utf8 : (bytes : List ℕ) → is_word bytes ≡ true → IsUtf8 bytes
-word_utf8 [] e = absurd (cc e)
-word_utf8 (byte ∷ bytes) e =
-    let both = and_parts (is_letter byte) (list_all (λ other. is_letter other || is_ascii_digit other) bytes) e in
-    IsUtf8-from_ascii (byte ∷ bytes) (IsAscii-cons byte bytes (letter_low byte both.0) (letters_ascii bytes both.1))
 
 pub name_utf8 : (bytes : List ℕ) → is_name bytes ≡ true → IsUtf8 bytes
 name_utf8 bytes e = word_utf8 bytes (and_parts (is_word bytes) _ e).0

@@ -1,6 +1,7 @@
 -- Bytes that are written as a field of a struct: a zero byte is followed by 255, and 0 and 1 stand at the end.
 use Rattle.std.specs.Prelude.{◌≡◌, ◌≢◌, ℕ, Bool, true, false, if◌then◌else◌, List, ◌∷◌, ◌++◌, All, IsUtf8}
 
+-- The byte isn't zero.
 abbrev pub IsNonzero : ℕ → Type 0
 IsNonzero b = b ≢ 0
 

@@ -33,6 +33,7 @@ abbrev pub kind_from : model.ScalarKind → ScalarKind
 kind_from (model.ScalarKind.One word) = kind_of_word word
 kind_from (model.ScalarKind.Packed words) = kinds.Packed words
 
+-- A kind of the code comes back from its plain kind.
 pub kind_comes_back : (kind : ScalarKind) → kind_from (kind_of kind) ≡ kind
 kind_comes_back kinds.Bool = refl
 kind_comes_back kinds.Int32 = refl
@@ -49,6 +50,7 @@ kind_comes_back kinds.Str = refl
 kind_comes_back kinds.Bytes = refl
 kind_comes_back (kinds.Packed words) = refl
 
+-- A plain kind comes back from the code's.
 pub plain_kind_back : (kind : model.ScalarKind) → kind_of (kind_from kind) ≡ kind
 plain_kind_back (model.ScalarKind.One model.Word.Boolean) = refl
 plain_kind_back (model.ScalarKind.One model.Word.Int32) = refl
@@ -74,6 +76,7 @@ scalar_of (model.ScalarValue.One (model.Plain.Text bytes)) = Str bytes
 scalar_of (model.ScalarValue.One (model.Plain.Octets bytes)) = Bytes bytes
 scalar_of (model.ScalarValue.Packed values) = Packed values
 
+-- A value of the code comes back from its plain value.
 pub scalar_comes_back : (v : Scalar) → scalar_of (value_of v) ≡ v
 scalar_comes_back (BoolScalar b) = refl
 scalar_comes_back (Signed z) = refl
@@ -82,6 +85,7 @@ scalar_comes_back (Str bytes) = refl
 scalar_comes_back (Bytes bytes) = refl
 scalar_comes_back (Packed values) = refl
 
+-- A plain value comes back from the code's.
 pub value_back : (x : model.ScalarValue) → value_of (scalar_of x) ≡ x
 value_back (model.ScalarValue.One (model.Plain.Truth b)) = refl
 value_back (model.ScalarValue.One (model.Plain.Signed z)) = refl
@@ -90,5 +94,6 @@ value_back (model.ScalarValue.One (model.Plain.Text bytes)) = refl
 value_back (model.ScalarValue.One (model.Plain.Octets bytes)) = refl
 value_back (model.ScalarValue.Packed values) = refl
 
+-- Values of a kind with the same spelling are one value.
 pub kind_one : (kind : ScalarKind) → OneValue (λ v. IsScalarOf (kind_of kind) (value_of v)) (λ v. spelling (kind_of kind) (value_of v))
 kind_one kind v w p q e = sym (scalar_comes_back v) ∙ ap scalar_of (spelling-one (kind_of kind) (value_of v) (value_of w) p q e) ∙ scalar_comes_back w

@@ -8,10 +8,12 @@ use Rattle.scalar_types.specs.declared.scalars.Scalar.TheVariants.{Packed}
 use Rattle.scalar_types.specs.declared.scalars.ScalarList.TheDeep.{deep-Scalar}
 use Rattle.scalar_types.specs.Scalars.{IsPlain}
 
+-- A value that is no struct's has no value inside it.
 plain_falls : (scalar : Scalar) → IsPlain scalar → deep-Scalar scalar ≡ 0
 plain_falls (Packed values) h = absurd h
 plain_falls scalar h = refl
 
+-- Values that are no structs' have no value inside them.
 pub scalars_fall : (scalars : List Scalar) → All IsPlain scalars → most deep-Scalar scalars ≤ 0
 scalars_fall [] h = omega arith
 scalars_fall (scalar ∷ scalars) h =

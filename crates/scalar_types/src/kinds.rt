@@ -12,7 +12,7 @@ use std::sync::Arc;
 
 /// The type of a scalar: a word of the definition language, or a struct of words.
 #[cycle(scalar_kind)]
-#[derive(Drop)]
+#[derive(Debug, Drop)]
 pub enum ScalarKind {
     /// `bool`
     Bool,
@@ -46,14 +46,14 @@ pub enum ScalarKind {
 
 /// A list of kinds, none of which is a struct. Contracts see it as the list of their words.
 #[cycle(scalar_kind)]
-#[derive(Drop)]
+#[derive(Debug, Drop)]
 pub struct KindList {
     held: HeldKinds,
 }
 
 /// The kinds of one list alone, or those that it shares with its copies.
 #[cycle(scalar_kind)]
-#[derive(Drop)]
+#[derive(Debug, Drop)]
 enum HeldKinds {
     Own(Vec<ScalarKind>),
     Shared(Arc<Vec<ScalarKind>>),

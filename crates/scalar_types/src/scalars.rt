@@ -13,7 +13,7 @@ use std::marker::Model;
 
 /// The value of a scalar: of a word of the definition language, or of a struct of words.
 #[cycle(scalar)]
-#[derive(Drop)]
+#[derive(Debug, Drop)]
 pub enum Scalar {
     /// The value of a `bool`.
     Bool(bool),
@@ -31,7 +31,7 @@ pub enum Scalar {
 
 /// A list of values, none of which is a struct's. Contracts see it as the list of the plain values.
 #[cycle(scalar)]
-#[derive(Drop)]
+#[derive(Debug, Drop)]
 pub struct ScalarList {
     scalars: Vec<Scalar>,
 }

@@ -5,36 +5,37 @@ use Rattle.std.specs.declared.cmp.Ordering.TheVariants.{Less}
 use Rattle.context_model.specs.GreedyMerge.{first_of}
 use Rattle.set_map_types.specs.SetsAndMaps.{value_cmp}
 
--- a codec, and one of its values or none
+-- A codec, and one of its values or none.
 pub record HeldOne (C V : Type 0) : Type 0 where
   pub codec : C
   pub value : Option V
 
--- a value that is there holds P
+-- The fact holds of the value, where it is there.
 abbrev pub IfThere : {V : Type 0} → (V → Type 0) → Option V → Type 0
 IfThere P None = Unit {0}
 IfThere P (Some v) = P v
 
+-- The value, where it is there, fits its codec.
 abbrev pub one_proper : {C V : Type 0} → (C → V → Type 0) → HeldOne C V → Type 0
 one_proper fits s = IfThere (fits s.codec) s.value
 
--- of the values that are there the first
+-- The join of two values, where they are there: the first in the codec's order.
 abbrev pub one_joined : {C V : Type 0} → (C → V → V → Ordering) → HeldOne C V → HeldOne C V → HeldOne C V
 one_joined order s t = record { codec = s.codec; value = first_of (order s.codec) s.value t.value }
 
--- two are alike where their codecs are equal
+-- Two are alike where their codecs are equal.
 abbrev pub SameCodecOfOne : {C V : Type 0} → HeldOne C V → HeldOne C V → Type 0
 SameCodecOfOne s t = s.codec ≡ t.codec
 
--- no value is there
+-- No value is there.
 abbrev pub IsAbsent : {C V : Type 0} → HeldOne C V → Type 0
 IsAbsent s = s.value ≡ None
 
--- the order of a codec's values, by their spellings
+-- The order of a codec's values, by their spellings.
 abbrev pub by_spelling : {C V : Type 0} → (C → V → List ℕ) → C → V → V → Ordering
 by_spelling spelling c = value_cmp (spelling c)
 
--- the same order, turned round
+-- The order of a codec's values by their spellings, turned round.
 abbrev pub against_spelling : {C V : Type 0} → (C → V → List ℕ) → C → V → V → Ordering
 against_spelling spelling c = flip_args (by_spelling spelling c)
 

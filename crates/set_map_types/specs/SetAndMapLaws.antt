@@ -20,6 +20,7 @@ use Rattle.set_map_types.specs.SetsAndMaps.{Held, value_cmp, IsSet, IsMap, set_p
 
 -- The laws of lists of values of one codec.
 module _ {V : Type 0} (fits : V → Type 0) (spelling : V → List ℕ) (one : OneValue fits spelling) where
+  -- The order of values by their spellings is total.
   pub value_cmp_total : IsTotalOrder (value_cmp spelling)
   value_cmp_total = on_total spelling nat_list_cmp_total
 
@@ -27,13 +28,15 @@ module _ {V : Type 0} (fits : V → Type 0) (spelling : V → List ℕ) (one : O
   pub value_cmp_exact : (v w : V) → fits v → fits w → value_cmp spelling v w ≡ Equal → v ≡ w
   value_cmp_exact v w p q tie = one v w p q (exact_bytes (spelling v) (spelling w) tie)
 
-  -- The same of the order turned round.
+  -- The order of values by their spellings, turned round, is total.
   pub against_total : IsTotalOrder (flip_args (value_cmp spelling))
   against_total = back_total value_cmp_total
 
+  -- Values that fit and tie in the order turned round are one value.
   pub against_exact : (v w : V) → fits v → fits w → flip_args (value_cmp spelling) v w ≡ Equal → v ≡ w
   against_exact v w p q tie = sym (value_cmp_exact w v q p tie)
 
+  -- The union of two sets is a set.
   pub IsSet-union : (xs ys : List V) → IsSet fits spelling xs → IsSet fits spelling ys → IsSet fits spelling (greedy_merge (value_cmp spelling) xs ys)
   IsSet-union xs ys p q = record {
     fit = λ v at. by v (greedy-from (value_cmp spelling) value_cmp_total xs ys v at);
@@ -44,6 +47,7 @@ module _ {V : Type 0} (fits : V → Type 0) (spelling : V → List ℕ) (one : O
       by v (inl at) = p.fit v at
       by v (inr at) = q.fit v at
 
+  -- The union of two sets doesn't depend on their order.
   union-comm : (xs ys : List V) → IsSet fits spelling xs → IsSet fits spelling ys → greedy_merge (value_cmp spelling) xs ys ≡ greedy_merge (value_cmp spelling) ys xs
   union-comm xs ys p q = greedy-comm (value_cmp spelling) value_cmp_total xs ys (λ x y s t tie. value_cmp_exact x y (p.fit x s) (q.fit y t) tie)
 
@@ -52,6 +56,7 @@ module _ {C V : Type 0} (fits : C → V → Type 0) (spelling : C → V → List
   along : (s t : Held C V) → SameCodec s t → set_proper fits spelling t → IsSet (fits s.codec) (spelling s.codec) t.items
   along s t same p = subst (λ (c : C). IsSet (fits c) (spelling c) t.items) (sym same) p
 
+  -- Sets are a join semilattice.
   pub set_laws : LatticeLaws (set_proper fits spelling) SameCodec (set_joined spelling) HoldsNothing
   set_laws = record {
     alike_self = λ x p. refl;
@@ -69,25 +74,27 @@ module _ {C V : Type 0} (fits : C → V → Type 0) (spelling : C → V → List
 
 -- The laws of lists of entries of one codec.
 module _ {V L : Type 0} (fits : V → Type 0) (spelling : V → List ℕ) (one : OneValue fits spelling) (proper : L → Type 0) (alike : L → L → Type 0) (joined : L → L → L) (bottom : L → Type 0) (laws : LatticeLaws proper alike joined bottom) where
+  -- The order of keys, by their spellings.
   abbrev R : V → V → Ordering
   R = value_cmp spelling
 
-  -- the value at a key is proper
+  -- The value at a key of a map is proper.
   pub proper_at : (es : List (V × L)) → IsMap fits spelling proper es → (k : V) (v : L) → IsAt k v es → proper v
   proper_at es p k v at = EachPair-at (λ k v. proper v) es k v p.values at
 
-  -- a key that is there fits
+  -- A key of a map fits.
   pub fits_at : (es : List (V × L)) → IsMap fits spelling proper es → (k : V) (v : L) → IsAt k v es → fits k
   fits_at es p k v at = p.keys.fit k (IsIn-keys_of es k v at)
 
-  -- keys of two maps that tie are one key
+  -- Keys of two maps that tie are one key.
   pub tied_keys : (es ds : List (V × L)) → IsMap fits spelling proper es → IsMap fits spelling proper ds → (k j : V) (v w : L) → IsAt k v es → IsAt j w ds → R k j ≡ Equal → k ≡ j
   tied_keys es ds p q k j v w s t tie = value_cmp_exact fits spelling one k j (fits_at es p k v s) (fits_at ds q j w t) tie
 
-  -- the values of keys that tie are alike
+  -- The values at keys of two maps that tie are alike.
   pub tied_alike : (es ds : List (V × L)) → IsMap fits spelling proper es → IsMap fits spelling proper ds → AtOneKey alike es ds → (k j : V) (v w : L) → IsAt k v es → IsAt j w ds → R k j ≡ Equal → alike v w
   tied_alike es ds p q a k j v w s t tie = a k v w s (subst (λ (i : V). IsAt i w ds) (sym (tied_keys es ds p q k j v w s t tie)) t)
 
+  -- Each value of the join of two maps is proper.
   merge-values : (es ds : List (V × L)) → IsMap fits spelling proper es → IsMap fits spelling proper ds → AtOneKey alike es ds → (k : V) (v : L) → From R joined es ds k v → proper v
   merge-values es ds p q a k v (inl at) = proper_at es p k v at
   merge-values es ds p q a k v (inr (inl at)) = proper_at ds q k v at
@@ -95,18 +102,21 @@ module _ {V L : Type 0} (fits : V → Type 0) (spelling : V → List ℕ) (one :
       subst proper (sym m.made)
       (laws.proper_joined m.first m.second (proper_at es p k m.first m.in_first) (proper_at ds q m.other m.second m.in_second) (tied_alike es ds p q a k m.other m.first m.second m.in_first m.in_second m.tied))
 
+  -- The join of two maps is a map.
   pub IsMap-merge : (es ds : List (V × L)) → IsMap fits spelling proper es → IsMap fits spelling proper ds → AtOneKey alike es ds → IsMap fits spelling proper (merge_with R joined es ds)
   IsMap-merge es ds p q a = record {
     keys = subst (IsSet fits spelling) (sym (keys_of-merge_with R joined es ds)) (IsSet-union fits spelling one (keys_of es) (keys_of ds) p.keys q.keys);
     values = EachPair-from (λ k v. proper v) (merge_with R joined es ds) (λ k v at. merge-values es ds p q a k v (with-from R joined es ds k v at));
   }
 
+  -- The join of two maps doesn't depend on their order.
   pub merge-comm : (es ds : List (V × L)) → IsMap fits spelling proper es → IsMap fits spelling proper ds → AtOneKey alike es ds → merge_with R joined es ds ≡ merge_with R joined ds es
   merge-comm es ds p q a = with-comm R (value_cmp_total fits spelling one) joined es ds (λ k j v w s t tie. (
     tied_keys es ds p q k j v w s t tie,
     laws.commutes v w (proper_at es p k v s) (proper_at ds q j w t) (tied_alike es ds p q a k j v w s t tie),
   ))
 
+  -- The join of three maps doesn't depend on how they are grouped.
   pub merge-assoc : (es ds gs : List (V × L)) → IsMap fits spelling proper es → IsMap fits spelling proper ds → IsMap fits spelling proper gs → AtOneKey alike es ds → AtOneKey alike ds gs → AtOneKey alike es gs
       → merge_with R joined (merge_with R joined es ds) gs ≡ merge_with R joined es (merge_with R joined ds gs)
   merge-assoc es ds gs p q r a b c = with-assoc R (value_cmp_total fits spelling one) joined es ds gs (λ k j i v w u s t m tie also.
@@ -115,16 +125,20 @@ module _ {V L : Type 0} (fits : V → Type 0) (spelling : V → List ℕ) (one :
       (tied_alike ds gs q r b j i w u t m also)
       (tied_alike es gs p r c k i v u s m ((value_cmp_total fits spelling one).congr k j i tie ∙ also)))
 
+  -- The join of a map with itself is the map.
   pub merge-idem : (es : List (V × L)) → IsMap fits spelling proper es → merge_with R joined es es ≡ es
   merge-idem es p = with-idem R (value_cmp_total fits spelling one) joined es (EachPair-from (λ k v. joined v v ≡ v) es (λ k v at. laws.repeats v (proper_at es p k v at)))
 
+  -- A map is alike to itself.
   pub alike-self : (es : List (V × L)) → IsMap fits spelling proper es → AtOneKey alike es es
   alike-self es p k v w s t =
       subst (alike v) (IsAt-unique R (value_cmp_total fits spelling one) es k v w p.keys.rise s t) (laws.alike_self v (proper_at es p k v s))
 
+  -- Where a map is alike to another, the other is alike to it.
   pub alike-back : (es ds : List (V × L)) → IsMap fits spelling proper es → IsMap fits spelling proper ds → AtOneKey alike es ds → AtOneKey alike ds es
   alike-back es ds p q a k v w s t = laws.alike_back w v (proper_at es p k w t) (proper_at ds q k v s) (a k w v t s)
 
+  -- The join of two maps is alike to a third to which both are.
   pub alike-merge : (es ds gs : List (V × L)) → IsMap fits spelling proper es → IsMap fits spelling proper ds → IsMap fits spelling proper gs → AtOneKey alike es ds → AtOneKey alike ds gs → AtOneKey alike es gs
       → AtOneKey alike (merge_with R joined es ds) gs
   alike-merge es ds gs p q r a b c k v w s t = by (with-from R joined es ds k v s)
@@ -145,6 +159,7 @@ module _ {C V L : Type 0} (fits : C → V → Type 0) (spelling : C → V → Li
   map_along : (s t : Held C (V × L)) → s.codec ≡ t.codec → IsMap (fits t.codec) (spelling t.codec) proper t.items → IsMap (fits s.codec) (spelling s.codec) proper t.items
   map_along s t same p = subst (λ (c : C). IsMap (fits c) (spelling c) proper t.items) (sym same) p
 
+  -- Maps are a join semilattice, where their values are one.
   pub map_laws : LatticeLaws (map_proper fits spelling proper) (MapAlike alike) (map_joined spelling joined) HoldsNothing
   map_laws = record {
     alike_self = λ x p. record { codecs = refl; values = alike-self (fits x.codec) (spelling x.codec) (one x.codec) proper alike joined bottom laws x.items p };
@@ -163,12 +178,14 @@ module _ {C V L : Type 0} (fits : C → V → Type 0) (spelling : C → V → Li
 
 -- A set is a map to nothing.
 module _ {V : Type 0} (fits : V → Type 0) (spelling : V → List ℕ) where
+  -- Entries with nothing for values are a map where their keys are a set.
   pub IsMap-bare : (entries : List (V × Unit {0})) → IsSet fits spelling (keys_of entries) → IsMap fits spelling (λ u. Unit {0}) entries
   IsMap-bare entries set = record {
     keys = set;
     values = EachPair-from (λ k v. Unit {0}) entries (λ k v at. tt);
   }
 
+  -- A value of a list with one more at its end is one of the list, or the last.
   in_push : (values : List V) (v w : V) → IsIn w (values ++ v ∷ []) → IsIn w values ⊎ (w ≡ v)
   in_push [] v w (inl same) = inr same
   in_push [] v w (inr none) = elim none [ ]

@@ -32,13 +32,15 @@ SameCodec s t = s.codec ≡ t.codec
 abbrev pub HoldsNothing : {C E : Type 0} → Held C E → Type 0
 HoldsNothing s = s.items ≡ []
 
+-- The values that are held are a set of their codec's.
 abbrev pub set_proper : {C V : Type 0} → (C → V → Type 0) → (C → V → List ℕ) → Held C V → Type 0
 set_proper fits spelling s = IsSet (fits s.codec) (spelling s.codec) s.items
 
--- The values of both.
+-- The join of two sets: the values of both.
 abbrev pub set_joined : {C V : Type 0} → (C → V → List ℕ) → Held C V → Held C V → Held C V
 set_joined spelling s t = record { codec = s.codec; items = greedy_merge (value_cmp (spelling s.codec)) s.items t.items }
 
+-- The entries that are held are a map of their codec's.
 abbrev pub map_proper : {C V L : Type 0} → (C → V → Type 0) → (C → V → List ℕ) → (L → Type 0) → Held C (V × L) → Type 0
 map_proper fits spelling proper s = IsMap (fits s.codec) (spelling s.codec) proper s.items
 
@@ -47,6 +49,6 @@ pub record MapAlike {C V L : Type 0} (alike : L → L → Type 0) (s t : Held C 
   pub codecs : s.codec ≡ t.codec
   pub values : AtOneKey alike s.items t.items
 
--- The keys of both, and at a common key the join of the values.
+-- The join of two maps: the keys of both, and at a common key the join of the values.
 abbrev pub map_joined : {C V L : Type 0} → (C → V → List ℕ) → (L → L → L) → Held C (V × L) → Held C (V × L) → Held C (V × L)
 map_joined spelling joined s t = record { codec = s.codec; items = merge_with (value_cmp (spelling s.codec)) joined s.items t.items }

@@ -11,6 +11,7 @@ mod codec_keys;
 mod greatest;
 mod least;
 mod map_of;
+mod picked;
 mod set_of;
 mod sharing;
 

@@ -19,6 +19,7 @@ use std::marker::Model;
 /// both, and at a common key the join of the two values. It copies what comes and moves the keys that are there; at a
 /// common key it joins the coming value to a copy of the one that is there.
 #[derive(Drop)]
+#[derive_where(Debug; C, C::Value, L)]
 pub struct MapOf<C: Codec, L: Lattice> {
     codec: C,
     entries: Vec<(C::Value, L)>,

@@ -17,6 +17,7 @@ use std::marker::Model;
 /// A finite set of values of a codec. Contracts see it as its codec and the list of its values, in the codec's order.
 /// Each value fits the codec. A join has the values of both; it copies what comes, and moves what is there.
 #[derive(Drop)]
+#[derive_where(Debug; C, C::Value)]
 pub struct SetOf<C: Codec> {
     codec: C,
     entries: Vec<(C::Value, ())>,

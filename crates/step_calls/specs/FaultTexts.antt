@@ -9,6 +9,7 @@ use Rattle.step_calls.specs.declared.refusals.WriteCode.TheVariants.{NoField, No
 use Rattle.step_calls.specs.declared.refusals.StepRefusal.{StepRefusal}
 use Rattle.step_calls.specs.declared.refusals.StepRefusal.TheVariants as refusals
 
+-- The name of a code of a line of writes, as it is printed.
 abbrev pub write_code_name : WriteCode → List ℕ
 write_code_name NoField = codes "NoField"
 write_code_name NoWrite = codes "NoWrite"

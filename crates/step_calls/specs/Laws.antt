@@ -131,7 +131,8 @@ pub record StepsAddUp : Type 0 where
 abbrev pub lost : List Atom
 lost = [] ∷ []
 
--- It is that of one byte, and of 13 in form two; no path of headers is ended in it; and bottom is read of it.
+-- The context that says that all may be missing is that of one byte, and of 13 in form two; no path of headers is ended in it;
+-- and bottom is read of it.
 pub record NothingIsEnded : Type 0 where
   pub one : IsContextOf lost (0 ∷ [])
   pub two : IsContextOf lost (255 ∷ 255 ∷ 255 ∷ 2 ∷ 0 ∷ 0 ∷ 0 ∷ 0 ∷ 0 ∷ 0 ∷ 0 ∷ 1 ∷ 0 ∷ [])

@@ -35,7 +35,7 @@ pub record SaysLineWrite (form : Form) (nodes : Nodes) (line : List ℕ) (write 
 abbrev pub ends_path : ℕ → Bool
 ends_path byte = (byte == 32) || (byte == 10)
 
--- It is neither.
+-- The byte is neither a space nor a line feed.
 abbrev pub IsOfPath : ℕ → Type 0
 IsOfPath byte = ends_path byte ≡ false
 

@@ -14,10 +14,12 @@ use Rattle.step_calls.specs.declared.refusals.StepRefusal.TheVariants.{Table, Wr
 use Rattle.step_calls.specs.declared.refusals.WriteCode.{WriteCode}
 use Rattle.step_calls.specs.Lines.{write_lines, lines_from_one}
 
+-- The refusal tells the fault of a table's text.
 abbrev pub StepTellsTable : TableFault → StepRefusal → Type 0
 StepTellsTable (tables.At line code) refusal = refusal ≡ Table line code
 StepTellsTable tables.Memory refusal = refusal ≡ Memory
 
+-- The refusal tells what is wrong with the inputs.
 abbrev pub TellsBytes : Refusal → StepRefusal → Type 0
 TellsBytes (calls.Fault context offset code) refusal = refusal ≡ Fault context offset code
 TellsBytes calls.Memory refusal = refusal ≡ Memory

@@ -26,7 +26,8 @@ pub record IsUpdateOf (nodes : Nodes) (lists : Lists) (writes : List Write) (lis
 abbrev pub SayWrites : Form → Nodes → List ℕ → List Write → Type 0
 SayWrites form nodes text said = AllSay (write_lines form nodes) [] (lines_from_one text) said
 
--- All of these were read under the table: the contexts of the inputs, typed, and behind them the encodings of the writes that the lines say.
+-- The lists are all that was read under the table: the contexts of the inputs, typed, and after them the encodings of the
+-- writes that the lines say.
 pub record AreRead (form : Form) (nodes : Nodes) (inputs : List (List ℕ)) (writes : List ℕ) (all : Lists) : Type 0 where
   pub said : List Write
   pub says : SayWrites form nodes writes said

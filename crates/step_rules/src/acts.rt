@@ -14,14 +14,13 @@ use atom_list::Context;
 use bag_encode::encode_slot;
 use bag_normal::normal;
 use bag_value::Val;
-use fan_in::{merge_all, merge_alone};
+use fan_in::Merge;
 use field_table::{Table, View};
 use lex_merge::merge;
-use outside::{Memory, Open};
+use outside::Memory;
 use overflow_trim::trimmed_copy;
 use recorded_graph::{Act, Service};
 use std::alloc::Global;
-use std::thread::Threads;
 
 /// The normal form of a copy of a context.
 fn normal_copy(
@@ -54,38 +53,25 @@ fn written(
 }
 
 /// The normal form of the merge of the lists at the places.
-fn joined(
+fn joined<M: Merge>(
+    merger: &M,
     alloc: Global,
     table: &Table,
     view: &View,
     pool: &[Context],
     places: &[usize],
 ) -> Result<Context, Memory>
-    requires { AreWithinLists pool.now places.now }
+    requires ready { M.ready merger.now }
+    requires places { AreWithinLists pool.now places.now }
     ensures { IfOk result (IsNormalMerge table.now (plain_view_of view.now) (map (list_at pool.now) places.now)) }
 {
-    let merged = merge_alone(alloc, pool, places)?;
-    normal(alloc, table, view, merged)
-}
-
-/// The same, where the lists are merged in several threads.
-fn joined_beside<R: Threads + Sync>(
-    rt: &R,
-    alloc: Global,
-    table: &Table,
-    view: &View,
-    pool: &[Context],
-    places: &[usize],
-) -> Result<Context, Memory>
-    requires { AreWithinLists pool.now places.now }
-    ensures { IfOk result (IsNormalMerge table.now (plain_view_of view.now) (map (list_at pool.now) places.now)) }
-{
-    let merged = merge_all(rt, alloc, &Open, pool, places)?;
+    let merged = merger.merge_all(alloc, pool, places)?;
     normal(alloc, table, view, merged)
 }
 
 /// What an act gives at a service, where its parents' lists stand at the places.
-pub(crate) fn give(
+pub(crate) fn give<M: Merge>(
+    merger: &M,
     alloc: Global,
     table: &Table,
     service: &Service,
@@ -93,6 +79,7 @@ pub(crate) fn give(
     pool: &[Context],
     places: &[usize],
 ) -> Result<Context, Memory>
+    requires ready { M.ready merger.now }
     requires sound { IsSoundAct service.now.form (act_of act.now) }
     requires may { IsActOf table.now (plain_view_of service.now.view) (act_of act.now) }
     requires places { ArePlacesOf (parents_of (act_of act.now)) pool.now places.now }
@@ -116,27 +103,6 @@ pub(crate) fn give(
         Act::Branch { parent: _ } => first(pool, places).copy(),
         Act::Forward { parent: _ } => normal_copy(alloc, table, &service.view, first(pool, places)),
         Act::Trim { parent: _, budget } => trimmed_copy(service.form, first(pool, places), *budget),
-        Act::Join { parents: _ } => joined(alloc, table, &service.view, pool, places),
-    }
-}
-
-/// The same, where the lists of a join are merged in several threads.
-pub(crate) fn give_beside<R: Threads + Sync>(
-    rt: &R,
-    alloc: Global,
-    table: &Table,
-    service: &Service,
-    act: &Act,
-    pool: &[Context],
-    places: &[usize],
-) -> Result<Context, Memory>
-    requires sound { IsSoundAct service.now.form (act_of act.now) }
-    requires may { IsActOf table.now (plain_view_of service.now.view) (act_of act.now) }
-    requires places { ArePlacesOf (parents_of (act_of act.now)) pool.now places.now }
-    ensures { IfOk result (Gives table.now service.now.form (plain_view_of service.now.view) (act_of act.now) (map (list_at pool.now) places.now)) }
-{
-    match act {
-        Act::Join { parents: _ } => joined_beside(rt, alloc, table, &service.view, pool, places),
-        alone => give(alloc, table, service, alone, pool, places),
+        Act::Join { parents: _ } => joined(merger, alloc, table, &service.view, pool, places),
     }
 }

@@ -9,4 +9,4 @@ mod acts;
 mod parents;
 mod steps;
 
-pub use steps::{run_step, run_step_alone};
+pub use steps::{run_step, run_step_alone, run_step_by};

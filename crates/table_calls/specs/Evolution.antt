@@ -26,8 +26,8 @@ change_of (verdicts.Breaks path changes.Kind) = Kind
 abbrev pub verdict_text_line : Verdict → List ℕ
 verdict_text_line verdict = verdict_text verdict ++ 10 ∷ []
 
--- This is what the verdict on the tables says of their fields, and its line. Where the new table fits, contexts of the old one are
--- safe under it.
+-- The change and the line are what the verdict on two tables says. Where the new table fits, contexts of the old one are safe
+-- under it.
 pub record IsCompared (old next : Nodes) (change : Change) (line : List ℕ) : Type 0 where
   pub verdict : Verdict
   pub right : IsVerdict old next verdict

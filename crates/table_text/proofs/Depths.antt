@@ -1,17 +1,16 @@
 -- Numbers and depths, and the digits that say them.
-use Rattle.std.proofs.Common.{◌≡◌, inl, inr, ℕ, ◌^◌, ◌<◌, ◌≤◌, ◌==◌, ◌&&◌, zero, suc, true, List, [], ◌∷◌, length, get_or, refl, sym, ◌∙◌, ap, arith}
-use Rattle.std.specs.Prelude.{◌≢◌}
+use Rattle.std.proofs.Common.{◌≡◌, inl, inr, ℕ, ◌^◌, ◌<◌, ◌≤◌, ◌&&◌, zero, suc, true, List, [], ◌∷◌, length, get_or, refl, sym, ◌∙◌, ap, arith}
 use Rattle.std.specs.Char.{is_ascii_digit}
 use Rattle.std.specs.Fmt.{decimal}
-use Rattle.std.specs.List.{list_all, list_any}
+use Rattle.std.specs.List.{list_all}
 use Rattle.std.specs.Str.{all_ascii_digits}
 use Rattle.std.specs.Str.Parse.{AllDigits, digits_value}
-use Rattle.std.proofs.lemmas.Bool.{cases_lt, ne_eqb}
-use Rattle.std.proofs.lemmas.Str.Parse.{IsNumeralModel, numerals_by_value, tells_digits, tells_all_ascii_digits, digit_from_value}
+use Rattle.std.proofs.lemmas.Bool.{cases_lt}
+use Rattle.std.proofs.lemmas.Str.Parse.{IsNumeralModel, numerals_by_value, tells_digits, tells_all_ascii_digits}
 use Rattle.std.proofs.lemmas.Fmt.{decimal_is_IsNumeral, decimal-digits_value, decimal_injective, first_decimal, decimal_digit}
 use Rattle.table_text.specs.Rows.{IsDepth}
-use Rattle.table_text.specs.Words.{IsFree}
-use Rattle.table_text.proofs.Free.{or_false}
+use Rattle.text_lines.specs.Words.{HasNoSpace}
+use Rattle.text_lines.proofs.Numbers.{digits_free, number_no_space}
 
 own : IsNumeralModel (AllDigits 10) (digits_value 10)
 own = numerals_by_value (AllDigits 10) tells_digits
@@ -53,18 +52,11 @@ depth_decimal digits n deep small =
 pub great_depth : (digits : List ℕ) (n : ℕ) → IsDepth digits n → ((m : ℕ) → (digits ≡ decimal m) × (m < 2 ^ 64) → ⊥) → 2 ^ 64 ≤ n
 great_depth digits n deep none = elim (cases_lt n (2 ^ 64)) [ inl less ↦ absurd (none n (depth_decimal digits n deep less, less)) | inr more ↦ more ]
 
-digits_free : (digits : List ℕ) → AllDigits 10 digits → IsFree 32 digits
-digits_free [] h = refl
-digits_free (d ∷ ds) h =
-    let range = digit_from_value d h.0 in
-    let apart : d ≢ 32 = λ (e : d ≡ 32). omega (arith, range, e) in
-    or_false (d == 32) (list_any (λ byte. byte == 32) ds) (ne_eqb d 32 apart) (digits_free ds h.1)
+pub depth_free : (digits : List ℕ) (n : ℕ) → IsDepth digits n → HasNoSpace digits
+depth_free digits n deep = digits_free 32 digits (omega arith) deep.digits_are.1
 
-pub depth_free : (digits : List ℕ) (n : ℕ) → IsDepth digits n → IsFree 32 digits
-depth_free digits n deep = digits_free digits deep.digits_are.1
-
-pub number_free : (n : ℕ) → n < 2 ^ 16 → IsFree 32 (decimal n)
-number_free n small = digits_free (decimal n) (decimal_is_IsNumeral n (omega (arith, small))).0.1
+pub number_free : (n : ℕ) → n < 2 ^ 16 → HasNoSpace (decimal n)
+number_free n small = number_no_space n (omega (arith, small))
 
 pub same_number : (m n : ℕ) → m < 2 ^ 16 → n < 2 ^ 16 → decimal m ≡ decimal n → m ≡ n
 same_number m n p q e = decimal_injective m n (omega (arith, p)) (omega (arith, q)) e

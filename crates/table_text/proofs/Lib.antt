@@ -1,7 +1,7 @@
 mod Places
 mod Printed
 mod WordReads
-mod Free
+mod Parts
 mod NameBytes
 mod Depths
 mod ShapeTexts

@@ -14,7 +14,9 @@ use Rattle.table_text.specs.Rows.{Row, SaysRow, IsToldShape}
 use Rattle.table_text.specs.TableTexts.{kind_text, shape_text}
 use Rattle.scalar_types.specs.Words.{word_named}
 use Rattle.table_text.proofs.Depths.{depth_free, number_free, same_number}
-use Rattle.table_text.proofs.Free.{same_parts, same_cut, unsnoc, pieces}
+use Rattle.text_lines.proofs.Separated.{same_cut, pieces}
+use Rattle.text_lines.proofs.FedLines.{unsnoc}
+use Rattle.table_text.proofs.Parts.{same_parts}
 use Rattle.table_text.proofs.NameBytes.{name_free}
 use Rattle.table_text.proofs.ShapeTexts.{differ, word_free, unopened, pieces_are}
 use Rattle.table_text.proofs.WordReads.{word_back}

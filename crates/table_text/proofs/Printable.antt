@@ -1,63 +1,32 @@
 -- Lines that say fields have one line feed, at their end.
-use Rattle.std.proofs.Common.{◌≡◌, ◌≢◌, ℕ, ◌^◌, ◌<◌, ◌==◌, true, List, [], ◌∷◌, ◌++◌, map, refl, sym, ◌∙◌, ap, append_assoc, arith}
+use Rattle.std.proofs.Common.{◌≡◌, ℕ, ◌^◌, ◌<◌, true, List, [], ◌∷◌, ◌++◌, map, refl, sym, ◌∙◌, ap, append_assoc, arith}
 use Rattle.std.specs.Prelude.{codes}
 use Rattle.std.specs.Fmt.{decimal}
-use Rattle.std.specs.List.{list_all, list_any, join_with_byte}
-use Rattle.std.specs.Str.Parse.{AllDigits}
-use Rattle.std.proofs.lemmas.Bool.{and_parts, ne_eqb}
-use Rattle.std.proofs.lemmas.Fmt.{decimal_is_IsNumeral}
-use Rattle.std.proofs.lemmas.Str.Parse.{digit_from_value}
+use Rattle.std.specs.List.{join_with_byte}
 use Rattle.bag_model.specs.declared.Pick.TheVariants.{Least, Greatest}
 use Rattle.bag_model.specs.Scalars as scalars
-use Rattle.bag_model.specs.Scalars.{Word, ScalarKind, Boolean, Int32, Int64, Sint32, Sint64, Uint32, Uint64, Fixed32, Fixed64, Sfixed32, Sfixed64, Str, Bytes}
+use Rattle.bag_model.specs.Scalars.{Word, ScalarKind}
 use Rattle.bag_model.specs.Shapes.{Shape, Taint, Scalar, Set, Counter, Map, Bag}
 use Rattle.bag_model.specs.Words.{is_name, word_text}
 use Rattle.table_text.specs.Rows.{Row, SaysRow}
 use Rattle.text_lines.specs.FedLines.{fed_lines}
 use Rattle.table_text.specs.TableTexts.{kind_text, shape_text}
-use Rattle.table_text.specs.Words.{IsFree}
+use Rattle.text_lines.specs.Words.{IsFree}
 use Rattle.text_lines.proofs.FedLines.{fed_line}
-use Rattle.table_text.proofs.Free.{or_false, free_append}
-use Rattle.table_text.proofs.NameBytes.{is_of_word, all_of_word, name_word}
-
-free_cons : (byte : ℕ) (bytes : List ℕ) → byte ≢ 10 → IsFree 10 bytes → IsFree 10 (byte ∷ bytes)
-free_cons byte bytes other free = or_false (byte == 10) (list_any (λ b. b == 10) bytes) (ne_eqb byte 10 other) free
-
-digits_fed : (digits : List ℕ) → AllDigits 10 digits → IsFree 10 digits
-digits_fed [] h = refl
-digits_fed (d ∷ ds) h =
-    let range = digit_from_value d h.0 in
-    free_cons d ds (λ (e : d ≡ 10). omega (arith, range, e)) (digits_fed ds h.1)
+use Rattle.text_lines.proofs.Separated.{free_append}
+use Rattle.text_lines.proofs.WordBytes.{free_word}
+use Rattle.text_lines.proofs.Numbers.{digits_free, number_free}
+use Rattle.table_text.proofs.NameBytes.{name_word}
+use Rattle.table_text.proofs.WordReads.{is_scalar}
 
 number_fed : (n : ℕ) → n < 2 ^ 16 → IsFree 10 (decimal n)
-number_fed n small = digits_fed (decimal n) (decimal_is_IsNumeral n (omega (arith, small))).0.1
-
-of_word_no_feed : (byte : ℕ) → is_of_word byte ≡ true → byte ≢ 10
-of_word_no_feed byte is = λ (e : byte ≡ 10). let bad : is_of_word 10 ≡ true = ap is_of_word (sym e) ∙ is in cc bad
-
-bytes_fed : (text : List ℕ) → list_all is_of_word text ≡ true → IsFree 10 text
-bytes_fed [] is = refl
-bytes_fed (byte ∷ bytes) is =
-    let parts = and_parts (is_of_word byte) (list_all is_of_word bytes) is in
-    free_cons byte bytes (of_word_no_feed byte parts.0) (bytes_fed bytes parts.1)
+number_fed n small = number_free 10 n (omega arith) (omega (arith, small))
 
 name_fed : (text : List ℕ) → is_name text ≡ true → IsFree 10 text
-name_fed text is = bytes_fed text (all_of_word text (name_word text is))
+name_fed text is = free_word 10 text refl (name_word text is)
 
 word_fed : (word : Word) → IsFree 10 (word_text word)
-word_fed Boolean = refl
-word_fed Int32 = refl
-word_fed Int64 = refl
-word_fed Sint32 = refl
-word_fed Sint64 = refl
-word_fed Uint32 = refl
-word_fed Uint64 = refl
-word_fed Fixed32 = refl
-word_fed Fixed64 = refl
-word_fed Sfixed32 = refl
-word_fed Sfixed64 = refl
-word_fed Str = refl
-word_fed Bytes = refl
+word_fed word = free_word 10 (word_text word) refl (is_scalar word)
 
 joined_fed : (words : List Word) → IsFree 10 (join_with_byte 44 (map word_text words))
 joined_fed [] = refl
@@ -87,7 +56,7 @@ unfolding front_of
 front_fed text row says =
     let inner = free_append 10 row.name (32 ∷ shape_text row.shape) (name_fed row.name says.named) (shape_fed row.shape) in
     let middle = free_append 10 (decimal row.number) (32 ∷ (row.name ++ 32 ∷ shape_text row.shape)) (number_fed row.number says.numbered) inner in
-    free_append 10 says.digits (32 ∷ (decimal row.number ++ 32 ∷ (row.name ++ 32 ∷ shape_text row.shape))) (digits_fed says.digits says.deep.digits_are.1) middle
+    free_append 10 says.digits (32 ∷ (decimal row.number ++ 32 ∷ (row.name ++ 32 ∷ shape_text row.shape))) (digits_free 10 says.digits (omega arith) says.deep.digits_are.1) middle
 
 -- A line that says a field is cut from what stands behind it.
 pub cut_said : (text : List ℕ) (row : Row) → SaysRow text row → (rest : List ℕ) → fed_lines (text ++ rest) ≡ text ∷ fed_lines rest

@@ -9,15 +9,16 @@ use Rattle.table_text.specs.declared.faults.TableCode.TheVariants.{Head, Form, D
 use Rattle.outside.specs.declared.answers.OrMemory.TheVariants.{Fault}
 use Rattle.table_text.specs.Rows.{Row, IsDepth, SaysRow}
 use Rattle.table_text.specs.TableTexts.{shape_text}
-use Rattle.table_text.specs.Words.{IsFree, IsFieldNumberText, IsNoDepth, IsShapeText, HasNoParts, parts_line}
+use Rattle.table_text.specs.Words.{IsFieldNumberText, IsNoDepth, IsShapeText, HasNoParts, parts_line}
 use Rattle.table_text.specs.Views.{HasNoRow}
 use Rattle.table_text.proofs.Depths.{depth_free, number_free}
-use Rattle.table_text.proofs.Free.{AreSame, same_parts}
+use Rattle.text_lines.specs.Words.{HasNoSpace}
+use Rattle.table_text.proofs.Parts.{AreSame, same_parts}
 use Rattle.table_text.proofs.NameBytes.{name_free}
 
 -- The line is made of these parts.
 abbrev pub HasParts : List ℕ → List ℕ → List ℕ → List ℕ → List ℕ → Type 0
-HasParts line d n m s = IsFree 32 d × IsFree 32 n × IsFree 32 m × (line ≡ parts_line d n m s)
+HasParts line d n m s = HasNoSpace d × HasNoSpace n × HasNoSpace m × (line ≡ parts_line d n m s)
 
 pub not_parts : (line : List ℕ) → HasNoParts line → (row : Row) → SaysRow line row → ⊥
 not_parts line none row says =

@@ -13,16 +13,19 @@ use Rattle.bag_model.specs.Scalars as scalars
 use Rattle.bag_model.specs.Scalars.{Word, Boolean, Int32, Int64, Sint32, Sint64, Uint32, Uint64, Fixed32, Fixed64, Sfixed32, Sfixed64, Str, Bytes}
 use Rattle.bag_model.specs.Shapes.{Shape, Taint, Scalar, Set, Counter, Map, Bag}
 use Rattle.bag_model.specs.Words.{word_text}
-use Rattle.decimal_text.specs.Answers.{IsSomeOf}
+use Rattle.text_lines.specs.Answers.{IsSomeOf}
 use Rattle.scalar_types.specs.declared.kinds.ScalarKind as code
 use Rattle.scalar_types.specs.declared.kinds.ScalarKind.TheVariants as kinds
 use Rattle.scalar_types.specs.KindViews.{IsPlainWord, word_of, kind_of}
 use Rattle.table_text.specs.TableTexts.{kind_text, pick_word, shape_text}
 use Rattle.scalar_types.specs.Words.{word_named}
-use Rattle.table_text.specs.Words.{IsFree, AreScalarWords, IsKindText, IsShapeText}
+use Rattle.text_lines.specs.Words.{IsFree}
+use Rattle.table_text.specs.Words.{AreScalarWords, IsKindText, IsShapeText}
 use Rattle.table_text.specs.Shapes.{IsBareText, IsMapBehind}
-use Rattle.table_text.proofs.Free.{free_there, same_cut, unsnoc, pieces, pieces_joined}
-use Rattle.table_text.proofs.WordReads.{word_is, no_word}
+use Rattle.text_lines.proofs.Separated.{free_there, same_cut, pieces, pieces_joined}
+use Rattle.text_lines.proofs.FedLines.{unsnoc}
+use Rattle.text_lines.proofs.WordBytes.{free_word}
+use Rattle.table_text.proofs.WordReads.{is_scalar, word_is, no_word}
 
 -- Texts with different bytes aren't the same.
 pub differ : (a b : List ℕ) → bytes_eq a b ≡ false → a ≡ b → ⊥
@@ -32,34 +35,10 @@ differ a b apart same = let bad : true ≡ false = sym ((bytes_eq-Decides a b).1
 
 -- A word has neither a space nor a comma, and doesn't begin with a parenthesis.
 pub word_free : (word : Word) → IsFree 32 (word_text word)
-word_free Boolean = refl
-word_free Int32 = refl
-word_free Int64 = refl
-word_free Sint32 = refl
-word_free Sint64 = refl
-word_free Uint32 = refl
-word_free Uint64 = refl
-word_free Fixed32 = refl
-word_free Fixed64 = refl
-word_free Sfixed32 = refl
-word_free Sfixed64 = refl
-word_free Str = refl
-word_free Bytes = refl
+word_free word = free_word 32 (word_text word) refl (is_scalar word)
 
 comma_free : (word : Word) → IsFree 44 (word_text word)
-comma_free Boolean = refl
-comma_free Int32 = refl
-comma_free Int64 = refl
-comma_free Sint32 = refl
-comma_free Sint64 = refl
-comma_free Uint32 = refl
-comma_free Uint64 = refl
-comma_free Fixed32 = refl
-comma_free Fixed64 = refl
-comma_free Sfixed32 = refl
-comma_free Sfixed64 = refl
-comma_free Str = refl
-comma_free Bytes = refl
+comma_free word = free_word 44 (word_text word) refl (is_scalar word)
 
 heads : (a b : ℕ) (x y : List ℕ) → a ∷ x ≡ b ∷ y → a ≡ b
 heads a b x y e = cc e

@@ -6,10 +6,10 @@ use Rattle.std.specs.Str.{bytes_eq}
 use Rattle.std.proofs.lemmas.List.Folds.{list_any-append}
 use Rattle.std.proofs.lemmas.Slice.Eq.{bytes_eq-Decides}
 use Rattle.bag_model.specs.Scalars.{Word, Boolean, Int32, Int64, Sint32, Sint64, Uint32, Uint64, Fixed32, Fixed64, Sfixed32, Sfixed64, Str, Bytes}
-use Rattle.bag_model.specs.Words.{word_text, scalar_words, reserved_words}
+use Rattle.bag_model.specs.Words.{is_word, word_text, scalar_words, reserved_words}
 use Rattle.scalar_types.specs.Words.{word_among, word_named}
 use Rattle.table_text.specs.Words.{keywords}
-use Rattle.table_text.proofs.NameBytes.{word_utf8}
+use Rattle.text_lines.proofs.WordBytes.{word_utf8}
 
 -- Each word is the one with its text.
 pub word_back : (word : Word) → word_named (word_text word) ≡ Some word
@@ -45,20 +45,21 @@ pub word_is : (text : List ℕ) (word : Word) → word_named text ≡ Some word 
 unfolding word_named
 word_is text word e = text_among text scalar_words word e
 
-is_text : (word : Word) → IsUtf8 (word_text word)
-is_text Boolean = word_utf8 (word_text Boolean) refl
-is_text Int32 = word_utf8 (word_text Int32) refl
-is_text Int64 = word_utf8 (word_text Int64) refl
-is_text Sint32 = word_utf8 (word_text Sint32) refl
-is_text Sint64 = word_utf8 (word_text Sint64) refl
-is_text Uint32 = word_utf8 (word_text Uint32) refl
-is_text Uint64 = word_utf8 (word_text Uint64) refl
-is_text Fixed32 = word_utf8 (word_text Fixed32) refl
-is_text Fixed64 = word_utf8 (word_text Fixed64) refl
-is_text Sfixed32 = word_utf8 (word_text Sfixed32) refl
-is_text Sfixed64 = word_utf8 (word_text Sfixed64) refl
-is_text Str = word_utf8 (word_text Str) refl
-is_text Bytes = word_utf8 (word_text Bytes) refl
+-- Each scalar word is a word.
+pub is_scalar : (word : Word) → is_word (word_text word) ≡ true
+is_scalar Boolean = refl
+is_scalar Int32 = refl
+is_scalar Int64 = refl
+is_scalar Sint32 = refl
+is_scalar Sint64 = refl
+is_scalar Uint32 = refl
+is_scalar Uint64 = refl
+is_scalar Fixed32 = refl
+is_scalar Fixed64 = refl
+is_scalar Sfixed32 = refl
+is_scalar Sfixed64 = refl
+is_scalar Str = refl
+is_scalar Bytes = refl
 
 -- No word is found in bytes that are no text.
 pub none_foreign : (text : List ℕ) → (IsUtf8 text → ⊥) → None ≡ word_named text
@@ -66,7 +67,7 @@ none_foreign text foreign = from (word_named text) refl
   where
     from : (found : Option Word) → word_named text ≡ found → None ≡ word_named text
     from None e = sym e
-    from (Some word) e = absurd (foreign (subst IsUtf8 (word_is text word e) (is_text word)))
+    from (Some word) e = absurd (foreign (subst IsUtf8 (word_is text word e) (word_utf8 (word_text word) (is_scalar word))))
 
 -- Where none is found the text is no word's.
 pub no_word : (text : List ℕ) → word_named text ≡ None → (word : Word) → text ≡ word_text word → ⊥

@@ -7,6 +7,7 @@ use Rattle.outside.specs.declared.answers.OrMemory.TheVariants as refusals
 use Rattle.table_text.specs.declared.faults.TableFault.{TableFault}
 use Rattle.table_text.specs.declared.faults.TableFault.TheVariants.{At, Memory}
 
+-- The name of a code of a table's text, as it is printed.
 abbrev pub table_code_name : TableCode → List ℕ
 table_code_name Head = codes "Head"
 table_code_name Form = codes "Form"

@@ -1,7 +1,6 @@
 -- What the words of a line are read as.
-use Rattle.std.specs.Prelude.{◌≡◌, ◌≢◌, ℕ, ◌^◌, ◌<◌, ◌≤◌, ◌==◌, false, List, [], ◌∷◌, ◌++◌, map, codes}
-use Rattle.std.specs.Fmt.{decimal}
-use Rattle.std.specs.List.{list_any, join_with_byte}
+use Rattle.std.specs.Prelude.{◌≡◌, ◌≢◌, ℕ, ◌^◌, ◌≤◌, List, [], ◌∷◌, ◌++◌, map, codes}
+use Rattle.std.specs.List.{join_with_byte}
 use Rattle.bag_model.specs.Scalars as scalars
 use Rattle.bag_model.specs.Scalars.{Word}
 use Rattle.bag_model.specs.Shapes.{Shape}
@@ -11,10 +10,7 @@ use Rattle.table_text.specs.declared.faults.TableCode.{TableCode}
 use Rattle.table_text.specs.declared.faults.TableCode.TheVariants.{Form, Depth}
 use Rattle.table_text.specs.Rows.{IsToldShape, map_count, IsDepth}
 use Rattle.table_text.specs.TableTexts.{kind_text, shape_text}
-
--- No byte is this one.
-abbrev pub IsFree : ℕ → List ℕ → Type 0
-IsFree sep text = list_any (λ byte. byte == sep) text ≡ false
+use Rattle.text_lines.specs.Words.{HasNoSpace, IsNumberBelow}
 
 -- The words of the definition language that are reserved and no scalar words.
 abbrev pub keywords : List (List ℕ)
@@ -24,7 +20,7 @@ keywords =
 
 -- The text is that of this number, which has 16 bits.
 abbrev pub IsFieldNumberText : List ℕ → ℕ → Type 0
-IsFieldNumberText text number = (number < 2 ^ 16) × (text ≡ decimal number)
+IsFieldNumberText text number = IsNumberBelow (2 ^ 16) text number
 
 -- The text is no depth, or that of one of more than 64 bits.
 abbrev pub IsNoDepth : List ℕ → TableCode → Type 0
@@ -50,5 +46,5 @@ parts_line depth number name shape = join_with_byte 32 (depth ∷ number ∷ nam
 
 -- The line isn't made of four parts so, the first three of them without a space.
 abbrev pub HasNoParts : List ℕ → Type 0
-HasNoParts line = (depth number name shape : List ℕ) → IsFree 32 depth → IsFree 32 number → IsFree 32 name
+HasNoParts line = (depth number name shape : List ℕ) → HasNoSpace depth → HasNoSpace number → HasNoSpace name
     → line ≢ parts_line depth number name shape

@@ -3,17 +3,18 @@
 ghost use Rattle.std.specs.Prelude.{◌≡◌, IfOk, IfErr, MatchOption};
 ghost use Rattle.field_table.specs.Plain.{IsIndexedShape};
 ghost use Rattle.table_text.specs.Rows.{SaysRow};
-ghost use Rattle.table_text.specs.Words.{IsFree, HasNoParts, parts_line};
+ghost use Rattle.table_text.specs.Words.{HasNoParts, parts_line};
+ghost use Rattle.text_lines.specs.Words.{HasNoSpace};
 ghost use Rattle.table_text.specs.Views.{plain_row_of, HasNoRow};
 
 use crate::MAPS_MAX;
 use crate::faults::TableCode;
 use crate::shapes::read_shape;
-use crate::words::{cut_word, read_depth, read_name, read_number};
+use crate::words::{read_depth, read_name, read_number};
 use field_table::Shape;
 use outside::OrMemory;
 use std::alloc::Global;
-use text_lines::without_feed;
+use text_lines::{cut_word, without_feed};
 
 /// A field at a depth, as a line says it. A bag that its shape ends in is without its fields.
 #[derive(Drop)]
@@ -36,7 +37,7 @@ struct Parts<'a> {
 /// The parts of a line, which ends with a line feed.
 fn cut_parts(line: &[u8]) -> Option<Parts<'_>>
     ensures { MatchOption result (HasNoParts line.now)
-        (λ parts. IsFree 32 parts.depth.now × IsFree 32 parts.number.now × IsFree 32 parts.name.now
+        (λ parts. HasNoSpace parts.depth.now × HasNoSpace parts.number.now × HasNoSpace parts.name.now
         × (line.now ≡ parts_line parts.depth.now parts.number.now parts.name.now parts.shape.now)) }
 {
     let text = without_feed(line)?;

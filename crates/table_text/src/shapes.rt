@@ -2,17 +2,18 @@
 
 ghost use Rattle.std.specs.Prelude.{◌≡◌, ◌≢◌, ◌++◌, ◌∷◌, [], ℕ, List, IfOk, IfSome, MatchOption};
 ghost use Rattle.std.specs.Option.{option_map};
-ghost use Rattle.decimal_text.specs.Answers.{IsSomeOf};
 ghost use Rattle.field_table.specs.Plain.{shape_of, IsIndexedShape};
 ghost use Rattle.scalar_types.specs.KindViews.{kind_of};
 ghost use Rattle.table_text.specs.Words.{AreScalarWords, IsKindText, IsShapeText};
 ghost use Rattle.table_text.specs.Shapes.{IsBareText, IsMapBehind};
+ghost use Rattle.text_lines.specs.Answers.{IsSomeOf};
 
-use crate::words::{cut_word, is, read_word};
+use crate::words::{is, read_word};
 use field_table::{Shape, Slots};
 use outside::Memory;
 use scalar_types::{KindList, ScalarKind};
 use std::alloc::Global;
+use text_lines::cut_word;
 
 /// The kinds that scalar words with commas between them say.
 fn read_words(alloc: Global, text: &[u8]) -> Result<Option<KindList>, Memory>

@@ -1,41 +1,24 @@
-//! The words of a line: names, numbers, scalar words, and what stands before a space.
+//! The words of a line: names, numbers and scalar words.
 
-ghost use Rattle.std.specs.Prelude.{◌≡◌, ◌≢◌, ◌↔◌, ◌<◌, ◌||◌, ◌++◌, ◌∷◌, ℕ, length, slice_index, IsTrue, None, IfSome, IfOk, IfErr, MatchOption, true, false};
+ghost use Rattle.std.specs.Prelude.{◌≡◌, ◌↔◌, ◌<◌, length, slice_index, IsTrue, IfSome, IfOk, IfErr, MatchOption, true, false};
 ghost use Rattle.std.specs.Char.{is_ascii_digit};
 ghost use Rattle.std.specs.List.{list_all, list_any};
 ghost use Rattle.std.specs.Option.{option_map};
 ghost use Rattle.std.specs.Str.{bytes_eq};
-ghost use Rattle.bag_model.specs.Words.{is_letter, is_word, is_name, reserved_words};
-ghost use Rattle.decimal_text.specs.Answers.{IsSomeOf};
+ghost use Rattle.bag_model.specs.Words.{is_name, reserved_words};
 ghost use Rattle.scalar_types.specs.KindViews.{IsPlainWord, word_of};
 ghost use Rattle.scalar_types.specs.Words.{word_named};
 ghost use Rattle.table_text.specs.Rows.{IsDepth};
-ghost use Rattle.table_text.specs.Words.{IsFree, IsFieldNumberText, IsNoDepth, keywords};
+ghost use Rattle.table_text.specs.Words.{IsFieldNumberText, IsNoDepth, keywords};
+ghost use Rattle.text_lines.specs.Answers.{IsSomeOf};
 
 use crate::faults::TableCode;
-use decimal_text::read_decimal;
-use memchr::memchr;
 use scalar_types::ScalarKind;
 use std::str;
+use text_lines::{is_word, read_decimal};
 
-/// Where a byte stands first.
-pub(crate) fn place_of(byte: u8, bytes: &[u8]) -> Option<usize>
-    ensures none { result ≡ None → (k : ℕ) → k < length bytes.now → slice_index bytes.now k ≢ byte }
-    ensures within { IfSome result (λ at. at < length bytes.now) }
-    ensures first { IfSome result (λ at. (k : ℕ) → k < at → slice_index bytes.now k ≢ byte) }
-    ensures there { IfSome result (λ at. slice_index bytes.now at ≡ byte) }
-{
-    memchr(byte, bytes)
-}
-
-/// The first word of a text, and what stands behind the space after it; none where there is no space.
-pub(crate) fn cut_word(text: &[u8]) -> Option<(&[u8], &[u8])>
-    ensures { MatchOption result (IsFree 32 text.now)
-        (λ cut. IsFree 32 cut.0.now × (text.now ≡ cut.0.now ++ 32 ∷ cut.1.now)) }
-{
-    let at = place_of(b' ', text)?;
-    Some((&text[..at], &text[at + 1..]))
-}
+/// One more than the greatest number of a field.
+const NUMBER_END: u64 = 65_536;
 
 /// Whether the bytes are this word.
 pub(crate) fn is(text: &[u8], word: &str) -> bool
@@ -78,32 +61,6 @@ fn is_reserved(text: &[u8]) -> bool
     is_keyword(text) || read_word(text).is_some()
 }
 
-/// Whether the byte is a letter or `_`.
-fn is_letter(byte: u8) -> bool
-    ensures { result ≡ is_letter byte }
-{
-    byte.is_ascii_alphabetic() || byte == b'_'
-}
-
-/// Whether all bytes are letters, `_` or digits.
-fn are_of_words(bytes: &[u8]) -> bool
-    ensures { result ≡ list_all (λ other. is_letter other || is_ascii_digit other) bytes.now }
-{
-    bytes
-        .iter()
-        .all(|byte| is_letter(*byte) || byte.is_ascii_digit())
-}
-
-/// Whether the text is a word.
-fn is_word(text: &[u8]) -> bool
-    ensures { result ≡ is_word text.now }
-{
-    match text {
-        [first, more @ ..] => is_letter(*first) && are_of_words(more),
-        [] => false,
-    }
-}
-
 /// Whether the text is a name: a word that isn't reserved.
 fn is_name(text: &[u8]) -> bool
     ensures { result ≡ is_name text.now }
@@ -130,10 +87,7 @@ pub(crate) fn read_name(text: &[u8]) -> Option<&str>
 pub(crate) fn read_number(text: &[u8]) -> Option<u16>
     ensures { IsSomeOf (IsFieldNumberText text.now) result }
 {
-    let number = read_decimal(text)?;
-    if number > u64::from(u16::MAX) {
-        return None;
-    }
+    let number = text_lines::read_number(text, NUMBER_END)?;
     Some(number as u16)
 }
 

@@ -1,12 +1,12 @@
 -- A line says one piece or breaks one rule first, never both.
-use Rattle.std.proofs.Common.{◌≡◌, inl, inr, ℕ, List, sym, ◌∙◌, subst}
-use Rattle.std.proofs.lemmas.Fmt.{decimal_injective}
+use Rattle.std.proofs.Common.{◌≡◌, inl, inr, ℕ, ◌^◌, ◌<◌, List, ◌∷◌, ◌++◌, drop, sym, ◌∙◌, ap, subst, arith}
+use Rattle.std.specs.Fmt.{decimal}
 use Rattle.text_lines.specs.Readings.{IsDefinite, IsFirstOf, NoneOf}
 use Rattle.text_lines.proofs.ReadingLaws.{first_of_one, first_of_none}
 use Rattle.text_carrier.specs.declared.faults.CarryCode.{CarryCode}
 use Rattle.text_carrier.specs.Pieces.{Piece, data_text}
 use Rattle.text_carrier.specs.Rules.{PieceBreaks, HasPieceForm, IsBadPieceLine, IsGoodPiece, piece_lines, carry_rules}
-use Rattle.text_carrier.proofs.Spaces.{form_words, one_words, small}
+use Rattle.text_lines.proofs.Numbers.{one_number}
 use Rattle.text_carrier.proofs.Standard.{one_data}
 
 -- What a line says, before the rules are asked.
@@ -15,14 +15,15 @@ pub record AreOne (place count : ℕ) (word : List ℕ) (p c : ℕ) (w : List �
   pub count_is : count ≡ c
   pub word_is : word ≡ w
 
+small : (n : ℕ) → n < 10 ^ 7 → n < 2 ^ 64
+small n few = omega (arith, few)
+
 pub one_form : (text : List ℕ) (place count : ℕ) (word : List ℕ) (p c : ℕ) (w : List ℕ) → HasPieceForm text place count word → HasPieceForm text p c w → AreOne place count word p c w
 one_form text place count word p c w form other =
-    let same = one_words text _ _ word _ _ w (form_words text place count word form) (form_words text p c w other) in
-    record {
-      place_is = decimal_injective place p (small place form.place_few) (small p other.place_few) same.place_is;
-      count_is = decimal_injective count c (small count form.count_few) (small c other.count_few) same.count_is;
-      word_is = same.word_is;
-    }
+    let behind : decimal place ++ 32 ∷ (decimal count ++ 32 ∷ word) ≡ decimal p ++ 32 ∷ (decimal c ++ 32 ∷ w) = ap (λ (l : List ℕ). drop 2 l) (sym form.is ∙ other.is) in
+    let one = one_number place p (decimal count ++ 32 ∷ word) (decimal c ++ 32 ∷ w) (small place form.place_few) (small p other.place_few) behind in
+    let two = one_number count c word w (small count form.count_few) (small c other.count_few) one.1 in
+    record { place_is = one.0; count_is = two.0; word_is = two.1 }
 
 one_piece : (earlier : List Piece) (text : List ℕ) (a b : Piece) → IsGoodPiece earlier text a → IsGoodPiece earlier text b → a ≡ b
 one_piece earlier text a b p q =

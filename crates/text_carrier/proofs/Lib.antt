@@ -6,5 +6,4 @@ mod LineBytes
 mod OneWay
 mod Placed
 mod Sent
-mod Spaces
 mod Standard

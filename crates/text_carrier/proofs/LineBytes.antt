@@ -13,7 +13,6 @@ use Rattle.std.proofs.lemmas.Str.Parse.{digit_from_value}
 use Rattle.text_lines.specs.Lines.{is_skipped, kept, lines_of, numbered}
 use Rattle.text_carrier.specs.Pieces.{data_text, line_in_piece_form}
 use Rattle.text_carrier.specs.Carrying.{text_of_lines}
-use Rattle.text_carrier.proofs.Spaces.{small}
 use Rattle.text_carrier.proofs.Standard.{IsPlain, data_plain}
 
 -- A byte that ends no line: zero, or one from the space on.
@@ -28,7 +27,7 @@ digits_of_line (d ∷ ds) h =
     All-cons IsLineByte d ds (inr behind) (digits_of_line ds h.1)
 
 number_of_line : (n : ℕ) → n < 10 ^ 7 → All IsLineByte (decimal n)
-number_of_line n h = digits_of_line (decimal n) (decimal_is_IsNumeral n (small n h)).0.1
+number_of_line n h = digits_of_line (decimal n) (decimal_is_IsNumeral n (omega (arith, h))).0.1
 
 plain_of_line : (byte : ℕ) → IsPlain byte → IsLineByte byte
 plain_of_line byte (inl zero) = inl zero

@@ -7,12 +7,13 @@ use Rattle.std.specs.Str.{bytes_eq}
 use Rattle.std.proofs.lemmas.Bool.{cases_lt}
 use Rattle.std.proofs.lemmas.Fmt.{length-decimal-le}
 use Rattle.std.proofs.lemmas.List.{get_or-map, get_or-take, get_or-drop, get_or_past, length-append, length-map, length-take, map_push}
-use Rattle.std.proofs.lemmas.List.Elements.{All-from_recursion, All-weaker, Contains-append_cases, Contains-append_right, Contains-get_or}
+use Rattle.std.proofs.lemmas.List.Elements.{All-from_recursion, Contains-append_cases, Contains-append_right, Contains-get_or}
 use Rattle.std.proofs.lemmas.List.FromFn.{get_or-map-range_with_len, length-map-range_with_len}
 use Rattle.std.proofs.lemmas.Slice.Eq.{bytes_eq-Decides}
 use Rattle.base64.specs.GeneralPurpose.{IsBytes}
 use Rattle.text_lines.specs.Lines.{numbered}
 use Rattle.text_lines.specs.Readings.{AllSay}
+use Rattle.text_lines.proofs.Separated.{free_from}
 use Rattle.text_carrier.specs.Pieces.{Piece, data_text}
 use Rattle.text_carrier.specs.Carrying.{AreSome, IsCarried, carried_lines, piece_at, piece_count}
 use Rattle.text_carrier.specs.Rules.{HasPieceForm, IsGoodPiece, IsOtherCount, piece_lines}
@@ -123,7 +124,9 @@ module _ (width : ℕ) (bytes : List ℕ) where
       place_few = omega (arith, less, few);
       count_few = omega (arith, few);
       word_some = data_some (part_at width bytes place);
-      word_whole = All-weaker IsPlain (λ byte. byte ≢ 32) no_space (data_text (part_at width bytes place)) (data_plain (part_at width bytes place));
+      word_whole =
+          let word = data_text (part_at width bytes place) in
+          free_from 32 word (λ k less. no_space (get_or word k 0) (data_plain (part_at width bytes place) k 0 less));
       is = refl;
     }
       where

@@ -38,7 +38,7 @@ pub record IsCarried (width : ℕ) (bytes : List ℕ) : Type 0 where
   pub few : length bytes ≤ CARRIED_MAX
   pub are_bytes : IsBytes bytes
 
--- These are lines of the bytes: each of them as often as one likes, in any order, and no other.
+-- The lines that were sent are lines of the bytes: each of them as often as one likes, in any order, and no other.
 abbrev pub AreSome : ℕ → List ℕ → List (List ℕ) → Type 0
 AreSome width bytes sent = (line : List ℕ) → Contains sent line → Contains (carried_lines width bytes) line
 

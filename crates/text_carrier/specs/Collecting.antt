@@ -18,7 +18,7 @@ abbrev pub count_of : List Piece → ℕ
 count_of [] = 0
 count_of (piece ∷ more) = piece.count
 
--- These are the bytes of a piece of this number.
+-- The bytes are those of a piece of this number.
 abbrev pub IsPart : List Piece → ℕ → List ℕ → Type 0
 IsPart pieces place part = (piece : Piece) × Contains pieces piece × (piece.place ≡ place) × (piece.bytes ≡ part)
 
@@ -29,7 +29,7 @@ pub record AreWhole (pieces : List Piece) (bytes : List ℕ) : Type 0 where
   pub each : (place : ℕ) (part : List ℕ) → slice_get parts place ≡ Some part → IsPart pieces place part
   pub joined : bytes ≡ concat parts
 
--- This is the least number that no piece has.
+-- The number is the least that no piece has.
 pub record IsFirstMissing (pieces : List Piece) (place : ℕ) : Type 0 where
   pub within : place < count_of pieces
   pub missing : HasPlace pieces place → ⊥

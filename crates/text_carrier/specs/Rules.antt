@@ -1,16 +1,13 @@
 -- What a line says behind other lines, and the rules for it.
 use Rattle.std.specs.Prelude.{◌≡◌, ◌≢◌, ◌⊎◌, ℕ, ◌^◌, ◌<◌, ◌≤◌, List, [], ◌∷◌, length}
-use Rattle.std.specs.List.{All, Contains}
+use Rattle.std.specs.List.{Contains}
 use Rattle.base64.specs.GeneralPurpose.{IsBytes}
 use Rattle.text_lines.specs.Readings.{Reading, IsFirstOf, NoneOf}
+use Rattle.text_lines.specs.Words.{HasNoSpace}
 use Rattle.text_carrier.specs.declared.TheConstants.{PIECES_MAX}
 use Rattle.text_carrier.specs.declared.faults.CarryCode.{CarryCode}
 use Rattle.text_carrier.specs.declared.faults.CarryCode.TheVariants.{Form, PieceRange, BadBase64, OtherCount, Clash}
 use Rattle.text_carrier.specs.Pieces.{Piece, data_text, line_in_piece_form}
-
--- No byte is a space.
-abbrev pub HasNoSpace : List ℕ → Type 0
-HasNoSpace text = All (λ byte. byte ≢ 32) text
 
 -- The line has the form: two numbers of at most seven digits, and a word of one or more bytes, whatever they are.
 pub record HasPieceForm (text : List ℕ) (place count : ℕ) (word : List ℕ) : Type 0 where

@@ -1,8 +1,7 @@
 -- What the code keeps and answers, and what it stands for.
-use Rattle.std.specs.Prelude.{◌≡◌, ◌≢◌, ℕ, ◌^◌, ◌<◌, if◌then◌else◌, List, [], ◌∷◌, codes, length, Option, Some, None}
+use Rattle.std.specs.Prelude.{◌≡◌, ◌≢◌, ℕ, ◌<◌, if◌then◌else◌, List, [], ◌∷◌, codes, length, Option, Some, None}
 use Rattle.std.specs.BTreeMap.{get}
-use Rattle.std.specs.Fmt.{decimal}
-use Rattle.std.specs.List.{Contains, flat_map, join_with_byte, slice_index_or}
+use Rattle.std.specs.List.{Contains, flat_map, slice_index_or}
 use Rattle.std.specs.Option.{option_map, unwrap_or}
 use Rattle.std.specs.Ordering.{nat_cmp}
 use Rattle.std.specs.Result.{result_ok}
@@ -21,7 +20,7 @@ use Rattle.outside.specs.declared.answers.OrMemory.{OrMemory}
 use Rattle.outside.specs.declared.answers.OrMemory.TheVariants.{Fault, Memory}
 use Rattle.text_carrier.specs.declared.pieces.Pieces.{Pieces}
 use Rattle.text_carrier.specs.Pieces.{Piece, data_text}
-use Rattle.text_carrier.specs.Rules.{HasNoSpace, PieceBreaks, carry_rules, IsBadPieceLine, piece_lines}
+use Rattle.text_carrier.specs.Rules.{PieceBreaks, carry_rules, IsBadPieceLine, piece_lines}
 use Rattle.text_carrier.specs.Collecting.{HasPlace, IsFirstMissing, count_of}
 
 -- The name of a rule, as it is printed.
@@ -36,26 +35,6 @@ carry_code_name Clash = codes "Clash"
 abbrev pub carry_fault_at : ℕ → OrMemory CarryCode → CarryFault
 carry_fault_at line (Fault code) = At line code
 carry_fault_at line Memory = faults.Memory
-
--- The text is p and three words behind it, one space between two of them.
-abbrev pub four_words : List ℕ → List ℕ → List ℕ → List ℕ
-four_words place count word = join_with_byte 32 (codes "p" ∷ place ∷ count ∷ word ∷ [])
-
--- The words of a line; none of them has a space, and the last isn't empty.
-pub record AreLineWords (text place count word : List ℕ) : Type 0 where
-  pub place_whole : HasNoSpace place
-  pub count_whole : HasNoSpace count
-  pub word_some : 0 < length word
-  pub word_whole : HasNoSpace word
-  pub is : text ≡ four_words place count word
-
--- The line has no such words.
-abbrev pub HasNoWords : List ℕ → Type 0
-HasNoWords text = (place count word : List ℕ) → AreLineWords text place count word → ⊥
-
--- The text is that of a number with at most seven digits.
-abbrev pub IsPieceNumberText : List ℕ → ℕ → Type 0
-IsPieceNumberText text number = (number < 10 ^ 7) × (text ≡ decimal number)
 
 -- A line that has the form is refused behind these pieces: it breaks this rule first, or memory is wanting for it.
 abbrev pub IsPieceRefused : List Piece → ℕ → ℕ → List ℕ → OrMemory CarryCode → Type 0
@@ -89,18 +68,18 @@ pub record Keeps (pieces : List Piece) (kept : Pieces) : Type 0 where
   pub texts : (place : ℕ) → IsTextAt pieces place (option_map (λ text. text.now) (get nat_cmp kept.texts place))
   pub are_bytes : (piece : Piece) → Contains pieces piece → IsBytes piece.bytes
 
--- The first bad line of these has this number and breaks this rule, or memory is wanting.
+-- The first bad line of these has this number and breaks this rule, or memory is out.
 abbrev pub IsLineFault : List Line → CarryFault → Type 0
 IsLineFault lines (At line code) = IsFirstBad piece_lines lines line code
 IsLineFault lines faults.Memory = Unit {0}
 IsLineFault lines other = ⊥
 
--- These are the texts of all pieces, in the order of their numbers.
+-- The texts are those of all pieces, in the order of their numbers.
 pub record AreTextsOf (pieces : List Piece) (texts : List (List ℕ)) : Type 0 where
   pub as_many : length texts ≡ count_of pieces
   pub each : (place : ℕ) → place < length texts → IsTextAt pieces place (Some (slice_index_or texts place []))
 
--- There is no piece, or one is missing, or memory is wanting.
+-- There is no piece, or one is missing, or memory is out.
 abbrev pub IsOrderFault : List Piece → CarryFault → Type 0
 IsOrderFault pieces faults.NoLine = pieces ≡ []
 IsOrderFault pieces (faults.Missing place) = (pieces ≢ []) × IsFirstMissing pieces place

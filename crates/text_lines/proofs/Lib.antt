@@ -1,3 +1,8 @@
+pub mod Separated
+mod Spaces
+pub mod WordBytes
+pub mod Numbers
+pub mod DecimalTexts
 pub mod LineLaws
 pub mod FedLines
 pub mod ReadingLaws

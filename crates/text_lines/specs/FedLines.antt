@@ -1,6 +1,6 @@
 -- The lines of some bytes, each with its line feed.
-use Rattle.std.specs.Prelude.{◌≡◌, ℕ, ◌==◌, false, if◌then◌else◌, List, [], ◌∷◌}
-use Rattle.std.specs.List.{list_any}
+use Rattle.std.specs.Prelude.{ℕ, ◌==◌, if◌then◌else◌, List, [], ◌∷◌}
+use Rattle.text_lines.specs.Words.{IsFree}
 
 -- A byte before the first of some lines.
 abbrev pub onto_first : ℕ → List (List ℕ) → List (List ℕ)
@@ -14,4 +14,4 @@ fed_lines (byte ∷ bytes) = if byte == 10 then (byte ∷ []) ∷ fed_lines byte
 
 -- No byte is a line feed.
 abbrev pub HasNoFeed : List ℕ → Type 0
-HasNoFeed text = list_any (λ byte. byte == 10) text ≡ false
+HasNoFeed text = IsFree 10 text

@@ -1,3 +1,5 @@
+pub mod Answers
+pub mod Words
 pub mod Lines
 pub mod Readings
 pub mod HexLines

@@ -3,7 +3,7 @@
 ghost use Rattle.std.specs.Prelude.{◌≡◌, ◌≢◌, ◌<◌, List, ℕ, [], ◌∷◌, ◌++◌, length, IfSome, MatchOption};
 ghost use Rattle.text_lines.specs.FedLines.{fed_lines};
 
-use crate::lines::feed_at;
+use crate::words::place_of;
 
 /// The first line of some bytes with its line feed, and the bytes behind it; none where there are no bytes. The last line
 /// may be without a line feed.
@@ -12,7 +12,7 @@ pub fn cut_fed_line(bytes: &[u8]) -> Option<(&[u8], &[u8])>
         (λ cut. fed_lines bytes.now ≡ cut.0.now ∷ fed_lines cut.1.now) }
     ensures shorter { IfSome result (λ cut. length cut.1.now < length bytes.now) }
 {
-    match feed_at(bytes) {
+    match place_of(b'\n', bytes) {
         Some(at) => Some(bytes.split_at(at + 1)),
         None if bytes.is_empty() => None,
         None => Some((bytes, &[])),

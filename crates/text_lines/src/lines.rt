@@ -1,11 +1,11 @@
 //! The lines of an input, with their numbers.
 
-ghost use Rattle.std.specs.Prelude.{◌≡◌, ◌≢◌, ◌<◌, ℕ, [], ◌∷◌, length, slice_index, None, IfSome, MatchOption};
+ghost use Rattle.std.specs.Prelude.{◌≡◌, ◌<◌, [], ◌∷◌, length, IfSome, MatchOption};
 ghost use Rattle.std.specs.Str.Lines.{lines, strip_carriage_return};
 ghost use Rattle.std.specs.Iterator.{YieldsFirstBy, item_count};
 ghost use Rattle.text_lines.specs.Lines as spec;
 
-use memchr::memchr;
+use crate::words::place_of;
 use std::marker::Model;
 
 /// A line of an input, without what ends it.
@@ -25,7 +25,7 @@ pub struct Lines<'a> {
 }
 
 impl<'a> Model for Lines<'a> {
-    ghost use Rattle.std.specs.Prelude.{ℕ, ◌+◌, ◌<◌, ◌^◌, List, length};
+    ghost use Rattle.std.specs.Prelude.{◌+◌, ◌<◌, ◌^◌, List, length};
     ghost use Rattle.std.specs.Str.Lines.{lines};
     ghost use Rattle.text_lines.specs.Lines.{Line, numbered, kept};
 
@@ -57,23 +57,13 @@ fn without_return(text: &[u8]) -> &[u8]
     }
 }
 
-/// Where the first line feed stands.
-pub(crate) fn feed_at(bytes: &[u8]) -> Option<usize>
-    ensures none { result ≡ None → (k : ℕ) → k < length bytes.now → slice_index bytes.now k ≢ 10 }
-    ensures within { IfSome result (λ at. at < length bytes.now) }
-    ensures first { IfSome result (λ at. (k : ℕ) → k < at → slice_index bytes.now k ≢ 10) }
-    ensures feed { IfSome result (λ at. slice_index bytes.now at ≡ 10) }
-{
-    memchr(b'\n', bytes)
-}
-
 /// The first line of some bytes and the bytes behind it; `None` where there is none.
 fn cut_line(bytes: &[u8]) -> Option<(&[u8], &[u8])>
     ensures lines { MatchOption result (lines bytes.now ≡ [])
         (λ cut. lines bytes.now ≡ cut.0.now ∷ lines cut.1.now) }
     ensures shorter { IfSome result (λ cut. length cut.1.now < length bytes.now) }
 {
-    match feed_at(bytes) {
+    match place_of(b'\n', bytes) {
         Some(at) => Some((without_return(&bytes[..at]), &bytes[at + 1..])),
         None if bytes.is_empty() => None,
         None => Some((bytes, &[])),

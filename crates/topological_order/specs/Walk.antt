@@ -13,7 +13,7 @@ pub record Trail : Type 0 where
   pub path : List ℕ
   pub order : List ℕ
 
--- The same of the code's walk.
+-- What the code's walk has met so far.
 abbrev pub trail_of : Walk → Trail
 trail_of w = record {
   graph = edge_lists_of w.graph.now;

@@ -62,13 +62,13 @@ abbrev pub StepGives : Nodes → Graph → Lists → Step → List Atom → Type
 StepGives nodes graph lists step list =
     Gives nodes (form_at graph step.service) (view_at graph step.service) step.act (parents_lists lists step.act) list
 
--- These are the lists of the first n steps: each is what its step gives.
+-- The lists are those of the first n steps: each is what its step gives.
 pub record RunsTo (nodes : Nodes) (graph : Graph) (lists : Lists) (n : ℕ) : Type 0 where
   pub as_many : length lists ≡ n
   pub each : (m : ℕ) (step : Step)
       → m < n → HasStep graph m step → StepGives nodes graph lists step (list_at lists m)
 
--- These are the lists of all steps.
+-- The lists are those of all steps of the graph: its run.
 abbrev pub IsRun : Nodes → Graph → Lists → Type 0
 IsRun nodes graph lists = RunsTo nodes graph lists (length graph.steps)
 

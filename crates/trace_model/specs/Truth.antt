@@ -49,7 +49,7 @@ IsAdded nodes graph n vs = IsReachedBy graph n (λ step. Adds nodes vs step.act)
 abbrev pub AreValuesBelow : Values → Values → Type 0
 AreValuesBelow vs ws = join_values vs ws ≡ ws
 
--- These values say all that is added by steps that reach n.
+-- The values say all that is added by steps that reach n.
 abbrev pub IsAboveAll : Nodes → Graph → ℕ → Values → Type 0
 IsAboveAll nodes graph n ws = (vs : Values) → IsAdded nodes graph n vs → AreValuesBelow vs ws
 
@@ -161,7 +161,7 @@ pub record AreReachedBySame (graph : Graph) (n : ℕ) (other : Graph) (m : ℕ) 
   pub received : (list : List Atom)
       → IsReachedBy graph n (λ step. Receives list step.act) ↔ IsReachedBy other m (λ step. Receives list step.act)
 
--- Then they are reached by the same additions.
+-- Steps that the same writes and received lists reach are reached by the same additions.
 abbrev pub SameWritesReachAlike : Type 0
 SameWritesReachAlike = (nodes : Nodes) (graph : Graph) (n : ℕ) (other : Graph) (m : ℕ)
     → AreReachedBySame graph n other m → AreReachedAlike nodes graph n other m

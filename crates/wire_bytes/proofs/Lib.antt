@@ -3,3 +3,4 @@ pub mod Stops
 pub mod OneCode
 mod Widths
 mod Offsets
+mod Ends

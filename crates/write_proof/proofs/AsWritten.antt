@@ -12,7 +12,7 @@ use Rattle.bag_model.specs.Shapes.{Nodes}
 use Rattle.bag_model.specs.Slots.{SlotAt, name_path}
 use Rattle.bag_model.specs.SlotValues.{HasSlot}
 use Rattle.graph_lines.specs.Forms.{IsNumber, IsPath}
-use Rattle.graph_lines.proofs.Separated.{free_append}
+use Rattle.text_lines.proofs.Separated.{free_append}
 use Rattle.text_lines.specs.FedLines.{fed_lines}
 use Rattle.text_lines.specs.Lines.{numbered}
 use Rattle.text_lines.specs.Readings.{AllSay, NoneOf}

@@ -1,5 +1,5 @@
 -- The text of a value of a table has no line feed.
-use Rattle.std.proofs.Common.{◌≡◌, ℕ, zero, suc, ◌<◌, ◌/◌, ◌%◌, ◌==◌, ◌||◌, not, Bool, true, false, if◌then◌else◌, ℤ, pos, negsuc, List, [], ◌∷◌, ◌++◌, map, codes, Option, Some, None, refl, sym, subst, arith}
+use Rattle.std.proofs.Common.{◌≡◌, ℕ, zero, suc, ◌<◌, ◌/◌, ◌%◌, ◌==◌, not, Bool, true, false, if◌then◌else◌, ℤ, pos, negsuc, List, [], ◌∷◌, ◌++◌, map, codes, Option, Some, None, refl, sym, subst, arith}
 use Rattle.std.specs.Prelude.{sum_by}
 use Rattle.std.specs.Fmt.{decimal, signed_decimal, digits, digits_onto, digit_glyph}
 use Rattle.std.specs.List.{AllByRecursion, list_any, slice_index, flat_map}
@@ -17,8 +17,9 @@ use Rattle.text_model.specs.Commas.{comma_joined, in_braces}
 use Rattle.text_model.specs.ScalarTexts.{is_marked, is_control, escaped, quoted, bytes_text, plain_text, scalar_text}
 use Rattle.text_model.specs.ValueTexts.{taint_text, scalar_or_dash, count_text, counts_text, value_text, entry_texts, field_texts}
 use Rattle.graph_lines.specs.Forms.{IsWord, IsPath}
-use Rattle.graph_lines.proofs.Names.{name_free}
-use Rattle.graph_lines.proofs.Separated.{IsFree, or_false, free_append}
+use Rattle.text_lines.specs.Words.{IsFree}
+use Rattle.text_lines.proofs.Separated.{or_false, head_free, tail_free, free_append}
+use Rattle.text_lines.proofs.WordBytes.{free_word}
 
 -- No byte of the text is a line feed.
 abbrev pub IsFed : List ℕ → Type 0
@@ -56,18 +57,10 @@ signed_fed (negsuc n) = fed_cons 45 (decimal (suc n)) refl (decimal_fed (suc n))
 
 -- ---- hexadecimal digits
 
-or_left : (a b : Bool) → (a || b) ≡ false → a ≡ false
-or_left false b h = refl
-or_left true b h = h
-
-or_right : (a b : Bool) → (a || b) ≡ false → b ≡ false
-or_right false b h = h
-or_right true b h = absurd (cc h)
-
 index_fed : (bytes : List ℕ) (k : ℕ) → IsFed bytes → (slice_index bytes k == 10) ≡ false
 index_fed [] k h = refl
-index_fed (b ∷ bs) zero h = or_left (b == 10) (list_any (λ c. c == 10) bs) h
-index_fed (b ∷ bs) (suc k) h = index_fed bs k (or_right (b == 10) (list_any (λ c. c == 10) bs) h)
+index_fed (b ∷ bs) zero h = head_free 10 b bs h
+index_fed (b ∷ bs) (suc k) h = index_fed bs k (tail_free 10 b bs h)
 
 digit_fed : (k : ℕ) → (slice_index lower_digits k == 10) ≡ false
 digit_fed k = index_fed lower_digits k refl
@@ -188,7 +181,7 @@ mutual
   fields_fed no_node vs s = tt
   fields_fed (node name number shape nodes) no_value s = tt
   fields_fed (node name number shape nodes) (value v vs) s = (
-    marked_fed name (codes "=") (value_text shape v) (name_free 10 name refl (name_is name s.0)) refl (value_fed shape v s.2),
+    marked_fed name (codes "=") (value_text shape v) (free_word 10 name refl (name_is name s.0)) refl (value_fed shape v s.2),
     fields_fed nodes vs s.4,
   )
 
@@ -197,8 +190,8 @@ mutual
 -- Names with dots between them.
 dotted_fed : (names : List (List ℕ)) → AllByRecursion IsWord names → IsFed (dotted names)
 dotted_fed [] h = refl
-dotted_fed (a ∷ []) h = name_free 10 a refl h.0
-dotted_fed (a ∷ b ∷ names) h = free_append 10 a (46 ∷ dotted (b ∷ names)) (name_free 10 a refl h.0) (dotted_fed (b ∷ names) h.1)
+dotted_fed (a ∷ []) h = free_word 10 a refl h.0
+dotted_fed (a ∷ b ∷ names) h = free_append 10 a (46 ∷ dotted (b ∷ names)) (free_word 10 a refl h.0) (dotted_fed (b ∷ names) h.1)
 
 pub path_fed : (path : List ℕ) → IsPath path → IsFed path
 path_fed path h = subst IsFed (sym h.3) (dotted_fed h.0 h.2)

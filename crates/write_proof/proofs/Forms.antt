@@ -1,42 +1,24 @@
 -- The forms of lines: a line says one entry, and words are made of characters.
-use Rattle.std.proofs.Common.{◌≡◌, ◌≢◌, ℕ, zero, suc, ◌^◌, ◌<◌, ◌==◌, ◌||◌, Bool, true, false, List, [], ◌∷◌, ◌++◌, length, refl, sym, ap, ◌∙◌, subst, length-append, nat_lt, ltb-true, arith}
+use Rattle.std.proofs.Common.{◌≡◌, ◌≢◌, ℕ, ◌==◌, true, false, List, [], ◌∷◌, ◌++◌, refl, sym, ap, ◌∙◌, subst, arith}
 use Rattle.std.specs.Prelude.{codes}
-use Rattle.std.specs.Char.{is_ascii_digit}
 use Rattle.std.specs.Fmt.{decimal}
-use Rattle.std.specs.List.{AllByRecursion, list_all}
+use Rattle.std.specs.List.{AllByRecursion}
 use Rattle.std.specs.Str.{IsUtf8, IsAscii}
-use Rattle.std.specs.Str.Parse.{AllDigits}
-use Rattle.std.proofs.lemmas.Bool.{and_parts, eq-eqb}
-use Rattle.std.proofs.lemmas.Bool.Decides.{nat_tests}
-use Rattle.std.proofs.lemmas.Fmt.{decimal_is_IsNumeral}
-use Rattle.std.proofs.lemmas.Str.{IsUtf8-from_ascii}
-use Rattle.std.proofs.lemmas.Str.Parse.{digit_from_value}
+use Rattle.std.proofs.lemmas.Bool.{eq-eqb}
+use Rattle.std.proofs.lemmas.Fmt.{IsAscii-decimal}
+use Rattle.std.proofs.lemmas.Str.{IsUtf8-from_ascii, IsAscii-append}
+use Rattle.std.proofs.lemmas.Str.Ascii.{IsAscii-nil, IsAscii-cons}
 use Rattle.bag_model.specs.Slots.{dotted}
-use Rattle.bag_model.specs.Words.{is_letter}
-use Rattle.graph_lines.specs.Forms.{IsNumber, IsWord, IsPath, HasNoSpace}
-use Rattle.graph_lines.specs.Reading.{IsCut}
-use Rattle.graph_lines.proofs.Decimals.{same_number, number_no_space}
-use Rattle.graph_lines.proofs.Separated.{same_cut}
+use Rattle.graph_lines.specs.Forms.{IsNumber, IsWord, IsPath}
+use Rattle.graph_lines.proofs.Decimals.{one_number, same_number, small_number}
+use Rattle.text_lines.specs.Words.{HasNoSpace, IsCut}
+use Rattle.text_lines.proofs.FedLines.{unsnoc}
+use Rattle.text_lines.proofs.Separated.{same_cut}
+use Rattle.text_lines.proofs.WordBytes.{word_ascii}
 use Rattle.write_proof.specs.Entries.{Entry, Why, ValueText, Reach, Uses, IsSoundEntry, entry_text, HasEntryForm}
 use Rattle.write_proof.specs.Views.{IsOfWords, IsInWords}
 
 -- ---- a line says one entry
-
--- Two equal texts before their last bytes.
-pub unsnoc : (a b : List ℕ) (x y : ℕ) → a ++ x ∷ [] ≡ b ++ y ∷ [] → a ≡ b
-unsnoc [] [] x y e = refl
-unsnoc [] (d ∷ b) x y e = absurd (omega (arith, ap length e, length-append b (y ∷ [])))
-unsnoc (c ∷ a) [] x y e = absurd (omega (arith, ap length e, length-append a (x ∷ [])))
-unsnoc (c ∷ a) (d ∷ b) x y e =
-    let first : c ≡ d = cc e in
-    let rest : a ++ x ∷ [] ≡ b ++ y ∷ [] = cc e in
-    let more = unsnoc a b x y rest in
-    λ i. first i ∷ more i
-
-one_number : (m n : ℕ) (x y : List ℕ) → IsNumber m → IsNumber n → decimal m ++ 32 ∷ x ≡ decimal n ++ 32 ∷ y → (m ≡ n) × (x ≡ y)
-one_number m n x y p q e =
-    let cut = same_cut 32 (decimal m) (decimal n) x y (number_no_space m p) (number_no_space n q) e in
-    (same_number m n p q cut.0, cut.1)
 
 abbrev first_byte : List ℕ → ℕ
 first_byte [] = 0
@@ -87,72 +69,34 @@ other_words text first rest free cut a b c (Uses w) says = c (sym (same_cut 32 (
 
 -- ---- characters
 
-abbrev AreSmall : List ℕ → Type 0
-AreSmall text = AllByRecursion (λ byte. byte < 128) text
+names_ascii : (names : List (List ℕ)) → AllByRecursion IsWord names → IsAscii (dotted names)
+names_ascii [] h = IsAscii-nil
+names_ascii (a ∷ []) h = word_ascii a h.0
+names_ascii (a ∷ b ∷ names) h =
+    IsAscii-append a (46 ∷ dotted (b ∷ names)) (word_ascii a h.0) (IsAscii-cons 46 (dotted (b ∷ names)) (omega arith) (names_ascii (b ∷ names) h.1))
 
-small_append : (a b : List ℕ) → AreSmall a → AreSmall b → AreSmall (a ++ b)
-small_append [] b p q = q
-small_append (x ∷ a) b p q = (p.0, small_append a b p.1 q)
+path_ascii : (path : List ℕ) → IsPath path → IsAscii path
+path_ascii path h = subst IsAscii (sym h.3) (names_ascii h.0 h.2)
 
-ascii_more : (byte : ℕ) (bytes : List ℕ) → byte < 128 → IsAscii bytes → IsAscii (byte ∷ bytes)
-ascii_more byte bytes small all zero = small
-ascii_more byte bytes small all (suc i) = all i
+number_ascii : (n : ℕ) → IsNumber n → IsAscii (decimal n)
+number_ascii n h = IsAscii-decimal n (small_number n h)
 
-ascii : (text : List ℕ) → AreSmall text → IsAscii text
-ascii [] p = λ i. omega arith
-ascii (byte ∷ bytes) p = ascii_more byte bytes p.0 (ascii bytes p.1)
+spaced_ascii : (a b : List ℕ) → IsAscii a → IsAscii b → IsAscii (a ++ 32 ∷ b)
+spaced_ascii a b p q = IsAscii-append a (32 ∷ b) p (IsAscii-cons 32 b (omega arith) q)
 
-small_digits : (digits : List ℕ) → AllDigits 10 digits → AreSmall digits
-small_digits [] h = tt
-small_digits (d ∷ ds) h = let range = digit_from_value d h.0 in (omega (arith, range), small_digits ds h.1)
-
-small_number : (n : ℕ) → IsNumber n → AreSmall (decimal n)
-small_number n h = let few : n < 2 ^ 64 = omega (arith, h) in small_digits (decimal n) (decimal_is_IsNumeral n few).0.1
-
-abbrev is_of_word : ℕ → Bool
-is_of_word byte = is_letter byte || is_ascii_digit byte
-
-small_byte : (byte : ℕ) → is_of_word byte ≡ true → byte < 128
-small_byte byte is = grind (arith, nat_tests, is)
-
-letter_of_word : (byte : ℕ) → is_letter byte ≡ true → is_of_word byte ≡ true
-letter_of_word byte is = ap (λ b. b || is_ascii_digit byte) is
-
-small_bytes : (bytes : List ℕ) → list_all is_of_word bytes ≡ true → AreSmall bytes
-small_bytes [] is = tt
-small_bytes (byte ∷ bytes) is = let parts = and_parts (is_of_word byte) (list_all is_of_word bytes) is in (small_byte byte parts.0, small_bytes bytes parts.1)
-
-small_name : (name : List ℕ) → IsWord name → AreSmall name
-small_name [] is = tt
-small_name (byte ∷ bytes) is =
-    let parts = and_parts (is_letter byte) (list_all is_of_word bytes) is in
-    (small_byte byte (letter_of_word byte parts.0), small_bytes bytes parts.1)
-
-small_names : (names : List (List ℕ)) → AllByRecursion IsWord names → AreSmall (dotted names)
-small_names [] h = tt
-small_names (a ∷ []) h = small_name a h.0
-small_names (a ∷ b ∷ names) h = small_append a (46 ∷ dotted (b ∷ names)) (small_name a h.0) (omega arith, small_names (b ∷ names) h.1)
-
-small_path : (path : List ℕ) → IsPath path → AreSmall path
-small_path path h = subst AreSmall (sym h.3) (small_names h.0 h.2)
-
-small_codes : (text : List ℕ) → list_all (λ byte. nat_lt byte 128) text ≡ true → AreSmall text
-small_codes [] is = tt
-small_codes (byte ∷ bytes) is = let parts = and_parts (nat_lt byte 128) (list_all (λ b. nat_lt b 128) bytes) is in (ltb-true byte 128 parts.0, small_codes bytes parts.1)
-
-small_words : (entry : Entry) → IsOfWords entry → IsSoundEntry entry → AreSmall (entry_text entry)
-small_words (Why n path) words sound =
-    small_append (codes "why") (32 ∷ (decimal n ++ 32 ∷ path)) (small_codes (codes "why") refl)
-    (omega arith, small_append (decimal n) (32 ∷ path) (small_number n sound.0) (omega arith, small_path path sound.1))
-small_words (ValueText text) words sound = absurd words
-small_words (Reach w child) words sound =
-    small_append (codes "reach") (32 ∷ (decimal w ++ 32 ∷ decimal child)) (small_codes (codes "reach") refl)
-    (omega arith, small_append (decimal w) (32 ∷ decimal child) (small_number w sound.0) (omega arith, small_number child sound.1))
-small_words (Uses w) words sound = small_append (codes "uses") (32 ∷ decimal w) (small_codes (codes "uses") refl) (omega arith, small_number w sound)
+words_ascii : (entry : Entry) → IsOfWords entry → IsSoundEntry entry → IsAscii (entry_text entry)
+words_ascii (Why n path) words sound =
+    spaced_ascii (codes "why") (decimal n ++ 32 ∷ path) (word_ascii (codes "why") refl)
+    (spaced_ascii (decimal n) path (number_ascii n sound.0) (path_ascii path sound.1))
+words_ascii (ValueText text) words sound = absurd words
+words_ascii (Reach w child) words sound =
+    spaced_ascii (codes "reach") (decimal w ++ 32 ∷ decimal child) (word_ascii (codes "reach") refl)
+    (spaced_ascii (decimal w) (decimal child) (number_ascii w sound.0) (number_ascii child sound.1))
+words_ascii (Uses w) words sound = spaced_ascii (codes "uses") (decimal w) (word_ascii (codes "uses") refl) (number_ascii w sound)
 
 -- The words of an entry are made of characters.
 pub words_utf8 : (entry : Entry) → IsOfWords entry → IsSoundEntry entry → IsUtf8 (entry_text entry)
-words_utf8 entry words sound = IsUtf8-from_ascii (entry_text entry) (ascii (entry_text entry) (small_words entry words sound))
+words_utf8 entry words sound = IsUtf8-from_ascii (entry_text entry) (words_ascii entry words sound)
 
 -- A line whose text is neither that of a value nor made of characters says nothing.
 pub no_characters : (line text : List ℕ) → line ≡ text ++ 10 ∷ [] → ((rest : List ℕ) → text ≢ codes "value " ++ rest) → (IsUtf8 text → ⊥) → (entry : Entry) → HasEntryForm line entry → ⊥

@@ -6,6 +6,6 @@ use Rattle.bag_model.specs.Values.{Value, Values, IsOfShape, AreOfShapes}
 abbrev pub AreOfOne : Value → Value → Type 0
 AreOfOne v w = (shape : Shape) × IsOfShape shape v × IsOfShape shape w
 
--- They are values of the fields of one bag.
+-- Two lists of values are those of the fields of one bag.
 abbrev pub AreOfOneBag : Values → Values → Type 0
 AreOfOneBag vs ws = (nodes : Nodes) × AreOfShapes nodes vs × AreOfShapes nodes ws

@@ -67,7 +67,7 @@ BreaksAlone table graph earlier (Uses w) Order = IsNoMore (last_of earlier) (Use
 BreaksAlone table graph earlier (Uses w) NotWrite = IsWriteStep graph w → ⊥
 BreaksAlone table graph earlier entry code = ⊥
 
--- These rules, in the order in which they count.
+-- The rules for a line by itself, in the order in which they count.
 abbrev pub rules_alone : List VerifyCode
 rules_alone = StepRange ∷ NoSuchPath ∷ Order ∷ NotParent ∷ NotWrite ∷ []
 

@@ -33,7 +33,8 @@ pub record IsUsedNext (graph : Graph) (slot : ℕ) (at : SlotAt) (w : ℕ) (befo
   pub join : IsLeastAbove at.shape (IsOfSteps graph slot at before) joined
   pub is : ((IsValueBelow own joined → ⊥) × (steps ≡ before ++ w ∷ [])) ⊎ (IsValueBelow own joined × (steps ≡ before))
 
--- The same, at the slot with this place of the table.
+-- Step w is used next at the slot with this place of the table, exactly where it contributes more than the join of what the
+-- steps before it contribute.
 abbrev pub IsNextAt : Nodes → Graph → ℕ → ℕ → List ℕ → List ℕ → Type 0
 IsNextAt table graph slot w before steps = (at : SlotAt) → HasSlot table slot at → IsUsedNext graph slot at w before steps
 
@@ -42,6 +43,7 @@ pub record AreNewsOf (graph : Graph) (slot : ℕ) (at : SlotAt) (seen steps : Li
   pub rises : Rises nat_cmp steps
   pub all : (w : ℕ) → IsIn w steps ↔ (IsIn w seen × IsWriteStep graph w × IsNews graph slot at steps w)
 
--- The same, at the slot with this place of the table.
+-- At the slot with this place of the table, these of the steps that were seen say something that the used ones before them
+-- don't say.
 abbrev pub AreNewsAt : Nodes → Graph → ℕ → List ℕ → List ℕ → Type 0
 AreNewsAt table graph slot seen steps = (at : SlotAt) → HasSlot table slot at → AreNewsOf graph slot at seen steps

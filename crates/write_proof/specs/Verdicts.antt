@@ -48,7 +48,7 @@ IsAccepted table graph certificate =
     (said : List Entry) × (slot : ℕ) × (at : SlotAt) × IsCertificateRead table graph certificate said slot at
     × NoneOf (AppliesSomewhere graph slot at said) rules_over_all
 
--- This is the first rule over all lines that applies, and the line is the first to which it does.
+-- The code is that of the first rule over all lines that applies, and the line is the first to which it does.
 abbrev pub IsRejected : Nodes → Graph → List ℕ → ℕ → VerifyCode → Type 0
 IsRejected table graph certificate line code =
     (said : List Entry) × (slot : ℕ) × (at : SlotAt) × IsCertificateRead table graph certificate said slot at

@@ -63,11 +63,11 @@ Applies graph slot at said codes.TooMuch entry =
     × IsJoinOfUsed graph slot at said joined × (IsValueBelow x joined → ⊥)
 Applies graph slot at said other entry = ⊥
 
--- It applies to the entry at this place.
+-- The rule applies to the entry at this place.
 abbrev pub AppliesAt : Graph → ℕ → SlotAt → List Entry → VerifyCode → ℕ → Type 0
 AppliesAt graph slot at said code place = (entry : Entry) × (slice_get said place ≡ Some entry) × Applies graph slot at said code entry
 
--- It applies to some entry.
+-- The rule applies to some entry.
 abbrev pub AppliesSomewhere : Graph → ℕ → SlotAt → List Entry → VerifyCode → Type 0
 AppliesSomewhere graph slot at said code = (place : ℕ) × AppliesAt graph slot at said code place
 
@@ -78,6 +78,6 @@ pub record IsFirstLine (graph : Graph) (slot : ℕ) (at : SlotAt) (said : List E
   pub applies : AppliesAt graph slot at said code place
   pub first : (other : ℕ) → other < place → AppliesAt graph slot at said code other → ⊥
 
--- These rules, in the order in which they count.
+-- The rules over all lines, in the order in which they count.
 abbrev pub rules_over_all : List VerifyCode
 rules_over_all = codes.NotListed ∷ codes.Missing ∷ codes.Value ∷ codes.TooMuch ∷ []

@@ -1,15 +1,15 @@
 //! What the lines of a certificate say.
 
 ghost use Rattle.std.specs.Prelude.{◌≡◌, ◌≢◌, ◌++◌, ℕ, List, codes, MatchOption};
-ghost use Rattle.decimal_text.specs.Answers.{IsSomeOf};
 ghost use Rattle.graph_lines.specs.Reading.{IsNumberText};
+ghost use Rattle.text_lines.specs.Answers.{IsSomeOf};
 ghost use Rattle.write_proof.specs.Entries as plain;
 ghost use Rattle.write_proof.specs.Entries.{HasEntryForm};
 ghost use Rattle.write_proof.specs.Views.{IsWhyText, IsReachText, IsInWords, entry_of};
 
-use graph_lines::{cut_word, is_path, read_number, take_number};
+use graph_lines::{is_path, read_number, take_number};
 use std::str;
-use text_lines::without_feed;
+use text_lines::{cut_str, without_feed};
 
 /// What a line of a certificate says.
 #[derive(Clone, Copy, Debug)]
@@ -60,7 +60,7 @@ fn read_words(text: &str) -> Option<Entry<'_>>
     ensures { MatchOption result ((entry : plain.Entry) → IsInWords text.now entry → ⊥)
         (λ entry. IsInWords text.now (entry_of entry)) }
 {
-    let (first, rest) = cut_word(text)?;
+    let (first, rest) = cut_str(text)?;
     match first {
         "why" => {
             let (step, path) = read_why(rest)?;

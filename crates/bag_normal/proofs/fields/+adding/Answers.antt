@@ -20,8 +20,8 @@ use Rattle.bag_normal.specs.Headers.{IsFieldFound}
 use Rattle.bag_normal.specs.Known.{GivesWayAt, IsSupersededIn, HoldsAtKey}
 use Rattle.bag_normal.proofs.Places.{rises_on, adds_none, adds_same, on_ok}
 use Rattle.bag_normal.proofs.Below.{scalar_is, counter_is, map_is, bag_is, InField, IsSupersededAtKey, at_spelling, at_none, key_superseded, node_superseded}
-use Rattle.bag_normal.proofs.FieldHeaders.{field_behind, field_level, field_on, fields_more, fields_all, HoldsAtField, no_field_at_end}
-use Rattle.bag_normal.proofs.Keys.{key_behind, key_is, key_level, place_on, keys_more, keys_all, stop_on, no_key_at_end}
+use Rattle.bag_normal.proofs.FieldHeaders.{field_behind, field_level, field_on, fields_more, fields_all, HoldsAtField}
+use Rattle.bag_normal.proofs.Keys.{key_behind, key_is, key_level, place_on, keys_more, keys_all, stop_on}
 use Rattle.bag_normal.proofs.fields.+adding.Goals as goal
 
 -- ---- a field, by its shape
@@ -173,19 +173,6 @@ add_values-returns-in-Err-clause-adds t c =
     (keys_all P list q c.args.level c.args.from c.keys.place c.requires.level few c.requires.behind c.args.gone.now.items c.keys.gone.items c.keys.invariant.keys
     c.in-Err.stop c.in-Err.ensures.none (λ key p s. key_superseded shape list q key p s.holds))
 
-pub add_values-returns-clause-adds : goal.add_values-returns-clause-adds
-add_values-returns-clause-adds t c =
-    let list = c.args.list.now in
-    let q = path_before list c.args.from in
-    let shape = shape_of c.args.shape.now in
-    let few : c.args.level < 16 = omega (arith, c.requires.room) in
-    let kind = kind_of c.args.kind.now in
-    let P = IsSupersededAtKey kind shape list q in
-    adds_same (HoldsAtKey P q) (IsSupersededIn (model.Shape.Map kind shape) list q) c.args.gone.now.items c.keys.gone.items (map_is kind shape list q)
-    (keys_all P list q c.args.level c.args.from c.keys.place c.requires.level few c.requires.behind c.args.gone.now.items c.keys.gone.items c.keys.invariant.keys
-    c.keys.place (no_key_at_end list c.args.level c.keys.place c.keys.invariant.keys.stays.within (omega (arith, c.keys-test.false, c.len.ensures.len)))
-    (λ key p s. key_superseded shape list q key p s.holds))
-
 -- ---- the fields of a bag
 
 -- The field that was found, by its parts.
@@ -248,14 +235,3 @@ add_fields-returns-in-Err-clause-adds t c =
     adds_same (HoldsAtField nodes (InField list) q) (IsSupersededIn (model.Shape.Bag nodes) list q) c.args.gone.now.items c.headers.gone.items (bag_is nodes list q)
     (fields_all nodes (InField list) list q c.args.level c.args.from c.headers.place c.requires.level c.requires.fields c.requires.room c.requires.behind c.args.gone.now.items c.headers.gone.items
     c.headers.invariant.fields c.in-Err.stop c.in-Err.ensures.none (λ i f p s. node_superseded f.shape list q f.number p s))
-
-pub add_fields-returns-clause-adds : goal.add_fields-returns-clause-adds
-add_fields-returns-clause-adds t c =
-    let list = c.args.list.now in
-    let q = path_before list c.args.from in
-    let nodes = nodes_of c.args.fields.now in
-    adds_same (HoldsAtField nodes (InField list) q) (IsSupersededIn (model.Shape.Bag nodes) list q) c.args.gone.now.items c.headers.gone.items (bag_is nodes list q)
-    (fields_all nodes (InField list) list q c.args.level c.args.from c.headers.place c.requires.level c.requires.fields c.requires.room c.requires.behind c.args.gone.now.items c.headers.gone.items
-    c.headers.invariant.fields c.headers.place
-    (no_field_at_end nodes list c.args.level c.headers.place c.headers.invariant.fields.stays.within (omega (arith, c.headers-test.false, c.len.ensures.len)))
-    (λ i f p s. node_superseded f.shape list q f.number p s))

@@ -5,7 +5,7 @@ use Rattle.bag_walks.proofs.Inside.{no_header_stays}
 use Rattle.bag_normal.specs.Known.{GivesWayAt}
 use Rattle.bag_normal.proofs.Places.{rises_on}
 use Rattle.bag_normal.proofs.Below.{key_gives_way}
-use Rattle.bag_normal.proofs.Keys.{key_behind, place_on, keys_more, keys_all, stop_on, no_key_at_end}
+use Rattle.bag_normal.proofs.Keys.{key_behind, place_on, keys_more, keys_all, stop_on}
 use Rattle.bag_normal.proofs.fields.add_counts.Goals as goal
 
 pub add_earlier_data-requires-clause-behind : goal.add_earlier_data-requires-clause-behind
@@ -46,13 +46,4 @@ returns-in-Err-clause-adds c =
     let q = path_before list c.args.from in
     keys_all (GivesWayAt GreatestDatum list) list q c.args.level c.args.from c.writers.place
     c.requires.level c.requires.room c.requires.behind c.args.gone.now.items c.writers.gone.items c.writers.invariant.keys c.in-Err.stop c.in-Err.ensures.none
-    (λ key p w. key_gives_way GreatestDatum list q key p w)
-
-pub returns-clause-adds : goal.returns-clause-adds
-returns-clause-adds c =
-    let list = c.args.list.now in
-    let q = path_before list c.args.from in
-    keys_all (GivesWayAt GreatestDatum list) list q c.args.level c.args.from c.writers.place
-    c.requires.level c.requires.room c.requires.behind c.args.gone.now.items c.writers.gone.items c.writers.invariant.keys c.writers.place
-    (no_key_at_end list c.args.level c.writers.place c.writers.invariant.keys.stays.within (omega (arith, c.writers-test.false, c.len.ensures.len)))
     (λ key p w. key_gives_way GreatestDatum list q key p w)

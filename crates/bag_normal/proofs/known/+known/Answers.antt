@@ -14,7 +14,7 @@ use Rattle.field_table.proofs.Held.{field_is, levels_there, no_bag, start_next}
 use Rattle.bag_normal.specs.Data.{AddsPlaces}
 use Rattle.bag_normal.specs.Headers.{IsFieldFound}
 use Rattle.bag_normal.specs.Known.{IsKnownSuperseded}
-use Rattle.bag_normal.proofs.FieldHeaders.{HoldsAtField, field_behind, field_level, field_on, fields_more, fields_all, no_field_at_end}
+use Rattle.bag_normal.proofs.FieldHeaders.{HoldsAtField, field_behind, field_level, field_on, fields_more, fields_all}
 use Rattle.bag_normal.proofs.Places.{rises_on, adds_none, adds_same, on_ok}
 use Rattle.bag_normal.proofs.SlotTurns.{KnownInField, known_below, known_slot, unknown_slot, known_bag}
 use Rattle.bag_normal.specs.Known.{IsSupersededIn}
@@ -124,16 +124,3 @@ add_known_fields-returns-in-Err-clause-adds t c =
     adds_same (HoldsAtField nodes R q) (IsKnownSuperseded view c.args.before (model.Shape.Bag nodes) list q) c.args.gone.now.items c.headers.gone.items (known_bag view c.args.before nodes list q)
     (fields_all nodes R list q c.args.level c.args.from c.headers.place c.requires.level c.requires.ready.fields c.requires.room c.requires.behind c.args.gone.now.items c.headers.gone.items
     c.headers.invariant.fields c.in-Err.stop c.in-Err.ensures.none (λ i f p s. known_below view (c.args.before + starts (model.fields nodes) i) f.shape list q _ p s))
-
-pub add_known_fields-returns-clause-adds : goal.add_known_fields-returns-clause-adds
-add_known_fields-returns-clause-adds t c =
-    let list = c.args.list.now in
-    let q = path_before list c.args.from in
-    let nodes = nodes_of c.args.fields.now in
-    let view = plain_view_of c.args.view.now in
-    let R = KnownInField view c.args.before nodes list in
-    adds_same (HoldsAtField nodes R q) (IsKnownSuperseded view c.args.before (model.Shape.Bag nodes) list q) c.args.gone.now.items c.headers.gone.items (known_bag view c.args.before nodes list q)
-    (fields_all nodes R list q c.args.level c.args.from c.headers.place c.requires.level c.requires.ready.fields c.requires.room c.requires.behind c.args.gone.now.items c.headers.gone.items
-    c.headers.invariant.fields c.headers.place
-    (no_field_at_end nodes list c.args.level c.headers.place c.headers.invariant.fields.stays.within (omega (arith, c.headers-test.false, c.len.ensures.len)))
-    (λ i f p s. known_below view (c.args.before + starts (model.fields nodes) i) f.shape list q _ p s))

@@ -1,4 +1,4 @@
-use Rattle.std.proofs.Common.{◌≡◌, ◌+◌, drop, sym, ap, ◌∙◌, subst, arith, rules, IfOk, IfErr}
+use Rattle.std.proofs.Common.{◌≡◌, ◌+◌, drop, sym, ap, ◌∙◌, subst, arith, rules}
 use Rattle.context_model.specs.Paths.{path_before}
 use Rattle.bag_model.specs.Shapes as model
 use Rattle.bag_model.specs.Typed.{IsSpelling, Misspells}
@@ -10,9 +10,11 @@ use Rattle.field_table.proofs.Shown.{taint_shown, scalar_shown, greatest_shown, 
 use Rattle.scalar_types.specs.KindViews.{kind_of}
 use Rattle.bag_typed.specs.Walk.{HasNone, IsFirstOfPaths}
 use Rattle.bag_typed.proofs.Data.{not_both}
-use Rattle.bag_typed.proofs.Fields.{ClearsFields, plain_slot, slot_there, fields_end, field_turn, field_missing}
+use Rattle.bag_scan.proofs.FieldGets.{opened, field_at}
+use Rattle.bag_scan.proofs.FieldTurns.{before_first}
+use Rattle.bag_typed.proofs.Fields.{ClearsFields, fields_end, field_turn, field_missing}
 use Rattle.bag_typed.proofs.Keys.{OfSomeKey, key_end, key_turn}
-use Rattle.bag_typed.proofs.Shapes.{none_alike, first_alike, of_key, key_under, from_key, to_key, entry_none, entry_fault, key_fault}
+use Rattle.bag_typed.proofs.Shapes.{none_alike, first_alike, typed_seen, fault_seen, of_key, key_under, from_key, to_key, entry_none, entry_fault, key_fault}
 use Rattle.scalar_types.proofs.KindSpelled.{spelling_told}
 use Rattle.bag_typed.proofs.walk.+check.Goals as goal
 use Rattle.bag_typed.proofs.walk.+check.Goals.{check_fields-in-Ok+in_ok-place-in-Ok, check_fields-in-Err}
@@ -21,59 +23,35 @@ use Rattle.bag_typed.proofs.walk.+check.Goals.{check_fields-in-Ok+in_ok-place-in
 
 pub check_slot-returns-in-Taint-clause-typed : goal.check_slot-returns-in-Taint-clause-typed
 check_slot-returns-in-Taint-clause-typed t c =
-    let list = c.args.list.now in
-    let q = path_before list c.args.from in
-    let shown = ap shape_of c.in-Taint.is ∙ taint_shown.0 in
-    subst (λ (shape : model.Shape). IfOk c.check_data.result (λ _. HasNone list (Misspells shape q))) (sym shown) c.check_data.ensures.right
+    typed_seen c.args.list.now (path_before c.args.list.now c.args.from) c.check_data.result _ _ (ap shape_of c.in-Taint.is ∙ taint_shown.0) c.check_data.ensures.right
 
 pub check_slot-returns-in-Taint-clause-fault : goal.check_slot-returns-in-Taint-clause-fault
 check_slot-returns-in-Taint-clause-fault t c =
-    let list = c.args.list.now in
-    let q = path_before list c.args.from in
-    let shown = ap shape_of c.in-Taint.is ∙ taint_shown.0 in
-    subst (λ (shape : model.Shape). IfErr c.check_data.result (IsFirstOfPaths list (Misspells shape q))) (sym shown) c.check_data.ensures.fault
+    fault_seen c.args.list.now (path_before c.args.list.now c.args.from) c.check_data.result _ _ (ap shape_of c.in-Taint.is ∙ taint_shown.0) c.check_data.ensures.fault
 
 pub check_slot-returns-in-Scalar-clause-typed : goal.check_slot-returns-in-Scalar-clause-typed
 check_slot-returns-in-Scalar-clause-typed t c =
-    let list = c.args.list.now in
-    let q = path_before list c.args.from in
-    let shown = ap shape_of c.in-Scalar.is ∙ (scalar_shown c.in-Scalar.kind).0 in
-    subst (λ (shape : model.Shape). IfOk c.check_data-in-Scalar.result (λ _. HasNone list (Misspells shape q))) (sym shown) c.check_data-in-Scalar.ensures.right
+    typed_seen c.args.list.now (path_before c.args.list.now c.args.from) c.check_data-in-Scalar.result _ _ (ap shape_of c.in-Scalar.is ∙ (scalar_shown c.in-Scalar.kind).0) c.check_data-in-Scalar.ensures.right
 
 pub check_slot-returns-in-Scalar-clause-fault : goal.check_slot-returns-in-Scalar-clause-fault
 check_slot-returns-in-Scalar-clause-fault t c =
-    let list = c.args.list.now in
-    let q = path_before list c.args.from in
-    let shown = ap shape_of c.in-Scalar.is ∙ (scalar_shown c.in-Scalar.kind).0 in
-    subst (λ (shape : model.Shape). IfErr c.check_data-in-Scalar.result (IsFirstOfPaths list (Misspells shape q))) (sym shown) c.check_data-in-Scalar.ensures.fault
+    fault_seen c.args.list.now (path_before c.args.list.now c.args.from) c.check_data-in-Scalar.result _ _ (ap shape_of c.in-Scalar.is ∙ (scalar_shown c.in-Scalar.kind).0) c.check_data-in-Scalar.ensures.fault
 
 pub check_slot-returns-in-Greatest-clause-typed : goal.check_slot-returns-in-Greatest-clause-typed
 check_slot-returns-in-Greatest-clause-typed t c =
-    let list = c.args.list.now in
-    let q = path_before list c.args.from in
-    let shown = ap shape_of c.in-Greatest.is ∙ (greatest_shown c.in-Greatest.kind).0 in
-    subst (λ (shape : model.Shape). IfOk c.check_data-in-Greatest.result (λ _. HasNone list (Misspells shape q))) (sym shown) c.check_data-in-Greatest.ensures.right
+    typed_seen c.args.list.now (path_before c.args.list.now c.args.from) c.check_data-in-Greatest.result _ _ (ap shape_of c.in-Greatest.is ∙ (greatest_shown c.in-Greatest.kind).0) c.check_data-in-Greatest.ensures.right
 
 pub check_slot-returns-in-Greatest-clause-fault : goal.check_slot-returns-in-Greatest-clause-fault
 check_slot-returns-in-Greatest-clause-fault t c =
-    let list = c.args.list.now in
-    let q = path_before list c.args.from in
-    let shown = ap shape_of c.in-Greatest.is ∙ (greatest_shown c.in-Greatest.kind).0 in
-    subst (λ (shape : model.Shape). IfErr c.check_data-in-Greatest.result (IsFirstOfPaths list (Misspells shape q))) (sym shown) c.check_data-in-Greatest.ensures.fault
+    fault_seen c.args.list.now (path_before c.args.list.now c.args.from) c.check_data-in-Greatest.result _ _ (ap shape_of c.in-Greatest.is ∙ (greatest_shown c.in-Greatest.kind).0) c.check_data-in-Greatest.ensures.fault
 
 pub check_slot-returns-in-Set-clause-typed : goal.check_slot-returns-in-Set-clause-typed
 check_slot-returns-in-Set-clause-typed t c =
-    let list = c.args.list.now in
-    let q = path_before list c.args.from in
-    let shown = ap shape_of c.in-Set.is ∙ (set_shown c.in-Set.kind).0 in
-    subst (λ (shape : model.Shape). IfOk c.check_data-in-Set.result (λ _. HasNone list (Misspells shape q))) (sym shown) c.check_data-in-Set.ensures.right
+    typed_seen c.args.list.now (path_before c.args.list.now c.args.from) c.check_data-in-Set.result _ _ (ap shape_of c.in-Set.is ∙ (set_shown c.in-Set.kind).0) c.check_data-in-Set.ensures.right
 
 pub check_slot-returns-in-Set-clause-fault : goal.check_slot-returns-in-Set-clause-fault
 check_slot-returns-in-Set-clause-fault t c =
-    let list = c.args.list.now in
-    let q = path_before list c.args.from in
-    let shown = ap shape_of c.in-Set.is ∙ (set_shown c.in-Set.kind).0 in
-    subst (λ (shape : model.Shape). IfErr c.check_data-in-Set.result (IsFirstOfPaths list (Misspells shape q))) (sym shown) c.check_data-in-Set.ensures.fault
+    fault_seen c.args.list.now (path_before c.args.list.now c.args.from) c.check_data-in-Set.result _ _ (ap shape_of c.in-Set.is ∙ (set_shown c.in-Set.kind).0) c.check_data-in-Set.ensures.fault
 
 -- ---- the entries of a map
 
@@ -145,8 +123,8 @@ check_entries-returns-in-Err-clause-typed t c =
 pub check_fields-find_field-requires-clause-level : goal.check_fields-find_field-requires-clause-level
 check_fields-find_field-requires-clause-level t c =
     let at = c.loop-at.at in
-    let there = slot_there c.args.fields.now at c.get.result c.unwrap-field.result c.get.ensures c.unwrap-field.ensures in
-    omega (arith, levels_there (nodes_of c.args.fields.now) at (plain_slot c.unwrap-field.result.now) there, c.requires.room)
+    let there = field_at c.args.fields.now at c.get.result c.unwrap-field.result c.get.ensures c.unwrap-field.ensures in
+    omega (arith, levels_there (nodes_of c.args.fields.now) at (opened c.unwrap-field.result.now) there, c.requires.room)
 
 pub check_fields-check_slot-requires : goal.check_fields-check_slot-requires
 check_fields-check_slot-requires t c =
@@ -154,8 +132,8 @@ check_fields-check_slot-requires t c =
     let q = path_before list c.args.from in
     let nodes = nodes_of c.args.fields.now in
     let at = c.loop-at.at in
-    let f = plain_slot c.unwrap-field.result.now in
-    let there = slot_there c.args.fields.now at c.get.result c.unwrap-field.result c.get.ensures c.unwrap-field.ensures in
+    let f = opened c.unwrap-field.result.now in
+    let there = field_at c.args.fields.now at c.get.result c.unwrap-field.result c.get.ensures c.unwrap-field.ensures in
     let turn = field_turn nodes list q c.args.from c.args.level c.requires.level c.requires.behind c.requires.fields c.requires.room at c.loop-at.place f there c.loop-at.invariant
     c.from.result c.from.ensures c.in-Ok.behind c.in-Ok.ensures.found in
     let levels = levels_there nodes at f there in
@@ -167,12 +145,18 @@ check_fields-returns-in_err-place-in-Ok-clause-fault t c =
     let q = path_before list c.args.from in
     let nodes = nodes_of c.args.fields.now in
     let at = c.loop-at.at in
-    let f = plain_slot c.unwrap-field.result.now in
-    let there = slot_there c.args.fields.now at c.get.result c.unwrap-field.result c.get.ensures c.unwrap-field.ensures in
+    let f = opened c.unwrap-field.result.now in
+    let there = field_at c.args.fields.now at c.get.result c.unwrap-field.result c.get.ensures c.unwrap-field.ensures in
     let turn = field_turn nodes list q c.args.from c.args.level c.requires.level c.requires.behind c.requires.fields c.requires.room at c.loop-at.place f there c.loop-at.invariant
     c.from.result c.from.ensures c.in-Ok.behind c.in-Ok.ensures.found in
     let fault = turn.fault c.in_err-place-in-Ok.field-0.0 c.in_err-place-in-Ok.ensures.fault in
     search rules
+
+pub check_fields-loop-at-init : goal.check_fields-loop-at-init
+check_fields-loop-at-init t c = record {
+  come = before_first c.args.list.now c.args.level (nodes_of c.args.fields.now) c.args.from c.requires.behind.within;
+  clear = λ i f l at. absurd (omega arith);
+}
 
 pub check_fields-loop-at-preserved : goal.check_fields-loop-at-preserved
 check_fields-loop-at-preserved t c =
@@ -180,9 +164,9 @@ check_fields-loop-at-preserved t c =
     let q = path_before list c.args.from in
     let nodes = nodes_of c.args.fields.now in
     let at = c.loop-at.at in
-    let f = plain_slot c.unwrap-field.result.now in
-    let there = slot_there c.args.fields.now at c.get.result c.unwrap-field.result c.get.ensures c.unwrap-field.ensures in
-    let Clears = ClearsFields nodes list q c.args.from (at + 1) in
+    let f = opened c.unwrap-field.result.now in
+    let there = field_at c.args.fields.now at c.get.result c.unwrap-field.result c.get.ensures c.unwrap-field.ensures in
+    let Clears = ClearsFields nodes list q c.args.from c.args.level (at + 1) in
     elim c.match-find_field.branch [
       | check_fields-in-Ok+in_ok-place-in-Ok w ↦ (
           let turn = field_turn nodes list q c.args.from c.args.level c.requires.level c.requires.behind c.requires.fields c.requires.room at c.loop-at.place f there c.loop-at.invariant
@@ -195,5 +179,5 @@ check_fields-loop-at-preserved t c =
 
 pub check_fields-returns-clause-typed : goal.check_fields-returns-clause-typed
 check_fields-returns-clause-typed t c =
-    fields_end (nodes_of c.args.fields.now) c.args.list.now (path_before c.args.list.now c.args.from) c.args.from c.loop-at.at c.loop-at.place
+    fields_end (nodes_of c.args.fields.now) c.args.list.now (path_before c.args.list.now c.args.from) c.args.from c.args.level c.loop-at.at c.loop-at.place
     (omega (arith, c.loop-at-test.false, c.len-at-end.ensures)) c.loop-at.invariant

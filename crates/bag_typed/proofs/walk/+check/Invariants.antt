@@ -25,4 +25,4 @@ abbrev pub decreases-check_entries-loop-at : goal.decreases-check_entries-loop-a
 decreases-check_entries-loop-at l = length l.list - l.place
 
 abbrev pub invariant-check_fields-loop-at : goal.invariant-check_fields-loop-at
-invariant-check_fields-loop-at l = ClearsFields (nodes_of l.fields) l.list (path_before l.list l.from) l.from l.at l.place
+invariant-check_fields-loop-at l = ClearsFields (nodes_of l.fields) l.list (path_before l.list l.from) l.from l.level l.at l.place

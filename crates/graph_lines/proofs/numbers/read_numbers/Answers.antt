@@ -5,7 +5,7 @@ use Rattle.std.proofs.lemmas.List.{map-append, length_push}
 use Rattle.std.proofs.lemmas.Iterator.Splits.{YieldsList-from_str_split}
 use Rattle.std.proofs.lemmas.Iterator.Consumers.{YieldsList-turn, YieldsList-end}
 use Rattle.graph_lines.specs.Forms.{IsNumber}
-use Rattle.graph_lines.proofs.Separated.{pieces}
+use Rattle.text_lines.proofs.Separated.{pieces}
 use Rattle.graph_lines.proofs.Pushing.{all_push, one_more, whole_text, some_numbers, not_numbers}
 use Rattle.graph_lines.proofs.numbers.read_numbers.Goals as goal
 

@@ -3,7 +3,7 @@ use Rattle.std.specs.List.{list_all}
 use Rattle.std.proofs.lemmas.Iterator.Search.{all_from_yields_List}
 use Rattle.std.proofs.lemmas.Iterator.Splits.{YieldsList-from_slice_split}
 use Rattle.bag_model.specs.Words.{is_word}
-use Rattle.graph_lines.proofs.Separated.{pieces}
+use Rattle.text_lines.proofs.Separated.{pieces}
 use Rattle.graph_lines.proofs.Paths.{path_test}
 use Rattle.graph_lines.proofs.words.is_path.Goals as goal
 

@@ -4,7 +4,7 @@ use Rattle.std.proofs.lemmas.List.{map-append, length_push}
 use Rattle.std.proofs.lemmas.Iterator.Splits.{YieldsList-from_str_split}
 use Rattle.std.proofs.lemmas.Iterator.Consumers.{YieldsList-turn, YieldsList-end}
 use Rattle.graph_lines.specs.Forms.{IsPath}
-use Rattle.graph_lines.proofs.Separated.{pieces}
+use Rattle.text_lines.proofs.Separated.{pieces}
 use Rattle.graph_lines.proofs.Pushing.{all_push, one_more, whole_text, not_paths}
 use Rattle.graph_lines.proofs.words.read_paths.Goals as goal
 

@@ -1,7 +1,7 @@
 use Rattle.std.proofs.Common.{◌≡◌, length, map, take}
 use Rattle.std.specs.List.{AllByRecursion}
 use Rattle.graph_lines.specs.Forms.{IsPath}
-use Rattle.graph_lines.proofs.Separated.{pieces}
+use Rattle.text_lines.proofs.Separated.{pieces}
 use Rattle.graph_lines.proofs.words.read_paths.Given as goal
 
 abbrev pub invariant-loop-path : goal.invariant-loop-path

@@ -5,8 +5,8 @@ use Rattle.par_ranks.specs.Rows.{IsGiven}
 use Rattle.par_ranks.proofs.Running.{one_run, all_run}
 use Rattle.par_ranks.proofs.steps.run_in_turn.Goals as goal
 
-pub run_wide-requires-clause-step : goal.run_wide-requires-clause-step
-run_wide-requires-clause-step g c κs within =
+pub run_one-requires-clause-step : goal.run_one-requires-clause-step
+run_one-requires-clause-step g c κs within =
     let row = c.args.row.now in
     let k = c.loop-step.step-index in
     c.requires.row.within (slice_index row k) (in_at row k c.loop-step-test.true)
@@ -21,8 +21,8 @@ index_mut-requires g c =
 
 pub loop-step-preserved : goal.loop-step-preserved
 loop-step-preserved g c =
-    let nodes = c.args.table.now in
-    let graph = c.args.graph.now in
+    let nodes = c.args.run.now.table.now in
+    let graph = c.args.run.now.graph.now in
     let row = c.args.row.now in
     let k = c.loop-step.step-index in
     let lists = c.loop-step.lists.items in
@@ -36,4 +36,4 @@ loop-step-preserved g c =
 
 pub returns : goal.returns
 returns g c =
-    all_run c.args.table.now c.args.graph.now c.args.row.now c.loop-step.step-index c.args.lists.now.items c.loop-step.lists.items c.loop-step-test.false c.loop-step.invariant
+    all_run c.args.run.now.table.now c.args.run.now.graph.now c.args.row.now c.loop-step.step-index c.args.lists.now.items c.loop-step.lists.items c.loop-step-test.false c.loop-step.invariant

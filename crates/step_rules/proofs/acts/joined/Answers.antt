@@ -6,11 +6,11 @@ use Rattle.trace_model.specs.Runs.{list_at, IsNormalMerge}
 use Rattle.step_rules.proofs.Places.{all_within}
 use Rattle.step_rules.proofs.acts.joined.Goals as goal
 
-pub merge_alone-requires : goal.merge_alone-requires
-merge_alone-requires c = all_within c.args.pool.now c.args.places.now c.requires
+pub merge_all-requires-clause-within : goal.merge_all-requires-clause-within
+merge_all-requires-clause-within g c = all_within c.args.pool.now c.args.places.now c.requires.places
 
 pub returns : goal.returns
-returns c =
+returns g c =
     let nodes = c.args.table.now in
     let view = plain_view_of c.args.view.now in
     let merged = c.in_ok-merged.merged in

@@ -1,4 +1,4 @@
-use Rattle.table_text.proofs.Free.{no_second, no_third}
+use Rattle.table_text.proofs.Parts.{no_second, no_third}
 use Rattle.table_text.proofs.rows.cut_parts.Goals as goal
 
 pub returns-in_err-number : goal.returns-in_err-number

@@ -4,7 +4,7 @@ use Rattle.std.proofs.lemmas.Iterator.Splits.{YieldsList-from_slice_split}
 use Rattle.std.proofs.lemmas.Iterator.Consumers.{YieldsList-turn, YieldsList-end}
 use Rattle.bag_model.specs.Words.{word_text}
 use Rattle.scalar_types.specs.KindViews.{word_of}
-use Rattle.table_text.proofs.Free.{pieces}
+use Rattle.text_lines.proofs.Separated.{pieces}
 use Rattle.table_text.proofs.ShapeTexts.{none_named, read_text, not_words, one_more, whole_words}
 use Rattle.table_text.proofs.shapes.read_words.Goals as goal
 

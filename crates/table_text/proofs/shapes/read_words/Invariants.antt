@@ -1,6 +1,6 @@
 use Rattle.std.proofs.Common.{◌≡◌, length, map, take}
 use Rattle.bag_model.specs.Words.{word_text}
-use Rattle.table_text.proofs.Free.{pieces}
+use Rattle.text_lines.proofs.Separated.{pieces}
 use Rattle.table_text.proofs.shapes.read_words.Given as goal
 
 abbrev pub invariant-loop-word : goal.invariant-loop-word

@@ -8,7 +8,7 @@ pub returns-in-Some-clause-lines : goal.returns-in-Some-clause-lines
 returns-in-Some-clause-lines c =
     let bytes = c.args.bytes.now in
     let at = c.in-Some.at in
-    first_line bytes at c.in-Some.ensures.within c.in-Some.ensures.first c.in-Some.ensures.feed
+    first_line bytes at c.in-Some.ensures.within c.in-Some.ensures.first c.in-Some.ensures.there
     ∙ ap (λ text. text ∷ lines (take (length bytes - (at + 1)) (drop (at + 1) bytes))) (sym c.without_return.ensures)
 
 some_left : (n : ℕ) (none : Bool) → none ≡ (n == 0) → none ≡ false → 0 < n
