@@ -79,9 +79,16 @@ static inline unsigned baggage_ones_of(uint8_t first) {
     return ones;
 }
 
+/* In a context no number is cut off, so the bytes that would be missing are never read. */
 static inline uint64_t baggage_take_big_endian(baggage_text *rest, uint64_t number, unsigned count, uint8_t flip) {
-    while (count--)
-        number = number << 8 | (uint8_t)(baggage_take_byte(rest) ^ flip);
+    const uint8_t *bytes = rest->bytes;
+    unsigned at;
+    if (rest->length < count)
+        count = (unsigned)rest->length;
+    for (at = 0; at < count; at++)
+        number = number << 8 | (uint8_t)(bytes[at] ^ flip);
+    rest->bytes = bytes + count;
+    rest->length -= count;
     return number;
 }
 
@@ -265,7 +272,12 @@ static inline uint32_t baggage_take_uint32(baggage_text *rest, int is_inside) { 
 static inline uint64_t baggage_take_uint64(baggage_text *rest, int is_inside) { return (void)is_inside, baggage_take_varint(rest); }
 
 static inline uint32_t baggage_take_fixed32(baggage_text *rest, int is_inside) {
-    return (void)is_inside, (uint32_t)baggage_take_big_endian(rest, 0, 4, 0);
+    const uint8_t *bytes = rest->bytes;
+    if (rest->length < 4)
+        return (void)is_inside, (uint32_t)baggage_take_big_endian(rest, 0, 4, 0);
+    rest->bytes += 4;
+    rest->length -= 4;
+    return (uint32_t)bytes[0] << 24 | (uint32_t)bytes[1] << 16 | (uint32_t)bytes[2] << 8 | bytes[3];
 }
 
 static inline uint64_t baggage_take_fixed64(baggage_text *rest, int is_inside) { return (void)is_inside, baggage_take_big_endian(rest, 0, 8, 0); }
