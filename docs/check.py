@@ -14,7 +14,10 @@ DOCUMENTS = ["README.md"] + sorted(f"docs/{name}" for name in os.listdir(f"{TOP}
 PROGRAMS = [f"{TOP}/.baggage/baggage", f"{TOP}/crates/baggage/out/baggage"]
 
 # What two crates define alike.
-ALIKE = {"HasNoSpace", "bag_values", "is_letter", "left", "name_code", "right"}
+ALIKE = {"bag_values", "is_letter", "left", "name_code", "right"}
+
+# What begins a sentence that can't be read without the one before it.
+PRONOUNS = r"(?:They|Them|These|Those|This|That|It|Its|Such|Their|The same|Each of them|All of them|None of them|Both|Then|So|And|But|Likewise)\b"
 
 bad = []
 
@@ -143,6 +146,37 @@ def defined_in(text):
     return names
 
 
+def declared_in(text):
+    """The definitions of a file in their order: each with its name and the comment right above it, or above its block."""
+    found, comment, in_block = [], [], False
+    for line in text.split("\n"):
+        word = line.strip()
+        if word.startswith("--"):
+            comment = [] if word.startswith("-- ----") else comment + [word.removeprefix("--").strip()]
+            continue
+        opens = re.match(r"(?:\w+ )*(?:mutual|module)\b", line)
+        if line[:1].strip():
+            in_block = bool(opens)
+        indent = "  " if in_block else ""
+        told = not opens and re.match(rf"{indent}(?:(?:abbrev|unfoldable|pub) )*(?:(?:data|record) ([^\s:({{]+)|(\S+) : )", line)
+        if told:
+            found.append((told.group(1) or told.group(2), " ".join(comment)))
+        if not opens or "module" in line:
+            comment = []
+    return found
+
+
+def check_sentences():
+    """Above each definition stands a sentence with its own subject, so that it can be read alone."""
+    for path in sources(".antt"):
+        if path.split("/")[2] == "specs":
+            for name, comment in declared_in(text_of(path)):
+                if not comment.endswith("."):
+                    bad.append(f"{path}: {name} has no sentence above it")
+                elif re.match(PRONOUNS, comment):
+                    bad.append(f"{path}: the sentence above {name} says {comment.split()[0]} for its subject")
+
+
 def check_definitions():
     """No name of a definition stands in two crates, but for those above."""
     crates = {}
@@ -204,6 +238,7 @@ def check_examples():
         with tempfile.TemporaryDirectory() as folder:
             os.symlink(program, f"{folder}/baggage")
             os.symlink(f"{TOP}/examples", f"{folder}/examples")
+            os.symlink(f"{TOP}/tools", f"{folder}/tools")
             for block in re.findall(r"(?ms)^```\n(\$ .*?)^```", text_of(document)):
                 for example in re.split(r"(?m)^\$ ", block)[1:]:
                     command, _, expected = example.partition("\n")
@@ -216,7 +251,7 @@ def check_examples():
     print(f"check.py: {ran_count} examples ran", file=sys.stderr)
 
 
-for check in (check_links, check_headline, check_names, check_excerpts, check_crates, check_files, check_libraries, check_definitions, check_codes, check_counts, check_c, check_examples):
+for check in (check_links, check_headline, check_names, check_excerpts, check_crates, check_files, check_libraries, check_definitions, check_sentences, check_codes, check_counts, check_c, check_examples):
     check()
 for line in bad:
     print(line)
